@@ -1,13 +1,11 @@
-// A library with one function.
+//! What an instruction computes, on whole numbers.
 #![tactic(auto)]
 
-ghost use Rattle.std.specs.Prelude.{◌≡◌};
-ghost use Rattle.rv_integer.specs.Echo.{echo_of};
+mod computing;
+mod outcome;
 
-// The `ensures` clause is the contract: what `echo` returns is `echo_of` of its argument, a definition
-// in `specs/Echo.antt`, which a caller's clause can cite too.
-pub fn echo(x: usize) -> usize
-    ensures { result ≡ echo_of x }
-{
-    x
-}
+pub use computing::compute;
+pub use outcome::IntResult;
+
+#[cfg(test)]
+mod tests;
