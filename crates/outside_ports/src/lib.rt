@@ -3,11 +3,20 @@
 #![tactic(auto)]
 
 mod failure;
+mod files;
 mod gate;
+mod listed;
+mod memory;
 mod shelf;
 mod sink;
 
 pub use failure::Failed;
+pub use files::NamedFile;
 pub use gate::{Gate, OpenGate};
+pub use listed::{FailShelf, FailSink};
+pub use memory::{MemShelf, MemSink};
 pub use shelf::Shelf;
 pub use sink::Sink;
+
+#[cfg(test)]
+mod tests;
