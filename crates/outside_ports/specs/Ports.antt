@@ -36,3 +36,13 @@ misses_after (Some files) name before = misses_of_file (files name) before
 abbrev pub held_after : Result ℕ Failed → List ℕ → List ℕ → List ℕ
 held_after (Ok count) piece held = held ++ take count piece
 held_after (Err e) piece held = held
+
+-- the bytes of a file, where files are told and it is there
+abbrev pub file_of : Option Files → List ℕ → Option (List ℕ)
+file_of None name = None
+file_of (Some files) name = files name
+
+-- files are told, and this one is not there
+abbrev pub IsMissing : Option Files → List ℕ → Type 0
+IsMissing None name = ⊥
+IsMissing (Some files) name = files name ≡ None

@@ -7,6 +7,7 @@ mod files;
 mod gate;
 mod listed;
 mod memory;
+mod reading;
 mod shelf;
 mod sink;
 
@@ -15,6 +16,7 @@ pub use files::NamedFile;
 pub use gate::{Gate, OpenGate};
 pub use listed::{FailShelf, FailSink};
 pub use memory::{MemShelf, MemSink};
+pub use reading::{Front, ReadError, read_front};
 pub use shelf::Shelf;
 pub use sink::Sink;
 
