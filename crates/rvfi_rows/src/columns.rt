@@ -28,7 +28,7 @@ const KNOWN: [Signal; 12] = [
 ];
 
 /// For each field of a header the signal that it names, or none for an unknown name.
-#[derive(Drop)]
+#[derive(Debug, Drop)]
 pub struct Columns {
     signals: Vec<Option<Signal>>,
 }
@@ -50,7 +50,11 @@ impl Columns {
     }
 }
 
-/// The columns that the fields of `line` name. A name may begin with `rvfi_`, which is dropped once.
+/// The columns that the fields of `line` name, as RVFI's description names its signals. A name may
+/// begin with `rvfi_`, which is dropped once; a name that is not known is passed over.
+///
+/// The faults, the first that holds: a carriage return stands in the line; a known name stands
+/// twice; `insn` is missing; `pc_rdata` is missing.
 #[tactic(auto, unfolding(crate::specs::Columns::columns_of))]
 pub fn read_header(alloc: Global, line: &[u8]) -> Result<Columns, HeaderError>
     ensures { Gives header_fault (λ columns. columns) result (columns_of line.now) }

@@ -10,3 +10,6 @@ pub use columns::{Columns, read_header};
 pub use fault::{HeaderError, HeaderFault, RowError, RowFault};
 pub use row::{Row, read_row};
 pub use verdict::Verdict;
+
+#[cfg(test)]
+mod tests;

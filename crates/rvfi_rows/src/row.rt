@@ -13,7 +13,7 @@ use std::alloc::Global;
 use std::marker::Model;
 
 /// What a valid row shows: signals with their values, in the order of the columns.
-#[derive(Drop)]
+#[derive(Debug, Drop)]
 pub struct Row {
     cells: Vec<(Signal, u64)>,
 }
@@ -40,8 +40,13 @@ impl Row {
     }
 }
 
-/// The row of `line` under these columns; `None` where the column `valid` shows 0, and then no other
-/// field is looked at.
+/// The row of `line` under these columns. It is `None` where the column `valid` shows 0, and then no
+/// other field is looked at. A field is a number below 2 to the power of its column's width, in
+/// decimal or after `0x`; an empty one shows nothing.
+///
+/// The faults, the first that holds: a carriage return stands in the line; the fields are not as
+/// many as the columns; `valid` is no number or too wide; and for the known columns from the left,
+/// `insn` or `pc_rdata` is empty, or the field is no number or too wide.
 #[tactic(auto, unfolding(crate::specs::Rows::row_of))]
 pub fn read_row(alloc: Global, columns: &Columns, line: &[u8]) -> Result<Option<Row>, RowError>
     ensures { Gives row_fault (λ row. row) result (row_of columns.now line.now) }
@@ -92,7 +97,7 @@ fn valid_shown(columns: &[Option<Signal>], fields: &Fields) -> Result<Option<u64
 fn cells(alloc: Global, columns: &[Option<Signal>], fields: &Fields) -> Result<Row, RowError>
     ensures { Gives row_fault (λ row. row) result (cells_of columns.now fields.now) }
 {
-    let mut cells = Vec::new(alloc);
+    let mut cells = Vec::with_capacity(alloc, columns.len())?;
     for index in 0..columns.len() {
         match fields.get(index) {
             None => return Ok(Row { cells }),

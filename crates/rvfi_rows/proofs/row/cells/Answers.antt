@@ -7,7 +7,7 @@ returns-in-None c = cells-gone c.args.columns.now c.args.fields.now c.loop-index
 
 pub returns-in_err-add_shown-in-Some : goal.returns-in_err-add_shown-in-Some
 returns-in_err-add_shown-in-Some c =
-    let p = err_from_is_err_and c.from_residual.result c.from_residual.ensures.1 in
+    let p = err_from_is_err_and c.from_residual-in_err-add_shown-in-Some.result c.from_residual-in_err-add_shown-in-Some.ensures.1 in
     rw (p.1, p.2) (cells-fail c.args.columns.now c.args.fields.now c.loop-index.index c.in-Some.field.now c.loop-index.cells.items _ _ c.loop-index-test.true c.in-Some.ensures c.in_err-add_shown-in-Some.ensures c.loop-index.invariant)
 
 pub loop-index-preserved : goal.loop-index-preserved
