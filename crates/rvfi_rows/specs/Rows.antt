@@ -34,16 +34,17 @@ value_or_fault signal (Ok value) = Ok (Some value)
 value_or_fault signal (Err number.NotNumber) = Err (NotNumber signal)
 value_or_fault signal (Err number.TooWide) = Err (TooWide signal)
 
--- what a field shows of its column's signal: an empty one nothing
+-- the value that a field gives the signal: an empty one none
 unfoldable pub cell_of : Signal → List ℕ → Result (Option ℕ) RowFault
 cell_of signal [] = if is_needed signal then Err (Empty signal) else Ok None
 cell_of signal (byte ∷ field) = value_or_fault signal (number_within (width_of signal) (byte ∷ field))
 
--- what a field shows: nothing under an unknown name, else its column's value, where there is one
+-- a signal with its value, where there is one
 abbrev pub shown_value : Signal → Option ℕ → ShownList
 shown_value signal None = []
 shown_value signal (Some value) = (signal, value) ∷ []
 
+-- what a field shows: nothing under an unknown name, else its column's signal, where it has a value
 unfoldable pub shown_of : Option Signal → List ℕ → Result ShownList RowFault
 shown_of None field = Ok []
 shown_of (Some signal) field = do
@@ -65,7 +66,7 @@ valid_of [] fields = Ok None
 valid_of (column ∷ columns) [] = Ok None
 valid_of (column ∷ columns) (field ∷ fields) = if is_of Valid column then cell_of Valid field else valid_of columns fields
 
--- a row is judged unless `valid` shows 0
+-- `valid` shows 0
 abbrev pub is_invalid : Option ℕ → Bool
 is_invalid None = false
 is_invalid (Some value) = value == 0
