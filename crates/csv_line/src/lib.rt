@@ -9,7 +9,7 @@ use std::alloc::{AllocError, Global};
 use std::marker::Model;
 
 /// The fields of a line, in order, less the blanks at their ends.
-#[derive(Drop)]
+#[derive(Debug, Drop)]
 pub struct Fields {
     record: ByteRecord,
 }
