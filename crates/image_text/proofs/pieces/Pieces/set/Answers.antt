@@ -1,0 +1,19 @@
+use Rattle.std.proofs.Common.{rules, refl, sym, ◌∙◌, ap, ◌≡◌, IsSome, Some, Option, IsTrue, is_some, lit<}
+use Rattle.std.specs.Option.{option_copied_mut}
+use Rattle.std.specs.BTreeMap.{get}
+use Rattle.image_text.specs.Bytes.{byte_at, has_page}
+use Rattle.image_text.proofs.Pages.{written_page, set_at, none_from_test}
+use Rattle.image_text.proofs.pieces.Pieces.set.Goals as goal
+
+pub unreachable-requires : goal.unreachable-requires
+unfolding has_page
+unreachable-requires c =
+    let absent = sym c.get_mut.ensures.value ∙ ap option_copied_mut c.in-None.is in
+    let present = rw absent at c.requires in
+    cc
+
+pub returns : goal.returns
+returns c =
+    let was = sym c.get_mut.ensures.value ∙ ap option_copied_mut c.in-Some.is in
+    let updates = (c.get_mut.follows.holds _).3 (rw was refl) in
+    written_page _ _ c.args.address c.args.value c.in-Some.page.now _ updates.0 was (λ k. rw c.deref_mut.ensures.value (set_at _ _ k _ _ (lit< tt)))

@@ -1,0 +1,11 @@
+//! A Verilog memory text of bytes, as `$readmemh` reads it.
+#![tactic(auto)]
+
+mod fault;
+mod pieces;
+mod span;
+mod word;
+
+pub use fault::{FaultKind, ImageError, ImageFault};
+pub use pieces::Pieces;
+pub use span::Span;

@@ -1,0 +1,77 @@
+//! The bytes of an image and where they stand.
+
+use std::alloc::{AllocError, Global};
+use std::collections::BTreeMap;
+
+/// 4,096 addresses, and the byte that each of them has.
+#[derive(Drop)]
+pub struct PiecePage {
+    bytes: [Option<u8>; 4096],
+}
+
+/// The bytes of an image, in pages by their number.
+#[derive(Drop)]
+pub struct Pieces {
+    pages: BTreeMap<u64, Box<PiecePage>>,
+}
+
+impl Pieces {
+    ghost use Rattle.std.specs.Prelude.{◌≡◌, ◌/◌, None, OnOk, OnErr, IsTrue};
+    ghost use Rattle.image_text.specs.Bytes.{byte_at, with_byte, has_page};
+
+    /// No bytes.
+    #[tactic(auto, unfolding(crate::specs::Bytes::byte_at))]
+    pub fn empty(alloc: Global) -> Pieces
+        ensures { byte_at result ≡ (λ _. None) }
+    {
+        Pieces {
+            pages: BTreeMap::new(alloc),
+        }
+    }
+
+    /// The byte at an address, if it has one.
+    #[tactic(auto, unfolding(crate::specs::Bytes::byte_at))]
+    pub fn byte(&self, address: u64) -> Option<u8>
+        ensures { result ≡ byte_at self.now address }
+    {
+        let page = self.pages.get(&(address / 4096))?;
+        page.bytes[(address % 4096) as usize]
+    }
+
+    /// Puts a byte at an address. Without memory no byte changes.
+    pub fn put(&mut self, alloc: Global, address: u64, value: u8) -> Result<(), AllocError>
+        ensures put { OnOk result (byte_at self.new ≡ with_byte (byte_at self.old) address value) }
+        ensures err { OnErr result (byte_at self.new ≡ byte_at self.old) }
+    {
+        self.ready(alloc, address / 4096)?;
+        self.set(address, value);
+        Ok(())
+    }
+
+    /// Adds a page with no byte, unless it is there.
+    fn ready(&mut self, alloc: Global, number: u64) -> Result<(), AllocError>
+        ensures ready { OnOk result (IsTrue (has_page self.new number)) }
+        ensures same { byte_at self.new ≡ byte_at self.old }
+    {
+        if self.pages.contains_key(&number) {
+            return Ok(());
+        }
+        let page = PiecePage {
+            bytes: [None; 4096],
+        };
+        let page = Box::new(alloc, page)?;
+        self.pages.insert(number, page)?;
+        Ok(())
+    }
+
+    /// Puts a byte into a page that is there.
+    fn set(&mut self, address: u64, value: u8)
+        requires { IsTrue (has_page self.old (address / 4096)) }
+        ensures { byte_at self.new ≡ with_byte (byte_at self.old) address value }
+    {
+        match self.pages.get_mut(&(address / 4096)) {
+            Some(page) => page.bytes[(address % 4096) as usize] = Some(value),
+            None => unreachable!(),
+        }
+    }
+}

@@ -1,0 +1,6 @@
+/// A stretch of addresses.
+#[derive(Clone, Copy, Debug, PartialEq, Eq)]
+pub struct Span {
+    pub base: u64,
+    pub size: u64,
+}
