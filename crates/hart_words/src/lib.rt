@@ -1,13 +1,11 @@
-// A library with one function.
+//! Words that every other crate of the judge speaks: address ranges, numbers as they are written.
 #![tactic(auto)]
 
-ghost use Rattle.std.specs.Prelude.{◌≡◌};
-ghost use Rattle.hart_words.specs.Echo.{echo_of};
+mod map;
+mod numbers;
 
-// The `ensures` clause is the contract: what `echo` returns is `echo_of` of its argument, a definition
-// in `specs/Echo.antt`, which a caller's clause can cite too.
-pub fn echo(x: usize) -> usize
-    ensures { result ≡ echo_of x }
-{
-    x
-}
+pub use map::{Map, Span};
+pub use numbers::{NumberFault, read_number};
+
+#[cfg(test)]
+mod tests;

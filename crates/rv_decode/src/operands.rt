@@ -1,0 +1,98 @@
+//! The fields of a 32-bit word.
+
+ghost use Rattle.std.specs.Prelude.{◌≡◌, ◌≤◌, ◌<◌, ◌^◌};
+ghost use Rattle.rv_decode.specs.Fields.{field, signed_to_64, immediate_i, immediate_u, immediate_j, op_of};
+
+use crate::operation::Op;
+use crate::patterns::Form;
+
+/// The `count` bits of `word` from bit `first` on.
+fn field_of(word: u32, first: u32, count: u32) -> u32
+    requires inside { first < 32 }
+    requires few { count < 32 }
+    ensures { result ≡ field first count word }
+{
+    (word >> first) % 2u32.pow(count)
+}
+
+/// A signed number of `bits` bits, extended to 64.
+fn extended(number: u32, bits: u32) -> u64
+    requires some { 1 ≤ bits }
+    requires few { bits ≤ 32 }
+    requires fits { number < 2 ^ bits }
+    ensures { result ≡ signed_to_64 bits number }
+{
+    let number = u64::from(number);
+    if number < 2u64.pow(bits - 1) {
+        number
+    } else {
+        u64::MAX - 2u64.pow(bits) + 1 + number
+    }
+}
+
+fn register(word: u32, first: u32) -> u8
+    requires { first < 32 }
+    ensures { result ≡ field first 5 word }
+{
+    field_of(word, first, 5) as u8
+}
+
+/// The immediate of the I-format.
+fn i_immediate(word: u32) -> u64
+    ensures { result ≡ immediate_i word }
+{
+    extended(field_of(word, 20, 12), 12)
+}
+
+/// The immediate of the U-format: the upper 20 bits of a 32-bit number.
+fn u_immediate(word: u32) -> u64
+    ensures { result ≡ immediate_u word }
+{
+    extended(field_of(word, 12, 20) * 4096, 32)
+}
+
+/// The offset of the J-format, a multiple of 2.
+fn j_immediate(word: u32) -> u64
+    ensures { result ≡ immediate_j word }
+{
+    let number = field_of(word, 31, 1) * 0x10_0000
+        + field_of(word, 12, 8) * 0x1000
+        + field_of(word, 20, 1) * 0x800
+        + field_of(word, 21, 10) * 2;
+    extended(number, 21)
+}
+
+/// The instruction of this form with the operands that stand in the word.
+pub fn operation(form: Form, word: u32) -> Op
+    ensures { result ≡ op_of form word }
+{
+    let rd = register(word, 7);
+    match form {
+        Form::Lui => Op::Lui {
+            rd,
+            imm: u_immediate(word),
+        },
+        Form::Auipc => Op::Auipc {
+            rd,
+            imm: u_immediate(word),
+        },
+        Form::Jal => Op::Jal {
+            rd,
+            offset: j_immediate(word),
+        },
+        Form::Immediate(op) => Op::Immediate {
+            op,
+            rd,
+            rs1: register(word, 15),
+            imm: i_immediate(word),
+        },
+        Form::Shift(op) => {
+            Op::Immediate {
+                op,
+                rd,
+                rs1: register(word, 15),
+                imm: u64::from(field_of(word, 20, 6)),
+            }
+        }
+    }
+}
