@@ -26,10 +26,10 @@ is_eq_same n = rw (is_eq_cmp n n) (grind (arith, nat_tests))
 is_eq_other : (n q : ℕ) → (n ≡ q → ⊥) → is_eq (nat_cmp n q) ≡ false
 is_eq_other n q apart = rw (is_eq_cmp n q) (grind (arith, nat_tests))
 
-eq_same : (n : ℕ) → (n == n) ≡ true
+pub eq_same : (n : ℕ) → (n == n) ≡ true
 eq_same n = grind (arith, nat_tests)
 
-eq_other : (n q : ℕ) → (n ≡ q → ⊥) → (n == q) ≡ false
+pub eq_other : (n q : ℕ) → (n ≡ q → ⊥) → (n == q) ≡ false
 eq_other n q apart = grind (arith, nat_tests)
 
 -- a page with no byte adds none

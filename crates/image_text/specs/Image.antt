@@ -3,7 +3,7 @@ use Rattle.std.specs.Prelude.{◌≡◌, ℕ, ◌+◌, ◌%◌, ◌^◌, Bool, �
 use Rattle.std.specs.List.{list_all}
 use Rattle.std.specs.Char.{is_digit}
 use Rattle.std.specs.Str.Parse.{digits_value}
-use Rattle.image_text.specs.declared.span.Span.{Span}
+use Rattle.hart_words.specs.declared.map.Span.{Span}
 use Rattle.image_text.specs.declared.fault.FaultKind.{FaultKind}
 use Rattle.image_text.specs.declared.fault.FaultKind.TheVariants.{BadByte, BadAddress, OutsideRam, Overlap, OpenComment}
 use Rattle.image_text.specs.declared.fault.ImageFault.{ImageFault}

@@ -1,3 +1,5 @@
 pub mod Bytes
 pub mod Tokens
+pub mod Steps
 pub mod Image
+pub mod Taking

@@ -3,9 +3,10 @@
 
 mod fault;
 mod pieces;
-mod span;
+mod reading;
+mod tokens;
 mod word;
 
 pub use fault::{FaultKind, ImageError, ImageFault};
 pub use pieces::Pieces;
-pub use span::Span;
+pub use reading::read_image;

@@ -1,5 +1,7 @@
 //! The bytes of an image and where they stand.
 
+ghost use Rattle.std.specs.Prelude.{◌≡◌, length};
+
 use std::alloc::{AllocError, Global};
 use std::collections::BTreeMap;
 
@@ -7,6 +9,7 @@ use std::collections::BTreeMap;
 #[derive(Drop)]
 pub struct PiecePage {
     bytes: [Option<u8>; 4096],
+    ghost full: { length bytes ≡ 4096 },
 }
 
 /// The bytes of an image, in pages by their number.

@@ -1,6 +1,6 @@
 //! What one token says.
 
-ghost use Rattle.std.specs.Prelude.{◌≡◌, ◌≤◌, length, Some, None, if◌then◌else◌};
+ghost use Rattle.std.specs.Prelude.{◌≡◌, ◌≤◌, ◌<◌, ◌^◌, length, IfSome, Some, None, if◌then◌else◌};
 ghost use Rattle.std.specs.Str.Parse.{digits_value};
 ghost use Rattle.image_text.specs.Image.{are_digits, word_of};
 
@@ -16,7 +16,8 @@ pub enum Word {
 /// The value of hexadecimal digits, of either case.
 fn digits_of(digits: &[u8]) -> Option<u64>
     requires { length digits.now ≤ 16 }
-    ensures { result ≡ (if are_digits digits.now then Some (digits_value 16 digits.now) else None) }
+    ensures small { IfSome result (λ value. value < 16 ^ length digits.now) }
+    ensures value { result ≡ (if are_digits digits.now then Some (digits_value 16 digits.now) else None) }
 {
     let mut value = 0u64;
     for digit in digits {

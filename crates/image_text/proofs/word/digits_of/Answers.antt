@@ -44,8 +44,13 @@ pass : (ds : List ℕ) → AllDigits 16 ds → are_digits ds ≡ true
 pass [] _ = refl
 pass (c ∷ cs) h = let rest : are_digits cs ≡ true = pass cs h.1 in grind (arith, nat_tests, h.0)
 
-pub returns : goal.returns
-returns c =
+pub returns-clause-small : goal.returns-clause-small
+returns-clause-small c =
+    let whole : take c.loop-digit.digit-index c.args.digits.now ≡ c.args.digits.now = take_all _ _ c.loop-digit-test.false in
+    rw (c.loop-digit.invariant.value, whole) (digits_value-lt 16 c.args.digits.now (rw whole at c.loop-digit.invariant.digits))
+
+pub returns-clause-value : goal.returns-clause-value
+returns-clause-value c =
     let whole : take c.loop-digit.digit-index c.args.digits.now ≡ c.args.digits.now = take_all _ _ c.loop-digit-test.false in
     let digits : are_digits c.args.digits.now ≡ true = pass _ (rw whole at c.loop-digit.invariant.digits) in
     let value = rw whole at c.loop-digit.invariant.value in

@@ -16,4 +16,4 @@ pub returns : goal.returns
 returns c =
     let was = sym c.get_mut.ensures.value ∙ ap option_copied_mut c.in-Some.is in
     let updates = (c.get_mut.follows.holds _).3 (rw was refl) in
-    written_page _ _ c.args.address c.args.value c.in-Some.page.now _ updates.0 was (λ k. rw c.deref_mut.ensures.value (set_at _ _ k _ _ (lit< tt)))
+    written_page _ _ c.args.address c.args.value c.in-Some.page.now _ updates.0 was (λ k. rw c.deref_mut.ensures.value (set_at _ _ k _ _ (rw c.in-Some.page.now.value.full (grind arith))))
