@@ -1,6 +1,6 @@
 -- The tokens of a text, from its front.
 use Rattle.std.proofs.Common.{◌≡◌, ℕ, ◌+◌, ◌<◌, ◌≤◌, ◌⊎◌, Bool, true, false, ◌||◌, ◌&&◌, cond, List, [], ◌∷◌, length, take, drop, refl, sym, ◌∙◌, ap, subst, inl, inr, arith, rules, if◌then◌else◌, add-one, suc, zero}
-use Rattle.std.specs.Prelude.{◌==◌}
+use Rattle.std.specs.Prelude.{◌==◌, slice_index}
 use Rattle.std.proofs.lemmas.Bool.{cases_eq}
 use Rattle.image_text.proofs.Pages.{eq_same, eq_other}
 use Rattle.image_text.specs.Tokens.{Token, is_blank, opens_line, opens_block, closes_block, has_close, Region, Plain, LineComment, BlockComment, uncommented, joined, runs, tokens_from, opens_comment, begins_with_close, run_len}
@@ -73,26 +73,71 @@ no_slash_opens : (a : ℕ) (rest : List ℕ) → (a == 47) ≡ false → opens_c
 no_slash_opens a [] h = refl
 no_slash_opens a (b ∷ rest) h = rw h refl
 
-pub feed_step : (line : ℕ) (rest : List ℕ) → tokens_from line Plain (10 ∷ rest) ≡ tokens_from (line + 1) Plain rest
-unfolding uncommented runs
-feed_step line [] = refl
-feed_step line (b ∷ rest) = refl
-
-pub blank_step : (line a : ℕ) (rest : List ℕ) → is_blank a ≡ true → (a == 10) ≡ false → tokens_from line Plain (a ∷ rest) ≡ tokens_from line Plain rest
+pub blank_step : (line a : ℕ) (rest : List ℕ) → is_blank a ≡ true → tokens_from line Plain (a ∷ rest) ≡ tokens_from (if a == 10 then line + 1 else line) Plain rest
 unfolding runs
-blank_step line a rest blank feed = rw (plain_kept a rest (no_slash_opens a rest (blank_no_slash a blank)), blank, feed) refl
+blank_step line a rest blank =
+    let front = plain_kept a rest (no_slash_opens a rest (blank_no_slash a blank)) in
+    elim (cases_eq a 10) [
+      inl same ↦ rw front (rw same refl)
+    | inr apart ↦ rw (front, blank, eq_other a 10 apart) refl
+    ]
 
-pub line_step : (line : ℕ) (rest : List ℕ) → tokens_from line Plain (47 ∷ 47 ∷ rest) ≡ tokens_from line LineComment rest
+line_step : (line : ℕ) (rest : List ℕ) → tokens_from line Plain (47 ∷ 47 ∷ rest) ≡ tokens_from line LineComment rest
 unfolding uncommented runs
 line_step line rest = refl
 
-pub block_step : (line : ℕ) (rest : List ℕ) → has_close rest ≡ true → tokens_from line Plain (47 ∷ 42 ∷ rest) ≡ tokens_from line BlockComment rest
+block_step : (line : ℕ) (rest : List ℕ) → has_close rest ≡ true → tokens_from line Plain (47 ∷ 42 ∷ rest) ≡ tokens_from line BlockComment rest
 unfolding uncommented runs
 block_step line rest h = rw h refl
 
-pub open_step : (line : ℕ) (rest : List ℕ) → has_close rest ≡ false → tokens_from line Plain (47 ∷ 42 ∷ rest) ≡ record { line = line; bytes = 47 ∷ 42 ∷ [] } ∷ []
+open_step : (line : ℕ) (rest : List ℕ) → has_close rest ≡ false → tokens_from line Plain (47 ∷ 42 ∷ rest) ≡ record { line = line; bytes = 47 ∷ 42 ∷ [] } ∷ []
 unfolding uncommented runs
 open_step line rest h = rw h refl
+
+-- the two bytes of a comment's mark
+eq_true : (a b : ℕ) → (a == b) ≡ true → a ≡ b
+eq_true a b h = elim (cases_eq a b) [ inl same ↦ same | inr apart ↦ (let none = eq_other a b apart in cc) ]
+
+and_both : (x y : Bool) → (x && y) ≡ true → (x ≡ true) × (y ≡ true)
+and_both true y h = (refl, h)
+and_both false y h = cc
+
+mark_is : (a b : ℕ) → (opens_line a b || opens_block a b) ≡ true → (a ≡ 47) × ((b ≡ 47) ⊎ (b ≡ 42))
+mark_is a b h =
+    elim (test (opens_line a b)) [
+      inl line ↦ (let both = and_both (a == 47) (b == 47) line in (eq_true a 47 both.0, inl (eq_true b 47 both.1)))
+    | inr other ↦ (let both = and_both (a == 47) (b == 42) (rw other at h) in (eq_true a 47 both.0, inr (eq_true b 42 both.1)))
+    ]
+
+pub opens_long : (text : List ℕ) → opens_comment text ≡ true → 2 ≤ length text
+opens_long [] h = cc
+opens_long (a ∷ []) h = cc
+opens_long (a ∷ b ∷ rest) h = omega arith
+
+pub opens_line_at : (line : ℕ) (text : List ℕ) → opens_comment text ≡ true → slice_index text 1 ≡ 47 → tokens_from line Plain text ≡ tokens_from line LineComment (drop 2 text)
+opens_line_at line [] h e = cc
+opens_line_at line (a ∷ []) h e = cc
+opens_line_at line (a ∷ b ∷ rest) h e = rw ((mark_is a b h).0, e) (line_step line rest)
+
+block_mark : (a b : ℕ) → (opens_line a b || opens_block a b) ≡ true → (b ≡ 47 → ⊥) → (a ≡ 47) × (b ≡ 42)
+block_mark a b h apart = let is = mark_is a b h in elim is.1 [ inl line ↦ absurd (apart line) | inr block ↦ (is.0, block) ]
+
+pub opens_block_at : (line : ℕ) (text : List ℕ) → opens_comment text ≡ true → (slice_index text 1 ≡ 47 → ⊥) → has_close (drop 2 text) ≡ true → tokens_from line Plain text ≡ tokens_from line BlockComment (drop 2 text)
+opens_block_at line [] h apart closes = cc
+opens_block_at line (a ∷ []) h apart closes = cc
+opens_block_at line (a ∷ b ∷ rest) h apart closes = let mark = block_mark a b h apart in rw (mark.0, mark.1) (block_step line rest closes)
+
+pub opens_open_at : (line : ℕ) (text : List ℕ) → opens_comment text ≡ true → (slice_index text 1 ≡ 47 → ⊥) → has_close (drop 2 text) ≡ false
+    → tokens_from line Plain text ≡ record { line = line; bytes = take 2 text } ∷ tokens_from line Plain []
+unfolding uncommented runs
+opens_open_at line [] h apart open' = cc
+opens_open_at line (a ∷ []) h apart open' = cc
+opens_open_at line (a ∷ b ∷ rest) h apart open' = let mark = block_mark a b h apart in rw (mark.0, mark.1) (open_step line rest open')
+
+pub plain_none : (line : ℕ) (text : List ℕ) → length text ≡ 0 → tokens_from line Plain text ≡ []
+unfolding uncommented runs
+plain_none line [] h = refl
+plain_none line (a ∷ rest) h = absurd (omega arith)
 
 pub line_none : (text : List ℕ) → length text ≡ 0 → uncommented LineComment text ≡ uncommented Plain text
 unfolding uncommented

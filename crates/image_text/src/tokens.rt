@@ -1,6 +1,6 @@
 //! The tokens of a text, from the left.
 
-ghost use Rattle.std.specs.Prelude.{◌≡◌, ◌+◌, ◌<◌, ◌^◌, ◌≤◌, length, false, true, ◌==◌, if◌then◌else◌};
+ghost use Rattle.std.specs.Prelude.{◌≡◌, ◌+◌, ◌<◌, ◌^◌, ◌≤◌, length, false, true, IsTrue, ◌==◌, if◌then◌else◌};
 ghost use Rattle.image_text.specs.Tokens.{is_blank, run_len, opens_comment, begins_with_close, has_close, Plain, LineComment, BlockComment, uncommented, tokens_from};
 ghost use Rattle.image_text.specs.Steps.{StepGives, BlockGives};
 
@@ -31,47 +31,55 @@ pub fn next_step(rest: Rest<'_>) -> Step<'_>
     requires { rest.line + length rest.text.now < 2 ^ 64 }
     ensures { StepGives rest.entry result }
 {
-    match rest.text {
-        [] => Step::End,
-        [b'/', b'/', comment @ ..] => Step::Skipped(Rest {
+    let Some((first, after)) = rest.text.split_first() else {
+        return Step::End;
+    };
+    if is_blank_byte(*first) {
+        return Step::Skipped(Rest {
+            line: line_after(rest.line, *first),
+            text: after,
+        });
+    }
+    if begins_comment(rest.text) {
+        return over_comment(rest);
+    }
+    let (bytes, after) = rest.text.split_at(run_length(rest.text));
+    let token = Piece {
+        line: rest.line,
+        bytes,
+    };
+    let rest = Rest {
+        line: rest.line,
+        text: after,
+    };
+    Step::Found(token, rest)
+}
+
+/// What follows a comment, or its mark as a token.
+fn over_comment(rest: Rest<'_>) -> Step<'_>
+    requires room { rest.line + length rest.text.now < 2 ^ 64 }
+    requires opens { IsTrue (opens_comment rest.text.now) }
+    ensures { StepGives rest.entry result }
+{
+    let (mark, comment) = rest.text.split_at(2);
+    if rest.text[1] == b'/' {
+        return Step::Skipped(Rest {
             line: rest.line,
             text: after_line(comment),
-        }),
-        [b'/', b'*', comment @ ..] => match after_block(rest.line, comment) {
-            Some(after) => Step::Skipped(after),
-            None => Step::Found(
-                Piece {
-                    line: rest.line,
-                    bytes: &rest.text[..2],
-                },
-                Rest {
-                    line: rest.line,
-                    text: &[],
-                },
-            ),
-        },
-        [b'\n', after @ ..] => Step::Skipped(Rest {
-            line: rest.line + 1,
-            text: after,
-        }),
-        [b' ' | b'\t' | b'\r' | 0x0c, after @ ..] => Step::Skipped(Rest {
-            line: rest.line,
-            text: after,
-        }),
-        [_, ..] => {
-            let (bytes, after) = rest.text.split_at(run_length(rest.text));
-            let token = Piece {
+        });
+    }
+    match after_block(rest.line, comment) {
+        Some(after) => Step::Skipped(after),
+        None => Step::Found(
+            Piece {
                 line: rest.line,
-                bytes,
-            };
-            Step::Found(
-                token,
-                Rest {
-                    line: rest.line,
-                    text: after,
-                },
-            )
-        }
+                bytes: mark,
+            },
+            Rest {
+                line: rest.line,
+                text: &[],
+            },
+        ),
     }
 }
 
