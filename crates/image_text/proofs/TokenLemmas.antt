@@ -5,7 +5,7 @@ use Rattle.std.proofs.lemmas.Bool.{cases_eq}
 use Rattle.image_text.proofs.Pages.{eq_same, eq_other}
 use Rattle.image_text.specs.Tokens.{Token, is_blank, opens_line, opens_block, closes_block, has_close, Region, Plain, LineComment, BlockComment, uncommented, joined, runs, tokens_from, opens_comment, begins_with_close, run_len}
 
-test : (x : Bool) → (x ≡ true) ⊎ (x ≡ false)
+pub test : (x : Bool) → (x ≡ true) ⊎ (x ≡ false)
 test true = inl refl
 test false = inr refl
 

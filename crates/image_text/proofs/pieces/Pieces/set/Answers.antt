@@ -1,4 +1,4 @@
-use Rattle.std.proofs.Common.{rules, refl, sym, ◌∙◌, ap, ◌≡◌, IsSome, Some, Option, IsTrue, is_some, lit<}
+use Rattle.std.proofs.Common.{length, ◌<◌, ◌%◌, rules, refl, arith, sym, ◌∙◌, ap, ◌≡◌, IsSome, Some, Option, IsTrue, is_some, lit<}
 use Rattle.std.specs.Option.{option_copied_mut}
 use Rattle.std.specs.BTreeMap.{get}
 use Rattle.image_text.specs.Bytes.{byte_at, has_page}
@@ -16,4 +16,5 @@ pub returns : goal.returns
 returns c =
     let was = sym c.get_mut.ensures.value ∙ ap option_copied_mut c.in-Some.is in
     let updates = (c.get_mut.follows.holds _).3 (rw was refl) in
-    written_page _ _ c.args.address c.args.value c.in-Some.page.now _ updates.0 was (λ k. rw c.deref_mut.ensures.value (set_at _ _ k _ _ (rw c.in-Some.page.now.value.full (grind arith))))
+    let below : c.args.address % 4096 < length c.in-Some.page.now.value.bytes = omega (arith, c.in-Some.page.now.value.full) in
+    written_page _ _ c.args.address c.args.value c.in-Some.page.now _ updates.0 was (λ k. rw c.deref_mut.ensures.value (set_at c.in-Some.page.now.value.bytes (c.args.address % 4096) k _ _ below))
