@@ -1,13 +1,24 @@
-// A library with one function.
+//! What the judge asks of the outside: files that are read by place, a place to write, and a gate
+//! that tests can close; with files, writers and gates in memory.
 #![tactic(auto)]
 
-ghost use Rattle.std.specs.Prelude.{◌≡◌};
-ghost use Rattle.outside_ports.specs.Echo.{echo_of};
+mod failure;
+mod files;
+mod gate;
+mod listed;
+mod memory;
+mod reading;
+mod shelf;
+mod sink;
 
-// The `ensures` clause is the contract: what `echo` returns is `echo_of` of its argument, a definition
-// in `specs/Echo.antt`, which a caller's clause can cite too.
-pub fn echo(x: usize) -> usize
-    ensures { result ≡ echo_of x }
-{
-    x
-}
+pub use failure::Failed;
+pub use files::NamedFile;
+pub use gate::{Gate, OpenGate};
+pub use listed::{FailShelf, FailSink};
+pub use memory::{MemShelf, MemSink};
+pub use reading::{Front, ReadError, read_front};
+pub use shelf::Shelf;
+pub use sink::Sink;
+
+#[cfg(test)]
+mod tests;

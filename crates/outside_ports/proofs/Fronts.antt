@@ -1,0 +1,35 @@
+-- What one more read makes of the front of a file.
+use Rattle.std.proofs.Common.{◌≡◌, ℕ, ◌+◌, ◌-◌, ◌<◌, ◌≤◌, List, ◌++◌, take, drop, length, Option, Some, None, Bool, true, false, [], refl, sym, ap, ◌∙◌, arith, length-append}
+use Rattle.std.proofs.lemmas.List.{take_all, take-take, length-take-le}
+use Rattle.std.proofs.lemmas.Bool.{le-ltb, lt-ltb}
+use Rattle.std.proofs.Math.Seq.{take-add}
+use Rattle.outside_ports.specs.Ports.{Files, misses_after, misses_of_file, IsMissing}
+use Rattle.outside_ports.specs.Reading.{IsNext, IsFront, HasFront}
+use Rattle.outside_ports.specs.declared.reading.Front.{Front}
+
+-- the bytes read so far are the front of the file
+abbrev pub IsRead : Option (List ℕ) → List ℕ → Type 0
+IsRead None bytes = Unit {0}
+IsRead (Some file) bytes = (length bytes ≤ length file) × (bytes ≡ take (length bytes) file)
+
+pub read_none : (file : Option (List ℕ)) → IsRead file []
+read_none None = tt
+read_none (Some file) = (omega arith, refl)
+
+pub read_more : (file : Option (List ℕ)) (bytes chunk : List ℕ) (at count : ℕ) → at ≡ length bytes → count ≤ length chunk → IsRead file bytes → IsNext file at chunk count → IsRead file (bytes ++ take count chunk)
+read_more None bytes chunk at count is within so_far next = tt
+read_more (Some file) bytes chunk at count is within so_far next =
+    let inside : count ≤ length file - length bytes = omega (arith, next.within) in
+    let here : take count chunk ≡ take count (drop (length bytes) file) = next.bytes ∙ ap (λ n. take count (drop n file)) is in
+    let len : length (bytes ++ take count chunk) ≡ length bytes + count = length-append bytes (take count chunk) ∙ ap (λ n. length bytes + n) (length-take-le count chunk within) in
+    let parts : bytes ++ take count chunk ≡ take (length bytes) file ++ take count (drop (length bytes) file) = ap (λ xs. xs ++ take count chunk) so_far.1 ∙ ap (λ xs. take (length bytes) file ++ xs) here in
+    (rw len (omega (arith, so_far.0)), parts ∙ sym (take-add (length bytes) count file) ∙ ap (λ n. take n file) (sym len))
+
+-- a read raises the misses only where a told file is not there
+pub misses_rise : (told : Option Files) (name : List ℕ) (before now : ℕ) → now ≡ misses_after told name before → before < now → IsMissing told name
+misses_rise None name before now is rise = absurd (omega arith)
+misses_rise (Some files) name before now is rise = rise_of (files name) refl
+  where
+    rise_of : (file : Option (List ℕ)) → files name ≡ file → files name ≡ None
+    rise_of None e = e
+    rise_of (Some bytes) e = let same : now ≡ before = is ∙ ap (λ f. misses_of_file f before) e in absurd (omega arith)

@@ -1,0 +1,15 @@
+use Rattle.std.proofs.Common.{◌≡◌, ◌<◌, ◌+◌, ◌-◌, vec_len}
+use Rattle.outside_ports.specs.Ports.{file_of}
+use Rattle.outside_ports.proofs.Fronts.{IsRead}
+use Rattle.outside_ports.proofs.reading.read_front.Given as goal
+
+abbrev pub invariant-reading : goal.invariant-reading
+invariant-reading g l =
+    (g.H.Shelf.told l.shelf ≡ g.H.Shelf.told l.initial.shelf)
+    × (g.H.Shelf.faults l.shelf ≡ g.H.Shelf.faults l.initial.shelf)
+    × (g.H.Shelf.misses l.shelf ≡ g.H.Shelf.misses l.initial.shelf)
+    × (0 < vec_len l.chunk)
+    × IsRead (file_of (g.H.Shelf.told l.initial.shelf) l.name) l.bytes.items
+
+abbrev pub decreases-reading : goal.decreases-reading
+decreases-reading g l = l.most + 1 - vec_len l.bytes

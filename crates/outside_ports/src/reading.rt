@@ -1,0 +1,105 @@
+//! The front of a file.
+
+ghost use Rattle.std.specs.Prelude.{◌≡◌, ◌≤◌, ◌<◌, ◌^◌, IfOk, vec_len};
+ghost use Rattle.outside_ports.specs.Ports.{file_of};
+ghost use Rattle.outside_ports.specs.Reading.{IsFront, IsNext, CountsFault, CountsMiss};
+
+use crate::shelf::Shelf;
+use std::alloc::{AllocError, AllocFailed, Global};
+use thiserror::Error;
+
+/// The first bytes of a file, and whether more follow.
+#[derive(Drop)]
+pub struct Front {
+    pub bytes: Vec<u8>,
+    pub more: bool,
+}
+
+/// Why a file was not read.
+#[derive(Debug, Drop, Error)]
+pub enum ReadError {
+    /// The shelf failed and counted it.
+    #[error("a read failed")]
+    ReadFault,
+    #[error("out of memory")]
+    NoMemory,
+}
+
+impl From<AllocError> for ReadError {
+    ghost use Rattle.std.specs.Prelude.{◌≡◌};
+    ghost use Rattle.outside_ports.specs.declared.reading.ReadError.TheVariants.{NoMemory};
+
+    ghost from_gives = { λ _ e. e ≡ NoMemory };
+
+    fn from(_e: AllocError) -> ReadError {
+        ReadError::NoMemory
+    }
+}
+
+impl<T: Drop> From<AllocFailed<T>> for ReadError {
+    ghost use Rattle.std.specs.Prelude.{◌≡◌};
+    ghost use Rattle.outside_ports.specs.declared.reading.ReadError.TheVariants.{NoMemory};
+
+    ghost from_gives = { λ _ e. e ≡ NoMemory };
+
+    fn from(_e: AllocFailed<T>) -> ReadError {
+        ReadError::NoMemory
+    }
+}
+
+/// Reads the first `most` bytes of a file, in reads of one chunk, until a read gives nothing or
+/// more than `most` bytes are there. A read that gives less than a chunk is not the end.
+pub fn read_front<H: Shelf>(
+    alloc: Global,
+    shelf: &mut H,
+    name: &str,
+    most: u64,
+) -> Result<Front, ReadError>
+    requires { most < 2 ^ 62 }
+    ensures told { H.told shelf.new ≡ H.told shelf.old }
+    ensures front { IfOk result (λ front. IsFront (file_of (H.told shelf.old) name.now) most front) }
+    ensures short { IfOk result (λ front. vec_len front.bytes ≤ most) }
+    ensures faults { CountsFault result (H.faults shelf.old) (H.faults shelf.new) }
+    ensures misses { CountsMiss result (H.told shelf.old) name.now (H.misses shelf.old) (H.misses shelf.new) }
+{
+    let mut bytes = Vec::new(alloc);
+    let mut chunk = new_chunk(alloc)?;
+    'reading: while bytes.len() as u64 <= most {
+        let count = read_chunk(shelf, name, bytes.len() as u64, &mut chunk)?;
+        if count == 0 {
+            return Ok(Front { bytes, more: false });
+        }
+        bytes.extend_from_slice(&chunk[..count])?;
+    }
+    bytes.truncate(most as usize);
+    Ok(Front { bytes, more: true })
+}
+
+/// The bytes that are asked for at once.
+fn new_chunk(alloc: Global) -> Result<Vec<u8>, AllocError>
+    ensures { IfOk result (λ chunk. 0 < vec_len chunk) }
+{
+    vec![in alloc; 0u8; 65536]
+}
+
+/// Reads one chunk.
+#[tactic(auto, using(crate::proofs::Fronts::misses_rise))]
+fn read_chunk<H: Shelf>(
+    shelf: &mut H,
+    name: &str,
+    at: u64,
+    chunk: &mut Vec<u8>,
+) -> Result<usize, ReadError>
+    requires { 0 < vec_len chunk.old }
+    ensures told { H.told shelf.new ≡ H.told shelf.old }
+    ensures len { vec_len chunk.new ≡ vec_len chunk.old }
+    ensures within { IfOk result (λ count. count ≤ vec_len chunk.new) }
+    ensures next { IfOk result (λ count. IsNext (file_of (H.told shelf.old) name.now) at chunk.new.items count) }
+    ensures faults { CountsFault result (H.faults shelf.old) (H.faults shelf.new) }
+    ensures misses { CountsMiss result (H.told shelf.old) name.now (H.misses shelf.old) (H.misses shelf.new) }
+{
+    match shelf.read(name, at, chunk) {
+        Ok(count) => Ok(count),
+        Err(_) => Err(ReadError::ReadFault),
+    }
+}

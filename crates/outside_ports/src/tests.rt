@@ -1,0 +1,57 @@
+use super::*;
+use std::alloc::{AllocError, Global};
+use std::test::Fail;
+
+fn one_file(alloc: Global) -> Result<MemShelf, AllocError> {
+    let mut files = Vec::new(alloc);
+    let name = String::from_str(alloc, "t")?;
+    let bytes = Vec::from_slice(alloc, b"abc")?;
+    files.push(NamedFile { name, bytes })?;
+    Ok(MemShelf::new(files))
+}
+
+#[test]
+fn reads_by_place(rt: HostRuntime) -> Result<(), Fail> {
+    let mut shelf = one_file(rt.alloc())?;
+    let mut two = [0u8; 2];
+    assert_eq!(rt; shelf.read("t", 0, &mut two), Ok(2));
+    assert_eq!(rt; two, [b'a', b'b']);
+    assert_eq!(rt; shelf.read("t", 2, &mut two), Ok(1));
+    assert_eq!(rt; two[0], b'c');
+    assert_eq!(rt; shelf.read("t", 3, &mut two), Ok(0));
+    assert_eq!(rt; shelf.read("t", u64::MAX, &mut two), Ok(0));
+    assert_eq!(rt; shelf.read("i", 0, &mut two), Err(Failed));
+    assert_eq!(rt; (shelf.faults, shelf.misses), (1, 1));
+    Ok(())
+}
+
+#[test]
+fn fails_where_listed(rt: HostRuntime) -> Result<(), Fail> {
+    let failing = Vec::from_slice(rt.alloc(), &[2, 3])?;
+    let mut shelf = FailShelf::new(one_file(rt.alloc())?, failing);
+    let mut two = [0u8; 2];
+    assert_eq!(rt; shelf.read("t", 0, &mut two), Ok(2));
+    assert_eq!(rt; shelf.read("t", 0, &mut two), Err(Failed));
+    assert_eq!(rt; shelf.read("i", 0, &mut two), Err(Failed));
+    assert_eq!(rt; shelf.read("t", 2, &mut two), Ok(1));
+    assert_eq!(rt; (shelf.shelf.faults, shelf.shelf.misses), (2, 1));
+    Ok(())
+}
+
+#[test]
+fn holds_what_is_written(rt: HostRuntime) -> Result<(), Fail> {
+    let mut sink = MemSink::new(rt.alloc());
+    assert_eq!(rt; sink.write(b"agr"), Ok(3));
+    assert_eq!(rt; sink.write(b"ees"), Ok(3));
+    assert_eq!(rt; sink.held.as_slice(), b"agrees".as_slice());
+    let mut sink = FailSink::new(rt.alloc(), 4)?;
+    assert_eq!(rt; sink.write(b"agr"), Ok(3));
+    assert_eq!(rt; sink.write(b"ees"), Ok(1));
+    assert_eq!(rt; sink.write(b""), Ok(0));
+    assert_eq!(rt; sink.write(b"es"), Err(Failed));
+    assert_eq!(rt; sink.held.as_slice(), b"agre".as_slice());
+    assert_eq!(rt; sink.faults, 1);
+    OpenGate.before(1, 2);
+    OpenGate.after(1, 2);
+    Ok(())
+}

@@ -1,0 +1,76 @@
+-- The columns of a trace, as its header names them.
+use Rattle.std.specs.Prelude.{ℕ, Bool, false, ◌==◌, not, List, [], ◌∷◌, ◌++◌, map, drop, find, codes, nat_eq, Option, Some, None, Result, Ok, Err, if◌then◌else◌}
+use Rattle.std.specs.List.{list_any, starts_with}
+use Rattle.std.specs.Str.{bytes_eq}
+use Rattle.hart_words.specs.Signals.{name_of, place_of}
+use Rattle.hart_words.specs.declared.signal.Signal.{Signal}
+use Rattle.hart_words.specs.declared.signal.Signal.TheVariants.{Valid, Order, Intr, PcRdata, Mode, Ixl, Trap, Insn, RdAddr, RdWdata, PcWdata, Halt}
+use Rattle.csv_line.specs.Fields.{fields_of_line}
+use Rattle.rvfi_rows.specs.Gives.{◌>>◌, refuse_if}
+use Rattle.rvfi_rows.specs.declared.fault.HeaderFault.{HeaderFault}
+use Rattle.rvfi_rows.specs.declared.fault.HeaderFault.TheVariants.{StrayReturn, Twice, NoColumn}
+use Rattle.rvfi_rows.specs.declared.fault.HeaderError.{HeaderError}
+use Rattle.rvfi_rows.specs.declared.fault.HeaderError.TheVariants as errors
+
+-- for each field of a header the signal that it names, or none
+abbrev pub ColumnList : Type 0
+ColumnList = List (Option Signal)
+
+-- the signals that are read; every other name is passed over
+abbrev pub known_signals : List Signal
+known_signals = Valid ∷ Order ∷ Intr ∷ PcRdata ∷ Mode ∷ Ixl ∷ Trap ∷ Insn ∷ RdAddr ∷ RdWdata ∷ PcWdata ∷ Halt ∷ []
+
+-- a name less one `rvfi_` at its front
+unfoldable pub less_prefix : List ℕ → List ℕ
+less_prefix name = if starts_with nat_eq name (codes "rvfi_") then drop 5 name else name
+
+-- the known signal of a name
+unfoldable pub signal_named : List ℕ → Option Signal
+signal_named name = find (λ signal. bytes_eq name (name_of signal)) known_signals
+
+-- what a field of the header names
+abbrev pub column_of : List ℕ → Option Signal
+column_of field = signal_named (less_prefix field)
+
+-- the column shows the signal
+abbrev pub is_of : Signal → Option Signal → Bool
+is_of signal None = false
+is_of signal (Some shown) = place_of shown == place_of signal
+
+-- some column shows the signal
+abbrev pub has_column : Signal → ColumnList → Bool
+has_column signal columns = list_any (is_of signal) columns
+
+-- a known column's signal stands in these columns too
+abbrev pub stands_in : ColumnList → Option Signal → Bool
+stands_in columns None = false
+stands_in columns (Some signal) = has_column signal columns
+
+-- the first signal from the left that stood before; `before` is what stands left of the columns
+unfoldable pub repeated_after : ColumnList → ColumnList → Option Signal
+repeated_after before [] = None
+repeated_after before (column ∷ columns) = if stands_in before column then column else repeated_after (before ++ column ∷ []) columns
+
+-- no signal stands twice
+abbrev pub refuse_twice : Option Signal → Result (Unit {0}) HeaderFault
+refuse_twice None = Ok tt
+refuse_twice (Some signal) = Err (Twice signal)
+
+-- a carriage return stands in the line
+abbrev pub has_return : List ℕ → Bool
+has_return line = list_any (λ byte. byte == 13) line
+
+-- the columns of a header, or its first fault
+unfoldable pub columns_of : List ℕ → Result ColumnList HeaderFault
+columns_of line = do
+  refuse_if (has_return line) StrayReturn
+  let columns = map column_of (fields_of_line line)
+  refuse_twice (repeated_after [] columns)
+  refuse_if (not (has_column Insn columns)) (NoColumn Insn)
+  refuse_if (not (has_column PcRdata columns)) (NoColumn PcRdata)
+  Ok columns
+
+-- the fault that an error stands for
+abbrev pub header_fault : HeaderError → Option HeaderFault
+header_fault errors.NoMemory = None
+header_fault (errors.Fault fault) = Some fault

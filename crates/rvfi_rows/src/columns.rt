@@ -1,0 +1,162 @@
+//! The columns of a trace.
+
+ghost use Rattle.std.specs.Prelude.{◌≡◌, ℕ, List, [], map};
+ghost use Rattle.hart_words.specs.declared.signal.Signal.{Signal};
+ghost use Rattle.rvfi_rows.specs.Gives.{Gives};
+ghost use Rattle.rvfi_rows.specs.Columns.{columns_of, header_fault, column_of, signal_named, less_prefix, is_of, has_column, stands_in, repeated_after, has_return};
+
+use crate::fault::{HeaderError, HeaderFault};
+use csv_line::{Fields, line_fields};
+use hart_words::Signal;
+use std::alloc::Global;
+use std::marker::Model;
+
+/// The signals that are read from a trace.
+const KNOWN: [Signal; 12] = [
+    Signal::Valid,
+    Signal::Order,
+    Signal::Intr,
+    Signal::PcRdata,
+    Signal::Mode,
+    Signal::Ixl,
+    Signal::Trap,
+    Signal::Insn,
+    Signal::RdAddr,
+    Signal::RdWdata,
+    Signal::PcWdata,
+    Signal::Halt,
+];
+
+/// For each field of a header the signal that it names, or none for an unknown name.
+#[derive(Debug, Drop)]
+pub struct Columns {
+    signals: Vec<Option<Signal>>,
+}
+
+impl Model for Columns {
+    ghost use Rattle.std.specs.Prelude.{List, Option};
+    ghost use Rattle.hart_words.specs.declared.signal.Signal.{Signal};
+
+    ghost Value = { List (Option Signal) };
+
+    ghost view = { λ columns. columns.signals.items };
+}
+
+impl Columns {
+    pub(crate) fn as_slice(&self) -> &[Option<Signal>]
+        ensures { result.now ≡ self.now }
+    {
+        self.signals.as_slice()
+    }
+}
+
+/// The columns that the fields of `line` name, as RVFI's description names its signals. A name may
+/// begin with `rvfi_`, which is dropped once; a name that is not known is passed over.
+///
+/// The faults, the first that holds: a carriage return stands in the line; a known name stands
+/// twice; `insn` is missing; `pc_rdata` is missing.
+#[tactic(auto, unfolding(crate::specs::Columns::columns_of))]
+pub fn read_header(alloc: Global, line: &[u8]) -> Result<Columns, HeaderError>
+    ensures { Gives header_fault (λ columns. columns) result (columns_of line.now) }
+{
+    if has_carriage_return(line) {
+        return Err(HeaderError::Fault(HeaderFault::StrayReturn));
+    }
+    let fields = line_fields(alloc, line)?;
+    let columns = columns_named(alloc, &fields)?;
+    if let Some(signal) = repeated(columns.as_slice()) {
+        return Err(HeaderError::Fault(HeaderFault::Twice(signal)));
+    }
+    if !shows(columns.as_slice(), Signal::Insn) {
+        return Err(HeaderError::Fault(HeaderFault::NoColumn(Signal::Insn)));
+    }
+    if !shows(columns.as_slice(), Signal::PcRdata) {
+        return Err(HeaderError::Fault(HeaderFault::NoColumn(Signal::PcRdata)));
+    }
+    Ok(columns)
+}
+
+/// Whether a carriage return stands in the line.
+pub(crate) fn has_carriage_return(line: &[u8]) -> bool
+    ensures { result ≡ has_return line.now }
+{
+    line.iter().any(|byte| *byte == b'\r')
+}
+
+/// Whether the column shows the signal.
+pub(crate) fn is_column_of(signal: Signal, column: Option<Signal>) -> bool
+    ensures { result ≡ is_of signal column }
+{
+    match column {
+        None => false,
+        Some(shown) => shown.place() == signal.place(),
+    }
+}
+
+/// Whether some column shows the signal.
+fn shows(columns: &[Option<Signal>], signal: Signal) -> bool
+    ensures { result ≡ has_column signal columns.now }
+{
+    columns.iter().any(|column| is_column_of(signal, *column))
+}
+
+/// Whether a known column's signal stands in these columns too.
+fn stands(columns: &[Option<Signal>], column: Option<Signal>) -> bool
+    ensures { result ≡ stands_in columns.now column }
+{
+    match column {
+        None => false,
+        Some(signal) => shows(columns, signal),
+    }
+}
+
+/// The first signal from the left that stood before.
+fn repeated(columns: &[Option<Signal>]) -> Option<Signal>
+    ensures { result ≡ repeated_after [] columns.now }
+{
+    for index in 0..columns.len() {
+        let column = columns[index];
+        if stands(&columns[..index], column) {
+            return column;
+        }
+    }
+    None
+}
+
+/// What each field names.
+fn columns_named(alloc: Global, fields: &Fields) -> Result<Columns, HeaderError>
+    ensures { Gives header_fault (λ columns. columns) result (Ok (map column_of fields.now)) }
+{
+    let mut signals = Vec::new(alloc);
+    for index in 0..fields.len() {
+        if let Some(field) = fields.get(index) {
+            signals.push(column_named(field))?;
+        }
+    }
+    Ok(Columns { signals })
+}
+
+/// The known signal that a header's field names.
+fn column_named(field: &[u8]) -> Option<Signal>
+    ensures { result ≡ column_of field.now }
+{
+    known_signal(without_prefix(field))
+}
+
+#[tactic(auto, unfolding(crate::specs::Columns::less_prefix))]
+fn without_prefix(name: &[u8]) -> &[u8]
+    ensures { result.now ≡ less_prefix name.now }
+{
+    if name.starts_with(b"rvfi_") {
+        &name[5..]
+    } else {
+        name
+    }
+}
+
+#[tactic(auto, unfolding(crate::specs::Columns::signal_named))]
+fn known_signal(name: &[u8]) -> Option<Signal>
+    ensures { result ≡ signal_named name.now }
+{
+    KNOWN.iter().copied().find(|signal| signal.is_named(name))
+}

@@ -1,0 +1,90 @@
+use super::*;
+use hart_words::Signal;
+use std::alloc::Global;
+use std::test::Fail;
+
+const HEADER: &[u8] = b"valid,order, rvfi_insn ,pc_rdata,core_note,\"mode\",rd_wdata,halt";
+
+fn header_fault(alloc: Global, line: &[u8]) -> Option<HeaderFault> {
+    match read_header(alloc, line) {
+        Err(HeaderError::Fault(fault)) => Some(fault),
+        _ => None,
+    }
+}
+
+fn row_fault(alloc: Global, columns: &Columns, line: &[u8]) -> Option<RowFault> {
+    match read_row(alloc, columns, line) {
+        Err(RowError::Fault(fault)) => Some(fault),
+        _ => None,
+    }
+}
+
+fn shared<T: Send + Sync>(_value: &T) {}
+
+#[test]
+fn reads_rows(rt: HostRuntime) -> Result<(), Fail> {
+    let alloc = rt.alloc();
+    let columns = read_header(alloc, HEADER)?;
+    shared(&columns);
+    let row = read_row(
+        alloc,
+        &columns,
+        b"1,,0X00000093,0x80000000,x y z,3 ,18446744073709551615,",
+    )?
+    .ok_or("the row is valid")?;
+    shared(&row);
+    assert_eq!(rt; row.shown(Signal::Valid), Some(1));
+    assert_eq!(rt; row.shown(Signal::Order), None);
+    assert_eq!(rt; row.shown(Signal::Insn), Some(0x93));
+    assert_eq!(rt; row.shown(Signal::PcRdata), Some(0x8000_0000));
+    assert_eq!(rt; row.shown(Signal::Mode), Some(3));
+    assert_eq!(rt; row.shown(Signal::RdWdata), Some(u64::MAX));
+    assert_eq!(rt; row.shown(Signal::Halt), None);
+    assert_eq!(rt; row.shown(Signal::Trap), None);
+    // Nothing but the number of fields counts in a row that is not valid.
+    assert!(rt; read_row(alloc, &columns, b"0x0,,,one,,9,-,2")?.is_none());
+    Ok(())
+}
+
+#[test]
+fn refuses_rows(rt: HostRuntime) -> Result<(), Fail> {
+    let alloc = rt.alloc();
+    let columns = read_header(alloc, HEADER)?;
+    let rows: [(&[u8], RowFault); 9] = [
+        (b"0,,,\r", RowFault::StrayReturn),
+        (b"0,,,,,,", RowFault::FieldCount),
+        (b"", RowFault::FieldCount),
+        (b"no,x,,,,,,", RowFault::NotNumber(Signal::Valid)),
+        (b"2,x,,,,,,", RowFault::TooWide(Signal::Valid)),
+        (b",-1,,,,,,", RowFault::NotNumber(Signal::Order)),
+        (b"1,, ,,,,,", RowFault::Empty(Signal::Insn)),
+        (b"1,,0x100000000,,,,,", RowFault::TooWide(Signal::Insn)),
+        (b",,1,,,9,,", RowFault::Empty(Signal::PcRdata)),
+    ];
+    for (line, fault) in rows {
+        assert_eq!(rt; row_fault(alloc, &columns, line), Some(fault));
+    }
+    Ok(())
+}
+
+#[test]
+fn refuses_headers(rt: HostRuntime) {
+    let alloc = rt.alloc();
+    let headers: [(&[u8], HeaderFault); 6] = [
+        (b"insn,insn,pc_rdata\r", HeaderFault::StrayReturn),
+        (
+            b"mode,order,rvfi_mode,order",
+            HeaderFault::Twice(Signal::Mode),
+        ),
+        (b"order,note,note", HeaderFault::NoColumn(Signal::Insn)),
+        (b"INSN,pc_rdata", HeaderFault::NoColumn(Signal::Insn)),
+        (
+            b"rvfi_rvfi_insn,pc_rdata",
+            HeaderFault::NoColumn(Signal::Insn),
+        ),
+        (b"insn", HeaderFault::NoColumn(Signal::PcRdata)),
+    ];
+    for (line, fault) in headers {
+        assert_eq!(rt; header_fault(alloc, line), Some(fault));
+    }
+}
