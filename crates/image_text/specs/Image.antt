@@ -12,21 +12,13 @@ use Rattle.image_text.specs.declared.fault.ImageError.TheVariants as errors
 use Rattle.image_text.specs.declared.word.Word.{Word}
 use Rattle.image_text.specs.declared.word.Word.TheVariants.{Byte, Address}
 use Rattle.image_text.specs.Bytes.{with_byte}
+use Rattle.image_text.specs.Gives.{◌>>=◌}
 use Rattle.image_text.specs.Tokens.{Token, tokens_of, opens_block}
 
-infixl 10 ◌>>=◌
-abbrev pub ◌>>=◌ : {A B : Type 0} → Result A ImageFault → (A → Result B ImageFault) → Result B ImageFault
-(Ok x) >>= f = f x
-(Err e) >>= f = Err e
-
--- What a function returned, seen by view, is what the definition gives, unless memory ran out.
-abbrev pub Fails : {Y : Type 0} → ImageError → Result Y ImageFault → Type 0
-Fails errors.NoMemory gives = Unit {0}
-Fails (errors.Fault f) gives = gives ≡ Err f
-
-abbrev pub Gives : {X Y : Type 0} → (X → Y) → Result X ImageError → Result Y ImageFault → Type 0
-Gives view (Ok x) gives = gives ≡ Ok (view x)
-Gives view (Err e) gives = Fails e gives
+-- the fault that an error stands for; want of memory is none
+abbrev pub image_fault : ImageError → Option ImageFault
+image_fault (errors.Fault fault) = Some fault
+image_fault errors.NoMemory = None
 
 -- each byte is a hexadecimal digit, of either case
 abbrev pub are_digits : List ℕ → Bool

@@ -1,3 +1,4 @@
+pub mod Gives
 pub mod Bytes
 pub mod Tokens
 pub mod Steps

@@ -6,7 +6,8 @@ use Rattle.image_text.specs.declared.fault.ImageFault.{ImageFault}
 use Rattle.image_text.specs.declared.reading.Underway.{Underway}
 use Rattle.image_text.specs.declared.tokens.Piece.{Piece}
 use Rattle.image_text.specs.Bytes.{byte_at}
-use Rattle.image_text.specs.Image.{Fails, bytes_after}
+use Rattle.image_text.specs.Gives.{FailsAs}
+use Rattle.image_text.specs.Image.{image_fault, bytes_after}
 use Rattle.image_text.specs.Steps.{token_seen}
 use Rattle.image_text.specs.Tokens.{Token}
 
@@ -17,4 +18,4 @@ led_to ram image tokens = bytes_after ram (byte_at image.pieces) image.address t
 -- what the token and others lead to, the others lead to from the new image, or the token is the fault
 abbrev pub TakeGives : Span → Underway → Piece → Underway → Result (Unit {0}) ImageError → Type 0
 TakeGives ram old token new (Ok done) = (others : List Token) → led_to ram old (token_seen token ∷ others) ≡ led_to ram new others
-TakeGives ram old token new (Err e) = (others : List Token) → Fails e (led_to ram old (token_seen token ∷ others))
+TakeGives ram old token new (Err e) = (others : List Token) → FailsAs (image_fault e) (led_to ram old (token_seen token ∷ others))

@@ -8,5 +8,5 @@ mod tokens;
 mod word;
 
 pub use fault::{FaultKind, ImageError, ImageFault};
-pub use pieces::Pieces;
+pub use pieces::{PiecePage, Pieces};
 pub use reading::read_image;

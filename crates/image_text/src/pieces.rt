@@ -12,6 +12,23 @@ pub struct PiecePage {
     ghost full: { length bytes ≡ 4096 },
 }
 
+impl PiecePage {
+    ghost use Rattle.std.specs.Prelude.{◌≡◌, ℕ, ◌<◌, None, unwrap_or, length, slice_index};
+    ghost use Rattle.std.specs.List.{slice_index_or};
+
+    /// The bytes of the page, 0 where it has none.
+    pub fn plain(&self) -> [u8; 4096]
+        ensures len { length result ≡ 4096 }
+        ensures value { (k : ℕ) → k < 4096 → slice_index result k ≡ unwrap_or (slice_index_or self.now.bytes k None) 0 }
+    {
+        let mut plain = [0; 4096];
+        for k in 0..4096 {
+            plain[k] = self.bytes[k].unwrap_or(0);
+        }
+        plain
+    }
+}
+
 /// The bytes of an image, in pages by their number.
 #[derive(Drop)]
 pub struct Pieces {
@@ -39,6 +56,13 @@ impl Pieces {
     {
         let page = self.pages.get(&(address / 4096))?;
         page.bytes[(address % 4096) as usize]
+    }
+
+    /// The pages by their number, which is an address divided by 4,096.
+    pub fn pages(&self) -> &BTreeMap<u64, Box<PiecePage>>
+        ensures { result.now ≡ self.now.pages }
+    {
+        &self.pages
     }
 
     /// Puts a byte at an address. Without memory no byte changes.

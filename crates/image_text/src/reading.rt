@@ -3,7 +3,8 @@
 ghost use Rattle.std.specs.Prelude.{◌≡◌};
 ghost use Rattle.hart_words.specs.Map.{IsSpan};
 ghost use Rattle.image_text.specs.Bytes.{byte_at};
-ghost use Rattle.image_text.specs.Image.{Gives, image_of};
+ghost use Rattle.image_text.specs.Gives.{Gives};
+ghost use Rattle.image_text.specs.Image.{image_fault, image_of};
 
 use crate::fault::{FaultKind, ImageError, ImageFault};
 use crate::pieces::Pieces;
@@ -17,7 +18,7 @@ use std::alloc::Global;
 /// The error is the first fault in text order.
 pub fn read_image(alloc: Global, text: &[u8], ram: Span) -> Result<Pieces, ImageError>
     requires { IsSpan ram }
-    ensures { Gives byte_at result (image_of ram text.now) }
+    ensures { Gives image_fault byte_at result (image_of ram text.now) }
 {
     let mut image = Underway {
         pieces: Pieces::empty(alloc),
