@@ -20,10 +20,10 @@ content f page k = option_and_then (λ x. f x k) page
 is_eq_cmp : (n q : ℕ) → is_eq (nat_cmp n q) ≡ eqb n q
 is_eq_cmp n q = grind (arith, common_steps)
 
-is_eq_same : (n : ℕ) → is_eq (nat_cmp n n) ≡ true
+pub is_eq_same : (n : ℕ) → is_eq (nat_cmp n n) ≡ true
 is_eq_same n = rw (is_eq_cmp n n) (grind (arith, nat_tests))
 
-is_eq_other : (n q : ℕ) → (n ≡ q → ⊥) → is_eq (nat_cmp n q) ≡ false
+pub is_eq_other : (n q : ℕ) → (n ≡ q → ⊥) → is_eq (nat_cmp n q) ≡ false
 is_eq_other n q apart = rw (is_eq_cmp n q) (grind (arith, nat_tests))
 
 pub eq_same : (n : ℕ) → (n == n) ≡ true
