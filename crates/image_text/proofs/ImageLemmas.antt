@@ -1,5 +1,5 @@
 -- What a token leads to.
-use Rattle.std.proofs.Common.{◌≡◌, ℕ, ◌+◌, ◌%◌, ◌^◌, ◌<◌, ◌≤◌, ◌⊎◌, ◌↔◌, Bool, true, false, List, ◌∷◌, Option, is_some, Some, Result, Ok, Err, IsTrue, refl, sym, inl, inr, arith}
+use Rattle.std.proofs.Common.{◌≡◌, ℕ, ◌+◌, ◌%◌, ◌^◌, ◌↔◌, Bool, true, false, List, ◌∷◌, Option, is_some, Ok, Err, IsTrue, refl, inl, inr, arith}
 use Rattle.std.proofs.lemmas.Bool.Decides.{nat_tests}
 use Rattle.hart_words.specs.declared.map.Span.{Span}
 use Rattle.hart_words.specs.Map.{Lies}
@@ -17,8 +17,8 @@ pub in_is : (ram : Span) (address : ℕ) (b : Bool) → (IsTrue b ↔ Lies addre
 in_is ram address true h = let lies = h.0 refl in grind (arith, nat_tests, lies)
 in_is ram address false h =
     elim (test (is_in ram address)) [
-      inl is ↦ (let lies : Lies address ram = grind (arith, nat_tests, is) in let none = h.1 lies in cc)
-    | inr not ↦ not
+      | inl is ↦ (let lies : Lies address ram = grind (arith, nat_tests, is) in let none = h.1 lies in cc)
+      | inr not ↦ not
     ]
 
 pub put_address : (ram : Span) (bytes : ℕ → Option ℕ) (address next : ℕ) → put ram bytes address (Address next) ≡ Ok (bytes, next)

@@ -1,5 +1,5 @@
 -- What a change of one page does to the bytes.
-use Rattle.std.proofs.Common.{◌≡◌, ℕ, ◌+◌, ◌*◌, ◌/◌, ◌%◌, ◌<◌, ◌≤◌, ◌⊎◌, Bool, true, false, cond, Option, Some, None, IsSome, is_some, IsTrue, List, length, refl, sym, ◌∙◌, ap, subst, inl, inr, arith, rules, nat_cmp, nat_eq, if◌then◌else◌, eqb, replicate, ◌&&◌, get_or, set}
+use Rattle.std.proofs.Common.{◌≡◌, ℕ, ◌/◌, ◌%◌, ◌<◌, true, false, cond, Option, Some, None, is_some, List, length, refl, sym, subst, inl, inr, arith, nat_cmp, if◌then◌else◌, eqb, replicate, ◌&&◌, set}
 use Rattle.std.proofs.Math.Path.{fun_ext}
 use Rattle.std.specs.Prelude.{option_and_then, ◌==◌}
 use Rattle.std.specs.List.{slice_index_or}
@@ -11,7 +11,7 @@ use Rattle.std.proofs.lemmas.Grind.{common_steps}
 use Rattle.std.proofs.lemmas.List.{get_or-set_same, get_or-set_other, get_or-replicate, length-replicate}
 use Rattle.std.proofs.Math.ListN.{get_or-eq_default}
 use Rattle.image_text.specs.declared.pieces.Pieces.{Pieces}
-use Rattle.image_text.specs.Bytes.{byte_at, with_byte, has_page}
+use Rattle.image_text.specs.Bytes.{byte_at, with_byte}
 
 -- what a page, if there is one, has at an offset
 abbrev pub content : {X : Type 0} → (X → ℕ → Option ℕ) → Option X → ℕ → Option ℕ
@@ -41,8 +41,8 @@ pub added : {X : Type 0} (f : X → ℕ → Option ℕ) (before after : ℕ → 
 added f before after number page updates absent empty q k =
     let P : ℕ → Type 0 = λ n. content f (after n) k ≡ content f (before n) k in
     elim (cases_eq number q) [
-      inl same ↦ subst P same (rw (updates number, is_eq_same number, absent) (empty k))
-    | inr apart ↦ rw (updates q, is_eq_other number q apart) refl
+      | inl same ↦ subst P same (rw (updates number, is_eq_same number, absent) (empty k))
+      | inr apart ↦ rw (updates q, is_eq_other number q apart) refl
     ]
 
 -- the same pages have the same bytes
@@ -76,8 +76,8 @@ pub written : {X : Type 0} (f : X → ℕ → Option ℕ) (before after : ℕ �
 written f before after number offset value old new updates was writes q k =
     let P : ℕ → Type 0 = λ n. content f (after n) k ≡ (if n == number && k == offset then Some value else content f (before n) k) in
     elim (cases_eq number q) [
-      inl same ↦ subst P same (rw (updates number, is_eq_same number, was, eq_same number) (writes k))
-    | inr apart ↦ rw (updates q, is_eq_other number q apart, eq_other q number (λ e. apart (sym e))) refl
+      | inl same ↦ subst P same (rw (updates number, is_eq_same number, was, eq_same number) (writes k))
+      | inr apart ↦ rw (updates q, is_eq_other number q apart, eq_other q number (λ e. apart (sym e))) refl
     ]
 
 -- an address is its page's number and its offset there
@@ -98,6 +98,6 @@ written_page before after address value old new updates was writes =
 pub set_at : {X : Type 0} (xs : List X) (offset k : ℕ) (x d : X) → offset < length xs → slice_index_or (set xs offset x) k d ≡ (if k == offset then x else slice_index_or xs k d)
 set_at xs offset k x d below =
     elim (cases_eq k offset) [
-      inl same ↦ rw (same, eq_same offset) (get_or-set_same xs offset x d below)
-    | inr apart ↦ rw (eq_other k offset apart) (get_or-set_other xs offset k x d apart)
+      | inl same ↦ rw (same, eq_same offset) (get_or-set_same xs offset x d below)
+      | inr apart ↦ rw (eq_other k offset apart) (get_or-set_other xs offset k x d apart)
     ]

@@ -1,9 +1,9 @@
 -- The tokens of a text, from its front.
-use Rattle.std.proofs.Common.{◌≡◌, ℕ, ◌+◌, ◌<◌, ◌≤◌, ◌⊎◌, Bool, true, false, ◌||◌, ◌&&◌, cond, List, [], ◌∷◌, length, take, drop, refl, sym, ◌∙◌, ap, subst, inl, inr, arith, rules, if◌then◌else◌, add-one, suc, zero}
+use Rattle.std.proofs.Common.{◌≡◌, ℕ, ◌+◌, ◌≤◌, ◌⊎◌, Bool, true, false, ◌||◌, ◌&&◌, List, [], ◌∷◌, length, take, drop, refl, inl, inr, arith, if◌then◌else◌, add-one}
 use Rattle.std.specs.Prelude.{◌==◌, slice_index}
 use Rattle.std.proofs.lemmas.Bool.{cases_eq}
-use Rattle.image_text.proofs.Pages.{eq_same, eq_other}
-use Rattle.image_text.specs.Tokens.{Token, is_blank, opens_line, opens_block, closes_block, has_close, Region, Plain, LineComment, BlockComment, uncommented, joined, runs, tokens_from, opens_comment, begins_with_close, run_len}
+use Rattle.image_text.proofs.Pages.{eq_other}
+use Rattle.image_text.specs.Tokens.{Token, is_blank, opens_line, opens_block, has_close, Plain, LineComment, BlockComment, uncommented, joined, runs, tokens_from, opens_comment, begins_with_close, run_len}
 
 pub test : (x : Bool) → (x ≡ true) ⊎ (x ≡ false)
 test true = inl refl
@@ -57,8 +57,8 @@ unfolding uncommented runs
 block_more line a [] h = refl
 block_more line a (b ∷ rest) h =
     elim (cases_eq a 10) [
-      inl same ↦ rw same refl
-    | inr apart ↦ rw (h, eq_other a 10 apart) refl
+      | inl same ↦ rw same refl
+      | inr apart ↦ rw (h, eq_other a 10 apart) refl
     ]
 
 -- plain text
@@ -78,8 +78,8 @@ unfolding runs
 blank_step line a rest blank =
     let front = plain_kept a rest (no_slash_opens a rest (blank_no_slash a blank)) in
     elim (cases_eq a 10) [
-      inl same ↦ rw front (rw same refl)
-    | inr apart ↦ rw (front, blank, eq_other a 10 apart) refl
+      | inl same ↦ rw front (rw same refl)
+      | inr apart ↦ rw (front, blank, eq_other a 10 apart) refl
     ]
 
 line_step : (line : ℕ) (rest : List ℕ) → tokens_from line Plain (47 ∷ 47 ∷ rest) ≡ tokens_from line LineComment rest
@@ -105,8 +105,8 @@ and_both false y h = cc
 mark_is : (a b : ℕ) → (opens_line a b || opens_block a b) ≡ true → (a ≡ 47) × ((b ≡ 47) ⊎ (b ≡ 42))
 mark_is a b h =
     elim (test (opens_line a b)) [
-      inl line ↦ (let both = and_both (a == 47) (b == 47) line in (eq_true a 47 both.0, inl (eq_true b 47 both.1)))
-    | inr other ↦ (let both = and_both (a == 47) (b == 42) (rw other at h) in (eq_true a 47 both.0, inr (eq_true b 42 both.1)))
+      | inl line ↦ (let both = and_both (a == 47) (b == 47) line in (eq_true a 47 both.0, inl (eq_true b 47 both.1)))
+      | inr other ↦ (let both = and_both (a == 47) (b == 42) (rw other at h) in (eq_true a 47 both.0, inr (eq_true b 42 both.1)))
     ]
 
 pub opens_long : (text : List ℕ) → opens_comment text ≡ true → 2 ≤ length text
@@ -207,9 +207,9 @@ run_tokens line a (b ∷ rest) blank opens =
     let text = runs_text line a (uncommented Plain (b ∷ rest)) blank in
     let more = run_more a (b ∷ rest) blank opens in
     elim (test (is_blank b)) [
-      inl is ↦ rw (front, text, more, run_ends_blank b rest is) (joined_blank line a b _ _ _ (plain_kept b rest (no_slash_opens b rest (blank_no_slash b is))) is)
-    | inr not ↦ elim (test (opens_comment (b ∷ rest))) [
-        inl is ↦ rw (front, text, more, run_ends_opens b rest not is) (joined_blank line a 32 _ _ _ (opens_blank b rest is).1 refl)
-      | inr neither ↦ rw (front, text, more, add-one) (joined_text line a b _ _ _ _ _ (plain_kept b rest neither) not (run_tokens line b rest not neither))
+      | inl is ↦ rw (front, text, more, run_ends_blank b rest is) (joined_blank line a b _ _ _ (plain_kept b rest (no_slash_opens b rest (blank_no_slash b is))) is)
+      | inr not ↦ elim (test (opens_comment (b ∷ rest))) [
+        | inl is ↦ rw (front, text, more, run_ends_opens b rest not is) (joined_blank line a 32 _ _ _ (opens_blank b rest is).1 refl)
+        | inr neither ↦ rw (front, text, more, add-one) (joined_text line a b _ _ _ _ _ (plain_kept b rest neither) not (run_tokens line b rest not neither))
       ]
     ]

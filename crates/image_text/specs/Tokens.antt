@@ -1,5 +1,5 @@
 -- The tokens of a Verilog memory text: the runs of bytes that blanks and comments leave.
-use Rattle.std.specs.Prelude.{ℕ, ◌+◌, Bool, true, false, ◌==◌, ◌&&◌, ◌||◌, if◌then◌else◌, List, [], ◌∷◌}
+use Rattle.std.specs.Prelude.{ℕ, ◌+◌, Bool, false, ◌==◌, ◌&&◌, ◌||◌, if◌then◌else◌, List, [], ◌∷◌}
 
 -- space, tab, line feed, carriage return and form feed
 abbrev pub is_blank : ℕ → Bool

@@ -10,3 +10,6 @@ mod word;
 pub use fault::{FaultKind, ImageError, ImageFault};
 pub use pieces::{PiecePage, Pieces};
 pub use reading::read_image;
+
+#[cfg(test)]
+mod tests;

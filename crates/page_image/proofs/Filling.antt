@@ -32,8 +32,8 @@ pub one_more : {A B : Type 0} (f : A → ℕ → ℕ) (g : B → ℕ → ℕ) (k
 one_more f g k before after left rest old n page p updates first same found kept q =
     let P : ℕ → Type 0 = λ m. over f g (after m) (rest m) k ≡ over f g None (old m) k in
     elim (cases_eq n q) [
-      inl is ↦ subst P is (rw (updates n, is_eq_same n, found) same)
-    | inr apart ↦ rw (updates q, is_eq_other n q apart) (rw (first q, is_eq_other q n (λ e. apart (sym e))) at (kept q))
+      | inl is ↦ subst P is (rw (updates n, is_eq_same n, found) same)
+      | inr apart ↦ rw (updates q, is_eq_other n q apart) (rw (first q, is_eq_other q n (λ e. apart (sym e))) at (kept q))
     ]
 
 -- a page that is made, or 0

@@ -6,3 +6,6 @@ mod image;
 
 pub use fault::NoMemory;
 pub use image::PageImage;
+
+#[cfg(test)]
+mod tests;

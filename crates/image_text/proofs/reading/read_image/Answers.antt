@@ -1,4 +1,4 @@
-use Rattle.std.proofs.Common.{◌∙◌, sym, ap, refl}
+use Rattle.std.proofs.Common.{◌∙◌, sym, ap}
 use Rattle.image_text.specs.Image.{bytes_after}
 use Rattle.image_text.specs.Taking.{led_to}
 use Rattle.image_text.proofs.reading.read_image.Goals as goal

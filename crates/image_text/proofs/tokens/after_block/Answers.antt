@@ -1,4 +1,4 @@
-use Rattle.std.proofs.Common.{◌∙◌, sym, arith, length-drop}
+use Rattle.std.proofs.Common.{◌∙◌, sym, arith}
 use Rattle.image_text.proofs.TokenLemmas.{block_end, block_has, block_long, block_has_more, block_more, block_none}
 use Rattle.image_text.proofs.tokens.after_block.Goals as goal
 

@@ -1,4 +1,4 @@
-use Rattle.std.proofs.Common.{◌∙◌, sym, ap, arith}
+use Rattle.std.proofs.Common.{◌∙◌, sym, arith}
 use Rattle.image_text.proofs.TokenLemmas.{plain_none, blank_step, run_tokens, run_more}
 use Rattle.image_text.proofs.tokens.next_step.Goals as goal
 

@@ -1,4 +1,4 @@
-use Rattle.std.proofs.Common.{◌∙◌, sym, ap, arith}
+use Rattle.std.proofs.Common.{◌∙◌, ap, arith}
 use Rattle.image_text.specs.Tokens.{runs}
 use Rattle.image_text.proofs.TokenLemmas.{opens_long, opens_line_at, opens_block_at, opens_open_at}
 use Rattle.image_text.proofs.tokens.over_comment.Goals as goal

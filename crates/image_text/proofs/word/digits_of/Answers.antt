@@ -1,14 +1,11 @@
-use Rattle.std.proofs.Common.{◌≡◌, ◌<◌, ◌≤◌, ◌^◌, ℕ, ◌+◌, ◌*◌, length, take, get_or, refl, arith, List, [], ◌∷◌, lit<, length-take, true}
+use Rattle.std.proofs.Common.{◌≡◌, ◌<◌, ◌≤◌, ◌^◌, ℕ, length, take, get_or, refl, arith, List, [], ◌∷◌, lit<, length-take, true}
 use Rattle.std.proofs.Math.Nat.{pow-le-pow_right}
-use Rattle.std.specs.Char.{is_digit, digit_value}
-use Rattle.std.specs.List.{list_all}
+use Rattle.std.specs.Char.{digit_value}
 use Rattle.std.specs.Str.Parse.{AllDigits, digits_value}
-use Rattle.std.proofs.lemmas.Grind.{common_steps}
 use Rattle.std.proofs.lemmas.Int.Digits.{digits_value-lt, digits_value_more, digits_more}
-use Rattle.std.proofs.lemmas.List.Folds.{list_all_at}
 use Rattle.std.proofs.lemmas.List.{take_all}
 use Rattle.std.proofs.lemmas.Bool.Decides.{nat_tests}
-use Rattle.image_text.specs.Image.{are_digits, word_of}
+use Rattle.image_text.specs.Image.{are_digits}
 use Rattle.image_text.proofs.word.digits_of.Goals as goal
 
 -- digits fewer than 16 leave room for one more

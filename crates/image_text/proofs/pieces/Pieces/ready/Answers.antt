@@ -1,5 +1,5 @@
 use Rattle.std.proofs.Common.{rules, refl, sym, ◌∙◌}
-use Rattle.image_text.specs.Bytes.{byte_at, has_page}
+use Rattle.image_text.specs.Bytes.{has_page}
 use Rattle.image_text.proofs.Pages.{unchanged, added_page, none_at, none_from_test}
 use Rattle.image_text.proofs.pieces.Pieces.ready.Goals as goal
 

@@ -1,8 +1,7 @@
-use Rattle.std.proofs.Common.{length, ◌<◌, ◌%◌, rules, refl, arith, sym, ◌∙◌, ap, ◌≡◌, IsSome, Some, Option, IsTrue, is_some, lit<}
+use Rattle.std.proofs.Common.{length, ◌<◌, ◌%◌, refl, arith, sym, ◌∙◌, ap}
 use Rattle.std.specs.Option.{option_copied_mut}
-use Rattle.std.specs.BTreeMap.{get}
-use Rattle.image_text.specs.Bytes.{byte_at, has_page}
-use Rattle.image_text.proofs.Pages.{written_page, set_at, none_from_test}
+use Rattle.image_text.specs.Bytes.{has_page}
+use Rattle.image_text.proofs.Pages.{written_page, set_at}
 use Rattle.image_text.proofs.pieces.Pieces.set.Goals as goal
 
 pub unreachable-requires : goal.unreachable-requires

@@ -1,4 +1,4 @@
-use Rattle.std.proofs.Common.{◌≡◌, ◌∙◌, sym, refl, ap, arith, is_some, true, false}
+use Rattle.std.proofs.Common.{◌≡◌, ◌∙◌, sym, ap, is_some, true, false}
 use Rattle.image_text.specs.Bytes.{byte_at}
 use Rattle.image_text.proofs.ImageLemmas.{in_is, put_outside, put_overlap, put_byte, put_address, after_bad, after_refused, after_put}
 use Rattle.image_text.proofs.reading.Underway.take.Goals as goal
