@@ -1,5 +1,5 @@
 -- The command line as data, and what a parse by it says.
-use Rattle.std.proofs.Common.{◌≡◌, ◌∙◌, Bool, true, false, ◌||◌, List, [], ◌∷◌, Option, Some, None, refl, sym, ap, ap₂, inl, inr}
+use Rattle.std.proofs.Common.{◌≡◌, ◌∙◌, Bool, true, false, ◌||◌, List, [], ◌∷◌, Option, None, refl, sym, ap, ap₂, inl, inr}
 use Rattle.clap.specs.Words.{AddsArg, App, Row, Rule, Text, app_of, built, fault_of, is_simple, is_simple_and_free, kind_of, rule_of, subcommand_of, with_rule}
 use Rattle.clap.specs.Faults.{is_free_app}
 use Rattle.clap.specs.Kinds.{HasKind, Kinds}

@@ -2,8 +2,6 @@
 use Rattle.std.proofs.Common.{◌≡◌, ◌∙◌, ◌==◌, ◌+◌, ℕ, List, [], length, drop, Option, Some, None, refl, ap, arith}
 use Rattle.std.specs.List.{after_first, before_first, position_or_len}
 use Rattle.std.proofs.Common.{drop_of_length-le}
-use Rattle.hart_words.specs.Map.{IsSpan}
-use Rattle.hart_words.specs.declared.map.Span.{Span}
 use Rattle.hart_words.specs.Numbers.{digits_number, number_of, number_within}
 use Rattle.judge_words.specs.Values.{◌>>=◌, number, span_of, whole_pages}
 

@@ -1,5 +1,5 @@
 -- The values of the command line's options.
-use Rattle.std.specs.Prelude.{ℕ, ◌+◌, ◌%◌, ◌^◌, Bool, ◌==◌, ◌&&◌, nat_le, List, Option, Some, None, if◌then◌else◌}
+use Rattle.std.specs.Prelude.{ℕ, ◌+◌, ◌%◌, ◌^◌, ◌==◌, ◌&&◌, nat_le, List, Option, Some, None, if◌then◌else◌}
 use Rattle.std.specs.List.{before_first, after_first}
 use Rattle.std.specs.Result.{result_ok}
 use Rattle.hart_words.specs.Numbers.{number_within}

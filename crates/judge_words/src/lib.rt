@@ -7,3 +7,5 @@ mod values;
 
 pub use job::{Job, WordError, read_words};
 
+#[cfg(test)]
+mod tests;

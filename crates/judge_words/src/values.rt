@@ -33,7 +33,11 @@ pub fn read_limit(text: &str) -> Option<u64>
     ensures most { IfSome result (λ value. value ≤ 2 ^ 30) }
 {
     let value = read_u64(text)?;
-    if 1 <= value && value <= 1 << 30 { Some(value) } else { None }
+    if 1 <= value && value <= 1 << 30 {
+        Some(value)
+    } else {
+        None
+    }
 }
 
 /// A range of addresses, as `BASE:SIZE`.

@@ -1,4 +1,4 @@
-use Rattle.std.proofs.Common.{rules, arith}
+use Rattle.std.proofs.Common.{rules}
 use Rattle.judge_words.proofs.Spans.{span_of-no_colon}
 use Rattle.judge_words.proofs.values.read_span.Goals as goal
 
