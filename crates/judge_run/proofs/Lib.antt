@@ -1,3 +1,6 @@
 pub mod Turns
 pub mod Memories
 pub mod Endings
+pub mod Steps
+pub mod Written
+pub mod Runs

@@ -23,8 +23,6 @@ drop_gone [] i is = drop_past [] i (omega arith)
 drop_gone (y ∷ xs) zero is = absurd cc
 drop_gone (y ∷ xs) (suc i) is = drop_gone xs i is
 
-
-
 pub line_turn : (setting : Setting) (before now : Progress) (lines : List (List ℕ)) (place : ℕ) (line : List ℕ) (end : Option Verdict) (whole : Verdict) → Some line ≡ slice_get lines place → LineGives setting before line end now → verdict_after setting before (drop place lines) ≡ whole → verdict_or end (verdict_after setting now (drop (place + 1) lines)) ≡ whole
 line_turn setting before now lines place line end whole here gives so_far =
     sym (gives (drop (place + 1) lines)) ∙ sym (ap (λ rest. verdict_after setting before rest) (drop_found lines place line here)) ∙ so_far

@@ -3,3 +3,4 @@ pub mod Comparison
 pub mod Rows
 pub mod Answer
 pub mod Stops
+pub mod Ends

@@ -1,7 +1,8 @@
 -- Calls that go towards the answer, and what stops them.
-use Rattle.std.specs.Prelude.{◌≡◌, ℕ, ◌<◌, ◌≤◌, Bool, true, false, Option, Some, None, Result, Ok, Err}
+use Rattle.std.specs.Prelude.{◌≡◌, ℕ, ◌<◌, ◌≤◌, Bool, true, false, Option, Some, None, is_none, Result, Ok, Err}
 use Rattle.outside_ports.specs.Counts.{Rose}
 use Rattle.outside_ports.specs.Ports.{Files}
+use Rattle.judge_words.specs.Job.{JobView}
 use Rattle.image_text.specs.declared.fault.ImageError.{ImageError}
 use Rattle.image_text.specs.declared.fault.ImageError.TheVariants as errors
 use Rattle.trace_report.specs.declared.outcome.Outcome.{Outcome}
@@ -70,3 +71,10 @@ IsJobsOutcome (Err NoMemory) = Unit {0}
 abbrev pub image_stop : ImageError → Stop
 image_stop (errors.Fault fault) = Known (outcomes.ImageFault fault)
 image_stop errors.NoMemory = NoMemory
+
+-- an outcome tells whether the words ask for a job
+abbrev pub WordsTell : Option JobView → Result Outcome Stop → Type 0
+WordsTell job (Ok outcome) = is_no_job outcome ≡ is_none job
+WordsTell job (Err (Known outcome)) = is_no_job outcome ≡ is_none job
+WordsTell job (Err ReadFault) = Unit {0}
+WordsTell job (Err NoMemory) = Unit {0}

@@ -33,11 +33,19 @@ fn compared(signal: Signal, expected: Option<u64>, row: &Row) -> Option<Differen
 }
 
 /// The difference of a signal that is shown and not free.
-fn difference_between(signal: Signal, expected: Option<u64>, shown: Option<u64>) -> Option<Difference>
+fn difference_between(
+    signal: Signal,
+    expected: Option<u64>,
+    shown: Option<u64>,
+) -> Option<Difference>
     ensures { result ≡ difference_at signal expected shown }
 {
     match (expected, shown) {
-        (Some(expected), Some(found)) if expected != found => Some(Difference { signal, expected, found }),
+        (Some(expected), Some(found)) if expected != found => Some(Difference {
+            signal,
+            expected,
+            found,
+        }),
         _ => None,
     }
 }

@@ -39,8 +39,15 @@ pub enum Fetched {
 /// What an instruction did. A trap has the word that was fetched, if one was.
 #[derive(Clone, Copy, Debug)]
 pub enum Retired {
-    Trap { insn: Option<u64> },
-    Done { insn: u64, rd: u8, value: u64, next_pc: u64 },
+    Trap {
+        insn: Option<u64>,
+    },
+    Done {
+        insn: u64,
+        rd: u8,
+        value: u64,
+        next_pc: u64,
+    },
 }
 
 /// The signals that a row must show, by name, where it shows them; those without a value are free.
@@ -64,7 +71,13 @@ impl Core {
     pub fn reset(pc: u64) -> Core
         ensures { result ≡ core_at_reset pc }
     {
-        Core { registers: [0; 32], pc, next_order: None, trapped_last: false, halted: false }
+        Core {
+            registers: [0; 32],
+            pc,
+            next_order: None,
+            trapped_last: false,
+            halted: false,
+        }
     }
 
     /// Steps the hart by a valid row, and says what the row must show.
@@ -101,7 +114,9 @@ impl Core {
     {
         match fetch(image, ram, self.pc) {
             Fetched::Word(word) => self.execute(word),
-            Fetched::Half(word) => Retired::Trap { insn: Some(u64::from(word)) },
+            Fetched::Half(word) => Retired::Trap {
+                insn: Some(u64::from(word)),
+            },
             Fetched::Fault => Retired::Trap { insn: None },
         }
     }
@@ -111,14 +126,26 @@ impl Core {
         ensures { result ≡ retired_by self.now word (instruction_of word) }
     {
         match decode(word) {
-            None => Retired::Trap { insn: Some(u64::from(word)) },
+            None => Retired::Trap {
+                insn: Some(u64::from(word)),
+            },
             Some(op) => {
                 let a = self.register(first_source(op));
                 let rd = destination(op);
                 let insn = u64::from(word);
                 match compute(op, a, 0, self.pc, 4) {
-                    IntResult::Value(value) => Retired::Done { insn, rd, value, next_pc: self.pc.wrapping_add(4) },
-                    IntResult::Jump { link, target } => Retired::Done { insn, rd, value: link, next_pc: target },
+                    IntResult::Value(value) => Retired::Done {
+                        insn,
+                        rd,
+                        value,
+                        next_pc: self.pc.wrapping_add(4),
+                    },
+                    IntResult::Jump { link, target } => Retired::Done {
+                        insn,
+                        rd,
+                        value: link,
+                        next_pc: target,
+                    },
                 }
             }
         }
@@ -129,7 +156,11 @@ impl Core {
     fn expects(&self, retired: Retired, row: &Row) -> Expected
         ensures { result ≡ expected_of self.now retired (shown_in row.now) }
     {
-        let intr = if self.asks_interrupt(row) { Some(0) } else { None };
+        let intr = if self.asks_interrupt(row) {
+            Some(0)
+        } else {
+            None
+        };
         let start = Expected {
             valid: None,
             order: self.next_order,
@@ -145,7 +176,12 @@ impl Core {
         };
         match retired {
             Retired::Trap { insn } => Expected { insn, ..start },
-            Retired::Done { insn, rd, value, next_pc } => Expected {
+            Retired::Done {
+                insn,
+                rd,
+                value,
+                next_pc,
+            } => Expected {
                 trap: Some(0),
                 insn: Some(insn),
                 rd_addr: Some(u64::from(rd)),
@@ -160,7 +196,8 @@ impl Core {
     fn asks_interrupt(&self, row: &Row) -> bool
         ensures { result ≡ asks_interrupt self.now (shown_in row.now) }
     {
-        row_shows(row, Signal::Intr, 1) && !(self.trapped_last && row_shows(row, Signal::PcRdata, self.pc))
+        row_shows(row, Signal::Intr, 1)
+            && !(self.trapped_last && row_shows(row, Signal::PcRdata, self.pc))
     }
 
     /// The hart after the row.
@@ -175,7 +212,12 @@ impl Core {
                 self.pc = 0;
                 self.trapped_last = true;
             }
-            Retired::Done { rd, value, next_pc, .. } => {
+            Retired::Done {
+                rd,
+                value,
+                next_pc,
+                ..
+            } => {
                 if rd != 0 && (rd as usize) < self.registers.len() {
                     self.registers[rd as usize] = value;
                 }
@@ -260,7 +302,8 @@ fn destination(op: Op) -> u8
     ensures { result ≡ rd_of op }
 {
     match op {
-        Op::Lui { rd, .. } | Op::Auipc { rd, .. } | Op::Jal { rd, .. } | Op::Immediate { rd, .. } => rd,
+        Op::Lui { rd, .. } | Op::Auipc { rd, .. } | Op::Jal { rd, .. } | Op::Immediate { rd, .. } =>
+            rd,
     }
 }
 

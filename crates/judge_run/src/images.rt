@@ -43,7 +43,9 @@ fn memory_in(alloc: Global, job: &Job, front: &Front) -> Result<PageImage, Stop>
     ensures read { WasRead result }
 {
     if front.more {
-        return Err(Stop::Known(Outcome::ImageTooLarge { most: job.max_image }));
+        return Err(Stop::Known(Outcome::ImageTooLarge {
+            most: job.max_image,
+        }));
     }
     let pieces = match pieces_in(alloc, &front.bytes, job.ram) {
         Ok(pieces) => pieces,

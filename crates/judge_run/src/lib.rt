@@ -2,15 +2,21 @@
 #![tactic(auto)]
 
 mod comparison;
+mod finding;
 mod hart;
 mod images;
+mod judging;
 mod rows;
 mod stop;
 mod traces;
+mod writing;
 
 pub use comparison::first_difference;
+pub use finding::find_outcome;
 pub use hart::{Core, Expected};
 pub use images::read_memory;
+pub use judging::judge;
 pub use rows::{Progress, judge_lines};
 pub use stop::Stop;
 pub use traces::judge_trace;
+pub use writing::write_all;

@@ -43,7 +43,10 @@ impl Progress {
         let row = match read_row(alloc, columns, line) {
             Ok(row) => row,
             Err(RowError::NoMemory) => return Err(AllocError),
-            Err(RowError::Fault(fault)) => return Ok(Some(Verdict::Refused { row: self.rows + 1, fault })),
+            Err(RowError::Fault(fault)) => return Ok(Some(Verdict::Refused {
+                row: self.rows + 1,
+                fault,
+            })),
         };
         match row {
             None => {
@@ -54,7 +57,10 @@ impl Progress {
                 let expected = self.core.step(image, ram, &row);
                 self.rows += 1;
                 match first_difference(&expected, &row) {
-                    Some(difference) => Ok(Some(Verdict::Differs { row: self.rows, difference })),
+                    Some(difference) => Ok(Some(Verdict::Differs {
+                        row: self.rows,
+                        difference,
+                    })),
                     None => {
                         self.valid += 1;
                         Ok(None)
@@ -78,7 +84,11 @@ pub fn judge_lines(
     requires some { 1 ≤ length (lines_in lines.now) }
     ensures { IfOk result (λ verdict. verdict ≡ verdict_after (setting_of image.now ram columns.now) (at_reset pc) (drop 1 (lines_in lines.now))) }
 {
-    let mut progress = Progress { core: Core::reset(pc), rows: 0, valid: 0 };
+    let mut progress = Progress {
+        core: Core::reset(pc),
+        rows: 0,
+        valid: 0,
+    };
     let mut place = 1;
     'rows: while let Some(line) = lines.get(place) {
         let end = progress.judge_line(alloc, image, ram, columns, line)?;
@@ -87,5 +97,8 @@ pub fn judge_lines(
             None => place += 1,
         }
     }
-    Ok(Verdict::Agrees { rows: progress.rows, valid: progress.valid })
+    Ok(Verdict::Agrees {
+        rows: progress.rows,
+        valid: progress.valid,
+    })
 }

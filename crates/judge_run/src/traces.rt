@@ -18,7 +18,12 @@ use trace_lines::{Ending, LineError, LineTaker, Piece};
 use trace_report::Outcome;
 
 /// Reads the trace of a job and judges its rows over the memory.
-pub fn judge_trace<H: Shelf>(alloc: Global, job: &Job, image: &PageImage, shelf: &mut H) -> Result<Outcome, Stop>
+pub fn judge_trace<H: Shelf>(
+    alloc: Global,
+    job: &Job,
+    image: &PageImage,
+    shelf: &mut H,
+) -> Result<Outcome, Stop>
     requires { IsLawful (job_view job.now) }
     ensures told { H.told shelf.new ≡ H.told shelf.old }
     ensures meant { MeantTold (H.told shelf.old) (λ outcome. outcome) result (λ files. trace_outcome (job_view job.now) (byte_of image.now) files) }
@@ -39,7 +44,12 @@ pub fn judge_trace<H: Shelf>(alloc: Global, job: &Job, image: &PageImage, shelf:
 
 /// The outcome of all lines of a trace.
 #[tactic(auto, unfolding(crate::specs::Answer::lines_outcome))]
-fn outcome_of(alloc: Global, job: &Job, image: &PageImage, piece: &Piece) -> Result<Outcome, AllocError>
+fn outcome_of(
+    alloc: Global,
+    job: &Job,
+    image: &PageImage,
+    piece: &Piece,
+) -> Result<Outcome, AllocError>
     requires { IsLawful (job_view job.now) }
     ensures outcome { IfOk result (λ outcome. outcome ≡ lines_outcome (job_view job.now) (byte_of image.now) (piece_view piece.now)) }
     ensures jobs { IfOk result (λ outcome. is_no_job outcome ≡ false) }
@@ -64,7 +74,9 @@ fn no_line(job: &Job, ending: Ending) -> Outcome
 {
     match ending {
         Ending::TooLong(line) => Outcome::TooLong { line },
-        Ending::TooLarge => Outcome::TraceTooLarge { most: job.max_trace },
+        Ending::TooLarge => Outcome::TraceTooLarge {
+            most: job.max_trace,
+        },
         Ending::End | Ending::More => Outcome::NoHeader,
     }
 }
@@ -77,7 +89,9 @@ fn at_end(job: &Job, ending: Ending, verdict: Verdict) -> Outcome
     match verdict {
         Verdict::Agrees { .. } => match ending {
             Ending::TooLong(line) => Outcome::TooLong { line },
-            Ending::TooLarge => Outcome::TraceTooLarge { most: job.max_trace },
+            Ending::TooLarge => Outcome::TraceTooLarge {
+                most: job.max_trace,
+            },
             Ending::End | Ending::More => Outcome::Verdict(verdict),
         },
         Verdict::Differs { .. } | Verdict::Refused { .. } => Outcome::Verdict(verdict),

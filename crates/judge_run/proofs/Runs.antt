@@ -1,0 +1,132 @@
+-- How a run ends, and what follows for its status and its bytes.
+use Rattle.std.proofs.Common.{◌≡◌, ℕ, ◌<◌, ◌≤◌, ◌⊎◌, ◌↔◌, inl, inr, Bool, true, false, List, Option, Some, None, is_none, Ok, Err, option_map, refl, sym, ap, ◌∙◌, subst, arith}
+use Rattle.outside_ports.specs.Counts.{Rose}
+use Rattle.outside_ports.specs.Ports.{Files}
+use Rattle.judge_words.specs.Job.{JobView, job_of}
+use Rattle.rvfi_rows.specs.declared.verdict.Verdict.{Verdict}
+use Rattle.rvfi_rows.specs.declared.verdict.Verdict.TheVariants.{Agrees, Differs, Refused}
+use Rattle.trace_report.specs.declared.outcome.Outcome.{Outcome}
+use Rattle.trace_report.specs.declared.outcome.Outcome.TheVariants as outcomes
+use Rattle.trace_report.specs.Report.{text_of, status_of}
+use Rattle.judge_run.specs.declared.stop.Stop.{Stop}
+use Rattle.judge_run.specs.declared.stop.Stop.TheVariants.{Known, ReadFault, NoMemory}
+use Rattle.judge_run.specs.Answer.{answer, judged, settled}
+use Rattle.judge_run.specs.Stops.{MeantTold, LacksFile, WordsTell, is_no_job}
+use Rattle.judge_run.specs.Ends.{Moment, IsOutcome, Ends, Writes, IsAnswer}
+
+-- an outcome that the steps come to is the answer
+pub found : (told : Option Files) (words : List (List ℕ)) (outcome : Outcome) → MeantTold told (λ outcome. outcome) (Ok outcome) (λ files. judged words files) → WordsTell (job_of words) (Ok outcome) → IsOutcome told words outcome
+unfolding answer
+found told words outcome meant tell = record { job = tell; answered = λ files is. of told meant files is }
+  where
+    of : (told : Option Files) → MeantTold told (λ outcome. outcome) (Ok outcome) (λ files. judged words files) → (files : Files) → told ≡ Some files → answer words files ≡ Some outcome
+    of None meant files is = cc
+    of (Some here) meant files is = let same : here ≡ files = cc in rw (← same) (ap settled meant)
+
+-- one that is known before the last step too
+pub known : (told : Option Files) (words : List (List ℕ)) (outcome : Outcome) → MeantTold {X = Outcome} told (λ outcome. outcome) (Err (Known outcome)) (λ files. judged words files) → WordsTell (job_of words) (Err (Known outcome)) → IsOutcome told words outcome
+unfolding answer
+known told words outcome meant tell = record { job = tell; answered = λ files is. of told meant files is }
+  where
+    of : (told : Option Files) → MeantTold {X = Outcome} told (λ outcome. outcome) (Err (Known outcome)) (λ files. judged words files) → (files : Files) → told ≡ Some files → answer words files ≡ Some outcome
+    of None meant files is = cc
+    of (Some here) meant files is = let same : here ≡ files = cc in rw (← same) (ap settled meant)
+
+pub ends_written : (told : Option Files) (words : List (List ℕ)) (outcome : Outcome) (before now : Moment) (status : ℕ) → IsOutcome told words outcome → now.faults ≡ before.faults → now.misses ≡ before.misses → Writes outcome status before.held now.held before.sink_faults now.sink_faults → Ends told words before now status
+ends_written told words outcome before now status is faults misses (inl all) =
+    inl (record { outcome = outcome; is = is; own = all.own; held = all.held; faults = faults; misses = misses; sink_faults = all.calm })
+ends_written told words outcome before now status is faults misses (inr front) =
+    inr (inl (record { outcome = outcome; count = front.count; is = is; own = front.own; held = front.held; faults = faults; misses = misses; rose = front.rose }))
+
+lacking : (told : Option Files) (words : List (List ℕ)) → LacksFile told (λ files. judged words files) → (files : Files) × (told ≡ Some files) × (answer words files ≡ None)
+unfolding answer
+lacking None words lacks = absurd lacks
+lacking (Some files) words lacks = (files, refl, ap settled lacks)
+
+pub ends_unread : (told : Option Files) (words : List (List ℕ)) (before now : Moment) → now.held ≡ before.held → now.sink_faults ≡ before.sink_faults → Rose before.faults now.faults → (before.misses < now.misses → LacksFile told (λ files. judged words files)) → Ends told words before now 5
+ends_unread told words before now held calm rose misses =
+    inr (inr (inl (record { own = refl; held = held; sink_faults = calm; rose = rose; lacks = λ rise. lacking told words (misses rise) })))
+
+-- ---- what follows
+
+verdict_small : (verdict : Verdict) → status_of (outcomes.Verdict verdict) ≤ 4
+verdict_small (Agrees rows valid) = omega arith
+verdict_small (Differs row difference) = omega arith
+verdict_small (Refused row fault) = omega arith
+
+small : (outcome : Outcome) → status_of outcome ≤ 4
+small outcomes.NoJob = omega arith
+small (outcomes.ImageTooLarge most) = omega arith
+small (outcomes.ImageFault fault) = omega arith
+small outcomes.NoHeader = omega arith
+small (outcomes.HeaderFault fault) = omega arith
+small (outcomes.TooLong line) = omega arith
+small (outcomes.TraceTooLarge most) = omega arith
+small (outcomes.Verdict verdict) = verdict_small verdict
+
+pub headline : (told : Option Files) (words : List (List ℕ)) (before now : Moment) (status : ℕ) → Ends told words before now status → (files : Files) → told ≡ Some files → ¬ Rose before.faults now.faults → ¬ Rose before.sink_faults now.sink_faults → IsAnswer (answer words files) status before.held now.held ⊎ ((status ≡ 6) × (now.held ≡ before.held))
+headline told words before now status (inl wrote) files is calm quiet = inl (rw (wrote.is.answered files is) (wrote.own, wrote.held))
+headline told words before now status (inr (inl cut)) files is calm quiet = absurd (quiet cut.rose)
+headline told words before now status (inr (inr (inl unread))) files is calm quiet = absurd (calm unread.rose)
+headline told words before now status (inr (inr (inr memory))) files is calm quiet = inr (memory.own, ap (λ moment. moment.held) memory.same)
+
+pub counted : (told : Option Files) (words : List (List ℕ)) (before now : Moment) (status : ℕ) → Ends told words before now status → (before.faults < now.faults) ⊎ (before.sink_faults < now.sink_faults) → status ≡ 5
+counted told words before now status (inl wrote) (inl more) = absurd (omega (arith, wrote.faults))
+counted told words before now status (inl wrote) (inr more) = absurd (omega (arith, wrote.sink_faults))
+counted told words before now status (inr (inl cut)) more = cut.own
+counted told words before now status (inr (inr (inl unread))) more = unread.own
+counted told words before now status (inr (inr (inr memory))) (inl more) = absurd (omega (arith, ap (λ moment. moment.faults) memory.same))
+counted told words before now status (inr (inr (inr memory))) (inr more) = absurd (omega (arith, ap (λ moment. moment.sink_faults) memory.same))
+
+pub fault : (told : Option Files) (words : List (List ℕ)) (before now : Moment) (status : ℕ) → Ends told words before now status → status ≡ 5 → Rose before.faults now.faults ⊎ Rose before.sink_faults now.sink_faults
+fault told words before now status (inl wrote) five = absurd (omega (arith, wrote.own, small wrote.outcome))
+fault told words before now status (inr (inl cut)) five = inr cut.rose
+fault told words before now status (inr (inr (inl unread))) five = inl unread.rose
+fault told words before now status (inr (inr (inr memory))) five = absurd (omega (arith, memory.own))
+
+pub misses : (told : Option Files) (words : List (List ℕ)) (before now : Moment) (status : ℕ) → Ends told words before now status → before.misses < now.misses → (files : Files) × (told ≡ Some files) × (answer words files ≡ None)
+misses told words before now status (inl wrote) more = absurd (omega (arith, wrote.misses))
+misses told words before now status (inr (inl cut)) more = absurd (omega (arith, cut.misses))
+misses told words before now status (inr (inr (inl unread))) more = unread.lacks more
+misses told words before now status (inr (inr (inr memory))) more = absurd (omega (arith, ap (λ moment. moment.misses) memory.same))
+
+-- only the outcome of words that ask for no job has status 2
+refused_verdict : (verdict : Verdict) → status_of (outcomes.Verdict verdict) ≡ 2 → ⊥
+refused_verdict (Agrees rows valid) two = omega arith
+refused_verdict (Differs row difference) two = omega arith
+refused_verdict (Refused row fault) two = omega arith
+
+apart : (job : Option JobView) → false ≡ is_none job → job ≡ None → ⊥
+apart None same none = cc
+apart (Some job) same none = cc
+
+refused : (outcome : Outcome) (job : Option JobView) → is_no_job outcome ≡ is_none job → (status_of outcome ≡ 2) ↔ (job ≡ None)
+refused outcomes.NoJob None same = (λ _. refl, λ _. refl)
+refused outcomes.NoJob (Some job) same = absurd cc
+refused (outcomes.ImageTooLarge most) job same = (λ two. absurd (omega arith), λ none. absurd (apart job same none))
+refused (outcomes.ImageFault fault) job same = (λ two. absurd (omega arith), λ none. absurd (apart job same none))
+refused outcomes.NoHeader job same = (λ two. absurd (omega arith), λ none. absurd (apart job same none))
+refused (outcomes.HeaderFault fault) job same = (λ two. absurd (omega arith), λ none. absurd (apart job same none))
+refused (outcomes.TooLong line) job same = (λ two. absurd (omega arith), λ none. absurd (apart job same none))
+refused (outcomes.TraceTooLarge most) job same = (λ two. absurd (omega arith), λ none. absurd (apart job same none))
+refused (outcomes.Verdict verdict) job same = (λ two. absurd (refused_verdict verdict two), λ none. absurd (apart job same none))
+
+pub words_decide : (told : Option Files) (words : List (List ℕ)) (before now : Moment) (status : ℕ) → Ends told words before now status → status ≤ 4 → (status ≡ 2) ↔ (job_of words ≡ None)
+words_decide told words before now status (inl wrote) few =
+    let both = refused wrote.outcome (job_of words) wrote.is.job in
+    (λ two. both.0 (sym wrote.own ∙ two), λ none. wrote.own ∙ both.1 none)
+words_decide told words before now status (inr (inl cut)) few = absurd (omega (arith, cut.own))
+words_decide told words before now status (inr (inr (inl unread))) few = absurd (omega (arith, unread.own))
+words_decide told words before now status (inr (inr (inr memory))) few = absurd (omega (arith, memory.own))
+
+pub out_of_memory : (told : Option Files) (words : List (List ℕ)) (before now : Moment) (status : ℕ) → Ends told words before now status → status ≡ 6 → now.held ≡ before.held
+out_of_memory told words before now status (inl wrote) six = absurd (omega (arith, wrote.own, small wrote.outcome))
+out_of_memory told words before now status (inr (inl cut)) six = absurd (omega (arith, cut.own))
+out_of_memory told words before now status (inr (inr (inl unread))) six = absurd (omega (arith, unread.own))
+out_of_memory told words before now status (inr (inr (inr memory))) six = ap (λ moment. moment.held) memory.same
+
+pub range : (told : Option Files) (words : List (List ℕ)) (before now : Moment) (status : ℕ) → Ends told words before now status → status ≤ 6
+range told words before now status (inl wrote) = omega (arith, wrote.own, small wrote.outcome)
+range told words before now status (inr (inl cut)) = omega (arith, cut.own)
+range told words before now status (inr (inr (inl unread))) = omega (arith, unread.own)
+range told words before now status (inr (inr (inr memory))) = omega (arith, memory.own)
