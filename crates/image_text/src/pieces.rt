@@ -1,0 +1,104 @@
+//! The bytes of an image and where they stand.
+
+ghost use Rattle.std.specs.Prelude.{◌≡◌, length};
+
+use std::alloc::{AllocError, Global};
+use std::collections::BTreeMap;
+
+/// 4,096 addresses, and the byte that each of them has.
+#[derive(Drop)]
+pub struct PiecePage {
+    bytes: [Option<u8>; 4096],
+    ghost full: { length bytes ≡ 4096 },
+}
+
+impl PiecePage {
+    ghost use Rattle.std.specs.Prelude.{◌≡◌, ℕ, ◌<◌, None, unwrap_or, length, slice_index};
+    ghost use Rattle.std.specs.List.{slice_index_or};
+
+    /// The bytes of the page, 0 where it has none.
+    pub fn plain(&self) -> [u8; 4096]
+        ensures len { length result ≡ 4096 }
+        ensures value { (k : ℕ) → k < 4096 → slice_index result k ≡ unwrap_or (slice_index_or self.now.bytes k None) 0 }
+    {
+        let mut plain = [0; 4096];
+        for k in 0..4096 {
+            plain[k] = self.bytes[k].unwrap_or(0);
+        }
+        plain
+    }
+}
+
+/// The bytes of an image, in pages by their number.
+#[derive(Drop)]
+pub struct Pieces {
+    pages: BTreeMap<u64, Box<PiecePage>>,
+}
+
+impl Pieces {
+    ghost use Rattle.std.specs.Prelude.{◌≡◌, ◌/◌, None, OnOk, OnErr, IsTrue};
+    ghost use Rattle.image_text.specs.Bytes.{byte_at, with_byte, has_page};
+
+    /// No bytes.
+    #[tactic(auto, unfolding(crate::specs::Bytes::byte_at))]
+    pub fn empty(alloc: Global) -> Pieces
+        ensures { byte_at result ≡ (λ _. None) }
+    {
+        Pieces {
+            pages: BTreeMap::new(alloc),
+        }
+    }
+
+    /// The byte at an address, if it has one.
+    #[tactic(auto, unfolding(crate::specs::Bytes::byte_at))]
+    pub fn byte(&self, address: u64) -> Option<u8>
+        ensures { result ≡ byte_at self.now address }
+    {
+        let page = self.pages.get(&(address / 4096))?;
+        page.bytes[(address % 4096) as usize]
+    }
+
+    /// The pages by their number, which is an address divided by 4,096.
+    pub fn pages(&self) -> &BTreeMap<u64, Box<PiecePage>>
+        ensures { result.now ≡ self.now.pages }
+    {
+        &self.pages
+    }
+
+    /// Puts a byte at an address. Without memory no byte changes.
+    pub fn put(&mut self, alloc: Global, address: u64, value: u8) -> Result<(), AllocError>
+        ensures put { OnOk result (byte_at self.new ≡ with_byte (byte_at self.old) address value) }
+        ensures err { OnErr result (byte_at self.new ≡ byte_at self.old) }
+    {
+        self.ready(alloc, address / 4096)?;
+        self.set(address, value);
+        Ok(())
+    }
+
+    /// Adds a page with no byte, unless it is there.
+    fn ready(&mut self, alloc: Global, number: u64) -> Result<(), AllocError>
+        ensures ready { OnOk result (IsTrue (has_page self.new number)) }
+        ensures same { byte_at self.new ≡ byte_at self.old }
+    {
+        if self.pages.contains_key(&number) {
+            return Ok(());
+        }
+        let page = PiecePage {
+            bytes: [None; 4096],
+        };
+        let page = Box::new(alloc, page)?;
+        self.pages.insert(number, page)?;
+        Ok(())
+    }
+
+    /// Puts a byte into a page that is there.
+    fn set(&mut self, address: u64, value: u8)
+        requires { IsTrue (has_page self.old (address / 4096)) }
+        ensures { byte_at self.new ≡ with_byte (byte_at self.old) address value }
+    {
+        match self.pages.get_mut(&(address / 4096)) {
+            Some(page) => page.bytes[(address % 4096) as usize] = Some(value),
+            None => unreachable!(),
+        }
+    }
+}

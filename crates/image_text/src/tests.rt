@@ -1,0 +1,62 @@
+use super::*;
+use hart_words::Span;
+use std::alloc::Global;
+use std::test::Fail;
+
+const RAM: Span = Span {
+    base: 0x8000_0000,
+    size: 0x1_0000,
+};
+
+fn fault_of(alloc: Global, text: &str) -> Option<ImageFault> {
+    match read_image(alloc, text.as_bytes(), RAM) {
+        Err(ImageError::Fault(fault)) => Some(fault),
+        _ => None,
+    }
+}
+
+#[test]
+fn bytes_of_a_text(rt: HostRuntime) -> Result<(), Fail> {
+    let text = "// a program\n@80000000 93 00/*x*/50\t00\r\n@8000fFfF\x0caB // end";
+    let pieces = read_image(rt.alloc(), text.as_bytes(), RAM)?;
+    assert_eq!(rt; pieces.byte(0x8000_0000), Some(0x93));
+    assert_eq!(rt; pieces.byte(0x8000_0001), Some(0x00));
+    assert_eq!(rt; pieces.byte(0x8000_0002), Some(0x50));
+    assert_eq!(rt; pieces.byte(0x8000_0003), Some(0x00));
+    assert_eq!(rt; pieces.byte(0x8000_0004), None);
+    assert_eq!(rt; pieces.byte(0x8000_ffff), Some(0xab));
+    assert_eq!(rt; pieces.byte(0x0000_ffff), None);
+    assert_eq!(rt; pieces.pages().len(), 2);
+    Ok(())
+}
+
+#[test]
+fn faults_with_their_lines(rt: HostRuntime) {
+    for (text, kind, line) in [
+        ("@80000000 9", FaultKind::BadByte, 1),
+        ("@zz", FaultKind::BadAddress, 1),
+        ("@12345678901234567", FaultKind::BadAddress, 1),
+        ("@0 93", FaultKind::OutsideRam, 1),
+        ("@8000ffff 93\n\n 00", FaultKind::OutsideRam, 3),
+        ("@ffffffffffffffff 93", FaultKind::OutsideRam, 1),
+        ("@80000000 93 @80000000 00", FaultKind::Overlap, 1),
+        ("\n/* 93", FaultKind::OpenComment, 2),
+        ("/*/ 93", FaultKind::OpenComment, 1),
+        ("zz /*", FaultKind::BadByte, 1),
+        ("/* \n \n */ 93@80000000", FaultKind::BadByte, 3),
+        ("*/", FaultKind::BadByte, 1),
+    ] {
+        assert_eq!(rt; fault_of(rt.alloc(), text), Some(ImageFault { kind, line }));
+    }
+}
+
+#[test]
+fn texts_of_faults(rt: HostRuntime) -> Result<(), Fail> {
+    let fault = ImageFault {
+        kind: FaultKind::OutsideRam,
+        line: 7,
+    };
+    let text = format!(in rt.alloc(); "{fault}")?;
+    assert_eq!(rt; text.as_str(), "line 7: outside RAM");
+    Ok(())
+}

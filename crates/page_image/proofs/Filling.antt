@@ -1,0 +1,62 @@
+-- Pages filled one after another.
+use Rattle.std.proofs.Common.{◌≡◌, ℕ, ◌/◌, ◌%◌, ◌<◌, ◌⊎◌, Bool, true, false, cond, Option, Some, None, option_map, unwrap_or, List, slice_index, refl, sym, ◌∙◌, ap, subst, inl, inr, arith, nat_cmp}
+use Rattle.std.proofs.Math.Path.{fun_ext}
+use Rattle.std.specs.Prelude.{option_and_then}
+use Rattle.std.specs.List.{slice_index_or}
+use Rattle.std.specs.Ordering.{is_eq}
+use Rattle.std.specs.BTreeMap.{get}
+use Rattle.std.proofs.lemmas.Bool.{cases_eq}
+use Rattle.image_text.proofs.Pages.{is_eq_same, is_eq_other}
+use Rattle.std.specs.Prelude.{Box}
+use Rattle.std.proofs.Common.{Global}
+use Rattle.image_text.specs.declared.pieces.PiecePage.{PiecePage}
+use Rattle.image_text.specs.declared.pieces.Pieces.{Pieces}
+use Rattle.image_text.specs.Bytes.{byte_at}
+use Rattle.page_image.specs.declared.image.Page.{Page}
+use Rattle.page_image.specs.declared.image.PageImage.{PageImage}
+use Rattle.page_image.specs.Bytes.{byte_of, filled}
+
+-- the byte of a page that is made, else of one that is left to be made, else 0
+abbrev pub over : {A B : Type 0} → (A → ℕ → ℕ) → (B → ℕ → ℕ) → Option A → Option B → ℕ → ℕ
+over f g (Some page) left k = f page k
+over f g None left k = unwrap_or (option_map (λ p. g p k) left) 0
+
+-- one more page is made
+pub one_more : {A B : Type 0} (f : A → ℕ → ℕ) (g : B → ℕ → ℕ) (k : ℕ) (before after : ℕ → Option A) (left rest old : ℕ → Option B) (n : ℕ) (page : A) (p : B)
+    → ((q : ℕ) → after q ≡ cond (is_eq (nat_cmp n q)) (Some page) (before q))
+    → ((q : ℕ) → left q ≡ cond (is_eq (nat_cmp q n)) (Some p) (rest q))
+    → f page k ≡ g p k
+    → old n ≡ Some p
+    → ((q : ℕ) → over f g (before q) (left q) k ≡ over f g None (old q) k)
+    → (q : ℕ) → over f g (after q) (rest q) k ≡ over f g None (old q) k
+one_more f g k before after left rest old n page p updates first same found kept q =
+    let P : ℕ → Type 0 = λ m. over f g (after m) (rest m) k ≡ over f g None (old m) k in
+    elim (cases_eq n q) [
+      | inl is ↦ subst P is (rw (updates n, is_eq_same n, found) same)
+      | inr apart ↦ rw (updates q, is_eq_other n q apart) (rw (first q, is_eq_other q n (λ e. apart (sym e))) at (kept q))
+    ]
+
+-- a page that is made, or 0
+made : {A B : Type 0} (f : A → ℕ → ℕ) (g : B → ℕ → ℕ) (new : Option A) (k : ℕ) → unwrap_or (option_map (λ page. f page k) new) 0 ≡ over f g new None k
+made f g None k = refl
+made f g (Some page) k = refl
+
+-- a page of the pieces, or 0
+given : {A B : Type 0} (f : A → ℕ → ℕ) (h : B → ℕ → Option ℕ) (old : Option B) (k : ℕ)
+    → over f (λ p j. unwrap_or (h p j) 0) None old k ≡ unwrap_or (option_and_then (λ p. h p k) old) 0
+given f h None k = refl
+given f h (Some p) k = refl
+
+-- a byte of a page, and of a page of pieces
+abbrev pub page_byte : Box Page Global → ℕ → ℕ
+page_byte page k = slice_index page.value.bytes k
+
+abbrev pub piece_byte : Box PiecePage Global → ℕ → ℕ
+piece_byte page k = unwrap_or (slice_index_or page.value.bytes k None) 0
+
+pub all_made : (image : PageImage) (pieces : Pieces)
+    → ((q k : ℕ) → k < 4096 → over page_byte piece_byte (get nat_cmp image.pages q) None k ≡ over page_byte piece_byte None (get nat_cmp pieces.pages q) k)
+    → byte_of image ≡ filled (byte_at pieces)
+unfolding byte_of byte_at
+all_made image pieces kept =
+    fun_ext (λ a. made page_byte piece_byte (get nat_cmp image.pages (a / 4096)) (a % 4096) ∙ kept (a / 4096) (a % 4096) (grind arith) ∙ given page_byte (λ p j. slice_index_or p.value.bytes j None) (get nat_cmp pieces.pages (a / 4096)) (a % 4096))

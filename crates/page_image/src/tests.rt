@@ -1,0 +1,28 @@
+use super::*;
+use hart_words::Span;
+use image_text::read_image;
+use std::test::Fail;
+
+#[test]
+fn bytes_of_ram(rt: HostRuntime) -> Result<(), Fail> {
+    let ram = Span {
+        base: 0x8000_0000,
+        size: 0x1_0000,
+    };
+    let pieces = read_image(rt.alloc(), b"@80000ffe 12 34 56 @8000f000 78", ram)?;
+    let image = PageImage::build(rt.alloc(), &pieces, ram)?;
+    for (address, byte) in [
+        (0x8000_0000, 0),
+        (0x8000_0ffd, 0),
+        (0x8000_0ffe, 0x12),
+        (0x8000_0fff, 0x34),
+        (0x8000_1000, 0x56),
+        (0x8000_1001, 0),
+        (0x8000_f000, 0x78),
+        (0x8000_ffff, 0),
+    ] {
+        assert_eq!(rt; image.byte(address), byte);
+    }
+    assert_eq!(rt; image.ram().base, 0x8000_0000);
+    Ok(())
+}

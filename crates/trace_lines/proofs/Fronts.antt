@@ -1,0 +1,42 @@
+-- The lines that were taken and those that are left.
+use Rattle.std.proofs.Common.{◌≡◌, ℕ, ◌+◌, ◌<◌, ◌≤◌, Bool, true, false, ◌==◌, if◌then◌else◌, List, [], ◌∷◌, ◌++◌, length, take, drop, refl, sym, ap, ◌∙◌, arith, length-append, append-nil, nat_le}
+use Rattle.std.proofs.lemmas.List.{take_at, drop_at, drop_all}
+use Rattle.std.proofs.lemmas.Bool.{le-leb, lt-leb}
+use Rattle.trace_lines.specs.declared.piece.Ending.{Ending}
+use Rattle.trace_lines.specs.declared.piece.Ending.TheVariants.{More, End, TooLong, TooLarge}
+use Rattle.trace_lines.specs.Lines.{Left, with_line}
+use Rattle.trace_lines.specs.Pieces.{with_lines, front_of, back_of, CountsBy}
+use Rattle.trace_lines.specs.Taking.{IsLast}
+
+-- as many lines as were asked for
+pub front_full : (asked : ℕ) (lines : List (List ℕ)) (rest all : Left) → length lines ≡ asked → with_lines lines rest ≡ all → record { lines = lines; ending = More } ≡ front_of asked all
+unfolding front_of
+front_full asked lines rest all full is =
+    let enough : nat_le asked (length (lines ++ rest.lines)) ≡ true = le-leb _ _ (omega (arith, length-append lines rest.lines)) in
+    rw (← is) (rw (enough, take_at lines rest.lines asked full) refl)
+
+pub back_full : (asked : ℕ) (lines : List (List ℕ)) (rest all : Left) → length lines ≡ asked → with_lines lines rest ≡ all → rest ≡ back_of asked all
+unfolding back_of
+back_full asked lines rest all full is = rw (← is) (rw (drop_at lines rest.lines asked full) refl)
+
+-- fewer, and the ending
+pub front_short : (asked : ℕ) (lines : List (List ℕ)) (ending : Ending) (rest all : Left) → length lines < asked → rest ≡ record { lines = []; ending = ending } → with_lines lines rest ≡ all → record { lines = lines; ending = ending } ≡ front_of asked all
+unfolding front_of
+front_short asked lines ending rest all short none is =
+    let whole : record { lines = lines ++ []; ending = ending } ≡ all = ap (λ left. with_lines lines left) (sym none) ∙ is in
+    let few : nat_le asked (length (lines ++ [])) ≡ false = lt-leb _ _ (omega (arith, length-append lines [])) in
+    rw (← whole) (rw few (rw (append-nil lines) refl))
+
+pub back_short : (asked : ℕ) (lines : List (List ℕ)) (ending : Ending) (rest all : Left) → length lines < asked → rest ≡ record { lines = []; ending = ending } → with_lines lines rest ≡ all → rest ≡ back_of asked all
+unfolding back_of
+back_short asked lines ending rest all short none is =
+    let whole : record { lines = lines ++ []; ending = ending } ≡ all = ap (λ left. with_lines lines left) (sym none) ∙ is in
+    let gone : drop asked (lines ++ []) ≡ [] = drop_all asked (lines ++ []) (omega (arith, length-append lines [])) in
+    none ∙ rw (← whole) (rw gone refl)
+
+-- an ending that nothing follows comes with fewer lines than were asked for
+pub counts_short : (asked count : ℕ) (ending : Ending) → IsLast ending → count < asked → CountsBy ending asked count
+counts_short asked count More last h = absurd last
+counts_short asked count End last h = h
+counts_short asked count (TooLong number) last h = h
+counts_short asked count TooLarge last h = h

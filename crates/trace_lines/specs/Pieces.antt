@@ -1,0 +1,34 @@
+-- Pieces of the lines of a file.
+use Rattle.std.specs.Prelude.{◌≡◌, ℕ, ◌<◌, List, ◌++◌, map, length, take, drop, nat_le, if◌then◌else◌}
+use Rattle.trace_lines.specs.declared.piece.Lines.{Lines}
+use Rattle.trace_lines.specs.declared.piece.Piece.{Piece}
+use Rattle.trace_lines.specs.declared.piece.Ending.{Ending}
+use Rattle.trace_lines.specs.declared.piece.Ending.TheVariants.{More}
+use Rattle.trace_lines.specs.Lines.{Left}
+
+abbrev pub lines_in : Lines → List (List ℕ)
+lines_in lines = map (λ line. line.items) lines.lines.items
+
+-- a piece as lines and what follows
+abbrev pub piece_view : Piece → Left
+piece_view piece = record { lines = lines_in piece.lines; ending = piece.ending }
+
+-- so many lines of those that are left, where there are as many; else all, and their ending
+unfoldable pub front_of : ℕ → Left → Left
+front_of count left = if nat_le count (length left.lines) then record { lines = take count left.lines; ending = More } else left
+
+-- the lines behind these
+unfoldable pub back_of : ℕ → Left → Left
+back_of count left = record { lines = drop count left.lines; ending = left.ending }
+
+-- lines before what is left
+abbrev pub with_lines : List (List ℕ) → Left → Left
+with_lines lines left = record { lines = lines ++ left.lines; ending = left.ending }
+
+-- so many lines were asked for: as many are there where more may follow, else fewer
+abbrev pub CountsBy : Ending → ℕ → ℕ → Type 0
+CountsBy More asked count = count ≡ asked
+CountsBy _ asked count = count < asked
+
+abbrev pub Counts : ℕ → Piece → Type 0
+Counts asked piece = CountsBy piece.ending asked (length (lines_in piece.lines))
