@@ -11,21 +11,21 @@ use clap::{Arg, ArgMatches, Command};
 use std::alloc::{AllocError, Global};
 
 /// `rvjudge judge IMAGE TRACE [--pc A] [--ram B:S] [--max-image M] [--max-trace M]`
-pub fn command_line<'a>(alloc: Global) -> Result<Command<'a>, AllocError>
+pub fn judge_line<'a>(alloc: Global) -> Result<Command<'a>, AllocError>
     ensures { IfOk result (λ line. app_of line ≡ judge_line) }
 {
     let judge = Command::new(alloc, "judge")
-        .arg(required(alloc, "image"))?
-        .arg(required(alloc, "trace"))?
-        .arg(option(alloc, "pc", "0x80000000"))?
-        .arg(option(alloc, "ram", "0x80000000:0x8000000"))?
-        .arg(option(alloc, "max-image", "0x40000000"))?
-        .arg(option(alloc, "max-trace", "0x40000000"))?;
+        .arg(required_word(alloc, "image"))?
+        .arg(required_word(alloc, "trace"))?
+        .arg(option_or(alloc, "pc", "0x80000000"))?
+        .arg(option_or(alloc, "ram", "0x80000000:0x8000000"))?
+        .arg(option_or(alloc, "max-image", "0x40000000"))?
+        .arg(option_or(alloc, "max-trace", "0x40000000"))?;
     Command::new(alloc, "rvjudge").subcommand(judge)
 }
 
 /// A word that must be there.
-fn required<'a>(alloc: Global, name: &'a str) -> Arg<'a>
+fn required_word<'a>(alloc: Global, name: &'a str) -> Arg<'a>
     ensures rule { rule_of result ≡ required_word name.entry.now }
     ensures local { result.global ≡ false }
 {
@@ -33,7 +33,7 @@ fn required<'a>(alloc: Global, name: &'a str) -> Arg<'a>
 }
 
 /// An option with a value, `default` where it is left out.
-fn option<'a>(alloc: Global, name: &'a str, default: &'a str) -> Arg<'a>
+fn option_or<'a>(alloc: Global, name: &'a str, default: &'a str) -> Arg<'a>
     ensures rule { rule_of result ≡ option_or name.entry.now default.entry.now }
     ensures local { result.global ≡ false }
 {
@@ -43,9 +43,9 @@ fn option<'a>(alloc: Global, name: &'a str, default: &'a str) -> Arg<'a>
 /// What `line` finds in the words, where it takes them.
 pub fn parse<'a>(line: Command<'a>, words: &'a [String]) -> Result<ArgMatches<'a>, WordError>
     requires { is_simple_and_free (app_of line) ≡ true }
-    ensures { MatchResult result
-        (λ matches. entered_by (app_of line.entry) (map string_bytes words.entry.now) ≡ subcommand_rows_of matches)
-        (λ e. e ≡ NotAJob → entered_by (app_of line.entry) (map string_bytes words.entry.now) ≡ None) }
+    ensures { let entered = entered_by (app_of line.entry) (map string_bytes words.entry.now) in
+        MatchResult result (λ matches. entered ≡ subcommand_rows_of matches)
+        (λ e. e ≡ NotAJob → entered ≡ None) }
 {
     match line.try_get_matches_from(words) {
         Ok(matches) => Ok(matches),
@@ -58,14 +58,16 @@ pub fn parse<'a>(line: Command<'a>, words: &'a [String]) -> Result<ArgMatches<'a
 
 /// What was given to the command of this name.
 pub fn given_to<'m, 'a>(matches: &'m ArgMatches<'a>, name: &str) -> Option<&'m ArgMatches<'a>>
-    ensures { option_map (λ m. rows_of (found_of m.now)) result ≡ given_to name.now (subcommand_rows_of matches.now) }
+    ensures { option_map (λ m. rows_of (found_of m.now)) result
+        ≡ given_to name.now (subcommand_rows_of matches.now) }
 {
     matches.subcommand_matches(name)
 }
 
 /// The text that was given under a name.
 pub fn text_of<'a>(given: &ArgMatches<'a>, name: &str) -> Option<&'a str>
-    ensures { option_map (λ text. text.now) result ≡ first_of name.now (rows_of (found_of given.now)) }
+    ensures { option_map (λ text. text.now) result
+        ≡ first_of name.now (rows_of (found_of given.now)) }
 {
     given.get_str(name)
 }

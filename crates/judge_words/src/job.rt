@@ -6,7 +6,7 @@ ghost use Rattle.judge_words.specs.Job.{Gives, IsLawful, job_from, job_of, job_v
 ghost use Rattle.judge_words.specs.Settings.{settings_view};
 ghost use Rattle.judge_words.specs.declared.job.WordError.TheVariants.{NoMemory};
 
-use crate::command_line::{command_line, given_to, parse, text_of};
+use crate::command_line::{given_to, judge_line, parse, text_of};
 use crate::values::{read_even, read_limit, read_span};
 use clap::ArgMatches;
 use hart_words::Span;
@@ -54,7 +54,7 @@ pub fn read_words(alloc: Global, words: &Vec<String>) -> Result<Job, WordError>
     ensures job { Gives job_view (job_of (map string_bytes words.now.items)) result }
     ensures lawful { IfOk result (λ job. IsLawful (job_view job)) }
 {
-    let matches = parse(command_line(alloc)?, words.as_slice())?;
+    let matches = parse(judge_line(alloc)?, words.as_slice())?;
     match given_to(&matches, "judge") {
         None => Err(WordError::NotAJob),
         Some(given) => job_given(alloc, given),
