@@ -1,0 +1,86 @@
+#!/usr/bin/env python3
+"""Writes the image of a loop and the trace of its run: make_rows.py IMAGE TRACE ROWS.
+
+The loop counts in x1, builds addresses in x2 and x3, shifts and adds, and jumps back.
+The rows are those of a hart that runs it from 0x80000000, worked out here.
+"""
+import sys
+
+BASE = 0x80000000
+MASK = (1 << 64) - 1
+
+
+def signed(value, bits):
+    """The number that these bits stand for in two's complement, in 64 bits."""
+    sign = 1 << (bits - 1)
+    return ((value & (sign - 1)) - (value & sign)) & MASK
+
+
+def i_type(opcode, funct3, rd, rs1, imm):
+    return (imm & 0xFFF) << 20 | rs1 << 15 | funct3 << 12 | rd << 7 | opcode
+
+
+def u_type(opcode, rd, upper):
+    return (upper & 0xFFFFF) << 12 | rd << 7 | opcode
+
+
+def r_type(opcode, funct3, funct7, rd, rs1, rs2):
+    return funct7 << 25 | rs2 << 20 | rs1 << 15 | funct3 << 12 | rd << 7 | opcode
+
+
+def jal(rd, offset):
+    bits = offset & 0x1FFFFF
+    return (
+        (bits >> 20 & 1) << 31
+        | (bits >> 1 & 0x3FF) << 21
+        | (bits >> 11 & 1) << 20
+        | (bits >> 12 & 0xFF) << 12
+        | rd << 7
+        | 0x6F
+    )
+
+
+# each: the word, the register written, and its value from the pc and the registers
+LOOP = [
+    (i_type(0x13, 0, 1, 1, 1), 1, lambda pc, x: x[1] + 1),  # ADDI x1, x1, 1
+    (u_type(0x37, 2, 0x80001), 2, lambda pc, x: signed(0x80001000, 32)),  # LUI x2, 0x80001
+    (u_type(0x17, 3, 1), 3, lambda pc, x: pc + 0x1000),  # AUIPC x3, 1
+    (i_type(0x13, 1, 4, 1, 3), 4, lambda pc, x: x[1] << 3),  # SLLI x4, x1, 3
+    (i_type(0x13, 5, 5, 4, 2), 5, lambda pc, x: x[4] >> 2),  # SRLI x5, x4, 2
+    (i_type(0x13, 4, 6, 5, -1), 6, lambda pc, x: x[5] ^ MASK),  # XORI x6, x5, -1
+    (r_type(0x33, 0, 0, 7, 6, 2), 7, lambda pc, x: x[6] + x[2]),  # ADD x7, x6, x2
+    (i_type(0x13, 7, 8, 7, 0x7F), 8, lambda pc, x: x[7] & 0x7F),  # ANDI x8, x7, 127
+    (i_type(0x1B, 0, 9, 8, 5), 9, lambda pc, x: signed(x[8] + 5, 32)),  # ADDIW x9, x8, 5
+    (jal(10, -36), 10, lambda pc, x: pc + 4),  # JAL x10, to the loop's first word
+]
+
+
+def write_image(path):
+    with open(path, "w", encoding="ascii") as image:
+        image.write(f"@{BASE:x}\n")
+        for word, _, _ in LOOP:
+            image.write(" ".join(f"{byte:02x}" for byte in word.to_bytes(4, "little")) + "\n")
+
+
+def write_trace(path, count):
+    registers = [0] * 32
+    place = 0
+    with open(path, "w", encoding="ascii") as trace:
+        trace.write("order,insn,pc_rdata,rd_addr,rd_wdata,pc_wdata\n")
+        for order in range(count):
+            word, rd, value_of = LOOP[place]
+            pc = BASE + 4 * place
+            value = value_of(pc, registers) & MASK
+            registers[rd] = value
+            place = (place + 1) % len(LOOP)
+            trace.write(f"{order},0x{word:08x},0x{pc:x},{rd},0x{value:x},0x{BASE + 4 * place:x}\n")
+
+
+def main():
+    image, trace, count = sys.argv[1:]
+    write_image(image)
+    write_trace(trace, int(count))
+
+
+if __name__ == "__main__":
+    main()

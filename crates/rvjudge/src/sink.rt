@@ -1,0 +1,64 @@
+//! Standard output.
+
+ghost use Rattle.std.specs.Prelude.{◌≡◌, ◌≤◌, ◌<◌, None, IfOk, OnOk, OnErr, length};
+ghost use Rattle.outside_ports.specs.Counts.{Rose, counted};
+
+use outside_ports::{Failed, Sink};
+use std::io;
+use std::io::Write;
+
+/// Standard output, flushed after each piece. It tells no content. Its faults count each write
+/// that fails or takes nothing of a nonempty piece, and each flush that fails.
+#[derive(Drop)]
+pub struct OutSink<'a, R: Print> {
+    rt: &'a R,
+    pub faults: u64,
+}
+
+impl<'a, R: Print> OutSink<'a, R> {
+    pub fn new(rt: &'a R) -> Self
+        ensures faults { result.faults ≡ 0 }
+    {
+        OutSink { rt, faults: 0 }
+    }
+}
+
+/// Writes and flushes, again where a signal broke in before a byte was taken.
+fn write_some<W: Write>(to: &mut W, piece: &[u8]) -> io::Result<usize>
+    ensures within { IfOk result (λ count. count ≤ length piece.now) }
+{
+    for _ in 0..u64::MAX {
+        match to.write(piece) {
+            Ok(count) => {
+                to.flush()?;
+                return Ok(count);
+            }
+            Err(error) if error.kind() == io::ErrorKind::Interrupted => {}
+            Err(error) => return Err(error),
+        }
+    }
+    Err(io::Error::from(io::ErrorKind::Interrupted))
+}
+
+impl<R: Print> Sink for OutSink<'_, R> {
+    ghost held = { λ _. None };
+
+    ghost faults = { λ sink. sink.faults };
+
+    fn write(&mut self, piece: &[u8]) -> Result<usize, Failed>
+        ensures within { IfOk result (λ count. count ≤ length piece.now) }
+        ensures some { IfOk result (λ count. 0 < length piece.now → 0 < count) }
+        ensures calm { OnOk result (self.new.faults ≡ self.old.faults) }
+        ensures fault { OnErr result (self.new.faults ≡ counted self.old.faults) }
+        ensures rose { OnErr result (Rose self.old.faults self.new.faults) }
+        ensures kept { self.old.faults ≤ self.new.faults }
+    {
+        match write_some(&mut io::writer(self.rt), piece) {
+            Ok(count) if count > 0 || piece.is_empty() => Ok(count),
+            _ => {
+                self.faults = self.faults.saturating_add(1);
+                Err(Failed)
+            }
+        }
+    }
+}
