@@ -4,6 +4,7 @@
 mod shelf;
 mod sink;
 
+use judge_run::judge;
 use outside_ports::OpenGate;
 use shelf::FileShelf;
 use sink::OutSink;
@@ -38,17 +39,8 @@ fn main(rt: HostRuntime) -> ExitCode {
     };
     let mut shelf = FileShelf::new(alloc, &rt);
     let mut sink = OutSink::new(&rt);
-    ExitCode::from(judge(&words, &mut shelf, &mut sink, &OpenGate))
-}
-
-/// Stands for the judge, which is still to come: it reads and writes nothing.
-fn judge<H: outside_ports::Shelf, O: outside_ports::Sink>(
-    _words: &Vec<String>,
-    _shelf: &mut H,
-    _out: &mut O,
-    _gate: &OpenGate,
-) -> u8 {
-    0
+    let status = judge(&rt, alloc, &words, &mut shelf, &mut sink, &OpenGate);
+    ExitCode::from(status)
 }
 
 #[cfg(test)]
