@@ -1,6 +1,6 @@
 //! The signals of a trace: the columns that a row may show, after riscv-formal's description of RVFI.
 
-ghost use Rattle.std.specs.Prelude.{◌≡◌, ◌++◌, ℕ, List, MatchOption, false};
+ghost use Rattle.std.specs.Prelude.{◌≡◌, ◌≤◌, ◌++◌, length, ℕ, List, MatchOption, false};
 ghost use Rattle.std.specs.Str.{bytes_eq};
 ghost use Rattle.hart_words.specs.Signals.{width_of, place_of, csr_place_of, side_place_of, name_of, csr_name_of, side_name_of, stem_of, prefix_of, suffix_of};
 
@@ -141,7 +141,8 @@ impl Signal {
     /// The name's first part, which all registers' columns share: `csr_`, or nothing.
     #[tactic(auto, unfolding(crate::specs::Signals::prefix_of))]
     pub fn prefix(self) -> &'static str
-        ensures { result.now ≡ prefix_of self }
+        ensures value { result.now ≡ prefix_of self }
+        ensures short { length result.now ≤ 4 }
     {
         match self {
             Signal::Csr(_, _) => "csr_",
@@ -152,7 +153,8 @@ impl Signal {
     /// The name's own part: the register's name, or the whole name of another column.
     #[tactic(auto, unfolding(crate::specs::Signals::stem_of))]
     pub fn stem(self) -> &'static str
-        ensures { result.now ≡ stem_of self }
+        ensures value { result.now ≡ stem_of self }
+        ensures short { length result.now ≤ 9 }
     {
         match self {
             Signal::Valid => "valid",
@@ -184,7 +186,8 @@ impl Signal {
     /// The name's last part, the side of a register, or nothing.
     #[tactic(auto, unfolding(crate::specs::Signals::suffix_of))]
     pub fn suffix(self) -> &'static str
-        ensures { result.now ≡ suffix_of self }
+        ensures value { result.now ≡ suffix_of self }
+        ensures short { length result.now ≤ 6 }
     {
         match self {
             Signal::Csr(_, side) => side.suffix(),
@@ -211,7 +214,8 @@ impl CsrName {
     /// The name in the Privileged Architecture, in lower case.
     #[tactic(auto, unfolding(crate::specs::Signals::csr_name_of))]
     pub fn name(self) -> &'static str
-        ensures { result.now ≡ csr_name_of self }
+        ensures value { result.now ≡ csr_name_of self }
+        ensures short { length result.now ≤ 9 }
     {
         match self {
             CsrName::Mstatus => "mstatus",
@@ -251,7 +255,8 @@ impl CsrSide {
     /// The end of the column's name.
     #[tactic(auto, unfolding(crate::specs::Signals::side_name_of))]
     pub fn suffix(self) -> &'static str
-        ensures { result.now ≡ side_name_of self }
+        ensures value { result.now ≡ side_name_of self }
+        ensures short { length result.now ≤ 6 }
     {
         match self {
             CsrSide::Rmask => "_rmask",

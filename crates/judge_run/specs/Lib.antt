@@ -1,2 +1,5 @@
 pub mod Hart
 pub mod Comparison
+pub mod Rows
+pub mod Answer
+pub mod Stops

@@ -1,9 +1,9 @@
 -- What one more read makes of the front of a file.
-use Rattle.std.proofs.Common.{◌≡◌, ℕ, ◌+◌, ◌-◌, ◌<◌, ◌≤◌, List, ◌++◌, take, drop, length, Option, Some, None, Bool, true, false, [], refl, sym, ap, ◌∙◌, arith, length-append}
+use Rattle.std.proofs.Common.{◌≡◌, ℕ, ◌+◌, ◌-◌, ◌<◌, ◌≤◌, List, ◌++◌, take, drop, length, Option, Some, None, Ok, IsSome, Bool, true, false, [], refl, sym, ap, ◌∙◌, arith, length-append}
 use Rattle.std.proofs.lemmas.List.{take_all, take-take, length-take-le}
 use Rattle.std.proofs.lemmas.Bool.{le-ltb, lt-ltb}
 use Rattle.std.proofs.Math.Seq.{take-add}
-use Rattle.outside_ports.specs.Ports.{Files, misses_after, misses_of_file, IsMissing}
+use Rattle.outside_ports.specs.Ports.{Files, misses_after, misses_of_file, IsMissing, IsThere, ReadsTold, ReadsFile}
 use Rattle.outside_ports.specs.Reading.{IsNext, IsFront, HasFront}
 use Rattle.outside_ports.specs.declared.reading.Front.{Front}
 
@@ -33,3 +33,12 @@ misses_rise (Some files) name before now is rise = rise_of (files name) refl
     rise_of : (file : Option (List ℕ)) → files name ≡ file → files name ≡ None
     rise_of None e = e
     rise_of (Some bytes) e = let same : now ≡ before = is ∙ ap (λ f. misses_of_file f before) e in absurd (omega arith)
+
+-- a read that gives bytes is of a file that is there
+pub read_there : (told : Option Files) (name : List ℕ) (at : ℕ) (buffer : List ℕ) (count : ℕ) → ReadsTold told name at buffer (Ok count) → IsThere told name
+read_there None name at buffer count reads = tt
+read_there (Some files) name at buffer count reads = of (files name) reads
+  where
+    of : (file : Option (List ℕ)) → ReadsFile file at buffer (Ok count) → IsSome file
+    of None reads = cc
+    of (Some bytes) reads = refl

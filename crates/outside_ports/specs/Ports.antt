@@ -1,5 +1,5 @@
 -- What a read and a write tell.
-use Rattle.std.specs.Prelude.{◌≡◌, ℕ, ◌-◌, ◌<◌, ◌≤◌, ◌↔◌, List, ◌++◌, length, take, drop, Option, Some, None, Result, Ok, Err, IsErr, IfOk}
+use Rattle.std.specs.Prelude.{◌≡◌, ℕ, ◌-◌, ◌<◌, ◌≤◌, ◌↔◌, List, ◌++◌, length, take, drop, Option, Some, None, Result, Ok, Err, IsErr, IsSome, IfOk}
 use Rattle.outside_ports.specs.Counts.{counted}
 use Rattle.outside_ports.specs.declared.failure.Failed.{Failed}
 
@@ -46,3 +46,8 @@ file_of (Some files) name = files name
 abbrev pub IsMissing : Option Files → List ℕ → Type 0
 IsMissing None name = ⊥
 IsMissing (Some files) name = files name ≡ None
+
+-- files are not told, or this one is there
+abbrev pub IsThere : Option Files → List ℕ → Type 0
+IsThere None name = Unit {0}
+IsThere (Some files) name = IsSome (files name)

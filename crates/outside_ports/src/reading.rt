@@ -1,7 +1,7 @@
 //! The front of a file.
 
-ghost use Rattle.std.specs.Prelude.{◌≡◌, ◌≤◌, ◌<◌, ◌^◌, IfOk, vec_len};
-ghost use Rattle.outside_ports.specs.Ports.{file_of};
+ghost use Rattle.std.specs.Prelude.{◌≡◌, ◌≤◌, ◌<◌, ◌^◌, IfOk, OnOk, vec_len};
+ghost use Rattle.outside_ports.specs.Ports.{file_of, IsThere};
 ghost use Rattle.outside_ports.specs.Reading.{IsFront, IsNext, CountsFault, CountsMiss};
 
 use crate::shelf::Shelf;
@@ -58,6 +58,7 @@ pub fn read_front<H: Shelf>(
     requires { most < 2 ^ 62 }
     ensures told { H.told shelf.new ≡ H.told shelf.old }
     ensures front { IfOk result (λ front. IsFront (file_of (H.told shelf.old) name.now) most front) }
+    ensures there { OnOk result (IsThere (H.told shelf.old) name.now) }
     ensures short { IfOk result (λ front. vec_len front.bytes ≤ most) }
     ensures faults { CountsFault result (H.faults shelf.old) (H.faults shelf.new) }
     ensures misses { CountsMiss result (H.told shelf.old) name.now (H.misses shelf.old) (H.misses shelf.new) }
@@ -94,6 +95,7 @@ fn read_chunk<H: Shelf>(
     ensures told { H.told shelf.new ≡ H.told shelf.old }
     ensures len { vec_len chunk.new ≡ vec_len chunk.old }
     ensures within { IfOk result (λ count. count ≤ vec_len chunk.new) }
+    ensures there { OnOk result (IsThere (H.told shelf.old) name.now) }
     ensures next { IfOk result (λ count. IsNext (file_of (H.told shelf.old) name.now) at chunk.new.items count) }
     ensures faults { CountsFault result (H.faults shelf.old) (H.faults shelf.new) }
     ensures misses { CountsMiss result (H.told shelf.old) name.now (H.misses shelf.old) (H.misses shelf.new) }

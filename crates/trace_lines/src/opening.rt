@@ -1,7 +1,7 @@
 //! Opening a taker, and its next piece.
 
-ghost use Rattle.std.specs.Prelude.{◌≡◌, ◌≤◌, ◌<◌, ◌+◌, ◌^◌, IfOk, length, string_bytes, vec_len};
-ghost use Rattle.outside_ports.specs.Ports.{file_of};
+ghost use Rattle.std.specs.Prelude.{◌≡◌, ◌≤◌, ◌<◌, ◌+◌, ◌^◌, IfOk, OnOk, None, length, string_bytes, vec_len};
+ghost use Rattle.outside_ports.specs.Ports.{file_of, IsThere};
 ghost use Rattle.trace_lines.specs.Pieces.{lines_in, Counts};
 ghost use Rattle.trace_lines.specs.Lines.{lines_from, parts_of, without_mark};
 ghost use Rattle.trace_lines.specs.Taking.{left_in, room_in};
@@ -38,6 +38,7 @@ impl LineTaker {
         requires { 0 < lines }
         ensures told { H.told shelf.new ≡ H.told shelf.old }
         ensures gives { IfOk result (λ taken. Gives (file_of (H.told shelf.old) (string_bytes self.name)) lines self taken.0 taken.1) }
+        ensures there { OnOk result (self.text ≡ None → IsThere (H.told shelf.old) (string_bytes self.name)) }
         ensures counts { IfOk result (λ taken. Counts lines taken.0) }
         ensures room { IfOk result (λ taken. length (lines_in taken.0.lines) + room_of taken.1 ≤ room_of self) }
         ensures faults { CountsFault result (H.faults shelf.old) (H.faults shelf.new) }
@@ -76,6 +77,7 @@ fn read_text<H: Shelf>(
 ) -> Result<Text, LineError>
     requires { most < 2 ^ 62 }
     ensures told { H.told shelf.new ≡ H.told shelf.old }
+    ensures there { OnOk result (IsThere (H.told shelf.old) name.now) }
     ensures text { IfOk result (IsTextOf (file_of (H.told shelf.old) name.now) most) }
     ensures room { IfOk result (λ text. room_in text ≤ most) }
     ensures faults { CountsFault result (H.faults shelf.old) (H.faults shelf.new) }

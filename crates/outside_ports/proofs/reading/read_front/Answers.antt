@@ -17,4 +17,5 @@ reading-preserved g c =
       c.in_ok-count.ensures.misses ∙ kept.2,
       omega (arith, c.read_chunk.ensures.len, kept.3),
       rw grown more,
+      (λ some. rw kept.0 at c.in_ok-count.ensures.there),
     )

@@ -1,5 +1,5 @@
 use Rattle.std.proofs.Common.{◌≡◌, ◌<◌, ◌+◌, ◌-◌, vec_len}
-use Rattle.outside_ports.specs.Ports.{file_of}
+use Rattle.outside_ports.specs.Ports.{file_of, IsThere}
 use Rattle.outside_ports.proofs.Fronts.{IsRead}
 use Rattle.outside_ports.proofs.reading.read_front.Given as goal
 
@@ -10,6 +10,7 @@ invariant-reading g l =
     × (g.H.Shelf.misses l.shelf ≡ g.H.Shelf.misses l.initial.shelf)
     × (0 < vec_len l.chunk)
     × IsRead (file_of (g.H.Shelf.told l.initial.shelf) l.name) l.bytes.items
+    × (0 < vec_len l.bytes → IsThere (g.H.Shelf.told l.initial.shelf) l.name)
 
 abbrev pub decreases-reading : goal.decreases-reading
 decreases-reading g l = l.most + 1 - vec_len l.bytes

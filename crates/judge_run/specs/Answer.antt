@@ -1,0 +1,94 @@
+-- The answer of a run: what the words, the image and the trace come to.
+use Rattle.std.specs.Prelude.{◌≡◌, ℕ, Bool, true, false, nat_lt, if◌then◌else◌, List, [], ◌∷◌, length, Option, Some, None, Result, Ok, Err, unwrap_or}
+use Rattle.outside_ports.specs.Ports.{Files}
+use Rattle.judge_words.specs.Job.{JobView, job_of}
+use Rattle.image_text.specs.declared.fault.ImageFault.{ImageFault}
+use Rattle.image_text.specs.Image.{image_of}
+use Rattle.trace_lines.specs.declared.piece.Ending.{Ending}
+use Rattle.trace_lines.specs.declared.piece.Ending.TheVariants as endings
+use Rattle.trace_lines.specs.Lines.{Left, lines_of}
+use Rattle.rvfi_rows.specs.declared.fault.HeaderFault.{HeaderFault}
+use Rattle.rvfi_rows.specs.declared.verdict.Verdict.{Verdict}
+use Rattle.rvfi_rows.specs.declared.verdict.Verdict.TheVariants.{Agrees, Differs, Refused}
+use Rattle.rvfi_rows.specs.Columns.{ColumnList, columns_of}
+use Rattle.rvfi_rows.specs.Gives.{◌>>=◌}
+use Rattle.trace_report.specs.declared.outcome.Outcome.{Outcome}
+use Rattle.trace_report.specs.declared.outcome.Outcome.TheVariants as outcomes
+use Rattle.judge_run.specs.Rows.{verdict_after, at_reset}
+
+-- a step towards the answer: its value, or the outcome at once, or nothing where a file is missing
+abbrev pub Step : Type 0 → Type 0
+Step A = Result A (Option Outcome)
+
+-- a file that has to be there
+abbrev pub there : Option (List ℕ) → Step (List ℕ)
+there None = Err None
+there (Some file) = Ok file
+
+abbrev pub wanted : Option JobView → Step JobView
+wanted None = Err (Some outcomes.NoJob)
+wanted (Some job) = Ok job
+
+-- the memory is the image, and 0 elsewhere
+abbrev pub as_memory : Result (ℕ → Option ℕ) ImageFault → Step (ℕ → ℕ)
+as_memory (Err fault) = Err (Some (outcomes.ImageFault fault))
+as_memory (Ok bytes) = Ok (λ address. unwrap_or (bytes address) 0)
+
+-- a text of too many bytes is refused before anything else in it
+unfoldable pub file_memory : JobView → List ℕ → Step (ℕ → ℕ)
+file_memory job text =
+    if nat_lt job.max_image (length text) then Err (Some (outcomes.ImageTooLarge job.max_image)) else as_memory (image_of job.ram text)
+
+unfoldable pub memory_of : JobView → Files → Step (ℕ → ℕ)
+memory_of job files = do
+  text ← there (files job.image)
+  file_memory job text
+
+-- a trace without a line
+abbrev pub without_header : JobView → Ending → Outcome
+without_header job (endings.TooLong line) = outcomes.TooLong line
+without_header job endings.TooLarge = outcomes.TraceTooLarge job.max_trace
+without_header job endings.End = outcomes.NoHeader
+without_header job endings.More = outcomes.NoHeader
+
+-- rows that agree stand only where the whole trace was read
+abbrev pub ended : JobView → Ending → Verdict → Outcome
+ended job (endings.TooLong line) (Agrees rows valid) = outcomes.TooLong line
+ended job endings.TooLarge (Agrees rows valid) = outcomes.TraceTooLarge job.max_trace
+ended job endings.End (Agrees rows valid) = outcomes.Verdict (Agrees rows valid)
+ended job endings.More (Agrees rows valid) = outcomes.Verdict (Agrees rows valid)
+ended job ending (Differs row difference) = outcomes.Verdict (Differs row difference)
+ended job ending (Refused row fault) = outcomes.Verdict (Refused row fault)
+
+abbrev pub by_header : JobView → (ℕ → ℕ) → Ending → Result ColumnList HeaderFault → List (List ℕ) → Outcome
+by_header job memory ending (Err fault) rows = outcomes.HeaderFault fault
+by_header job memory ending (Ok columns) rows =
+    ended job ending (verdict_after (record { memory = memory; ram = job.ram; columns = columns }) (at_reset job.pc) rows)
+
+abbrev pub by_lines : JobView → (ℕ → ℕ) → Ending → List (List ℕ) → Outcome
+by_lines job memory ending [] = without_header job ending
+by_lines job memory ending (header ∷ rows) = by_header job memory ending (columns_of header) rows
+
+-- the first line is the header, each other a row
+unfoldable pub lines_outcome : JobView → (ℕ → ℕ) → Left → Outcome
+lines_outcome job memory left = by_lines job memory left.ending left.lines
+
+unfoldable pub trace_outcome : JobView → (ℕ → ℕ) → Files → Step Outcome
+trace_outcome job memory files = do
+  file ← there (files job.trace)
+  Ok (lines_outcome job memory (lines_of job.max_trace file))
+
+-- words, then the image, then the trace
+unfoldable pub judged : List (List ℕ) → Files → Step Outcome
+judged words files = do
+  job ← wanted (job_of words)
+  memory ← memory_of job files
+  trace_outcome job memory files
+
+abbrev pub settled : Step Outcome → Option Outcome
+settled (Ok outcome) = Some outcome
+settled (Err stop) = stop
+
+-- the outcome of these words over these files; none where a file that it takes is missing
+unfoldable pub answer : List (List ℕ) → Files → Option Outcome
+answer words files = settled (judged words files)

@@ -1,0 +1,44 @@
+-- The command line that the judge takes, as the crate `clap` reads it.
+use Rattle.std.specs.Prelude.{List, [], ◌∷◌, Option, Some, None, true, codes, fold, if◌then◌else◌}
+use Rattle.std.specs.Str.{bytes_eq}
+use Rattle.clap.specs.Walk.{Row, Rule, Text}
+use Rattle.clap.specs.Simple.{App, new_app, new_rule, subcommand_of, with_rule, with_subcommand}
+use Rattle.clap.specs.Faults.{fault_of}
+use Rattle.clap.specs.Kinds.{Kinds}
+
+-- a word that must be there, told from others by its place
+abbrev pub required_word : Text → Rule
+required_word name = record (new_rule name) { required = true }
+
+-- `--NAME VALUE` or `--NAME=VALUE`, with the value that stands where it is left out
+abbrev pub option_or : Text → Text → Rule
+option_or name default = record (new_rule name) { long = Some name; defaults = default ∷ [] }
+
+-- what may follow the word `judge`
+abbrev pub judge_rules : List Rule
+judge_rules =
+    required_word (codes "image")
+    ∷ required_word (codes "trace")
+    ∷ option_or (codes "pc") (codes "0x80000000")
+    ∷ option_or (codes "ram") (codes "0x80000000:0x8000000")
+    ∷ option_or (codes "max-image") (codes "0x40000000")
+    ∷ option_or (codes "max-trace") (codes "0x40000000")
+    ∷ []
+
+-- the program's command line: its name, a command, what that command takes
+unfoldable pub judge_line : App
+judge_line = with_subcommand (new_app (codes "rvjudge")) (fold with_rule (new_app (codes "judge")) judge_rules).top
+
+-- what is found where there is no kind of error
+abbrev pub unless_refused : {X : Type 0} → Kinds → Option X → Option X
+unless_refused [] found = found
+unless_refused (kind ∷ kinds) found = None
+
+-- the command that the words name with what they give it, where a command line takes the words
+unfoldable pub entered_by : App → List Text → Option (Text × List Row)
+entered_by line words = unless_refused (fault_of line words) (subcommand_of line words)
+
+-- what is given to the command of this name
+abbrev pub given_to : Text → Option (Text × List Row) → Option (List Row)
+given_to name None = None
+given_to name (Some entered) = if bytes_eq entered.0 name then Some entered.1 else None

@@ -1,0 +1,4 @@
+pub mod Commands
+pub mod Job
+pub mod Settings
+pub mod Values

@@ -1,0 +1,14 @@
+-- A job before its names are copied.
+use Rattle.judge_words.specs.Job.{JobView}
+use Rattle.judge_words.specs.declared.job.Settings.{Settings}
+
+-- the same job as it is defined
+abbrev pub settings_view : Settings → JobView
+settings_view settings = record {
+  image = settings.image.now;
+  trace = settings.trace.now;
+  pc = settings.pc;
+  ram = settings.ram;
+  max_image = settings.max_image;
+  max_trace = settings.max_trace;
+}

@@ -1,0 +1,71 @@
+//! The command line as `clap` reads it.
+
+ghost use Rattle.std.specs.Prelude.{◌≡◌, IfOk, MatchResult, None, true, false, map, option_map, string_bytes};
+ghost use Rattle.clap.specs.Words.{Row, app_of, first_of, found_of, is_simple_and_free, rows_of, rule_of, subcommand_rows_of};
+ghost use Rattle.judge_words.specs.Commands.{entered_by, given_to, judge_line, option_or, required_word};
+ghost use Rattle.judge_words.specs.declared.job.WordError.TheVariants.{NotAJob};
+
+use crate::job::WordError;
+use clap::error::ErrorKind;
+use clap::{Arg, ArgMatches, Command};
+use std::alloc::{AllocError, Global};
+
+/// `rvjudge judge IMAGE TRACE [--pc A] [--ram B:S] [--max-image M] [--max-trace M]`
+pub fn command_line<'a>(alloc: Global) -> Result<Command<'a>, AllocError>
+    ensures { IfOk result (λ line. app_of line ≡ judge_line) }
+{
+    let judge = Command::new(alloc, "judge")
+        .arg(required(alloc, "image"))?
+        .arg(required(alloc, "trace"))?
+        .arg(option(alloc, "pc", "0x80000000"))?
+        .arg(option(alloc, "ram", "0x80000000:0x8000000"))?
+        .arg(option(alloc, "max-image", "0x40000000"))?
+        .arg(option(alloc, "max-trace", "0x40000000"))?;
+    Command::new(alloc, "rvjudge").subcommand(judge)
+}
+
+/// A word that must be there.
+fn required<'a>(alloc: Global, name: &'a str) -> Arg<'a>
+    ensures rule { rule_of result ≡ required_word name.entry.now }
+    ensures local { result.global ≡ false }
+{
+    Arg::new(alloc, name).required(true)
+}
+
+/// An option with a value, `default` where it is left out.
+fn option<'a>(alloc: Global, name: &'a str, default: &'a str) -> Arg<'a>
+    ensures rule { rule_of result ≡ option_or name.entry.now default.entry.now }
+    ensures local { result.global ≡ false }
+{
+    Arg::new(alloc, name).long(name).default_value(default)
+}
+
+/// What `line` finds in the words, where it takes them.
+pub fn parse<'a>(line: Command<'a>, words: &'a [String]) -> Result<ArgMatches<'a>, WordError>
+    requires { is_simple_and_free (app_of line) ≡ true }
+    ensures { MatchResult result
+        (λ matches. entered_by (app_of line.entry) (map string_bytes words.entry.now) ≡ subcommand_rows_of matches)
+        (λ e. e ≡ NotAJob → entered_by (app_of line.entry) (map string_bytes words.entry.now) ≡ None) }
+{
+    match line.try_get_matches_from(words) {
+        Ok(matches) => Ok(matches),
+        Err(error) => match error.kind() {
+            ErrorKind::OutOfMemory => Err(WordError::NoMemory),
+            _ => Err(WordError::NotAJob),
+        },
+    }
+}
+
+/// What was given to the command of this name.
+pub fn given_to<'m, 'a>(matches: &'m ArgMatches<'a>, name: &str) -> Option<&'m ArgMatches<'a>>
+    ensures { option_map (λ m. rows_of (found_of m.now)) result ≡ given_to name.now (subcommand_rows_of matches.now) }
+{
+    matches.subcommand_matches(name)
+}
+
+/// The text that was given under a name.
+pub fn text_of<'a>(given: &ArgMatches<'a>, name: &str) -> Option<&'a str>
+    ensures { option_map (λ text. text.now) result ≡ first_of name.now (rows_of (found_of given.now)) }
+{
+    given.get_str(name)
+}

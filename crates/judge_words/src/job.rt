@@ -1,0 +1,105 @@
+//! A job, and the words that ask for it.
+
+ghost use Rattle.std.specs.Prelude.{◌≡◌, ◌≤◌, ◌%◌, ◌^◌, IfOk, IfSome, map, option_map, string_bytes};
+ghost use Rattle.clap.specs.Words.{found_of, rows_of};
+ghost use Rattle.judge_words.specs.Job.{Gives, IsLawful, job_from, job_of, job_view};
+ghost use Rattle.judge_words.specs.Settings.{settings_view};
+ghost use Rattle.judge_words.specs.declared.job.WordError.TheVariants.{NoMemory};
+
+use crate::command_line::{command_line, given_to, parse, text_of};
+use crate::values::{read_even, read_limit, read_span};
+use clap::ArgMatches;
+use hart_words::Span;
+use std::alloc::{AllocError, Global};
+use thiserror::Error;
+
+/// What the judge is asked to do: the names of the image and of the trace, the address of the first
+/// instruction, the range of RAM, and how many bytes either file may have.
+#[derive(Debug, Drop)]
+pub struct Job {
+    pub image: String,
+    pub trace: String,
+    pub pc: u64,
+    pub ram: Span,
+    pub max_image: u64,
+    pub max_trace: u64,
+}
+
+#[derive(Clone, Copy, Debug, PartialEq, Eq, Error)]
+pub enum WordError {
+    #[error("the words are no job")]
+    NotAJob,
+    #[error("out of memory")]
+    NoMemory,
+}
+
+impl From<AllocError> for WordError {
+    ghost from_gives = { λ _ e. e ≡ NoMemory };
+
+    fn from(_e: AllocError) -> WordError {
+        WordError::NoMemory
+    }
+}
+
+/// The job that the words of a command line ask for, the program's name first:
+///
+/// `rvjudge judge IMAGE TRACE [--pc A] [--ram B:S] [--max-image M] [--max-trace M]`
+///
+/// Each option stands at most once, as `--name value` or `--name=value`. Numbers are decimal, or
+/// hexadecimal after `0x`. A is even; B and S are multiples of 4,096, S at least 4,096 and B + S at
+/// most 2^56; each M is from 1 to 2^30. Left out, A is 0x80000000, B:S is 0x80000000:0x8000000 and
+/// M is 2^30. All other words are no job, those that ask for help among them.
+#[tactic(auto, unfolding(crate::specs::Job::job_of))]
+pub fn read_words(alloc: Global, words: &Vec<String>) -> Result<Job, WordError>
+    ensures job { Gives job_view (job_of (map string_bytes words.now.items)) result }
+    ensures lawful { IfOk result (λ job. IsLawful (job_view job)) }
+{
+    let matches = parse(command_line(alloc)?, words.as_slice())?;
+    match given_to(&matches, "judge") {
+        None => Err(WordError::NotAJob),
+        Some(given) => job_given(alloc, given),
+    }
+}
+
+fn job_given(alloc: Global, given: &ArgMatches<'_>) -> Result<Job, WordError>
+    ensures job { Gives job_view (job_from (rows_of (found_of given.now))) result }
+    ensures lawful { IfOk result (λ job. IsLawful (job_view job)) }
+{
+    match settings_from(given) {
+        None => Err(WordError::NotAJob),
+        Some(settings) => Ok(Job {
+            image: String::from_str(alloc, settings.image)?,
+            trace: String::from_str(alloc, settings.trace)?,
+            pc: settings.pc,
+            ram: settings.ram,
+            max_image: settings.max_image,
+            max_trace: settings.max_trace,
+        }),
+    }
+}
+
+/// A job whose names are still those of the words.
+#[derive(Clone, Copy, Debug)]
+struct Settings<'a> {
+    image: &'a str,
+    trace: &'a str,
+    pc: u64,
+    ram: Span,
+    max_image: u64,
+    max_trace: u64,
+}
+
+#[tactic(auto, unfolding(crate::specs::Job::job_from))]
+fn settings_from<'a>(given: &ArgMatches<'a>) -> Option<Settings<'a>>
+    ensures job { option_map settings_view result ≡ job_from (rows_of (found_of given.now)) }
+    ensures lawful { IfSome result (λ settings. IsLawful (settings_view settings)) }
+{
+    Some(Settings {
+        image: text_of(given, "image")?,
+        trace: text_of(given, "trace")?,
+        pc: read_even(text_of(given, "pc")?)?,
+        ram: read_span(text_of(given, "ram")?)?,
+        max_image: read_limit(text_of(given, "max-image")?)?,
+        max_trace: read_limit(text_of(given, "max-trace")?)?,
+    })
+}

@@ -1,0 +1,119 @@
+use super::*;
+use std::alloc::{AllocError, Global};
+use std::process::Abort;
+use std::test::Fail;
+
+fn job_at(alloc: Global, words: &[&str]) -> Result<Result<Job, WordError>, AllocError> {
+    let mut list = Vec::new(alloc);
+    for word in words {
+        list.push(String::from_str(alloc, *word)?)?;
+    }
+    Ok(read_words(alloc, &list))
+}
+
+/// A job's pc, the base and the size of its RAM, and its limits.
+type Numbers = (u64, u64, u64, u64, u64);
+
+fn takes(
+    rt: &impl Abort,
+    alloc: Global,
+    words: &[&str],
+    files: (&str, &str),
+    numbers: Numbers,
+) -> Result<(), Fail> {
+    let job = job_at(alloc, words)??;
+    assert_eq!(rt; job.image.as_str(), files.0);
+    assert_eq!(rt; job.trace.as_str(), files.1);
+    assert_eq!(rt; job.pc, numbers.0);
+    assert_eq!(rt; job.ram.base, numbers.1);
+    assert_eq!(rt; job.ram.size, numbers.2);
+    assert_eq!(rt; job.max_image, numbers.3);
+    assert_eq!(rt; job.max_trace, numbers.4);
+    Ok(())
+}
+
+fn refuses(rt: &impl Abort, alloc: Global, words: &[&str]) -> Result<(), Fail> {
+    let is_refused = matches!(job_at(alloc, words)?, Err(WordError::NotAJob));
+    assert!(rt; is_refused);
+    Ok(())
+}
+
+const LIMIT: u64 = 1 << 30;
+
+const DEFAULTS: Numbers = (0x8000_0000, 0x8000_0000, 0x800_0000, LIMIT, LIMIT);
+
+#[test]
+fn takes_jobs(rt: HostRuntime) -> Result<(), Fail> {
+    let alloc = rt.alloc();
+    let named: [(&[&str], &str, &str); 5] = [
+        (&["rvjudge", "judge", "i", "t"], "i", "t"),
+        (&["", "judge", "help", "t"], "help", "t"),
+        (&["rvjudge", "judge", "-", ""], "-", ""),
+        (&["rvjudge", "judge", "--", "-i", "--pc"], "-i", "--pc"),
+        (&["rvjudge", "judge", "i", "t", "--"], "i", "t"),
+    ];
+    for (words, image, trace) in named {
+        takes(&rt, alloc, words, (image, trace), DEFAULTS)?;
+    }
+    let words = [
+        "rvjudge",
+        "judge",
+        "--pc=0X10",
+        "i",
+        "--ram",
+        "4096:0x2000",
+        "t",
+        "--max-image",
+        "010",
+        "--max-trace=1",
+    ];
+    takes(&rt, alloc, &words, ("i", "t"), (16, 4096, 8192, 10, 1))
+}
+
+#[test]
+fn refuses_other_words(rt: HostRuntime) -> Result<(), Fail> {
+    let alloc = rt.alloc();
+    let lines: [&[&str]; 16] = [
+        &[],
+        &["rvjudge"],
+        &["rvjudge", "judge", "i"],
+        &["rvjudge", "judge", "i", "t", "u"],
+        &["rvjudge", "--", "judge", "i", "t"],
+        &["rvjudge", "--pc=2", "judge", "i", "t"],
+        &["rvjudge", "--help"],
+        &["rvjudge", "-h"],
+        &["rvjudge", "help"],
+        &["rvjudge", "help", "judge"],
+        &["rvjudge", "judge", "--help"],
+        &["rvjudge", "--version"],
+        &["rvjudge", "-V"],
+        &["rvjudge", "judge", "i", "t", "--pc", "-2"],
+        &["rvjudge", "judge", "i", "t", "--pc", "--", "2"],
+        &["rvjudge", "judge", "i", "t", "--pc=2", "--pc=2"],
+    ];
+    for words in lines {
+        refuses(&rt, alloc, words)?;
+    }
+    let options = [
+        "--pc=",
+        "--pc=0x",
+        "--pc=1",
+        "--pc=2=3",
+        "--pc=18446744073709551616",
+        "--origin=x",
+        "--ram=4096",
+        "--ram=0:0",
+        "--ram=1:4096",
+        "--ram=0:4097",
+        "--ram=0:4096:0",
+        "--ram=0x100000000000000:4096",
+        "--max-image=0",
+        "--max-image=1073741825",
+        "--max-trace=0",
+        "--max-trace=1073741825",
+    ];
+    for option in options {
+        refuses(&rt, alloc, &["rvjudge", "judge", "i", "t", option])?;
+    }
+    Ok(())
+}

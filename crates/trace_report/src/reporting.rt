@@ -1,0 +1,177 @@
+//! The text and the status of an outcome.
+
+ghost use Rattle.std.specs.Prelude.{◌≡◌, ◌≤◌, ◌+◌, ◌++◌, length};
+ghost use Rattle.hart_words.specs.Signals.{name_of};
+ghost use Rattle.trace_report.specs.Report.{text_of, status_of, kind_text, fault_text, header_text, row_text, named, difference_text, verdict_text};
+
+use crate::outcome::Outcome;
+use crate::text::Text;
+use hart_words::{Difference, Signal};
+use image_text::{FaultKind, ImageFault};
+use rvfi_rows::{HeaderFault, RowFault, Verdict};
+
+/// The status of an outcome: 0 where the trace agrees, 1 where it differs, 2 for refused words, 3
+/// for a refused image, 4 for a refused trace.
+pub fn status(outcome: &Outcome) -> u8
+    ensures { result ≡ status_of outcome.now }
+{
+    match outcome {
+        Outcome::NoJob => 2,
+        Outcome::ImageTooLarge { .. } | Outcome::ImageFault(_) => 3,
+        Outcome::NoHeader
+        | Outcome::HeaderFault(_)
+        | Outcome::TooLong { .. }
+        | Outcome::TraceTooLarge { .. }
+        | Outcome::Verdict(Verdict::Refused { .. }) => 4,
+        Outcome::Verdict(Verdict::Agrees { .. }) => 0,
+        Outcome::Verdict(Verdict::Differs { .. }) => 1,
+    }
+}
+
+/// The text of an outcome, one line.
+#[tactic(auto, unfolding(crate::specs::Report::text_of))]
+pub fn report(outcome: &Outcome) -> Text
+    ensures { result ≡ text_of outcome.now }
+{
+    let mut text = Text::new();
+    match outcome {
+        Outcome::NoJob => text.put(b"refused words\n"),
+        Outcome::ImageTooLarge { most } => {
+            text.put(b"refused image: more than ");
+            text.put_decimal(*most);
+            text.put(b" bytes\n");
+        }
+        Outcome::ImageFault(fault) => put_image_fault(&mut text, *fault),
+        Outcome::NoHeader => text.put(b"refused trace: no header\n"),
+        Outcome::HeaderFault(fault) => put_header_fault(&mut text, *fault),
+        Outcome::TooLong { line } => {
+            text.put(b"refused trace: line ");
+            text.put_decimal(*line);
+            text.put(b" too long\n");
+        }
+        Outcome::TraceTooLarge { most } => {
+            text.put(b"refused trace: more than ");
+            text.put_decimal(*most);
+            text.put(b" bytes\n");
+        }
+        Outcome::Verdict(verdict) => put_verdict(&mut text, *verdict),
+    }
+    text
+}
+
+#[tactic(auto, unfolding(crate::specs::Report::fault_text))]
+fn put_image_fault(text: &mut Text, fault: ImageFault)
+    requires { length text.old ≤ 0 }
+    ensures { text.new ≡ text.old ++ fault_text fault }
+{
+    text.put(b"refused image: line ");
+    text.put_decimal(fault.line);
+    text.put(kind_line(fault.kind));
+}
+
+/// What a fault of an image is called, up to the end of the line.
+fn kind_line(kind: FaultKind) -> &'static [u8]
+    ensures bytes { result.now ≡ kind_text kind }
+    ensures short { length result.now ≤ 20 }
+{
+    match kind {
+        FaultKind::BadByte => b": bad byte\n",
+        FaultKind::BadAddress => b": bad address\n",
+        FaultKind::OutsideRam => b": outside RAM\n",
+        FaultKind::Overlap => b": overlap\n",
+        FaultKind::OpenComment => b": open comment\n",
+    }
+}
+
+/// Appends the name of a column.
+fn put_name(text: &mut Text, signal: Signal)
+    requires { length text.old ≤ 150 }
+    ensures bytes { text.new ≡ text.old ++ name_of signal }
+    ensures len { length text.new ≤ length text.old + 19 }
+{
+    text.put(signal.prefix().as_bytes());
+    text.put(signal.stem().as_bytes());
+    text.put(signal.suffix().as_bytes());
+}
+
+#[tactic(auto, unfolding(crate::specs::Report::header_text))]
+fn put_header_fault(text: &mut Text, fault: HeaderFault)
+    requires { length text.old ≤ 0 }
+    ensures { text.new ≡ text.old ++ header_text fault }
+{
+    match fault {
+        HeaderFault::StrayReturn => text.put(b"refused trace: stray return in header\n"),
+        HeaderFault::Twice(signal) => {
+            text.put(b"refused trace: column ");
+            put_name(text, signal);
+            text.put(b" twice\n");
+        }
+        HeaderFault::NoColumn(signal) => {
+            text.put(b"refused trace: no column ");
+            put_name(text, signal);
+            text.put(b"\n");
+        }
+    }
+}
+
+#[tactic(auto, unfolding(crate::specs::Report::row_text))]
+fn put_row_fault(text: &mut Text, fault: RowFault)
+    requires { length text.old ≤ 40 }
+    ensures { text.new ≡ text.old ++ row_text fault }
+{
+    match fault {
+        RowFault::StrayReturn => text.put(b": stray return\n"),
+        RowFault::FieldCount => text.put(b": wrong number of fields\n"),
+        RowFault::Empty(signal) => put_named(text, signal, b" empty\n"),
+        RowFault::NotNumber(signal) => put_named(text, signal, b" not a number\n"),
+        RowFault::TooWide(signal) => put_named(text, signal, b" too wide\n"),
+    }
+}
+
+fn put_named(text: &mut Text, signal: Signal, end: &[u8])
+    requires short { length text.old ≤ 60 }
+    requires end { length end.now ≤ 20 }
+    ensures { text.new ≡ text.old ++ named signal end.now }
+{
+    text.put(b": ");
+    put_name(text, signal);
+    text.put(end);
+}
+
+#[tactic(auto, unfolding(crate::specs::Report::difference_text))]
+fn put_difference(text: &mut Text, difference: Difference)
+    requires { length text.old ≤ 40 }
+    ensures { text.new ≡ text.old ++ difference_text difference }
+{
+    text.put(b": ");
+    put_name(text, difference.signal);
+    text.put(b" expected ");
+    text.put_hexadecimal(difference.expected);
+    text.put(b" found ");
+    text.put_hexadecimal(difference.found);
+    text.put(b"\n");
+}
+
+#[tactic(auto, unfolding(crate::specs::Report::verdict_text))]
+fn put_verdict(text: &mut Text, verdict: Verdict)
+    requires { length text.old ≤ 0 }
+    ensures { text.new ≡ text.old ++ verdict_text verdict }
+{
+    match verdict {
+        Verdict::Agrees { valid, .. } => {
+            text.put(b"agrees ");
+            text.put_decimal(valid);
+            text.put(b"\n");
+        }
+        Verdict::Differs { row, difference } => {
+            text.put(b"differs row ");
+            text.put_decimal(row);
+            put_difference(text, difference);
+        }
+        Verdict::Refused { row, fault } => {
+            text.put(b"refused trace: row ");
+            text.put_decimal(row);
+            put_row_fault(text, fault);
+        }
+    }
+}
