@@ -3,7 +3,8 @@ use Rattle.std.proofs.Common.{◌≡◌, ℕ, ◌+◌, ◌≤◌, ◌⊎◌, Boo
 use Rattle.std.specs.Prelude.{◌==◌, slice_index}
 use Rattle.std.proofs.lemmas.Bool.{cases_eq}
 use Rattle.image_text.proofs.Pages.{eq_other}
-use Rattle.image_text.specs.Tokens.{Token, is_blank, opens_line, opens_block, has_close, Plain, LineComment, BlockComment, uncommented, joined, runs, tokens_from, opens_comment, begins_with_close, run_len}
+use Rattle.image_text.specs.Tokens.{Token, is_blank, opens_line, opens_block, has_close, Plain, LineComment, BlockComment, uncommented, joined, runs, tokens_from}
+use Rattle.image_text.specs.Fronts.{opens_comment, begins_with_close, run_len}
 
 pub test : (x : Bool) → (x ≡ true) ⊎ (x ≡ false)
 test true = inl refl

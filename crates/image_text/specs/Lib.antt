@@ -1,6 +1,7 @@
 pub mod Gives
 pub mod Bytes
 pub mod Tokens
+pub mod Fronts
 pub mod Steps
 pub mod Image
 pub mod Taking

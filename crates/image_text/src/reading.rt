@@ -1,7 +1,7 @@
 //! A text read whole.
 
-ghost use Rattle.std.specs.Prelude.{◌≡◌};
-ghost use Rattle.hart_words.specs.Map.{IsSpan};
+ghost use Rattle.std.specs.Prelude.{◌≡◌, ℕ, IfOk, IsTrue, is_some};
+ghost use Rattle.hart_words.specs.Map.{IsSpan, Lies};
 ghost use Rattle.image_text.specs.Bytes.{byte_at};
 ghost use Rattle.image_text.specs.Gives.{Gives};
 ghost use Rattle.image_text.specs.Image.{image_fault, image_of};
@@ -18,7 +18,8 @@ use std::alloc::Global;
 /// The error is the first fault in text order.
 pub fn read_image(alloc: Global, text: &[u8], ram: Span) -> Result<Pieces, ImageError>
     requires { IsSpan ram }
-    ensures { Gives image_fault byte_at result (image_of ram text.now) }
+    ensures exact { Gives image_fault byte_at result (image_of ram text.now) }
+    ensures inside { IfOk result (λ pieces. (a : ℕ) → IsTrue (is_some (byte_at pieces a)) → Lies a ram) }
 {
     let mut image = Underway {
         pieces: Pieces::empty(alloc),

@@ -1,7 +1,8 @@
 //! The tokens of a text, from the left.
 
 ghost use Rattle.std.specs.Prelude.{◌≡◌, ◌+◌, ◌<◌, ◌^◌, ◌≤◌, length, false, true, IsTrue, ◌==◌, if◌then◌else◌};
-ghost use Rattle.image_text.specs.Tokens.{is_blank, run_len, opens_comment, begins_with_close, has_close, Plain, LineComment, BlockComment, uncommented, tokens_from};
+ghost use Rattle.image_text.specs.Tokens.{is_blank, has_close, Plain, LineComment, BlockComment, uncommented, tokens_from};
+ghost use Rattle.image_text.specs.Fronts.{run_len, opens_comment, begins_with_close};
 ghost use Rattle.image_text.specs.Steps.{StepGives, BlockGives};
 
 /// A run of bytes that are neither blank nor in a comment, or the `/*` of a comment that is never

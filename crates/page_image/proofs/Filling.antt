@@ -1,5 +1,5 @@
 -- Pages filled one after another.
-use Rattle.std.proofs.Common.{◌≡◌, ℕ, ◌/◌, ◌%◌, ◌<◌, ◌⊎◌, Bool, true, false, cond, Option, Some, None, option_map, unwrap_or, List, slice_index, refl, sym, ◌∙◌, ap, subst, inl, inr, arith, nat_cmp}
+use Rattle.std.proofs.Common.{◌≡◌, ℕ, ◌/◌, ◌%◌, ◌<◌, cond, Option, Some, None, option_map, unwrap_or, slice_index, refl, sym, ◌∙◌, subst, inl, inr, arith, nat_cmp}
 use Rattle.std.proofs.Math.Path.{fun_ext}
 use Rattle.std.specs.Prelude.{option_and_then}
 use Rattle.std.specs.List.{slice_index_or}

@@ -3,6 +3,9 @@ use hart_words::Span;
 use image_text::read_image;
 use std::test::Fail;
 
+/// Threads may share it.
+fn is_shared<T: Send + Sync>(_value: &T) {}
+
 #[test]
 fn bytes_of_ram(rt: HostRuntime) -> Result<(), Fail> {
     let ram = Span {
@@ -23,6 +26,8 @@ fn bytes_of_ram(rt: HostRuntime) -> Result<(), Fail> {
     ] {
         assert_eq!(rt; image.byte(address), byte);
     }
+    is_shared(&image);
+    is_shared(&pieces);
     assert_eq!(rt; image.ram().base, 0x8000_0000);
     Ok(())
 }

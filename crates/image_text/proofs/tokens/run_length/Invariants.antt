@@ -1,5 +1,5 @@
 use Rattle.std.proofs.Common.{◌≡◌, ◌+◌, ◌≤◌, length}
-use Rattle.image_text.specs.Tokens.{run_len}
+use Rattle.image_text.specs.Fronts.{run_len}
 use Rattle.image_text.proofs.tokens.run_length.Given as goal
 
 abbrev pub invariant-loop-first : goal.invariant-loop-first

@@ -1,10 +1,10 @@
-use Rattle.std.proofs.Common.{rules, Some, ◌≡◌, ℕ, ◌<◌, ◌∙◌, sym, refl, nat_cmp, ap}
+use Rattle.std.proofs.Common.{rules, Some, ◌≡◌, ◌∙◌, refl, nat_cmp}
 use Rattle.std.specs.BTreeMap.{get, is_at}
 use Rattle.std.specs.Map.{lookup}
 use Rattle.std.specs.Map.Iter.{deref_pair}
 use Rattle.std.proofs.lemmas.Cmp.{nat_cmp_total}
 use Rattle.std.proofs.lemmas.Map.Iter.{rest_more, btree_map_turn}
-use Rattle.page_image.proofs.Filling.{over, one_more, all_made, page_byte, piece_byte}
+use Rattle.page_image.proofs.Filling.{one_more, all_made, page_byte, piece_byte}
 use Rattle.page_image.proofs.image.PageImage.build.Goals as goal
 
 pub loop-number-preserved-in_ok-insert : goal.loop-number-preserved-in_ok-insert
