@@ -20,3 +20,6 @@ pub use rows::{Progress, judge_lines};
 pub use stop::Stop;
 pub use traces::judge_trace;
 pub use writing::write_all;
+
+#[cfg(test)]
+mod tests;

@@ -9,3 +9,6 @@ mod text;
 
 pub use piece::{Ending, LineError, Lines, Piece};
 pub use taker::LineTaker;
+
+#[cfg(test)]
+mod tests;

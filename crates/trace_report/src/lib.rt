@@ -8,3 +8,6 @@ mod text;
 pub use outcome::Outcome;
 pub use reporting::{report, status};
 pub use text::Text;
+
+#[cfg(test)]
+mod tests;

@@ -28,7 +28,9 @@ impl Text {
     pub fn new() -> Self
         ensures { result ≡ [] }
     {
-        Text { bytes: ArrayVec::new() }
+        Text {
+            bytes: ArrayVec::new(),
+        }
     }
 
     pub fn as_slice(&self) -> &[u8]

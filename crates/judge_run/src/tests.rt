@@ -1,0 +1,170 @@
+use super::*;
+use outside_ports::{FailShelf, FailSink, MemShelf, MemSink, NamedFile, OpenGate, Shelf, Sink};
+use std::alloc::{AllocError, Global};
+use std::test::Fail;
+use std::thread::Threads;
+
+const IMAGE: &[u8] = b"@80000000 93 00 50 00";
+
+const TRACE: &[u8] =
+    b"order,insn,pc_rdata,rd_addr,rd_wdata,pc_wdata\n0,0x00500093,0x80000000,1,5,0x80000004\n";
+
+fn list(alloc: Global, words: &[&str]) -> Result<Vec<String>, AllocError> {
+    let mut list = Vec::new(alloc);
+    for word in words {
+        list.push(String::from_str(alloc, *word)?)?;
+    }
+    Ok(list)
+}
+
+fn named(alloc: Global, name: &str, bytes: &[u8]) -> Result<NamedFile, AllocError> {
+    let name = String::from_str(alloc, name)?;
+    let bytes = Vec::from_slice(alloc, bytes)?;
+    Ok(NamedFile { name, bytes })
+}
+
+fn files(alloc: Global, image: &[u8], trace: &[u8]) -> Result<MemShelf, AllocError> {
+    let mut files = Vec::new(alloc);
+    files.push(named(alloc, "i", image)?)?;
+    files.push(named(alloc, "t", trace)?)?;
+    Ok(MemShelf::new(files))
+}
+
+/// What a run over these files writes, and its status.
+fn judged<R: Threads + Sync>(
+    rt: &R,
+    alloc: Global,
+    words: &[&str],
+    image: &[u8],
+    trace: &[u8],
+) -> Result<(u8, MemSink), AllocError> {
+    let words = list(alloc, words)?;
+    let mut shelf = files(alloc, image, trace)?;
+    let mut sink = MemSink::new(alloc);
+    let status = judge(rt, alloc, &words, &mut shelf, &mut sink, &OpenGate);
+    Ok((status, sink))
+}
+
+#[test]
+fn judges_words_images_and_traces(rt: HostRuntime) -> Result<(), Fail> {
+    let row: &[&str] = &["rvjudge", "judge", "i", "t"];
+    let few: &[&str] = &["rvjudge", "judge", "i"];
+    let none: &[&str] = &[];
+    let six = b"insn,pc_rdata,rd_addr,rd_wdata\n0x00500093,0x80000000,1,6\n";
+    let halted = b"insn,pc_rdata,halt\n0x00500093,0x80000000,1\n0,0,0\n";
+    let cases = [
+        (row, IMAGE, TRACE, 0, b"agrees 1\n".as_slice()),
+        (
+            row,
+            IMAGE,
+            six,
+            1,
+            b"differs row 1: rd_wdata expected 0x0000000000000005 found 0x0000000000000006\n",
+        ),
+        (
+            row,
+            IMAGE,
+            halted,
+            1,
+            b"differs row 2: valid expected 0x0000000000000000 found 0x0000000000000001\n",
+        ),
+        (row, IMAGE, b"", 4, b"refused trace: no header\n"),
+        (
+            row,
+            b"@zz",
+            TRACE,
+            3,
+            b"refused image: line 1: bad address\n",
+        ),
+        (few, IMAGE, TRACE, 2, b"refused words\n"),
+        (none, IMAGE, TRACE, 2, b"refused words\n"),
+    ];
+    for (words, image, trace, status, text) in cases {
+        let (found, sink) = judged(&rt, rt.alloc(), words, image, trace)?;
+        assert_eq!(rt; found, status);
+        assert_eq!(rt; sink.held.as_slice(), text);
+    }
+    Ok(())
+}
+
+/// The example with the front of its trace alone: the texts from each length on.
+#[test]
+fn judges_each_front_of_a_trace(rt: HostRuntime) -> Result<(), Fail> {
+    let texts = [
+        (0, b"refused trace: no header\n".as_slice()),
+        (1, b"refused trace: no column insn\n"),
+        (10, b"refused trace: no column pc_rdata\n"),
+        (19, b"agrees 0\n"),
+        (47, b"refused trace: row 1: wrong number of fields\n"),
+        (74, b"agrees 1\n"),
+        (
+            75,
+            b"differs row 1: pc_wdata expected 0x0000000080000004 found 0x0000000000000000\n",
+        ),
+        (76, b"refused trace: row 1: pc_wdata not a number\n"),
+        (
+            77,
+            b"differs row 1: pc_wdata expected 0x0000000080000004 found 0x0000000000000008\n",
+        ),
+        (
+            78,
+            b"differs row 1: pc_wdata expected 0x0000000080000004 found 0x0000000000000080\n",
+        ),
+        (
+            83,
+            b"differs row 1: pc_wdata expected 0x0000000080000004 found 0x0000000008000000\n",
+        ),
+        (84, b"agrees 1\n"),
+    ];
+    for (length, text) in texts {
+        let front = TRACE.get(..length).unwrap_or(TRACE);
+        let (_, sink) = judged(
+            &rt,
+            rt.alloc(),
+            &["rvjudge", "judge", "i", "t"],
+            IMAGE,
+            front,
+        )?;
+        assert_eq!(rt; sink.held.as_slice(), text);
+    }
+    Ok(())
+}
+
+#[test]
+fn ends_with_each_fault(rt: HostRuntime) -> Result<(), Fail> {
+    let alloc = rt.alloc();
+    let words = list(alloc, &["rvjudge", "judge", "i", "t"])?;
+    // The image takes two reads, and so does the trace.
+    for (call, status) in [(1, 5), (2, 5), (3, 5), (4, 5), (5, 0)] {
+        let failing = Vec::from_slice(alloc, &[call])?;
+        let mut shelf = FailShelf::new(files(alloc, IMAGE, TRACE)?, failing);
+        let mut sink = MemSink::new(alloc);
+        assert_eq!(rt;
+            judge(&rt, alloc, &words, &mut shelf, &mut sink, &OpenGate),
+            status
+        );
+        assert_eq!(rt; sink.held.is_empty(), status == 5);
+    }
+    for (room, status) in [(0, 5), (5, 5), (8, 5), (9, 0)] {
+        let mut shelf = files(alloc, IMAGE, TRACE)?;
+        let mut sink = FailSink::new(alloc, room)?;
+        assert_eq!(rt;
+            judge(&rt, alloc, &words, &mut shelf, &mut sink, &OpenGate),
+            status
+        );
+        assert_eq!(rt;
+            Some(sink.held.as_slice()),
+            b"agrees 1\n".as_slice().get(..room)
+        );
+    }
+    let mut only = Vec::new(alloc);
+    only.push(named(alloc, "i", IMAGE)?)?;
+    let mut shelf = MemShelf::new(only);
+    let mut sink = MemSink::new(alloc);
+    assert_eq!(rt;
+        judge(&rt, alloc, &words, &mut shelf, &mut sink, &OpenGate),
+        5
+    );
+    assert_eq!(rt; (shelf.misses, sink.held.len()), (1, 0));
+    Ok(())
+}
