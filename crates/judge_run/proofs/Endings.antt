@@ -1,5 +1,5 @@
 -- The outcome of a told trace.
-use Rattle.std.proofs.Common.{◌≡◌, ℕ, ◌^◌, ◌<◌, ◌≤◌, Bool, true, false, List, length, take, nat_le, if◌then◌else◌, Option, Some, None, IsSome, Result, Ok, Err, refl, sym, ap, ◌∙◌, arith, string_bytes}
+use Rattle.std.proofs.Common.{◌≡◌, ℕ, ◌<◌, ◌≤◌, Bool, true, false, List, length, take, nat_le, if◌then◌else◌, Option, Some, None, IsSome, Ok, refl, sym, ap, ◌∙◌, arith, string_bytes}
 use Rattle.std.proofs.lemmas.Bool.{leb-true}
 use Rattle.std.proofs.lemmas.List.{length-take-le}
 use Rattle.outside_ports.specs.Ports.{Files, file_of, IsThere, IsMissing}
@@ -12,7 +12,7 @@ use Rattle.trace_lines.specs.Pieces.{lines_in, piece_view, front_of}
 use Rattle.trace_lines.specs.Takers.{Opens, Gives, left_of, left_after}
 use Rattle.trace_report.specs.declared.outcome.Outcome.{Outcome}
 use Rattle.rvfi_rows.specs.Gives.{◌>>=◌}
-use Rattle.judge_run.specs.Answer.{Step, there, lines_outcome, trace_outcome}
+use Rattle.judge_run.specs.Answer.{there, lines_outcome, trace_outcome}
 use Rattle.judge_run.specs.Stops.{MeantTold, LacksFile}
 
 -- where fewer lines came than were asked for, they are all that were left

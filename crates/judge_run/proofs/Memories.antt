@@ -1,5 +1,5 @@
 -- The memory of a file by what was read of it.
-use Rattle.std.proofs.Common.{◌≡◌, ℕ, ◌<◌, ◌≤◌, Bool, true, false, List, take, length, nat_lt, if◌then◌else◌, Option, Some, None, IsSome, Result, Ok, Err, unwrap_or, refl, sym, ap, ◌∙◌, arith}
+use Rattle.std.proofs.Common.{◌≡◌, ℕ, true, false, List, length, nat_lt, Option, Some, None, IsSome, Result, Ok, Err, refl, sym, ap, ◌∙◌}
 use Rattle.std.proofs.lemmas.Bool.{ltb-false}
 use Rattle.std.proofs.lemmas.List.{take_all}
 use Rattle.outside_ports.specs.Ports.{Files, file_of, IsThere, IsMissing}
@@ -11,7 +11,6 @@ use Rattle.image_text.specs.declared.fault.ImageError.{ImageError}
 use Rattle.image_text.specs.declared.fault.ImageError.TheVariants as errors
 use Rattle.image_text.specs.Gives.{FailsAs}
 use Rattle.image_text.specs.Image.{image_of, image_fault}
-use Rattle.trace_report.specs.declared.outcome.Outcome.{Outcome}
 use Rattle.trace_report.specs.declared.outcome.Outcome.TheVariants as outcomes
 use Rattle.rvfi_rows.specs.Gives.{◌>>=◌}
 use Rattle.judge_run.specs.declared.stop.Stop.{Stop}

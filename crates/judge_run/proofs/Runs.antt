@@ -1,5 +1,5 @@
 -- How a run ends, and what follows for its status and its bytes.
-use Rattle.std.proofs.Common.{◌≡◌, ℕ, ◌<◌, ◌≤◌, ◌⊎◌, ◌↔◌, inl, inr, Bool, true, false, List, Option, Some, None, is_none, Ok, Err, option_map, refl, sym, ap, ◌∙◌, subst, arith}
+use Rattle.std.proofs.Common.{◌≡◌, ℕ, ◌<◌, ◌≤◌, ◌⊎◌, ◌↔◌, inl, inr, false, List, Option, Some, None, is_none, Ok, Err, refl, sym, ap, ◌∙◌, arith}
 use Rattle.outside_ports.specs.Counts.{Rose}
 use Rattle.outside_ports.specs.Ports.{Files}
 use Rattle.judge_words.specs.Job.{JobView, job_of}
@@ -7,9 +7,8 @@ use Rattle.rvfi_rows.specs.declared.verdict.Verdict.{Verdict}
 use Rattle.rvfi_rows.specs.declared.verdict.Verdict.TheVariants.{Agrees, Differs, Refused}
 use Rattle.trace_report.specs.declared.outcome.Outcome.{Outcome}
 use Rattle.trace_report.specs.declared.outcome.Outcome.TheVariants as outcomes
-use Rattle.trace_report.specs.Report.{text_of, status_of}
-use Rattle.judge_run.specs.declared.stop.Stop.{Stop}
-use Rattle.judge_run.specs.declared.stop.Stop.TheVariants.{Known, ReadFault, NoMemory}
+use Rattle.trace_report.specs.Report.{status_of}
+use Rattle.judge_run.specs.declared.stop.Stop.TheVariants.{Known}
 use Rattle.judge_run.specs.Answer.{answer, judged, settled}
 use Rattle.judge_run.specs.Stops.{MeantTold, LacksFile, WordsTell, is_no_job}
 use Rattle.judge_run.specs.Ends.{Moment, IsOutcome, Ends, Writes, IsAnswer}

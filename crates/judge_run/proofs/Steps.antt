@@ -1,13 +1,12 @@
 -- The steps towards the answer, one after the other.
-use Rattle.std.proofs.Common.{◌≡◌, ℕ, ◌<◌, List, Option, Some, None, Result, Ok, Err, refl, sym, ◌∙◌, subst}
+use Rattle.std.proofs.Common.{◌≡◌, ℕ, List, Option, Some, None, Result, Ok, Err, refl, sym, ◌∙◌, subst}
 use Rattle.outside_ports.specs.Ports.{Files}
 use Rattle.judge_words.specs.Job.{JobView, job_of}
 use Rattle.trace_report.specs.declared.outcome.Outcome.{Outcome}
 use Rattle.trace_report.specs.declared.outcome.Outcome.TheVariants.{NoJob}
-use Rattle.rvfi_rows.specs.Gives.{◌>>=◌}
 use Rattle.judge_run.specs.declared.stop.Stop.{Stop}
 use Rattle.judge_run.specs.declared.stop.Stop.TheVariants.{Known, ReadFault, NoMemory}
-use Rattle.judge_run.specs.Answer.{Step, judged, wanted, memory_of, trace_outcome}
+use Rattle.judge_run.specs.Answer.{Step, judged, memory_of, trace_outcome}
 use Rattle.judge_run.specs.Stops.{MeantBy, MeantTold, MissesStop, LacksFile}
 
 -- words that ask for no job

@@ -1,5 +1,5 @@
 -- The answer of a run: what the words, the image and the trace come to.
-use Rattle.std.specs.Prelude.{◌≡◌, ℕ, Bool, true, false, nat_lt, if◌then◌else◌, List, [], ◌∷◌, length, Option, Some, None, Result, Ok, Err, unwrap_or}
+use Rattle.std.specs.Prelude.{ℕ, nat_lt, if◌then◌else◌, List, [], ◌∷◌, length, Option, Some, None, Result, Ok, Err, unwrap_or}
 use Rattle.outside_ports.specs.Ports.{Files}
 use Rattle.judge_words.specs.Job.{JobView, job_of}
 use Rattle.image_text.specs.declared.fault.ImageFault.{ImageFault}

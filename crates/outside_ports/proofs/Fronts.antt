@@ -1,11 +1,9 @@
 -- What one more read makes of the front of a file.
-use Rattle.std.proofs.Common.{◌≡◌, ℕ, ◌+◌, ◌-◌, ◌<◌, ◌≤◌, List, ◌++◌, take, drop, length, Option, Some, None, Ok, IsSome, Bool, true, false, [], refl, sym, ap, ◌∙◌, arith, length-append}
-use Rattle.std.proofs.lemmas.List.{take_all, take-take, length-take-le}
-use Rattle.std.proofs.lemmas.Bool.{le-ltb, lt-ltb}
+use Rattle.std.proofs.Common.{◌≡◌, ℕ, ◌+◌, ◌-◌, ◌<◌, ◌≤◌, List, ◌++◌, take, drop, length, Option, Some, None, Ok, IsSome, [], refl, sym, ap, ◌∙◌, arith, length-append}
+use Rattle.std.proofs.lemmas.List.{length-take-le}
 use Rattle.std.proofs.Math.Seq.{take-add}
 use Rattle.outside_ports.specs.Ports.{Files, misses_after, misses_of_file, IsMissing, IsThere, ReadsTold, ReadsFile}
-use Rattle.outside_ports.specs.Reading.{IsNext, IsFront, HasFront}
-use Rattle.outside_ports.specs.declared.reading.Front.{Front}
+use Rattle.outside_ports.specs.Reading.{IsNext}
 
 -- the bytes read so far are the front of the file
 abbrev pub IsRead : Option (List ℕ) → List ℕ → Type 0

@@ -1,5 +1,5 @@
 -- Counts of faults, kept in 64 bits: at their last value they stay.
-use Rattle.std.specs.Prelude.{◌≡◌, ℕ, ◌+◌, ◌-◌, ◌^◌, ◌≤◌, min}
+use Rattle.std.specs.Prelude.{ℕ, ◌+◌, ◌-◌, ◌^◌, ◌≤◌, min}
 
 -- the count after one more
 abbrev pub counted : ℕ → ℕ

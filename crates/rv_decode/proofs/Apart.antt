@@ -1,14 +1,13 @@
 -- Rows that ask different things of a bit that both fix are never both met.
-use Rattle.std.proofs.Common.{◌≡◌, ℕ, Bool, true, false, not, ◌&&◌, List, [], ◌∷◌, bit_and, ◌==◌, All, AllPairs, refl, sym, ◌∙◌, ap, length, ◌<◌, arith, get_or}
+use Rattle.std.proofs.Common.{◌≡◌, ℕ, Bool, true, false, not, ◌&&◌, List, [], ◌∷◌, bit_and, ◌==◌, All, refl, sym, ◌∙◌, ap, arith, get_or}
 use Rattle.std.specs.List.{list_all}
-use Rattle.std.proofs.lemmas.Grind.{common_steps}
 use Rattle.std.proofs.lemmas.List.Kept.{AllPairs-cons}
 use Rattle.std.proofs.lemmas.Nat.{and_assoc, and_comm}
 use Rattle.std.proofs.lemmas.Bool.{eqb-true}
 use Rattle.std.proofs.lemmas.Bool.Decides.{nat_tests}
 use Rattle.std.proofs.lemmas.List.Sums.{AllPass-from_list_all}
 use Rattle.rv_decode.specs.declared.patterns.Pattern.{Pattern}
-use Rattle.rv_decode.specs.Table.{meets, NeverBoth, NoTwoRowsMeet}
+use Rattle.rv_decode.specs.Table.{NeverBoth, NoTwoRowsMeet}
 
 abbrev pub are_apart : Pattern → Pattern → Bool
 are_apart one other = not (bit_and one.bits other.mask == bit_and other.bits one.mask)

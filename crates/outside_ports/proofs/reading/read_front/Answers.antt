@@ -1,7 +1,7 @@
 use Rattle.std.proofs.lemmas.Grind.{common_steps}
-use Rattle.std.proofs.Common.{◌≡◌, ◌++◌, ◌<◌, ◌-◌, ◌≤◌, vec_len, take, length, rules, arith, ◌∙◌, ap}
+use Rattle.std.proofs.Common.{◌≡◌, ◌++◌, ◌≤◌, take, length, rules, arith, ◌∙◌}
 use Rattle.outside_ports.specs.Ports.{file_of}
-use Rattle.outside_ports.proofs.Fronts.{IsRead, read_more}
+use Rattle.outside_ports.proofs.Fronts.{read_more}
 use Rattle.outside_ports.proofs.reading.read_front.Goals as goal
 
 pub reading-preserved : goal.reading-preserved
