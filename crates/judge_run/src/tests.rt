@@ -87,43 +87,182 @@ fn judges_words_images_and_traces(rt: HostRuntime) -> Result<(), Fail> {
     Ok(())
 }
 
-/// The example with the front of its trace alone: the texts from each length on.
+/// The example with each front of its trace alone: the text for the lengths from one to another.
 #[test]
 fn judges_each_front_of_a_trace(rt: HostRuntime) -> Result<(), Fail> {
     let texts = [
-        (0, b"refused trace: no header\n".as_slice()),
-        (1, b"refused trace: no column insn\n"),
-        (10, b"refused trace: no column pc_rdata\n"),
-        (19, b"agrees 0\n"),
-        (47, b"refused trace: row 1: wrong number of fields\n"),
-        (74, b"agrees 1\n"),
+        (0, 0, b"refused trace: no header\n".as_slice()),
+        (1, 9, b"refused trace: no column insn\n"),
+        (10, 18, b"refused trace: no column pc_rdata\n"),
+        (19, 46, b"agrees 0\n"),
+        (47, 73, b"refused trace: row 1: wrong number of fields\n"),
+        (74, 74, b"agrees 1\n"),
         (
+            75,
             75,
             b"differs row 1: pc_wdata expected 0x0000000080000004 found 0x0000000000000000\n",
         ),
-        (76, b"refused trace: row 1: pc_wdata not a number\n"),
+        (76, 76, b"refused trace: row 1: pc_wdata not a number\n"),
         (
+            77,
             77,
             b"differs row 1: pc_wdata expected 0x0000000080000004 found 0x0000000000000008\n",
         ),
         (
             78,
+            78,
             b"differs row 1: pc_wdata expected 0x0000000080000004 found 0x0000000000000080\n",
         ),
         (
+            79,
+            79,
+            b"differs row 1: pc_wdata expected 0x0000000080000004 found 0x0000000000000800\n",
+        ),
+        (
+            80,
+            80,
+            b"differs row 1: pc_wdata expected 0x0000000080000004 found 0x0000000000008000\n",
+        ),
+        (
+            81,
+            81,
+            b"differs row 1: pc_wdata expected 0x0000000080000004 found 0x0000000000080000\n",
+        ),
+        (
+            82,
+            82,
+            b"differs row 1: pc_wdata expected 0x0000000080000004 found 0x0000000000800000\n",
+        ),
+        (
+            83,
             83,
             b"differs row 1: pc_wdata expected 0x0000000080000004 found 0x0000000008000000\n",
         ),
-        (84, b"agrees 1\n"),
+        (84, 85, b"agrees 1\n"),
     ];
-    for (length, text) in texts {
-        let front = TRACE.get(..length).unwrap_or(TRACE);
+    for (from, to, text) in texts {
+        for length in from..to + 1 {
+            let front = TRACE.get(..length).unwrap_or(TRACE);
+            let (_, sink) = judged(
+                &rt,
+                rt.alloc(),
+                &["rvjudge", "judge", "i", "t"],
+                IMAGE,
+                front,
+            )?;
+            assert_eq!(rt; sink.held.as_slice(), text);
+        }
+    }
+    Ok(())
+}
+
+/// The same with each front of its image.
+#[test]
+fn judges_each_front_of_an_image(rt: HostRuntime) -> Result<(), Fail> {
+    let zero =
+        b"differs row 1: insn expected 0x0000000000000000 found 0x0000000000500093\n".as_slice();
+    let one =
+        b"differs row 1: insn expected 0x0000000000000093 found 0x0000000000500093\n".as_slice();
+    let byte = b"refused image: line 1: bad byte\n".as_slice();
+    let texts = [
+        (0, 0, zero),
+        (1, 1, b"refused image: line 1: bad address\n".as_slice()),
+        (2, 10, zero),
+        (11, 11, byte),
+        (12, 13, one),
+        (14, 14, byte),
+        (15, 16, one),
+        (17, 17, byte),
+        (18, 19, b"agrees 1\n"),
+        (20, 20, byte),
+        (21, 21, b"agrees 1\n"),
+    ];
+    for (from, to, text) in texts {
+        for length in from..to + 1 {
+            let front = IMAGE.get(..length).unwrap_or(IMAGE);
+            let (_, sink) = judged(
+                &rt,
+                rt.alloc(),
+                &["rvjudge", "judge", "i", "t"],
+                front,
+                TRACE,
+            )?;
+            assert_eq!(rt; sink.held.as_slice(), text);
+        }
+    }
+    Ok(())
+}
+
+/// Lines that csv and the numbers read in their own ways.
+#[test]
+fn judges_odd_lines(rt: HostRuntime) -> Result<(), Fail> {
+    let cases = [
+        (
+            b"\"insn\",pc_rdata\n\" 0X500093\",0x80000000\n".as_slice(),
+            b"agrees 1\n".as_slice(),
+        ),
+        (b"insn,pc_rdata\n5243027,\"002147483648\n", b"agrees 1\n"),
+        (
+            b"insn,pc_rdata\n  \n",
+            b"refused trace: row 1: wrong number of fields\n",
+        ),
+        (
+            b"insn,pc_rdata\n\xef\xbb\xbf0x00500093,0x80000000\n",
+            b"agrees 1\n",
+        ),
+        (
+            b"insn,pc_rdata\n0x100000000,0x80000000\n",
+            b"refused trace: row 1: insn too wide\n",
+        ),
+        (
+            b"insn,rvfi_insn,pc_rdata\n",
+            b"refused trace: column insn twice\n",
+        ),
+        (
+            b"insn,pc_rdata\n0x00500093,0x80000000\n\n0x0050\r,0\n",
+            b"refused trace: row 2: stray return\n",
+        ),
+    ];
+    for (trace, text) in cases {
         let (_, sink) = judged(
             &rt,
             rt.alloc(),
             &["rvjudge", "judge", "i", "t"],
             IMAGE,
-            front,
+            trace,
+        )?;
+        assert_eq!(rt; sink.held.as_slice(), text);
+    }
+    Ok(())
+}
+
+/// A header, and a line of so many letters.
+fn long_line(alloc: Global, letters: u32) -> Result<Vec<u8>, AllocError> {
+    let mut trace = Vec::from_slice(alloc, b"insn,pc_rdata\n")?;
+    for _ in 0..letters {
+        trace.push(b'a')?;
+    }
+    trace.push(b'\n')?;
+    Ok(trace)
+}
+
+#[test]
+fn bounds_a_line(rt: HostRuntime) -> Result<(), Fail> {
+    let cases = [
+        (
+            65536,
+            b"refused trace: row 1: wrong number of fields\n".as_slice(),
+        ),
+        (65537, b"refused trace: line 2 too long\n"),
+    ];
+    for (letters, text) in cases {
+        let trace = long_line(rt.alloc(), letters)?;
+        let (_, sink) = judged(
+            &rt,
+            rt.alloc(),
+            &["rvjudge", "judge", "i", "t"],
+            IMAGE,
+            &trace,
         )?;
         assert_eq!(rt; sink.held.as_slice(), text);
     }
