@@ -14,9 +14,9 @@ fn shelf(alloc: Global, text: &[u8]) -> Result<MemShelf, AllocError> {
 }
 
 /// How many lines a text has, the length of the last of them, and the ending.
-fn taken(alloc: Global, text: &[u8], most: u64) -> Result<(usize, usize, Ending), LineError> {
+fn taken(alloc: Global, text: &[u8], most: u32) -> Result<(usize, usize, Ending), LineError> {
     let mut shelf = shelf(alloc, text)?;
-    let taker = LineTaker::open(alloc, "t", most)?;
+    let taker = LineTaker::open(alloc, "t", u64::from(most))?;
     let (piece, _) = taker.next_lines(&mut shelf, 100)?;
     let last = match piece.lines.get(piece.lines.len().saturating_sub(1)) {
         None => 0,
