@@ -24,10 +24,6 @@ def u_type(opcode, rd, upper):
     return (upper & 0xFFFFF) << 12 | rd << 7 | opcode
 
 
-def r_type(opcode, funct3, funct7, rd, rs1, rs2):
-    return funct7 << 25 | rs2 << 20 | rs1 << 15 | funct3 << 12 | rd << 7 | opcode
-
-
 def jal(rd, offset):
     bits = offset & 0x1FFFFF
     return (
@@ -48,9 +44,9 @@ LOOP = [
     (i_type(0x13, 1, 4, 1, 3), 4, lambda pc, x: x[1] << 3),  # SLLI x4, x1, 3
     (i_type(0x13, 5, 5, 4, 2), 5, lambda pc, x: x[4] >> 2),  # SRLI x5, x4, 2
     (i_type(0x13, 4, 6, 5, -1), 6, lambda pc, x: x[5] ^ MASK),  # XORI x6, x5, -1
-    (r_type(0x33, 0, 0, 7, 6, 2), 7, lambda pc, x: x[6] + x[2]),  # ADD x7, x6, x2
+    (i_type(0x13, 6, 7, 6, 0x55), 7, lambda pc, x: x[6] | 0x55),  # ORI x7, x6, 85
     (i_type(0x13, 7, 8, 7, 0x7F), 8, lambda pc, x: x[7] & 0x7F),  # ANDI x8, x7, 127
-    (i_type(0x1B, 0, 9, 8, 5), 9, lambda pc, x: signed(x[8] + 5, 32)),  # ADDIW x9, x8, 5
+    (i_type(0x13, 3, 9, 8, 64), 9, lambda pc, x: int(x[8] < 64)),  # SLTIU x9, x8, 64
     (jal(10, -36), 10, lambda pc, x: pc + 4),  # JAL x10, to the loop's first word
 ]
 
