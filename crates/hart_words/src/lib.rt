@@ -2,13 +2,21 @@
 //! signals of a trace.
 #![tactic(auto)]
 
+mod fault;
 mod map;
+mod memory;
 mod numbers;
+mod privilege;
 mod signal;
+mod traces;
 
+pub use fault::NoMemory;
 pub use map::{Map, Span};
+pub use memory::{PhysMem, WalkMem};
 pub use numbers::{NumberFault, read_number};
+pub use privilege::{Access, Cause, Mode, PmpEntry, WalkFlags};
 pub use signal::{CsrName, CsrSide, Difference, Signal};
+pub use traces::{Piece, Read, Seen, Wrote};
 
 #[cfg(test)]
 mod tests;

@@ -1,0 +1,49 @@
+-- Physical memory: a byte at each address, and what reads and writes of numbers make of it.
+use Rattle.std.specs.Prelude.{◌≡◌, ℕ, zero, suc, ◌+◌, ◌-◌, ◌*◌, ◌/◌, ◌%◌, ◌^◌, ◌≤◌, Bool, ◌&&◌, nat_le, nat_lt, if◌then◌else◌, Option, Some, None, List, [], ◌∷◌}
+use Rattle.hart_words.specs.declared.map.Span.{Span}
+use Rattle.hart_words.specs.declared.traces.Read.{Read}
+use Rattle.hart_words.specs.declared.traces.Piece.{Piece}
+
+-- the byte at each address
+abbrev pub Bytes : Type 0
+Bytes = ℕ → ℕ
+
+-- so many bytes from an address on lie in RAM, within one page of 4,096 bytes; a number has at most 8
+pub record IsPlace (ram : Span) (pa len : ℕ) : Type 0 where
+  pub low : ram.base ≤ pa
+  pub high : pa + len ≤ ram.base + ram.size
+  pub page : pa % 4096 + len ≤ 4096
+  pub some : 1 ≤ len
+  pub few : len ≤ 8
+
+-- the number that so many bytes from an address on are, little-endian
+unfoldable pub number_at : Bytes → ℕ → ℕ → ℕ
+number_at bytes pa zero = 0
+number_at bytes pa (suc len) = bytes pa + 256 * number_at bytes (pa + 1) len
+
+-- the address is one of so many from another on
+abbrev pub is_within : ℕ → ℕ → ℕ → Bool
+is_within pa len address = nat_le pa address && nat_lt address (pa + len)
+
+-- the bytes after a number's low bytes were put from an address on; every other byte is as before
+unfoldable pub stored : ℕ → ℕ → ℕ → Bytes → Bytes
+stored pa len value bytes address = if is_within pa len address then value / 256 ^ (address - pa) % 256 else bytes address
+
+-- the bytes after pieces were written, one after another
+unfoldable pub put : List Piece → Bytes → Bytes
+put [] bytes = bytes
+put (piece ∷ pieces) bytes = put pieces (stored piece.pa piece.len piece.value bytes)
+
+-- two memories have the same bytes from an address on
+unfoldable pub SameBytes : ℕ → ℕ → Bytes → Bytes → Type 0
+SameBytes pa zero one other = Unit {0}
+SameBytes pa (suc len) one other = (other pa ≡ one pa) × SameBytes (pa + 1) len one other
+
+-- two memories agree on what was read
+unfoldable pub AgreeOn : List Read → Bytes → Bytes → Type 0
+AgreeOn [] one other = Unit {0}
+AgreeOn (read ∷ reads) one other = SameBytes read.pa read.len one other × AgreeOn reads one other
+
+-- an entry of a page table, where it may be read
+abbrev pub entry_of : (ℕ → Bool) → Bytes → ℕ → Option ℕ
+entry_of readable bytes pa = if readable pa then Some (number_at bytes pa 8) else None
