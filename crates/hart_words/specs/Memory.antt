@@ -8,10 +8,11 @@ use Rattle.hart_words.specs.declared.traces.Piece.{Piece}
 abbrev pub Bytes : Type 0
 Bytes = ℕ → ℕ
 
--- so many bytes from an address on lie in RAM, within one page of 4,096 bytes; a number has at most 8
+-- so many bytes from an address on lie in RAM, within one page of 4,096 bytes; a number has at most 8, an address 56 bits
 pub record IsPlace (ram : Span) (pa len : ℕ) : Type 0 where
   pub low : ram.base ≤ pa
   pub high : pa + len ≤ ram.base + ram.size
+  pub narrow : pa + len ≤ 2 ^ 56
   pub page : pa % 4096 + len ≤ 4096
   pub some : 1 ≤ len
   pub few : len ≤ 8

@@ -16,7 +16,8 @@ pub struct Map {
 
 impl Span {
     ghost use Rattle.std.specs.Prelude.{◌↔◌, IsTrue};
-    ghost use Rattle.hart_words.specs.Map.{Lies, IsSpan};
+    ghost use Rattle.hart_words.specs.Map.{Lies, IsSpan, holds_all};
+    ghost use Rattle.std.specs.Prelude.{◌≡◌, ◌≤◌};
 
     /// Whether the byte at `address` lies in the range.
     pub fn contains(&self, address: u64) -> bool
@@ -24,5 +25,14 @@ impl Span {
         ensures { IsTrue result ↔ Lies address self.now }
     {
         self.base <= address && address - self.base < self.size
+    }
+
+    /// Whether all of `len` bytes from the address `pa` on, at most 4,096, lie in the range.
+    pub fn holds(&self, pa: u64, len: u8) -> bool
+        requires { IsSpan self.now }
+        ensures { result ≡ holds_all self.now pa len }
+    {
+        let len = u64::from(len);
+        self.base <= pa && pa - self.base <= self.size - len
     }
 }

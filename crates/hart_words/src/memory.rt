@@ -1,6 +1,6 @@
 //! Physical memory, as the reference hart sees it.
 
-ghost use Rattle.std.specs.Prelude.{◌≡◌, ◌≤◌, ◌<◌, ◌*◌, ◌/◌, ◌^◌, ℕ, Bool, IsTrue, IsOk, IfOk, OnOk, OnErr};
+ghost use Rattle.std.specs.Prelude.{◌≡◌, ◌≤◌, ◌<◌, ◌*◌, ◌/◌, ◌^◌, ℕ, Bool, IsOk, IfOk, OnOk, OnErr};
 ghost use Rattle.hart_words.specs.declared.map.Span.{Span};
 ghost use Rattle.hart_words.specs.Memory.{Bytes, IsPlace, entry_of, number_at, stored};
 
@@ -16,7 +16,7 @@ pub trait PhysMem: Sized {
     ghost ram: { Self → Span };
 
     /// The pages, by their number, in which no write is refused.
-    ghost is_ready: { Self → ℕ → Bool };
+    ghost is_ready: { Self → ℕ → Type 0 };
 
     /// The number of `len` bytes at an address.
     fn read(&self, pa: u64, len: u8) -> u64
@@ -29,16 +29,16 @@ pub trait PhysMem: Sized {
         requires { IsPlace (ram self.old) pa len }
         ensures ok { OnOk result (bytes self.new ≡ stored pa len value (bytes self.old)) }
         ensures err { OnErr result (bytes self.new ≡ bytes self.old) }
-        ensures admitted { IsTrue (is_ready self.old (pa / 4096)) → IsOk result }
-        ensures ready { (page : ℕ) → IsTrue (is_ready self.old page) → IsTrue (is_ready self.new page) }
+        ensures admitted { is_ready self.old (pa / 4096) → IsOk result }
+        ensures ready { (page : ℕ) → is_ready self.old page → is_ready self.new page }
         ensures ram { ram self.new ≡ ram self.old };
 
     /// Takes what memory the page of an address needs, so that no later write in it is refused.
     fn ready(&mut self, pa: u64) -> Result<(), NoMemory>
         requires { IsPlace (ram self.old) pa 1 }
         ensures bytes { bytes self.new ≡ bytes self.old }
-        ensures ok { OnOk result (IsTrue (is_ready self.new (pa / 4096))) }
-        ensures ready { (page : ℕ) → IsTrue (is_ready self.old page) → IsTrue (is_ready self.new page) }
+        ensures ok { OnOk result (is_ready self.new (pa / 4096)) }
+        ensures ready { (page : ℕ) → is_ready self.old page → is_ready self.new page }
         ensures ram { ram self.new ≡ ram self.old };
 
     /// A memory with the same bytes.

@@ -27,5 +27,74 @@ fn spans_hold_their_bytes(rt: HostRuntime) -> Result<(), Fail> {
     assert!(rt; ram.contains(0x8000_0fff));
     assert!(rt; !ram.contains(0x8000_1000));
     assert!(rt; !ram.contains(0x7fff_ffff));
+    for (pa, len, is_held) in [
+        (0x8000_0000, 8, true),
+        (0x8000_0ff8, 8, true),
+        (0x8000_0ff9, 8, false),
+        (0x8000_0fff, 1, true),
+        (0x8000_1000, 1, false),
+        (0x7fff_ffff, 2, false),
+    ] {
+        assert_eq!(rt; ram.holds(pa, len), is_held, "{len} bytes at {pa}");
+    }
     Ok(())
+}
+
+#[test]
+fn accesses_are_noted_in_order(rt: HostRuntime) {
+    let mut seen = Seen::empty();
+    seen.put(0x8000_0000, 4);
+    seen.put(0x8000_1000, 8);
+    let reads = [
+        Read {
+            pa: 0x8000_0000,
+            len: 4,
+        },
+        Read {
+            pa: 0x8000_1000,
+            len: 8,
+        },
+    ];
+    assert_eq!(rt; seen.as_slice(), reads.as_slice());
+    let mut wrote = Wrote::empty();
+    wrote.put(0x8000_0002, 2, 0xbbaa);
+    wrote.put(0x8000_0000, 1, 7);
+    let pieces = [
+        Piece {
+            pa: 0x8000_0002,
+            len: 2,
+            value: 0xbbaa,
+        },
+        Piece {
+            pa: 0x8000_0000,
+            len: 1,
+            value: 7,
+        },
+    ];
+    assert_eq!(rt; wrote.as_slice(), pieces.as_slice());
+}
+
+/// The encodings of modes, and mcause of exceptions.
+#[test]
+fn encodings(rt: HostRuntime) {
+    for (mode, number) in [(Mode::User, 0), (Mode::Supervisor, 1), (Mode::Machine, 3)] {
+        assert_eq!(rt; mode.number(), number);
+    }
+    for (cause, code) in [
+        (Cause::InstructionAccessFault, 1),
+        (Cause::IllegalInstruction, 2),
+        (Cause::Breakpoint, 3),
+        (Cause::LoadAddressMisaligned, 4),
+        (Cause::LoadAccessFault, 5),
+        (Cause::StoreAddressMisaligned, 6),
+        (Cause::StoreAccessFault, 7),
+        (Cause::EnvironmentCallFromUser, 8),
+        (Cause::EnvironmentCallFromSupervisor, 9),
+        (Cause::EnvironmentCallFromMachine, 11),
+        (Cause::InstructionPageFault, 12),
+        (Cause::LoadPageFault, 13),
+        (Cause::StorePageFault, 15),
+    ] {
+        assert_eq!(rt; cause.code(), code);
+    }
 }

@@ -1,0 +1,25 @@
+-- Powers that count bytes and bits.
+use Rattle.std.proofs.Common.{◌≡◌, ℕ, zero, suc, ◌+◌, ◌*◌, ◌<◌, ◌≤◌, ◌^◌, refl, arith, lit<}
+use Rattle.std.proofs.Math.Nat.{pow-le-pow_right, pow-suc}
+use Rattle.std.proofs.lemmas.Nat.{pow-add}
+
+-- up to eight bytes, and up to seven
+pub eight_bytes : (count : ℕ) → count ≤ 8 → 256 ^ count ≤ 256 ^ 8
+eight_bytes count few = pow-le-pow_right (lit< tt) few
+
+pub seven_bytes : (count : ℕ) → count ≤ 7 → 256 ^ count ≤ 256 ^ 7
+seven_bytes count few = pow-le-pow_right (lit< tt) few
+
+pub some_bytes : (count : ℕ) → 1 ≤ 256 ^ count
+some_bytes count = pow-le-pow_right {n = 256} (lit< tt) {i = 0} {j = count} (omega arith)
+
+-- more of them are not less
+pub more_places : (base from count : ℕ) → 0 < base → base ^ from ≤ base ^ (from + count)
+more_places base from count positive = pow-le-pow_right positive (omega arith)
+
+-- a byte has eight bits
+pub bits_of_bytes : (count : ℕ) → 256 ^ count ≡ 2 ^ (8 * count)
+bits_of_bytes zero = refl
+bits_of_bytes (suc count) =
+    let more : 8 * suc count ≡ 8 * count + 8 = omega arith in
+    rw (pow-suc 256 count, more, pow-add 2 (8 * count) 8, bits_of_bytes count) refl

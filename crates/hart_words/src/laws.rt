@@ -1,0 +1,20 @@
+//! What holds of memories and of what is read from them.
+
+ghost use Rattle.std.specs.Prelude.{◌≡◌, ℕ, ◌+◌, ◌≤◌, ◌%◌, ◌^◌, ◌⊎◌};
+ghost use Rattle.hart_words.specs.Memory.{Bytes, number_at, stored, AgreeOn};
+ghost use Rattle.hart_words.specs.Actions.{Action};
+
+/// What was stored is read again, as far as its bytes go.
+pub fn read_after_store()
+    ensures { (bytes : Bytes) (pa len value : ℕ) → number_at (stored pa len value bytes) pa len ≡ value % 256 ^ len }
+{}
+
+/// What stands apart from a store is read as before.
+pub fn read_apart_from_store()
+    ensures { (bytes : Bytes) (at size value pa len : ℕ) → (pa + len ≤ at) ⊎ (at + size ≤ pa) → number_at (stored at size value bytes) pa len ≡ number_at bytes pa len }
+{}
+
+/// Memories that agree on what an action reads give the same value, the same reads and the same writes.
+pub fn actions_are_framed<T>()
+    ensures { (action : Action T) (one other : Bytes) → AgreeOn (action.run one).reads one other → action.run other ≡ action.run one }
+{}
