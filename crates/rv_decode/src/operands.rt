@@ -1,7 +1,8 @@
 //! The fields of a 32-bit word.
 
-ghost use Rattle.std.specs.Prelude.{◌≡◌, ◌≤◌, ◌<◌, ◌^◌};
-ghost use Rattle.rv_decode.specs.Fields.{field, signed_to_64, immediate_i, immediate_u, immediate_j, op_of};
+ghost use Rattle.std.specs.Prelude.{◌≡◌, ◌≤◌, ◌<◌, ◌^◌, ◌%◌};
+ghost use Rattle.rv_decode.specs.Fields.{field, signed_to_64, immediate_i, immediate_s, immediate_b, immediate_u, immediate_j, op_of};
+ghost use Rattle.rv_decode.specs.Operands.{HasEvenOffset, HasRegisters};
 
 use crate::operation::Op;
 use crate::patterns::Form;
@@ -30,9 +31,11 @@ fn extended(number: u32, bits: u32) -> u64
     }
 }
 
+/// The register whose number stands in the 5 bits from `first` on.
 fn register(word: u32, first: u32) -> u8
     requires { first < 32 }
-    ensures { result ≡ field first 5 word }
+    ensures number { result ≡ field first 5 word }
+    ensures below { result < 32 }
 {
     field_of(word, first, 5) as u8
 }
@@ -44,6 +47,25 @@ fn i_immediate(word: u32) -> u64
     extended(field_of(word, 20, 12), 12)
 }
 
+/// The offset of the S-format.
+fn s_immediate(word: u32) -> u64
+    ensures { result ≡ immediate_s word }
+{
+    extended(field_of(word, 25, 7) * 0x20 + field_of(word, 7, 5), 12)
+}
+
+/// The offset of the B-format, a multiple of 2.
+fn b_immediate(word: u32) -> u64
+    ensures number { result ≡ immediate_b word }
+    ensures even { result % 2 ≡ 0 }
+{
+    let number = field_of(word, 31, 1) * 0x1000
+        + field_of(word, 7, 1) * 0x800
+        + field_of(word, 25, 6) * 0x20
+        + field_of(word, 8, 4) * 2;
+    extended(number, 13)
+}
+
 /// The immediate of the U-format: the upper 20 bits of a 32-bit number.
 fn u_immediate(word: u32) -> u64
     ensures { result ≡ immediate_u word }
@@ -53,7 +75,8 @@ fn u_immediate(word: u32) -> u64
 
 /// The offset of the J-format, a multiple of 2.
 fn j_immediate(word: u32) -> u64
-    ensures { result ≡ immediate_j word }
+    ensures number { result ≡ immediate_j word }
+    ensures even { result % 2 ≡ 0 }
 {
     let number = field_of(word, 31, 1) * 0x10_0000
         + field_of(word, 12, 8) * 0x1000
@@ -64,9 +87,13 @@ fn j_immediate(word: u32) -> u64
 
 /// The instruction of this form with the operands that stand in the word.
 pub fn operation(form: Form, word: u32) -> Op
-    ensures { result ≡ op_of form word }
+    ensures meaning { result ≡ op_of form word }
+    ensures registers { HasRegisters result }
+    ensures even { HasEvenOffset result }
 {
     let rd = register(word, 7);
+    let rs1 = register(word, 15);
+    let rs2 = register(word, 20);
     match form {
         Form::Lui => Op::Lui {
             rd,
@@ -80,19 +107,72 @@ pub fn operation(form: Form, word: u32) -> Op
             rd,
             offset: j_immediate(word),
         },
+        Form::Jalr => Op::Jalr {
+            rd,
+            rs1,
+            offset: i_immediate(word),
+        },
+        Form::Branch(op) => Op::Branch {
+            op,
+            rs1,
+            rs2,
+            offset: b_immediate(word),
+        },
+        Form::Load(op) => Op::Load {
+            op,
+            rd,
+            rs1,
+            offset: i_immediate(word),
+        },
+        Form::Store(op) => Op::Store {
+            op,
+            rs1,
+            rs2,
+            offset: s_immediate(word),
+        },
         Form::Immediate(op) => Op::Immediate {
             op,
             rd,
-            rs1: register(word, 15),
+            rs1,
             imm: i_immediate(word),
         },
-        Form::Shift(op) => {
-            Op::Immediate {
-                op,
-                rd,
-                rs1: register(word, 15),
-                imm: u64::from(field_of(word, 20, 6)),
-            }
-        }
+        Form::Shift(op) => Op::Immediate {
+            op,
+            rd,
+            rs1,
+            imm: u64::from(field_of(word, 20, 6)),
+        },
+        Form::ImmediateWord(op) => Op::ImmediateWord {
+            op,
+            rd,
+            rs1,
+            imm: i_immediate(word),
+        },
+        Form::ShiftWord(op) => Op::ImmediateWord {
+            op,
+            rd,
+            rs1,
+            imm: u64::from(rs2),
+        },
+        Form::Register(op) => Op::Register { op, rd, rs1, rs2 },
+        Form::RegisterWord(op) => Op::RegisterWord { op, rd, rs1, rs2 },
+        Form::Fence => Op::Fence,
+        Form::FenceI => Op::FenceI,
+        Form::Ecall => Op::Ecall,
+        Form::Ebreak => Op::Ebreak,
+        Form::LoadReserved(width) => Op::LoadReserved { width, rd, rs1 },
+        Form::StoreConditional(width) => Op::StoreConditional {
+            width,
+            rd,
+            rs1,
+            rs2,
+        },
+        Form::Amo(op, width) => Op::Amo {
+            op,
+            width,
+            rd,
+            rs1,
+            rs2,
+        },
     }
 }

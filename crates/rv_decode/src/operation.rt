@@ -1,7 +1,7 @@
-//! Instructions with their operands, in the terms of the Unprivileged ISA's chapter on RV64I.
+//! Instructions with their operands, in the terms of the Unprivileged ISA.
 
 /// An instruction. Registers are numbers from 0 to 31; immediates are extended to 64 bits and
-/// scaled as the instruction uses them; offsets of jumps are added to pc modulo 2^64.
+/// scaled as the instruction uses them; offsets are added to pc or to rs1 modulo 2^64.
 #[derive(Clone, Copy, Debug, PartialEq, Eq)]
 pub enum Op {
     /// Puts the immediate into rd.
@@ -19,6 +19,33 @@ pub enum Op {
         rd: u8,
         offset: u64,
     },
+    /// Puts the address of the next instruction into rd and jumps to rs1 plus the offset, less bit 0.
+    Jalr {
+        rd: u8,
+        rs1: u8,
+        offset: u64,
+    },
+    /// Jumps to pc plus the offset where rs1 and rs2 compare so.
+    Branch {
+        op: BranchOp,
+        rs1: u8,
+        rs2: u8,
+        offset: u64,
+    },
+    /// Puts what memory has at rs1 plus the offset into rd.
+    Load {
+        op: LoadOp,
+        rd: u8,
+        rs1: u8,
+        offset: u64,
+    },
+    /// Puts the low bytes of rs2 into memory at rs1 plus the offset.
+    Store {
+        op: StoreOp,
+        rs1: u8,
+        rs2: u8,
+        offset: u64,
+    },
     /// Combines rs1 with an immediate, or shifts rs1 by it.
     Immediate {
         op: ImmediateOp,
@@ -26,6 +53,171 @@ pub enum Op {
         rs1: u8,
         imm: u64,
     },
+    /// The same on 32 bits.
+    ImmediateWord {
+        op: ImmediateWordOp,
+        rd: u8,
+        rs1: u8,
+        imm: u64,
+    },
+    /// Combines rs1 with rs2.
+    Register {
+        op: RegisterOp,
+        rd: u8,
+        rs1: u8,
+        rs2: u8,
+    },
+    /// The same on 32 bits.
+    RegisterWord {
+        op: RegisterWordOp,
+        rd: u8,
+        rs1: u8,
+        rs2: u8,
+    },
+    /// Orders memory accesses: no effect on one hart.
+    Fence,
+    /// Orders fetches after stores: no effect here, where nothing is cached.
+    FenceI,
+    /// Raises an environment call.
+    Ecall,
+    /// Raises a breakpoint.
+    Ebreak,
+    /// Loads from the address in rs1 and reserves it.
+    LoadReserved {
+        width: Width,
+        rd: u8,
+        rs1: u8,
+    },
+    /// Stores rs2 at the address in rs1 where it is still reserved; rd says whether it did.
+    StoreConditional {
+        width: Width,
+        rd: u8,
+        rs1: u8,
+        rs2: u8,
+    },
+    /// Combines what memory has at the address in rs1 with rs2; rd gets what it had before.
+    Amo {
+        op: AmoOp,
+        width: Width,
+        rd: u8,
+        rs1: u8,
+        rs2: u8,
+    },
+}
+
+impl Op {
+    ghost use Rattle.std.specs.Prelude.{◌≡◌};
+    ghost use Rattle.rv_decode.specs.Operands.{destination_of, first_source_of, second_source_of};
+
+    /// The number of the register that it writes, 0 where it writes none.
+    pub fn destination(self) -> u8
+        ensures { result ≡ destination_of self }
+    {
+        match self {
+            Op::Lui { rd, .. }
+            | Op::Auipc { rd, .. }
+            | Op::Jal { rd, .. }
+            | Op::Jalr { rd, .. }
+            | Op::Load { rd, .. }
+            | Op::Immediate { rd, .. }
+            | Op::ImmediateWord { rd, .. }
+            | Op::Register { rd, .. }
+            | Op::RegisterWord { rd, .. }
+            | Op::LoadReserved { rd, .. }
+            | Op::StoreConditional { rd, .. }
+            | Op::Amo { rd, .. } => rd,
+            Op::Branch { .. }
+            | Op::Store { .. }
+            | Op::Fence
+            | Op::FenceI
+            | Op::Ecall
+            | Op::Ebreak => 0,
+        }
+    }
+
+    /// The number of the register that it reads as rs1, 0 where it reads none.
+    pub fn first_source(self) -> u8
+        ensures { result ≡ first_source_of self }
+    {
+        match self {
+            Op::Jalr { rs1, .. }
+            | Op::Branch { rs1, .. }
+            | Op::Load { rs1, .. }
+            | Op::Store { rs1, .. }
+            | Op::Immediate { rs1, .. }
+            | Op::ImmediateWord { rs1, .. }
+            | Op::Register { rs1, .. }
+            | Op::RegisterWord { rs1, .. }
+            | Op::LoadReserved { rs1, .. }
+            | Op::StoreConditional { rs1, .. }
+            | Op::Amo { rs1, .. } => rs1,
+            Op::Lui { .. }
+            | Op::Auipc { .. }
+            | Op::Jal { .. }
+            | Op::Fence
+            | Op::FenceI
+            | Op::Ecall
+            | Op::Ebreak => 0,
+        }
+    }
+
+    /// The number of the register that it reads as rs2, 0 where it reads none.
+    pub fn second_source(self) -> u8
+        ensures { result ≡ second_source_of self }
+    {
+        match self {
+            Op::Branch { rs2, .. }
+            | Op::Store { rs2, .. }
+            | Op::Register { rs2, .. }
+            | Op::RegisterWord { rs2, .. }
+            | Op::StoreConditional { rs2, .. }
+            | Op::Amo { rs2, .. } => rs2,
+            Op::Lui { .. }
+            | Op::Auipc { .. }
+            | Op::Jal { .. }
+            | Op::Jalr { .. }
+            | Op::Load { .. }
+            | Op::Immediate { .. }
+            | Op::ImmediateWord { .. }
+            | Op::Fence
+            | Op::FenceI
+            | Op::Ecall
+            | Op::Ebreak
+            | Op::LoadReserved { .. } => 0,
+        }
+    }
+}
+
+/// The conditional branches.
+#[derive(Clone, Copy, Debug, PartialEq, Eq)]
+pub enum BranchOp {
+    Beq,
+    Bne,
+    Blt,
+    Bge,
+    Bltu,
+    Bgeu,
+}
+
+/// The loads.
+#[derive(Clone, Copy, Debug, PartialEq, Eq)]
+pub enum LoadOp {
+    Lb,
+    Lh,
+    Lw,
+    Ld,
+    Lbu,
+    Lhu,
+    Lwu,
+}
+
+/// The stores.
+#[derive(Clone, Copy, Debug, PartialEq, Eq)]
+pub enum StoreOp {
+    Sb,
+    Sh,
+    Sw,
+    Sd,
 }
 
 /// The instructions that combine a register with an immediate.
@@ -40,4 +232,72 @@ pub enum ImmediateOp {
     Slli,
     Srli,
     Srai,
+}
+
+/// The same on the low 32 bits.
+#[derive(Clone, Copy, Debug, PartialEq, Eq)]
+pub enum ImmediateWordOp {
+    Addiw,
+    Slliw,
+    Srliw,
+    Sraiw,
+}
+
+/// The instructions that combine two registers.
+#[derive(Clone, Copy, Debug, PartialEq, Eq)]
+pub enum RegisterOp {
+    Add,
+    Sub,
+    Sll,
+    Slt,
+    Sltu,
+    Xor,
+    Srl,
+    Sra,
+    Or,
+    And,
+    Mul,
+    Mulh,
+    Mulhsu,
+    Mulhu,
+    Div,
+    Divu,
+    Rem,
+    Remu,
+}
+
+/// The same on the low 32 bits.
+#[derive(Clone, Copy, Debug, PartialEq, Eq)]
+pub enum RegisterWordOp {
+    Addw,
+    Subw,
+    Sllw,
+    Srlw,
+    Sraw,
+    Mulw,
+    Divw,
+    Divuw,
+    Remw,
+    Remuw,
+}
+
+/// How much memory an atomic instruction accesses: 4 bytes or 8.
+#[derive(Clone, Copy, Debug, PartialEq, Eq)]
+pub enum Width {
+    Word,
+    Double,
+}
+
+/// The atomic memory operations.
+#[derive(Clone, Copy, Debug, PartialEq, Eq)]
+pub enum AmoOp {
+    Amoswap,
+    Amoadd,
+    Amoxor,
+    Amoand,
+    Amoor,
+    Amomin,
+    Amomax,
+    Amominu,
+    Amomaxu,
 }

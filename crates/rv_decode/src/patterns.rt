@@ -1,8 +1,14 @@
 //! The rows of the instruction table, each written once: the bits that an instruction fixes, and
 //! how its operands stand in the word. From the Unprivileged ISA's chapter "RV32/64G Instruction
-//! Set Listings".
+//! Set Listings"; one list for each opcode, under the opcode's name there.
 
-use crate::operation::ImmediateOp;
+ghost use Rattle.std.specs.Prelude.{◌≡◌};
+ghost use Rattle.rv_decode.specs.Table.{rows_with, opcodes};
+
+use crate::operation::{
+    AmoOp, BranchOp, ImmediateOp, ImmediateWordOp, LoadOp, RegisterOp, RegisterWordOp, StoreOp,
+    Width,
+};
 
 /// A row of the table: a word is this instruction where it equals `bits` under `mask`.
 #[derive(Clone, Copy, Debug)]
@@ -18,72 +24,180 @@ pub enum Form {
     Lui,
     Auipc,
     Jal,
+    Jalr,
+    Branch(BranchOp),
+    Load(LoadOp),
+    Store(StoreOp),
     /// I-format: a 12-bit signed immediate.
     Immediate(ImmediateOp),
     /// I-format with a 6-bit shift amount.
     Shift(ImmediateOp),
+    /// I-format: a 12-bit signed immediate.
+    ImmediateWord(ImmediateWordOp),
+    /// I-format with a 5-bit shift amount.
+    ShiftWord(ImmediateWordOp),
+    Register(RegisterOp),
+    RegisterWord(RegisterWordOp),
+    Fence,
+    FenceI,
+    Ecall,
+    Ebreak,
+    LoadReserved(Width),
+    StoreConditional(Width),
+    Amo(AmoOp, Width),
 }
 
-/// All rows.
-pub const PATTERNS: [Pattern; 12] = [
-    Pattern {
-        mask: 0x0000007f,
-        bits: 0x00000037,
-        form: Form::Lui,
-    },
-    Pattern {
-        mask: 0x0000007f,
-        bits: 0x00000017,
-        form: Form::Auipc,
-    },
-    Pattern {
-        mask: 0x0000007f,
-        bits: 0x0000006f,
-        form: Form::Jal,
-    },
-    Pattern {
-        mask: 0x0000707f,
-        bits: 0x00000013,
-        form: Form::Immediate(ImmediateOp::Addi),
-    },
-    Pattern {
-        mask: 0x0000707f,
-        bits: 0x00002013,
-        form: Form::Immediate(ImmediateOp::Slti),
-    },
-    Pattern {
-        mask: 0x0000707f,
-        bits: 0x00003013,
-        form: Form::Immediate(ImmediateOp::Sltiu),
-    },
-    Pattern {
-        mask: 0x0000707f,
-        bits: 0x00004013,
-        form: Form::Immediate(ImmediateOp::Xori),
-    },
-    Pattern {
-        mask: 0x0000707f,
-        bits: 0x00006013,
-        form: Form::Immediate(ImmediateOp::Ori),
-    },
-    Pattern {
-        mask: 0x0000707f,
-        bits: 0x00007013,
-        form: Form::Immediate(ImmediateOp::Andi),
-    },
-    Pattern {
-        mask: 0xfc00707f,
-        bits: 0x00001013,
-        form: Form::Shift(ImmediateOp::Slli),
-    },
-    Pattern {
-        mask: 0xfc00707f,
-        bits: 0x00005013,
-        form: Form::Shift(ImmediateOp::Srli),
-    },
-    Pattern {
-        mask: 0xfc00707f,
-        bits: 0x40005013,
-        form: Form::Shift(ImmediateOp::Srai),
-    },
+/// Rows as `mask bits form`.
+macro_rules! rows {
+    ($($mask:literal $bits:literal $form:expr),* $(,)?) => {
+        [$(Pattern { mask: $mask, bits: $bits, form: $form }),*]
+    };
+}
+
+pub const LUI_ROWS: [Pattern; 1] = rows![0x0000007f 0x00000037 Form::Lui];
+
+pub const AUIPC_ROWS: [Pattern; 1] = rows![0x0000007f 0x00000017 Form::Auipc];
+
+pub const JAL_ROWS: [Pattern; 1] = rows![0x0000007f 0x0000006f Form::Jal];
+
+pub const JALR_ROWS: [Pattern; 1] = rows![0x0000707f 0x00000067 Form::Jalr];
+
+pub const BRANCH_ROWS: [Pattern; 6] = rows![
+    0x0000707f 0x00000063 Form::Branch(BranchOp::Beq),
+    0x0000707f 0x00001063 Form::Branch(BranchOp::Bne),
+    0x0000707f 0x00004063 Form::Branch(BranchOp::Blt),
+    0x0000707f 0x00005063 Form::Branch(BranchOp::Bge),
+    0x0000707f 0x00006063 Form::Branch(BranchOp::Bltu),
+    0x0000707f 0x00007063 Form::Branch(BranchOp::Bgeu),
 ];
+
+pub const LOAD_ROWS: [Pattern; 7] = rows![
+    0x0000707f 0x00000003 Form::Load(LoadOp::Lb),
+    0x0000707f 0x00001003 Form::Load(LoadOp::Lh),
+    0x0000707f 0x00002003 Form::Load(LoadOp::Lw),
+    0x0000707f 0x00003003 Form::Load(LoadOp::Ld),
+    0x0000707f 0x00004003 Form::Load(LoadOp::Lbu),
+    0x0000707f 0x00005003 Form::Load(LoadOp::Lhu),
+    0x0000707f 0x00006003 Form::Load(LoadOp::Lwu),
+];
+
+pub const STORE_ROWS: [Pattern; 4] = rows![
+    0x0000707f 0x00000023 Form::Store(StoreOp::Sb),
+    0x0000707f 0x00001023 Form::Store(StoreOp::Sh),
+    0x0000707f 0x00002023 Form::Store(StoreOp::Sw),
+    0x0000707f 0x00003023 Form::Store(StoreOp::Sd),
+];
+
+pub const OP_IMM_ROWS: [Pattern; 9] = rows![
+    0x0000707f 0x00000013 Form::Immediate(ImmediateOp::Addi),
+    0x0000707f 0x00002013 Form::Immediate(ImmediateOp::Slti),
+    0x0000707f 0x00003013 Form::Immediate(ImmediateOp::Sltiu),
+    0x0000707f 0x00004013 Form::Immediate(ImmediateOp::Xori),
+    0x0000707f 0x00006013 Form::Immediate(ImmediateOp::Ori),
+    0x0000707f 0x00007013 Form::Immediate(ImmediateOp::Andi),
+    0xfc00707f 0x00001013 Form::Shift(ImmediateOp::Slli),
+    0xfc00707f 0x00005013 Form::Shift(ImmediateOp::Srli),
+    0xfc00707f 0x40005013 Form::Shift(ImmediateOp::Srai),
+];
+
+pub const OP_IMM_32_ROWS: [Pattern; 4] = rows![
+    0x0000707f 0x0000001b Form::ImmediateWord(ImmediateWordOp::Addiw),
+    0xfe00707f 0x0000101b Form::ShiftWord(ImmediateWordOp::Slliw),
+    0xfe00707f 0x0000501b Form::ShiftWord(ImmediateWordOp::Srliw),
+    0xfe00707f 0x4000501b Form::ShiftWord(ImmediateWordOp::Sraiw),
+];
+
+pub const OP_ROWS: [Pattern; 18] = rows![
+    0xfe00707f 0x00000033 Form::Register(RegisterOp::Add),
+    0xfe00707f 0x40000033 Form::Register(RegisterOp::Sub),
+    0xfe00707f 0x00001033 Form::Register(RegisterOp::Sll),
+    0xfe00707f 0x00002033 Form::Register(RegisterOp::Slt),
+    0xfe00707f 0x00003033 Form::Register(RegisterOp::Sltu),
+    0xfe00707f 0x00004033 Form::Register(RegisterOp::Xor),
+    0xfe00707f 0x00005033 Form::Register(RegisterOp::Srl),
+    0xfe00707f 0x40005033 Form::Register(RegisterOp::Sra),
+    0xfe00707f 0x00006033 Form::Register(RegisterOp::Or),
+    0xfe00707f 0x00007033 Form::Register(RegisterOp::And),
+    0xfe00707f 0x02000033 Form::Register(RegisterOp::Mul),
+    0xfe00707f 0x02001033 Form::Register(RegisterOp::Mulh),
+    0xfe00707f 0x02002033 Form::Register(RegisterOp::Mulhsu),
+    0xfe00707f 0x02003033 Form::Register(RegisterOp::Mulhu),
+    0xfe00707f 0x02004033 Form::Register(RegisterOp::Div),
+    0xfe00707f 0x02005033 Form::Register(RegisterOp::Divu),
+    0xfe00707f 0x02006033 Form::Register(RegisterOp::Rem),
+    0xfe00707f 0x02007033 Form::Register(RegisterOp::Remu),
+];
+
+pub const OP_32_ROWS: [Pattern; 10] = rows![
+    0xfe00707f 0x0000003b Form::RegisterWord(RegisterWordOp::Addw),
+    0xfe00707f 0x4000003b Form::RegisterWord(RegisterWordOp::Subw),
+    0xfe00707f 0x0000103b Form::RegisterWord(RegisterWordOp::Sllw),
+    0xfe00707f 0x0000503b Form::RegisterWord(RegisterWordOp::Srlw),
+    0xfe00707f 0x4000503b Form::RegisterWord(RegisterWordOp::Sraw),
+    0xfe00707f 0x0200003b Form::RegisterWord(RegisterWordOp::Mulw),
+    0xfe00707f 0x0200403b Form::RegisterWord(RegisterWordOp::Divw),
+    0xfe00707f 0x0200503b Form::RegisterWord(RegisterWordOp::Divuw),
+    0xfe00707f 0x0200603b Form::RegisterWord(RegisterWordOp::Remw),
+    0xfe00707f 0x0200703b Form::RegisterWord(RegisterWordOp::Remuw),
+];
+
+/// The fields of a fence beside its opcode and funct3 are ignored.
+pub const MISC_MEM_ROWS: [Pattern; 2] = rows![
+    0x0000707f 0x0000000f Form::Fence,
+    0x0000707f 0x0000100f Form::FenceI,
+];
+
+pub const SYSTEM_ROWS: [Pattern; 2] = rows![
+    0xffffffff 0x00000073 Form::Ecall,
+    0xffffffff 0x00100073 Form::Ebreak,
+];
+
+/// Bits 26 and 25, aq and rl, are left open.
+pub const AMO_ROWS: [Pattern; 22] = rows![
+    0xf800707f 0x0000202f Form::Amo(AmoOp::Amoadd, Width::Word),
+    0xf800707f 0x0800202f Form::Amo(AmoOp::Amoswap, Width::Word),
+    0xf9f0707f 0x1000202f Form::LoadReserved(Width::Word),
+    0xf800707f 0x1800202f Form::StoreConditional(Width::Word),
+    0xf800707f 0x2000202f Form::Amo(AmoOp::Amoxor, Width::Word),
+    0xf800707f 0x4000202f Form::Amo(AmoOp::Amoor, Width::Word),
+    0xf800707f 0x6000202f Form::Amo(AmoOp::Amoand, Width::Word),
+    0xf800707f 0x8000202f Form::Amo(AmoOp::Amomin, Width::Word),
+    0xf800707f 0xa000202f Form::Amo(AmoOp::Amomax, Width::Word),
+    0xf800707f 0xc000202f Form::Amo(AmoOp::Amominu, Width::Word),
+    0xf800707f 0xe000202f Form::Amo(AmoOp::Amomaxu, Width::Word),
+    0xf800707f 0x0000302f Form::Amo(AmoOp::Amoadd, Width::Double),
+    0xf800707f 0x0800302f Form::Amo(AmoOp::Amoswap, Width::Double),
+    0xf9f0707f 0x1000302f Form::LoadReserved(Width::Double),
+    0xf800707f 0x1800302f Form::StoreConditional(Width::Double),
+    0xf800707f 0x2000302f Form::Amo(AmoOp::Amoxor, Width::Double),
+    0xf800707f 0x4000302f Form::Amo(AmoOp::Amoor, Width::Double),
+    0xf800707f 0x6000302f Form::Amo(AmoOp::Amoand, Width::Double),
+    0xf800707f 0x8000302f Form::Amo(AmoOp::Amomin, Width::Double),
+    0xf800707f 0xa000302f Form::Amo(AmoOp::Amomax, Width::Double),
+    0xf800707f 0xc000302f Form::Amo(AmoOp::Amominu, Width::Double),
+    0xf800707f 0xe000302f Form::Amo(AmoOp::Amomaxu, Width::Double),
+];
+
+/// The rows of an opcode, the low 7 bits of a word.
+#[tactic(auto, unfolding(crate::specs::Table::opcodes))]
+pub fn rows_of(opcode: u32) -> &'static [Pattern]
+    ensures { result.now ≡ rows_with opcodes opcode }
+{
+    match opcode {
+        0x37 => &LUI_ROWS,
+        0x17 => &AUIPC_ROWS,
+        0x6f => &JAL_ROWS,
+        0x67 => &JALR_ROWS,
+        0x63 => &BRANCH_ROWS,
+        0x03 => &LOAD_ROWS,
+        0x23 => &STORE_ROWS,
+        0x13 => &OP_IMM_ROWS,
+        0x1b => &OP_IMM_32_ROWS,
+        0x33 => &OP_ROWS,
+        0x3b => &OP_32_ROWS,
+        0x0f => &MISC_MEM_ROWS,
+        0x73 => &SYSTEM_ROWS,
+        0x2f => &AMO_ROWS,
+        _ => &[],
+    }
+}

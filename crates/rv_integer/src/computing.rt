@@ -1,62 +1,138 @@
-ghost use Rattle.std.specs.Prelude.{◌≡◌, ◌*◌, ◌/◌, ◌%◌, ◌^◌};
-ghost use Rattle.rv_integer.specs.Results.{result_of, combined, floor_divided};
+ghost use Rattle.std.specs.Prelude.{◌≡◌, ◌%◌};
+ghost use Rattle.rv_integer.specs.Results.{result_of, is_taken, load_at, store_at, conditional_at, bytes_of, sum_of};
+ghost use Rattle.rv_decode.specs.Operands.{HasEvenOffset};
+ghost use Rattle.rv_integer.specs.Even.{GoesToEven};
 
+use crate::combining::{with_immediate, with_register};
 use crate::outcome::IntResult;
-use rv_decode::{ImmediateOp, Op};
+use crate::word_forms::{with_immediate_word, with_register_word};
+use rv_decode::{BranchOp, LoadOp, Op, StoreOp, Width};
 
-/// What `op` computes of the value `a` of its first source, `b` of its second, the address `pc` of
-/// the instruction and its length `len` in bytes (2 or 4). From the Unprivileged ISA's chapters
-/// "RV32I Base Integer Instruction Set" and "RV64I Base Integer Instruction Set".
+/// What `op` asks for, where rs1 has the value `a` and rs2 the value `b`, and the instruction stands
+/// at the address `pc` with `len` bytes (2 or 4). From the Unprivileged ISA's chapters "RV32I Base
+/// Integer Instruction Set", "RV64I Base Integer Instruction Set", "M Extension for Integer
+/// Multiplication and Division" and "A Extension for Atomic Instructions".
 #[tactic(auto, unfolding(crate::specs::Results::result_of))]
 pub fn compute(op: Op, a: u64, b: u64, pc: u64, len: u64) -> IntResult
-    ensures { result ≡ result_of op a b pc len }
+    ensures value { result ≡ result_of op a b pc len }
+    ensures even { pc % 2 ≡ 0 → len % 2 ≡ 0 → HasEvenOffset op → GoesToEven result }
 {
-    let _second = b;
+    let next_pc = pc.wrapping_add(len);
     match op {
         Op::Lui { imm, .. } => IntResult::Value(imm),
         Op::Auipc { imm, .. } => IntResult::Value(pc.wrapping_add(imm)),
-        Op::Jal { offset, .. } => {
-            IntResult::Jump {
-                link: pc.wrapping_add(len),
-                target: pc.wrapping_add(offset),
+        Op::Jal { offset, .. } => IntResult::Jump {
+            link: next_pc,
+            target: pc.wrapping_add(offset),
+        },
+        Op::Jalr { offset, .. } => IntResult::Jump {
+            link: next_pc,
+            target: a.wrapping_add(offset) / 2 * 2,
+        },
+        Op::Branch { op, offset, .. } => IntResult::Continue {
+            next_pc: if takes(op, a, b) {
+                pc.wrapping_add(offset)
+            } else {
+                next_pc
+            },
+        },
+        Op::Load { op, offset, .. } => load(op, a.wrapping_add(offset)),
+        Op::Store { op, offset, .. } => store(op, a.wrapping_add(offset), b),
+        Op::Immediate { op, imm, .. } => IntResult::Value(with_immediate(op, a, imm)),
+        Op::ImmediateWord { op, imm, .. } => IntResult::Value(with_immediate_word(op, a, imm)),
+        Op::Register { op, .. } => IntResult::Value(with_register(op, a, b)),
+        Op::RegisterWord { op, .. } => IntResult::Value(with_register_word(op, a, b)),
+        Op::Fence | Op::FenceI => IntResult::Continue { next_pc },
+        Op::Ecall => IntResult::EnvironmentCall,
+        Op::Ebreak => IntResult::Breakpoint,
+        Op::LoadReserved { width, .. } => {
+            IntResult::LoadReserved {
+                address: a,
+                len: byte_count(width),
             }
         }
-        Op::Immediate { op, imm, .. } => IntResult::Value(combine(op, a, imm)),
+        Op::StoreConditional { width, .. } => store_conditional(width, a, b),
+        Op::Amo { op, width, .. } => {
+            IntResult::Exchange {
+                op,
+                width,
+                address: a,
+                len: byte_count(width),
+                b,
+            }
+        }
     }
 }
 
-/// A register's value combined with an immediate, or shifted by its low 6 bits.
-#[tactic(auto, unfolding(crate::specs::Results::combined))]
-fn combine(op: ImmediateOp, a: u64, imm: u64) -> u64
-    ensures { result ≡ combined op a imm }
+/// Whether a branch is taken.
+#[tactic(auto, unfolding(crate::specs::Results::is_taken))]
+fn takes(op: BranchOp, a: u64, b: u64) -> bool
+    ensures { result ≡ is_taken op a b }
 {
     match op {
-        ImmediateOp::Addi => a.wrapping_add(imm),
-        ImmediateOp::Slti => u64::from(a.cast_signed() < imm.cast_signed()),
-        ImmediateOp::Sltiu => u64::from(a < imm),
-        ImmediateOp::Xori => a ^ imm,
-        ImmediateOp::Ori => a | imm,
-        ImmediateOp::Andi => a & imm,
-        ImmediateOp::Slli => shifted_left(a, imm),
-        ImmediateOp::Srli => shifted_right(a, imm),
-        ImmediateOp::Srai => shifted_right_signed(a, imm),
+        BranchOp::Beq => a == b,
+        BranchOp::Bne => a != b,
+        BranchOp::Blt => a.cast_signed() < b.cast_signed(),
+        BranchOp::Bge => a.cast_signed() >= b.cast_signed(),
+        BranchOp::Bltu => a < b,
+        BranchOp::Bgeu => a >= b,
     }
 }
 
-fn shifted_left(a: u64, b: u64) -> u64
-    ensures { result ≡ a * 2 ^ (b % 64) % 2 ^ 64 }
+fn load(op: LoadOp, address: u64) -> IntResult
+    ensures { result ≡ load_at op address }
 {
-    a.wrapping_mul(2u64.pow((b % 64) as u32))
+    let (len, signed) = match op {
+        LoadOp::Lb => (1, true),
+        LoadOp::Lh => (2, true),
+        LoadOp::Lw => (4, true),
+        LoadOp::Ld => (8, true),
+        LoadOp::Lbu => (1, false),
+        LoadOp::Lhu => (2, false),
+        LoadOp::Lwu => (4, false),
+    };
+    IntResult::Load {
+        address,
+        len,
+        signed,
+    }
 }
 
-fn shifted_right(a: u64, b: u64) -> u64
-    ensures { result ≡ a / 2 ^ (b % 64) }
+fn store(op: StoreOp, address: u64, b: u64) -> IntResult
+    ensures { result ≡ store_at op address b }
 {
-    a / 2u64.pow((b % 64) as u32)
+    let (len, value) = match op {
+        StoreOp::Sb => (1, b % (1 << 8)),
+        StoreOp::Sh => (2, b % (1 << 16)),
+        StoreOp::Sw => (4, b % (1 << 32)),
+        StoreOp::Sd => (8, b),
+    };
+    IntResult::Store {
+        address,
+        len,
+        value,
+    }
 }
 
-fn shifted_right_signed(a: u64, b: u64) -> u64
-    ensures { result ≡ floor_divided a (2 ^ (b % 64)) }
+fn store_conditional(width: Width, address: u64, b: u64) -> IntResult
+    ensures { result ≡ conditional_at width address b }
 {
-    (a.cast_signed() >> (b % 64)).cast_unsigned()
+    let (len, value) = match width {
+        Width::Word => (4, b % (1 << 32)),
+        Width::Double => (8, b),
+    };
+    IntResult::StoreConditional {
+        address,
+        len,
+        value,
+    }
+}
+
+fn byte_count(width: Width) -> u8
+    ensures { result ≡ bytes_of width }
+{
+    match width {
+        Width::Word => 4,
+        Width::Double => 8,
+    }
 }

@@ -1,22 +1,31 @@
 use super::*;
-use rv_decode::{ImmediateOp, Op};
+use rv_decode::{
+    AmoOp, BranchOp, ImmediateOp, ImmediateWordOp, LoadOp, Op, RegisterOp, RegisterWordOp, StoreOp,
+    Width,
+};
 use std::test::Fail;
+
+const LEAST: u64 = 1 << 63;
+
+const LEAST_WORD: u64 = 0xffff_ffff_8000_0000;
+
+const MINUS_ONE: u64 = u64::MAX;
 
 /// Results at the edges, worked out from the definitions of the instructions.
 #[test]
 fn computes_immediates(rt: HostRuntime) -> Result<(), Fail> {
     let cases = [
-        (ImmediateOp::Addi, u64::MAX, 1, 0),
-        (ImmediateOp::Slti, 1 << 63, 0, 1),
-        (ImmediateOp::Slti, 0, u64::MAX, 0),
-        (ImmediateOp::Sltiu, 0, u64::MAX, 1),
-        (ImmediateOp::Xori, 5, u64::MAX, u64::MAX - 5),
+        (ImmediateOp::Addi, MINUS_ONE, 1, 0),
+        (ImmediateOp::Slti, LEAST, 0, 1),
+        (ImmediateOp::Slti, 0, MINUS_ONE, 0),
+        (ImmediateOp::Sltiu, 0, MINUS_ONE, 1),
+        (ImmediateOp::Xori, 5, MINUS_ONE, MINUS_ONE - 5),
         (ImmediateOp::Ori, 5, 2, 7),
         (ImmediateOp::Andi, 5, 4, 4),
-        (ImmediateOp::Slli, 3, 63, 1 << 63),
-        (ImmediateOp::Srli, 1 << 63, 63, 1),
-        (ImmediateOp::Srai, 1 << 63, 63, u64::MAX),
-        (ImmediateOp::Srai, u64::MAX - 2, 1, u64::MAX - 1),
+        (ImmediateOp::Slli, 3, 63, LEAST),
+        (ImmediateOp::Srli, LEAST, 63, 1),
+        (ImmediateOp::Srai, LEAST, 63, MINUS_ONE),
+        (ImmediateOp::Srai, MINUS_ONE - 2, 1, MINUS_ONE - 1),
     ];
     for (op, a, imm, value) in cases {
         let op = Op::Immediate {
@@ -31,26 +40,292 @@ fn computes_immediates(rt: HostRuntime) -> Result<(), Fail> {
 }
 
 #[test]
+fn computes_immediate_words(rt: HostRuntime) -> Result<(), Fail> {
+    let cases = [
+        (ImmediateWordOp::Addiw, 0x1_7fff_ffff, 1, LEAST_WORD),
+        (ImmediateWordOp::Addiw, LEAST_WORD, MINUS_ONE, 0x7fff_ffff),
+        (ImmediateWordOp::Slliw, 3, 31, LEAST_WORD),
+        (ImmediateWordOp::Srliw, LEAST_WORD, 31, 1),
+        (ImmediateWordOp::Srliw, LEAST_WORD, 0, LEAST_WORD),
+        (ImmediateWordOp::Sraiw, 0x8000_0000, 31, MINUS_ONE),
+        (ImmediateWordOp::Sraiw, 0xf_7fff_ffff, 30, 1),
+    ];
+    for (op, a, imm, value) in cases {
+        let op = Op::ImmediateWord {
+            op,
+            rd: 1,
+            rs1: 2,
+            imm,
+        };
+        assert_eq!(rt; compute(op, a, 0, 0, 4), IntResult::Value(value));
+    }
+    Ok(())
+}
+
+#[test]
+fn computes_registers(rt: HostRuntime) -> Result<(), Fail> {
+    let cases = [
+        (RegisterOp::Add, LEAST, LEAST, 0),
+        (RegisterOp::Sub, 0, 1, MINUS_ONE),
+        (RegisterOp::Sll, 1, 64 + 63, LEAST),
+        (RegisterOp::Slt, MINUS_ONE, 0, 1),
+        (RegisterOp::Sltu, MINUS_ONE, 0, 0),
+        (RegisterOp::Xor, 6, 3, 5),
+        (RegisterOp::Srl, MINUS_ONE, 64 + 60, 15),
+        (RegisterOp::Sra, LEAST, 64 + 62, MINUS_ONE - 1),
+        (RegisterOp::Or, 6, 3, 7),
+        (RegisterOp::And, 6, 3, 2),
+        (RegisterOp::Mul, LEAST + 3, 3, LEAST + 9),
+        (RegisterOp::Mulh, MINUS_ONE, MINUS_ONE, 0),
+        (RegisterOp::Mulhsu, MINUS_ONE, MINUS_ONE, MINUS_ONE),
+        (RegisterOp::Mulhu, MINUS_ONE, MINUS_ONE, MINUS_ONE - 1),
+        (RegisterOp::Div, LEAST, MINUS_ONE, LEAST),
+        (RegisterOp::Divu, LEAST, 0, MINUS_ONE),
+        (RegisterOp::Rem, LEAST, MINUS_ONE, 0),
+        (RegisterOp::Remu, LEAST, MINUS_ONE, LEAST),
+    ];
+    for (op, a, b, value) in cases {
+        let op = Op::Register {
+            op,
+            rd: 1,
+            rs1: 2,
+            rs2: 3,
+        };
+        assert_eq!(rt; compute(op, a, b, 0, 4), IntResult::Value(value));
+    }
+    Ok(())
+}
+
+#[test]
+fn computes_register_words(rt: HostRuntime) -> Result<(), Fail> {
+    let cases = [
+        (RegisterWordOp::Addw, 0x7fff_ffff, 1, LEAST_WORD),
+        (RegisterWordOp::Subw, 0x1_0000_0000, 1, MINUS_ONE),
+        (RegisterWordOp::Sllw, 1, 32 + 31, LEAST_WORD),
+        (RegisterWordOp::Srlw, MINUS_ONE, 32 + 28, 15),
+        (RegisterWordOp::Sraw, 0x8000_0000, 32 + 30, MINUS_ONE - 1),
+        (RegisterWordOp::Mulw, 0x1_0000_8000, 0x1_0000, LEAST_WORD),
+        (RegisterWordOp::Divw, LEAST_WORD, 0xffff_ffff, LEAST_WORD),
+        (RegisterWordOp::Divw, 0xffff_fff9, 2, MINUS_ONE - 2),
+        (RegisterWordOp::Divw, 7, 1 << 32, MINUS_ONE),
+        (RegisterWordOp::Divuw, 0x8000_0000, 1, LEAST_WORD),
+        (RegisterWordOp::Divuw, 7, 1 << 32, MINUS_ONE),
+        (RegisterWordOp::Remw, LEAST_WORD, MINUS_ONE, 0),
+        (RegisterWordOp::Remw, 0xffff_fff9, 2, MINUS_ONE),
+        (RegisterWordOp::Remuw, 0x8000_0000, 0, LEAST_WORD),
+        (RegisterWordOp::Remuw, 0x1_0000_0007, 4, 3),
+    ];
+    for (op, a, b, value) in cases {
+        let op = Op::RegisterWord {
+            op,
+            rd: 1,
+            rs1: 2,
+            rs2: 3,
+        };
+        assert_eq!(rt; compute(op, a, b, 0, 4), IntResult::Value(value));
+    }
+    Ok(())
+}
+
+/// Each branch on a signed pair, an unsigned pair and an equal one: where it goes from 0x1000.
+#[test]
+fn branches(rt: HostRuntime) -> Result<(), Fail> {
+    let back = MINUS_ONE - 0xfff;
+    let cases = [
+        (BranchOp::Beq, [0x1002, 0x1002, 0]),
+        (BranchOp::Bne, [0, 0, 0x1002]),
+        (BranchOp::Blt, [0, 0x1002, 0x1002]),
+        (BranchOp::Bge, [0x1002, 0, 0]),
+        (BranchOp::Bltu, [0x1002, 0, 0x1002]),
+        (BranchOp::Bgeu, [0, 0x1002, 0]),
+    ];
+    for (op, [below, above, equal]) in cases {
+        let op = Op::Branch {
+            op,
+            rs1: 1,
+            rs2: 2,
+            offset: back,
+        };
+        assert_eq!(rt;
+            compute(op, MINUS_ONE, 0, 0x1000, 2),
+            IntResult::Continue { next_pc: below }
+        );
+        assert_eq!(rt;
+            compute(op, 0, MINUS_ONE, 0x1000, 2),
+            IntResult::Continue { next_pc: above }
+        );
+        assert_eq!(rt;
+            compute(op, 7, 7, 0x1000, 2),
+            IntResult::Continue { next_pc: equal }
+        );
+    }
+    Ok(())
+}
+
+#[test]
 fn computes_upper_immediates_and_jumps(rt: HostRuntime) -> Result<(), Fail> {
-    let upper = 0xffff_ffff_8000_0000;
     assert_eq!(rt;
-        compute(Op::Lui { rd: 1, imm: upper }, 0, 0, 4, 4),
-        IntResult::Value(upper)
+        compute(
+            Op::Lui {
+                rd: 1,
+                imm: LEAST_WORD
+            },
+            0,
+            0,
+            4,
+            4
+        ),
+        IntResult::Value(LEAST_WORD)
     );
     assert_eq!(rt;
-        compute(Op::Auipc { rd: 1, imm: upper }, 0, 0, 0x8000_0004, 4),
+        compute(
+            Op::Auipc {
+                rd: 1,
+                imm: LEAST_WORD
+            },
+            0,
+            0,
+            0x8000_0004,
+            4
+        ),
         IntResult::Value(4)
     );
-    let back = Op::Jal {
-        rd: 1,
-        offset: u64::MAX - 3,
-    };
+    let back = MINUS_ONE - 3;
     assert_eq!(rt;
-        compute(back, 0, 0, 0, 2),
+        compute(
+            Op::Jal {
+                rd: 1,
+                offset: back
+            },
+            0,
+            0,
+            0,
+            2
+        ),
         IntResult::Jump {
             link: 2,
-            target: u64::MAX - 3
+            target: back
         }
     );
+    assert_eq!(rt;
+        compute(
+            Op::Jalr {
+                rd: 1,
+                rs1: 2,
+                offset: 2
+            },
+            MINUS_ONE,
+            0,
+            MINUS_ONE - 1,
+            4
+        ),
+        IntResult::Jump { link: 2, target: 0 }
+    );
+    Ok(())
+}
+
+#[test]
+fn asks_for_accesses(rt: HostRuntime) -> Result<(), Fail> {
+    let loads = [
+        (LoadOp::Lb, 1, true),
+        (LoadOp::Lh, 2, true),
+        (LoadOp::Lw, 4, true),
+        (LoadOp::Ld, 8, true),
+        (LoadOp::Lbu, 1, false),
+        (LoadOp::Lhu, 2, false),
+        (LoadOp::Lwu, 4, false),
+    ];
+    for (op, len, signed) in loads {
+        let op = Op::Load {
+            op,
+            rd: 1,
+            rs1: 2,
+            offset: MINUS_ONE,
+        };
+        assert_eq!(rt;
+            compute(op, 0, 0, 0, 4),
+            IntResult::Load {
+                address: MINUS_ONE,
+                len,
+                signed
+            }
+        );
+    }
+    let stores = [
+        (StoreOp::Sb, 1, 0xef),
+        (StoreOp::Sh, 2, 0xcdef),
+        (StoreOp::Sw, 4, 0x89ab_cdef),
+        (StoreOp::Sd, 8, 0x0123_4567_89ab_cdef),
+    ];
+    for (op, len, value) in stores {
+        let op = Op::Store {
+            op,
+            rs1: 2,
+            rs2: 3,
+            offset: 8,
+        };
+        assert_eq!(rt;
+            compute(op, 0x1000, 0x0123_4567_89ab_cdef, 0, 4),
+            IntResult::Store {
+                address: 0x1008,
+                len,
+                value
+            }
+        );
+    }
+    Ok(())
+}
+
+#[test]
+fn asks_for_the_rest(rt: HostRuntime) -> Result<(), Fail> {
+    let cases = [
+        (Op::Fence, IntResult::Continue { next_pc: 6 }),
+        (Op::FenceI, IntResult::Continue { next_pc: 6 }),
+        (Op::Ecall, IntResult::EnvironmentCall),
+        (Op::Ebreak, IntResult::Breakpoint),
+        (
+            Op::LoadReserved {
+                width: Width::Word,
+                rd: 1,
+                rs1: 2,
+            },
+            IntResult::LoadReserved {
+                address: 0x1000,
+                len: 4,
+            },
+        ),
+        (
+            Op::StoreConditional {
+                width: Width::Double,
+                rd: 1,
+                rs1: 2,
+                rs2: 3,
+            },
+            IntResult::StoreConditional {
+                address: 0x1000,
+                value: 7,
+                len: 8,
+            },
+        ),
+        (
+            Op::Amo {
+                op: AmoOp::Amoadd,
+                width: Width::Word,
+                rd: 1,
+                rs1: 2,
+                rs2: 3,
+            },
+            IntResult::Exchange {
+                op: AmoOp::Amoadd,
+                width: Width::Word,
+                address: 0x1000,
+                b: 7,
+                len: 4,
+            },
+        ),
+    ];
+    for (op, wanted) in cases {
+        assert_eq!(rt; compute(op, 0x1000, 7, 2, 4), wanted);
+    }
     Ok(())
 }
