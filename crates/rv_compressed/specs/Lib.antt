@@ -1,0 +1,3 @@
+pub mod Compressed
+pub mod Immediates
+pub mod Words

@@ -1,0 +1,97 @@
+//! The rows of the table of compressed instructions: the bits that each fixes, and which of its
+//! words are reserved. From the Unprivileged ISA's chapter on the C extension, "RVC Instruction
+//! Set Listings".
+
+ghost use Rattle.std.specs.Prelude.{◌≡◌};
+ghost use Rattle.rv_compressed.specs.Compressed.{holds, meets};
+
+use crate::instruction::Instruction;
+
+/// A row of the table: a half is this instruction where it equals `bits` under `mask` and the
+/// condition holds; where only the condition fails, it is reserved or another row's.
+#[derive(Clone, Copy, Debug)]
+pub struct Pattern {
+    pub mask: u16,
+    pub bits: u16,
+    pub condition: Condition,
+    pub instruction: Instruction,
+}
+
+/// What a row asks for beside its fixed bits.
+#[derive(Clone, Copy, Debug)]
+pub enum Condition {
+    Always,
+    /// Some bit under the mask is set.
+    NotZero(u16),
+    /// Some bit under the mask is set, and rd is not x2.
+    NotZeroNorX2(u16),
+}
+
+impl Condition {
+    fn holds(self, half: u16) -> bool
+        ensures { result ≡ holds self half }
+    {
+        match self {
+            Condition::Always => true,
+            Condition::NotZero(field) => half & field != 0,
+            Condition::NotZeroNorX2(field) => half & field != 0 && half & 0x0f80 != 0x0100,
+        }
+    }
+}
+
+impl Pattern {
+    /// Whether the half is this row's.
+    pub fn fits(&self, half: u16) -> bool
+        ensures { result ≡ meets self.now half }
+    {
+        half & self.mask == self.bits && self.condition.holds(half)
+    }
+}
+
+/// Rows as `mask bits condition instruction`.
+macro_rules! rows {
+    ($($mask:literal $bits:literal $condition:expr => $instruction:ident),* $(,)?) => {
+        [$(Pattern {
+            mask: $mask,
+            bits: $bits,
+            condition: $condition,
+            instruction: Instruction::$instruction,
+        }),*]
+    };
+}
+
+/// All rows.
+pub const PATTERNS: [Pattern; 32] = rows![
+    0xe003 0x0000 Condition::NotZero(0x1fe0) => Addi4spn,
+    0xe003 0x4000 Condition::Always => Lw,
+    0xe003 0x6000 Condition::Always => Ld,
+    0xe003 0xc000 Condition::Always => Sw,
+    0xe003 0xe000 Condition::Always => Sd,
+    0xe003 0x0001 Condition::Always => Addi,
+    0xe003 0x2001 Condition::NotZero(0x0f80) => Addiw,
+    0xe003 0x4001 Condition::Always => Li,
+    0xef83 0x6101 Condition::NotZero(0x107c) => Addi16sp,
+    0xe003 0x6001 Condition::NotZeroNorX2(0x107c) => Lui,
+    0xec03 0x8001 Condition::Always => Srli,
+    0xec03 0x8401 Condition::Always => Srai,
+    0xec03 0x8801 Condition::Always => Andi,
+    0xfc63 0x8c01 Condition::Always => Sub,
+    0xfc63 0x8c21 Condition::Always => Xor,
+    0xfc63 0x8c41 Condition::Always => Or,
+    0xfc63 0x8c61 Condition::Always => And,
+    0xfc63 0x9c01 Condition::Always => Subw,
+    0xfc63 0x9c21 Condition::Always => Addw,
+    0xe003 0xa001 Condition::Always => J,
+    0xe003 0xc001 Condition::Always => Beqz,
+    0xe003 0xe001 Condition::Always => Bnez,
+    0xe003 0x0002 Condition::Always => Slli,
+    0xe003 0x4002 Condition::NotZero(0x0f80) => Lwsp,
+    0xe003 0x6002 Condition::NotZero(0x0f80) => Ldsp,
+    0xf07f 0x8002 Condition::NotZero(0x0f80) => Jr,
+    0xf003 0x8002 Condition::NotZero(0x007c) => Mv,
+    0xffff 0x9002 Condition::Always => Ebreak,
+    0xf07f 0x9002 Condition::NotZero(0x0f80) => Jalr,
+    0xf003 0x9002 Condition::NotZero(0x007c) => Add,
+    0xe003 0xc002 Condition::Always => Swsp,
+    0xe003 0xe002 Condition::Always => Sdsp,
+];
