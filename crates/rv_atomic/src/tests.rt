@@ -1,0 +1,61 @@
+use super::*;
+use rv_decode::{AmoOp, Width};
+use std::test::Fail;
+
+const LEAST: u64 = 1 << 63;
+
+const MINUS_ONE: u64 = u64::MAX;
+
+/// What memory gets on 64 bits and on 32, worked out from the definitions of the instructions.
+#[test]
+fn combines(rt: HostRuntime) -> Result<(), Fail> {
+    let cases = [
+        (AmoOp::Amoswap, 5, 0xf_0000_0007, 0xf_0000_0007, 7),
+        (AmoOp::Amoadd, MINUS_ONE, 1, 0, 0),
+        (AmoOp::Amoadd, 0xffff_ffff, 1, 0x1_0000_0000, 0),
+        (AmoOp::Amoxor, 6, MINUS_ONE, MINUS_ONE - 6, 0xffff_fff9),
+        (
+            AmoOp::Amoand,
+            0x3_0000_0006,
+            0x5_0000_0003,
+            0x1_0000_0002,
+            2,
+        ),
+        (AmoOp::Amoor, 0x3_0000_0006, 0x5_0000_0003, 0x7_0000_0007, 7),
+        (AmoOp::Amomin, LEAST, 1, LEAST, 0),
+        (AmoOp::Amomin, 0x8000_0000, 1, 1, 0x8000_0000),
+        (AmoOp::Amomax, MINUS_ONE, 1, 1, 1),
+        (AmoOp::Amomax, 0xffff_ffff, 1, 0xffff_ffff, 1),
+        (AmoOp::Amominu, MINUS_ONE, 1, 1, 1),
+        (AmoOp::Amominu, 0x1_0000_0002, 3, 3, 2),
+        (AmoOp::Amomaxu, LEAST, 1, LEAST, 1),
+        (AmoOp::Amomaxu, 0x8000_0000, 1, 0x8000_0000, 0x8000_0000),
+    ];
+    for (op, old, b, double, word) in cases {
+        assert_eq!(rt; amo(op, Width::Double, old, b), double);
+        assert_eq!(rt; amo(op, Width::Word, old, b), word);
+    }
+    Ok(())
+}
+
+#[test]
+fn covers_a_block(rt: HostRuntime) -> Result<(), Fail> {
+    let mut reservation = Reservation::NONE;
+    assert!(rt; !reservation.covers(0, 4));
+    reservation.set(0x8000_0044);
+    let cases = [
+        (0x8000_0040, 1, true),
+        (0x8000_0040, 64, true),
+        (0x8000_0078, 8, true),
+        (0x8000_007c, 8, false),
+        (0x8000_003f, 1, false),
+        (0x8000_0080, 4, false),
+        (u64::MAX, 8, false),
+    ];
+    for (pa, len, covered) in cases {
+        assert_eq!(rt; reservation.covers(pa, len), covered);
+    }
+    reservation.clear();
+    assert!(rt; !reservation.covers(0x8000_0040, 4));
+    Ok(())
+}
