@@ -2,8 +2,7 @@
 
 ghost use Rattle.std.specs.Prelude.{◌≡◌, length};
 
-use crate::fault::NoMemory;
-use hart_words::Span;
+use hart_words::{NoMemory, Span};
 use image_text::Pieces;
 use std::alloc::Global;
 use std::collections::BTreeMap;

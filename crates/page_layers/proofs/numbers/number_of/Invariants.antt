@@ -1,0 +1,14 @@
+use Rattle.std.proofs.Common.{◌≡◌, ◌+◌, ◌-◌, ◌<◌, ◌≤◌, ◌^◌}
+use Rattle.hart_words.specs.Memory.{number_at}
+use Rattle.page_layers.proofs.numbers.number_of.Given as goal
+
+-- the bytes from the k-th on were read
+abbrev pub invariant-loop-k : goal.invariant-loop-k
+invariant-loop-k g l = record {
+  number : l.number ≡ number_at (g.M.ByteMem.bytes l.mem) (l.pa + l.k) (l.len - l.k);
+  small : l.number < 256 ^ (l.len - l.k);
+  within : l.k ≤ l.len;
+}
+
+abbrev pub decreases-loop-k : goal.decreases-loop-k
+decreases-loop-k g l = l.k

@@ -1,0 +1,109 @@
+//! A plain memory over an ordered map, for tests.
+
+use crate::numbers::{ByteMem, number_of, put_number};
+use hart_words::{NoMemory, PhysMem, Span};
+use std::alloc::Global;
+use std::collections::BTreeMap;
+
+/// Bytes by their address; 0 where there is none.
+#[derive(Drop)]
+pub struct MapMem {
+    ram: Span,
+    bytes: BTreeMap<u64, u8>,
+}
+
+impl MapMem {
+    ghost use Rattle.std.specs.Prelude.{◌≡◌, ℕ, true, OnOk, IsOk};
+    ghost use Rattle.page_layers.specs.Memories.{map_bytes, has_byte};
+
+    /// A memory of zeros.
+    #[tactic(auto, unfolding(crate::specs::Memories::map_bytes))]
+    pub fn zeros(alloc: Global, ram: Span) -> MapMem
+        ensures bytes { map_bytes result ≡ (λ _. 0) }
+        ensures ram { result.ram ≡ ram }
+    {
+        MapMem {
+            ram,
+            bytes: BTreeMap::new(alloc),
+        }
+    }
+
+    /// Gives an address a byte of its own, unless it has one.
+    fn hold(&mut self, pa: u64) -> Result<(), NoMemory>
+        ensures bytes { map_bytes self.new ≡ map_bytes self.old }
+        ensures ok { OnOk result (has_byte self.new pa ≡ true) }
+        ensures held { has_byte self.old pa ≡ true → IsOk result }
+        ensures keeps { (at : ℕ) → has_byte self.old at ≡ true → has_byte self.new at ≡ true }
+        ensures ram { self.new.ram ≡ self.old.ram }
+    {
+        if self.bytes.contains_key(&pa) {
+            return Ok(());
+        }
+        self.bytes.insert(pa, 0)?;
+        Ok(())
+    }
+}
+
+impl ByteMem for MapMem {
+    ghost use Rattle.page_layers.specs.Memories.{map_bytes, HasPage};
+
+    ghost bytes = { map_bytes };
+
+    ghost ram = { λ mem. mem.ram };
+
+    ghost admits = { HasPage };
+
+    #[tactic(auto, unfolding(crate::specs::Memories::map_bytes))]
+    fn byte(&self, pa: u64) -> u8 {
+        match self.bytes.get(&pa) {
+            Some(byte) => *byte,
+            None => 0,
+        }
+    }
+
+    fn admit(&mut self, pa: u64) -> Result<(), NoMemory> {
+        let first = pa - pa % 4096;
+        for k in 0..4096 {
+            self.hold(first + k)?;
+        }
+        Ok(())
+    }
+
+    fn set(&mut self, pa: u64, value: u8) {
+        match self.bytes.get_mut(&pa) {
+            Some(byte) => *byte = value,
+            None => unreachable!(),
+        }
+    }
+}
+
+impl PhysMem for MapMem {
+    ghost use Rattle.page_layers.specs.Memories.{map_bytes, HasPage};
+
+    ghost bytes = { map_bytes };
+
+    ghost ram = { λ mem. mem.ram };
+
+    ghost is_ready = { HasPage };
+
+    fn read(&self, pa: u64, len: u8) -> u64 {
+        number_of(self, pa, len)
+    }
+
+    fn write(&mut self, pa: u64, len: u8, value: u64) -> Result<(), NoMemory> {
+        self.admit(pa)?;
+        put_number(self, pa, len, value);
+        Ok(())
+    }
+
+    fn ready(&mut self, pa: u64) -> Result<(), NoMemory> {
+        self.admit(pa)
+    }
+
+    fn copy(&self) -> Result<MapMem, NoMemory> {
+        Ok(MapMem {
+            ram: self.ram,
+            bytes: self.bytes.clone()?,
+        })
+    }
+}

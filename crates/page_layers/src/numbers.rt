@@ -1,0 +1,71 @@
+//! Numbers of several bytes over a memory of single bytes.
+
+ghost use Rattle.std.specs.Prelude.{◌≡◌, ◌≤◌, ◌<◌, ◌+◌, ◌*◌, ◌/◌, ◌%◌, ◌^◌, ℕ, IsOk, OnOk};
+ghost use Rattle.hart_words.specs.declared.map.Span.{Span};
+ghost use Rattle.hart_words.specs.Memory.{Bytes, number_at, stored};
+
+use hart_words::NoMemory;
+
+/// A memory of single bytes that admits writes by pages of 4,096 bytes.
+pub trait ByteMem {
+    /// The byte at each address.
+    ghost bytes: { Self → Bytes };
+
+    /// The pages, by their number, in which bytes may be set.
+    ghost admits: { Self → ℕ → Type 0 };
+
+    /// The addresses that are RAM. No call changes them.
+    ghost ram: { Self → Span };
+
+    /// The byte at an address.
+    fn byte(&self, pa: u64) -> u8
+        ensures { result ≡ bytes self.now pa };
+
+    /// Takes what memory the page of an address needs.
+    fn admit(&mut self, pa: u64) -> Result<(), NoMemory>
+        ensures bytes { bytes self.new ≡ bytes self.old }
+        ensures ok { OnOk result (admits self.new (pa / 4096)) }
+        ensures admitted { admits self.old (pa / 4096) → IsOk result }
+        ensures keeps { (page : ℕ) → admits self.old page → admits self.new page }
+        ensures ram { ram self.new ≡ ram self.old };
+
+    /// Sets the byte at an address whose page was admitted.
+    fn set(&mut self, pa: u64, value: u8)
+        requires { admits self.old (pa / 4096) }
+        ensures bytes { bytes self.new ≡ stored pa 1 value (bytes self.old) }
+        ensures keeps { (page : ℕ) → admits self.old page → admits self.new page }
+        ensures ram { ram self.new ≡ ram self.old };
+}
+
+/// The number of `len` bytes at an address.
+pub fn number_of<M: ByteMem>(mem: &M, pa: u64, len: u8) -> u64
+    requires few { len ≤ 8 }
+    requires inside { pa + len < 2 ^ 64 }
+    ensures value { result ≡ number_at (M.bytes mem.now) pa len }
+    ensures fits { result < 2 ^ (8 * len) }
+{
+    let mut number = 0;
+    let mut k = u64::from(len);
+    while k > 0 {
+        k -= 1;
+        number = number * 256 + u64::from(mem.byte(pa + k));
+    }
+    number
+}
+
+/// Puts the low `len` bytes of a number at an address, within one page that was admitted.
+pub fn put_number<M: ByteMem>(mem: &mut M, pa: u64, len: u8, value: u64)
+    requires few { len ≤ 8 }
+    requires inside { pa + len < 2 ^ 64 }
+    requires page { pa % 4096 + len ≤ 4096 }
+    requires admitted { M.admits mem.old (pa / 4096) }
+    ensures bytes { M.bytes mem.new ≡ stored pa len value (M.bytes mem.old) }
+    ensures keeps { (page : ℕ) → M.admits mem.old page → M.admits mem.new page }
+    ensures ram { M.ram mem.new ≡ M.ram mem.old }
+{
+    let mut rest = value;
+    for k in 0..u64::from(len) {
+        mem.set(pa + k, (rest % 256) as u8);
+        rest /= 256;
+    }
+}
