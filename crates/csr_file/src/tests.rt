@@ -1,0 +1,160 @@
+use super::*;
+use hart_words::{CsrName, Mode};
+use std::test::Fail;
+
+const ALL: u64 = u64::MAX;
+
+/// What each register reads as after all ones were written to it at reset: its writable bits and
+/// its constants. Views of interrupts are empty while nothing is delegated.
+#[test]
+fn writes_what_is_writable(rt: HostRuntime) -> Result<(), Fail> {
+    let cases = [
+        (0x300, 0xA_007E_19AA),
+        (0x301, 0x8000_0000_0014_1105),
+        (0x302, 0xB3FF),
+        (0x303, 0x222),
+        (0x304, 0xAAA),
+        (0x305, ALL - 2),
+        (0x306, 7),
+        (0x30A, 1),
+        (0x320, 5),
+        (0x323, 0),
+        (0x33F, 0),
+        (0x340, ALL),
+        (0x341, ALL - 1),
+        (0x342, ALL),
+        (0x343, ALL),
+        (0x344, 0x222),
+        (0x100, 0x2_000C_0122),
+        (0x104, 0),
+        (0x105, ALL - 2),
+        (0x106, 7),
+        (0x10A, 1),
+        (0x140, ALL),
+        (0x141, ALL - 1),
+        (0x142, ALL),
+        (0x143, ALL),
+        (0x144, 0),
+        (0xB00, 0),
+    ];
+    for (address, wanted) in cases {
+        let mut csrs = Csrs::reset();
+        csrs.write(address, Mode::Machine, ALL)?;
+        let read = csrs.read(address, Mode::Machine, 0)?;
+        assert_eq!(rt; read.value, wanted, "{address}");
+        assert_eq!(rt; read.base, wanted, "{address}");
+    }
+    laws::writes_leave_the_rest();
+    laws::merges_by_bits();
+    Ok(())
+}
+
+/// Whether a read and a write are lawful at reset, when no counter is enabled.
+#[test]
+fn asks_for_the_mode(rt: HostRuntime) -> Result<(), Fail> {
+    let cases = [
+        (0x300, Mode::Machine, true, true),
+        (0x300, Mode::Supervisor, false, false),
+        (0x100, Mode::Supervisor, true, true),
+        (0x100, Mode::User, false, false),
+        (0xB00, Mode::Machine, true, true),
+        (0xB00, Mode::Supervisor, false, false),
+        (0xC00, Mode::Machine, true, false),
+        (0xC01, Mode::Supervisor, false, false),
+        (0xC02, Mode::User, false, false),
+        (0xC03, Mode::Machine, true, false),
+        (0xC1F, Mode::Supervisor, false, false),
+        (0xF11, Mode::Machine, true, false),
+        (0xF15, Mode::Supervisor, false, false),
+        (0x180, Mode::Machine, false, false),
+        (0x3A0, Mode::Machine, false, false),
+    ];
+    for (address, mode, readable, writable) in cases {
+        let mut csrs = Csrs::reset();
+        assert_eq!(rt; csrs.read(address, mode, 0).is_ok(), readable, "{address}");
+        assert_eq!(rt;
+            csrs.write(address, mode, ALL).is_ok(),
+            writable,
+            "{address}"
+        );
+    }
+    Ok(())
+}
+
+/// Bit 1 of mcounteren lets S read `time`, and with that of scounteren U too.
+#[test]
+fn asks_for_the_enables_of_counters(rt: HostRuntime) -> Result<(), Fail> {
+    let mut csrs = Csrs::reset();
+    csrs.write(0x306, Mode::Machine, 2)?;
+    assert_eq!(rt; csrs.read(0xC01, Mode::Supervisor, 0)?.free, ALL);
+    assert!(rt; csrs.read(0xC00, Mode::Supervisor, 0).is_err());
+    assert!(rt; csrs.read(0xC01, Mode::User, 0).is_err());
+    csrs.write(0x106, Mode::Supervisor, 2)?;
+    assert_eq!(rt; csrs.read(0xC01, Mode::User, 0)?.free, ALL);
+    assert!(rt; csrs.read(0xC02, Mode::User, 0).is_err());
+    Ok(())
+}
+
+#[test]
+fn keeps_mpp_from_2(rt: HostRuntime) -> Result<(), Fail> {
+    let mut csrs = Csrs::reset();
+    csrs.write(0x300, Mode::Machine, 0x1800)?;
+    assert_eq!(rt; csrs.get(Held::Mstatus), 0xA_0000_1800);
+    csrs.write(0x300, Mode::Machine, 0x1008)?;
+    assert_eq!(rt; csrs.get(Held::Mstatus), 0xA_0000_1808);
+    csrs.write(0x300, Mode::Machine, 0x800)?;
+    assert_eq!(rt; csrs.get(Held::Mstatus), 0xA_0000_0800);
+    Ok(())
+}
+
+/// The supervisor's views follow the delegation, and lines stand beside what is held.
+#[test]
+fn shows_interrupts(rt: HostRuntime) -> Result<(), Fail> {
+    let mut csrs = Csrs::reset();
+    let lines = 0xA88;
+    assert_eq!(rt; csrs.shown(CsrName::Mip, lines), 0xA88);
+    assert_eq!(rt; csrs.shown(CsrName::Sip, lines), 0);
+    assert_eq!(rt; csrs.read(0x144, Mode::Supervisor, 0)?.free, 0);
+
+    csrs.write(0x303, Mode::Machine, 0x202)?;
+    csrs.write(0x304, Mode::Machine, 0xA00)?;
+    csrs.write(0x104, Mode::Supervisor, 2)?;
+    csrs.write(0x144, Mode::Supervisor, ALL)?;
+    assert_eq!(rt; csrs.shown(CsrName::Mie, 0), 0x802);
+    assert_eq!(rt; csrs.shown(CsrName::Sie, 0), 2);
+    assert_eq!(rt; csrs.get(Held::Mip), 2);
+    assert_eq!(rt; csrs.pending_interrupts(lines), 0xA8A);
+    assert_eq!(rt; csrs.shown(CsrName::Sip, lines), 0x202);
+
+    let mip = csrs.read(0x344, Mode::Machine, 8)?;
+    assert_eq!(rt; (mip.value, mip.free, mip.base), (0xA, 0xA88, 2));
+    assert_eq!(rt; csrs.read(0x144, Mode::Supervisor, 0)?.free, 0x200);
+    csrs.write(0x344, Mode::Machine, 0x200)?;
+    assert_eq!(rt; csrs.read(0x344, Mode::Machine, 0)?.free, 0x888);
+    assert_eq!(rt; csrs.read(0x144, Mode::Supervisor, 0)?.free, 0);
+    Ok(())
+}
+
+#[test]
+fn holds_physical_memory_protection(rt: HostRuntime) -> Result<(), Fail> {
+    let mut csrs = Csrs::reset();
+    assert_eq!(rt; csrs.pmp_entries()[15].cfg, 0);
+    csrs.pmpcfg[1] = 0x1F;
+    csrs.pmpcfg[15] = 0x18;
+    csrs.pmpaddr[15] = 5;
+    csrs.set(Held::Satp, 7);
+    assert_eq!(rt; csrs.shown(CsrName::Pmpcfg0, 0), 0x1F00);
+    assert_eq!(rt; csrs.shown(CsrName::Pmpcfg2, 0), 0x18 << 56);
+    assert_eq!(rt; csrs.shown(CsrName::Satp, 0), 7);
+    let last = csrs.pmp_entries()[15];
+    assert_eq!(rt; (last.cfg, last.addr), (0x18, 5));
+    Ok(())
+}
+
+#[test]
+fn merges_bits(rt: HostRuntime) -> Result<(), Fail> {
+    assert_eq!(rt; merge(0xF0, 0xABCD, 0x1234), 0xAB3D);
+    assert!(rt; has_bit(1 << 63, 63));
+    assert!(rt; !has_bit(ALL, 64));
+    Ok(())
+}

@@ -1,0 +1,99 @@
+ghost use Rattle.std.specs.Prelude.{◌≡◌};
+ghost use Rattle.csr_table.specs.Lines.{row_of, csr_in, lines, machine_lines, supervisor_lines, counter_lines};
+
+use crate::registers::{Csr, CsrRow};
+
+/// The row of a register's address, or `None` where no register has it. From the Privileged
+/// Architecture's chapter "Control and Status Registers (CSRs)".
+#[tactic(auto, unfolding(crate::specs::Lines::row_of, crate::specs::Lines::csr_in))]
+pub fn row(address: u16) -> Option<CsrRow>
+    ensures { result ≡ row_of address }
+{
+    match named(address) {
+        None => None,
+        Some(csr) => {
+            Some(CsrRow {
+                least_mode: (address / 256 % 4) as u8,
+                read_only: address / 1024 % 4 == 3,
+                csr,
+            })
+        }
+    }
+}
+
+/// What an address names.
+#[tactic(auto, using(crate::proofs::Parts::in_three))]
+fn named(address: u16) -> Option<Csr>
+    ensures { result ≡ csr_in lines address }
+{
+    machine(address)
+        .or(supervisor(address))
+        .or(counter(address))
+}
+
+/// What an address names among the machine's registers.
+#[tactic(auto, unfolding(crate::specs::Lines::csr_in))]
+fn machine(address: u16) -> Option<Csr>
+    ensures { result ≡ csr_in machine_lines address }
+{
+    match address {
+        0x300 => Some(Csr::Mstatus),
+        0x301 => Some(Csr::Misa),
+        0x302 => Some(Csr::Medeleg),
+        0x303 => Some(Csr::Mideleg),
+        0x304 => Some(Csr::Mie),
+        0x305 => Some(Csr::Mtvec),
+        0x306 => Some(Csr::Mcounteren),
+        0x30A => Some(Csr::Menvcfg),
+        0x320 => Some(Csr::Mcountinhibit),
+        0x323..=0x33F => Some(Csr::Mhpmevent((address % 32) as u8)),
+        0x340 => Some(Csr::Mscratch),
+        0x341 => Some(Csr::Mepc),
+        0x342 => Some(Csr::Mcause),
+        0x343 => Some(Csr::Mtval),
+        0x344 => Some(Csr::Mip),
+        _ => None,
+    }
+}
+
+/// What an address names among the supervisor's registers.
+#[tactic(auto, unfolding(crate::specs::Lines::csr_in))]
+fn supervisor(address: u16) -> Option<Csr>
+    ensures { result ≡ csr_in supervisor_lines address }
+{
+    match address {
+        0x100 => Some(Csr::Sstatus),
+        0x104 => Some(Csr::Sie),
+        0x105 => Some(Csr::Stvec),
+        0x106 => Some(Csr::Scounteren),
+        0x10A => Some(Csr::Senvcfg),
+        0x140 => Some(Csr::Sscratch),
+        0x141 => Some(Csr::Sepc),
+        0x142 => Some(Csr::Scause),
+        0x143 => Some(Csr::Stval),
+        0x144 => Some(Csr::Sip),
+        _ => None,
+    }
+}
+
+/// What an address names among the counters and the registers that tell which core this is.
+#[tactic(auto, unfolding(crate::specs::Lines::csr_in))]
+fn counter(address: u16) -> Option<Csr>
+    ensures { result ≡ csr_in counter_lines address }
+{
+    match address {
+        0xB00 => Some(Csr::Mcycle),
+        0xB02 => Some(Csr::Minstret),
+        0xB03..=0xB1F => Some(Csr::Mhpmcounter((address % 32) as u8)),
+        0xC00 => Some(Csr::Cycle),
+        0xC01 => Some(Csr::Time),
+        0xC02 => Some(Csr::Instret),
+        0xC03..=0xC1F => Some(Csr::Hpmcounter((address % 32) as u8)),
+        0xF11 => Some(Csr::Mvendorid),
+        0xF12 => Some(Csr::Marchid),
+        0xF13 => Some(Csr::Mimpid),
+        0xF14 => Some(Csr::Mhartid),
+        0xF15 => Some(Csr::Mconfigptr),
+        _ => None,
+    }
+}
