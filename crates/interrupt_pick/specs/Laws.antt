@@ -1,0 +1,20 @@
+-- What holds of every interrupt that is picked, from the Privileged Architecture's chapter "Machine-Level ISA" (mideleg, mip and mie).
+use Rattle.std.specs.Prelude.{◌≡◌, ℕ, ◌≤◌, true, Some, if◌then◌else◌}
+use Rattle.hart_words.specs.declared.privilege.Mode.{Mode}
+use Rattle.hart_words.specs.declared.privilege.Mode.TheVariants.{Supervisor, Machine}
+use Rattle.hart_words.specs.Privilege.{mode_number}
+use Rattle.csr_file.specs.declared.csrs.Csrs.{Csrs}
+use Rattle.csr_file.specs.declared.csrs.Held.TheVariants.{Mideleg}
+use Rattle.csr_file.specs.Registers.{at}
+use Rattle.csr_file.specs.Fields.{bit_is_set}
+use Rattle.interrupt_pick.specs.Interrupts.{is_asked, picked}
+
+-- the interrupt is pending and enabled; S takes it where it is delegated, else M; and no mode below the one that it comes in
+pub record IsTaken (csrs : Csrs) (mode : Mode) (lines code : ℕ) (taker : Mode) : Type 0 where
+  pub asked : is_asked csrs lines code ≡ true
+  pub by : taker ≡ (if bit_is_set (at csrs Mideleg) code then Supervisor else Machine)
+  pub above : mode_number mode ≤ mode_number taker
+
+-- so it is with each that is picked
+abbrev pub PicksTaken : Csrs → Mode → ℕ → Type 0
+PicksTaken csrs mode lines = (code : ℕ) (taker : Mode) → picked csrs mode lines ≡ Some (code, taker) → IsTaken csrs mode lines code taker

@@ -1,0 +1,13 @@
+//! What holds of every interrupt that is picked.
+
+ghost use Rattle.std.specs.Prelude.{ℕ};
+ghost use Rattle.hart_words.specs.declared.privilege.Mode.{Mode};
+ghost use Rattle.csr_file.specs.declared.csrs.Csrs.{Csrs};
+ghost use Rattle.interrupt_pick.specs.Laws.{PicksTaken};
+
+/// What is picked is pending and enabled, is taken in S where it is delegated and else in M, and
+/// never in a mode below the one that it comes in.
+#[tactic(auto, using(crate::proofs::Taken::picks_taken))]
+pub fn picks_are_taken()
+    ensures { (csrs : Csrs) (mode : Mode) (lines : ℕ) → PicksTaken csrs mode lines }
+{}

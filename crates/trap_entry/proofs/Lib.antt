@@ -1,0 +1,4 @@
+pub mod Stacks
+pub mod Sound
+pub mod Undone
+pub mod Rest

@@ -1,0 +1,3 @@
+pub mod Traps
+pub mod Returns
+pub mod Laws

@@ -1,0 +1,37 @@
+-- Return from a trap by MRET and SRET, from the Privileged Architecture's chapter "Machine-Level ISA" (trap-return instructions, the stack of mstatus).
+use Rattle.std.specs.Prelude.{ℕ, ◌+◌, ◌*◌, ◌==◌, if◌then◌else◌}
+use Rattle.std.specs.Int.{bit_at}
+use Rattle.hart_words.specs.declared.privilege.Mode.{Mode}
+use Rattle.hart_words.specs.declared.privilege.Mode.TheVariants.{User, Supervisor, Machine}
+use Rattle.csr_file.specs.declared.csrs.Csrs.{Csrs}
+use Rattle.csr_file.specs.declared.csrs.Held.TheVariants.{Mstatus}
+use Rattle.csr_file.specs.Registers.{at, with_at}
+use Rattle.csr_file.specs.Fields.{merged, mpp_of}
+
+-- the mode of an encoding; 2 is none, and MPP never holds it
+abbrev pub mode_numbered : ℕ → Mode
+mode_numbered number = if number == 3 then Machine else (if number == 1 then Supervisor else User)
+
+-- the mode that MRET returns to: MPP
+unfoldable pub mode_by_mret : Csrs → Mode
+mode_by_mret csrs = mode_numbered (mpp_of (at csrs Mstatus))
+
+-- the mode that SRET returns to: SPP
+unfoldable pub mode_by_sret : Csrs → Mode
+mode_by_sret csrs = mode_numbered (bit_at (at csrs Mstatus) 8)
+
+-- mstatus after MRET: MIE is MPIE, MPIE is 1, MPP is U, and MPRV is cleared where the new mode is not M
+unfoldable pub status_by_mret : ℕ → ℕ
+status_by_mret status = merged (if mpp_of status == 3 then 0x1888 else 0x21888) status (8 * bit_at status 7 + 0x80)
+
+-- mstatus after SRET: SIE is SPIE, SPIE is 1, SPP is U, and MPRV is cleared
+unfoldable pub status_by_sret : ℕ → ℕ
+status_by_sret status = merged 0x20122 status (2 * bit_at status 5 + 0x20)
+
+-- the registers after MRET
+unfoldable pub returned_by_mret : Csrs → Csrs
+returned_by_mret csrs = with_at csrs Mstatus (status_by_mret (at csrs Mstatus))
+
+-- the registers after SRET
+unfoldable pub returned_by_sret : Csrs → Csrs
+returned_by_sret csrs = with_at csrs Mstatus (status_by_sret (at csrs Mstatus))
