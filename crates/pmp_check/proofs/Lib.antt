@@ -1,0 +1,3 @@
+pub mod Ones
+pub mod Covering
+pub mod Deciding

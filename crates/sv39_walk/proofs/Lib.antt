@@ -1,0 +1,4 @@
+pub mod Sizes
+pub mod Walks
+pub mod Chains
+pub mod Slots

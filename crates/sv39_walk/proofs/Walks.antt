@@ -1,0 +1,220 @@
+-- What the walk's action gives, reads and writes, step by step and by its chain.
+use Rattle.std.proofs.Common.{◌≡◌, ℕ, zero, suc, ◌-◌, ◌%◌, ◌^◌, ◌<◌, inl, inr, Bool, true, false, ◌&&◌, cond, List, [], ◌∷◌, ◌++◌, refl, sym, ◌∙◌, ap, append_assoc, arith}
+use Rattle.std.specs.Prelude.{Some, None, Result, Err}
+use Rattle.std.proofs.lemmas.Bool.{cond-true, cond-false, cases_Bool, and_left, and_right, and_from}
+use Rattle.std.proofs.lemmas.List.{append-nil}
+use Rattle.hart_words.specs.declared.privilege.Access.{Access}
+use Rattle.hart_words.specs.declared.privilege.Cause.{Cause}
+use Rattle.hart_words.specs.declared.privilege.WalkFlags.{WalkFlags}
+use Rattle.hart_words.specs.declared.traces.Read.{Read}
+use Rattle.hart_words.specs.Memory.{Bytes, number_at, entry_of, put}
+use Rattle.hart_words.specs.Actions.{Traced, Action, give, ask, run_both, ◌>>=◌}
+use Rattle.sv39_walk.specs.Entries.{page_number, is_link, ended, entry_address, is_canonical, page_fault_of, access_fault_of}
+use Rattle.sv39_walk.specs.Walk.{entry_read, visited, walked, translated, Visit, chain_from, chain, outcome, reads_of, by_chain}
+
+abbrev Got : Type 0
+Got = Traced (Result ℕ Cause)
+
+-- a value with nothing read and nothing written
+abbrev pub alone : Result ℕ Cause → Got
+alone value = record { value = value; reads = []; wrote = [] }
+
+-- what follows, with an entry read before
+abbrev pub after : ℕ → Got → Got
+after pa got = record { value = got.value; reads = entry_read pa ∷ got.reads; wrote = got.wrote }
+
+visited_read : (readable : ℕ → Bool) (bytes : Bytes) (access : Access) (pa : ℕ) (next : ℕ → Action (Result ℕ Cause)) → readable pa ≡ true → (visited readable access pa next).run bytes ≡ after pa ((next (number_at bytes pa 8)).run bytes)
+unfolding visited ask ◌>>=◌ run_both put
+visited_read readable bytes access pa next e =
+    ap (λ action. action.run bytes) (cond-true (readable pa) (ask (entry_read pa) >>= next) (give (Err (access_fault_of access))) e)
+
+visited_refused : (readable : ℕ → Bool) (bytes : Bytes) (access : Access) (pa : ℕ) (next : ℕ → Action (Result ℕ Cause)) → readable pa ≡ false → (visited readable access pa next).run bytes ≡ alone (Err (access_fault_of access))
+unfolding visited give
+visited_refused readable bytes access pa next e =
+    ap (λ action. action.run bytes) (cond-false (readable pa) (ask (entry_read pa) >>= next) (give (Err (access_fault_of access))) e)
+
+given : (bytes : Bytes) (value : Result ℕ Cause) → (give value).run bytes ≡ alone value
+unfolding give
+given bytes value = refl
+
+-- ---- one step
+
+pub walked_refused : (readable : ℕ → Bool) (bytes : Bytes) (flags : WalkFlags) (va : ℕ) (access : Access) (level table : ℕ) → readable (entry_address level table va) ≡ false → (walked readable flags va access level table).run bytes ≡ alone (Err (access_fault_of access))
+unfolding walked
+walked_refused readable bytes flags va access zero table e = visited_refused readable bytes access (entry_address 0 table va) (λ entry. give (ended 0 flags va access entry)) e
+walked_refused readable bytes flags va access (suc level) table e =
+    visited_refused readable bytes access (entry_address (suc level) table va) (λ entry. cond (is_link entry) (walked readable flags va access level (page_number entry)) (give (ended (suc level) flags va access entry))) e
+
+pub walked_on : (readable : ℕ → Bool) (bytes : Bytes) (flags : WalkFlags) (va : ℕ) (access : Access) (level table : ℕ) → readable (entry_address (suc level) table va) ≡ true → is_link (number_at bytes (entry_address (suc level) table va) 8) ≡ true → (walked readable flags va access (suc level) table).run bytes ≡ after (entry_address (suc level) table va) ((walked readable flags va access level (page_number (number_at bytes (entry_address (suc level) table va) 8))).run bytes)
+unfolding walked
+walked_on readable bytes flags va access level table e link =
+    let pa : ℕ = entry_address (suc level) table va in
+    let entry : ℕ = number_at bytes pa 8 in
+    visited_read readable bytes access pa (λ entry. cond (is_link entry) (walked readable flags va access level (page_number entry)) (give (ended (suc level) flags va access entry))) e
+    ∙ ap (λ (action : Action (Result ℕ Cause)). after pa (action.run bytes)) (cond-true (is_link entry) (walked readable flags va access level (page_number entry)) (give (ended (suc level) flags va access entry)) link)
+
+pub walked_last : (readable : ℕ → Bool) (bytes : Bytes) (flags : WalkFlags) (va : ℕ) (access : Access) (table : ℕ) → readable (entry_address 0 table va) ≡ true → (walked readable flags va access 0 table).run bytes ≡ after (entry_address 0 table va) (alone (ended 0 flags va access (number_at bytes (entry_address 0 table va) 8)))
+unfolding walked
+walked_last readable bytes flags va access table e =
+    let pa : ℕ = entry_address 0 table va in
+    visited_read readable bytes access pa (λ entry. give (ended 0 flags va access entry)) e
+    ∙ ap (after pa) (given bytes (ended 0 flags va access (number_at bytes pa 8)))
+
+pub walked_ends : (readable : ℕ → Bool) (bytes : Bytes) (flags : WalkFlags) (va : ℕ) (access : Access) (level table : ℕ) → readable (entry_address level table va) ≡ true → is_link (number_at bytes (entry_address level table va) 8) ≡ false → (walked readable flags va access level table).run bytes ≡ after (entry_address level table va) (alone (ended level flags va access (number_at bytes (entry_address level table va) 8)))
+unfolding walked
+walked_ends readable bytes flags va access zero table e none = walked_last readable bytes flags va access table e
+walked_ends readable bytes flags va access (suc level) table e none =
+    let pa : ℕ = entry_address (suc level) table va in
+    let entry : ℕ = number_at bytes pa 8 in
+    visited_read readable bytes access pa (λ entry. cond (is_link entry) (walked readable flags va access level (page_number entry)) (give (ended (suc level) flags va access entry))) e
+    ∙ ap (λ (action : Action (Result ℕ Cause)). after pa (action.run bytes)) (cond-false (is_link entry) (walked readable flags va access level (page_number entry)) (give (ended (suc level) flags va access entry)) none)
+    ∙ ap (after pa) (given bytes (ended (suc level) flags va access entry))
+
+-- ---- one step, from what the call of `entry` says
+
+read_fact : (readable : ℕ → Bool) (bytes : Bytes) (pa entry : ℕ) → entry_of readable bytes pa ≡ Some entry → (readable pa ≡ true) × (number_at bytes pa 8 ≡ entry)
+read_fact readable bytes pa entry e = go (readable pa) refl e
+  where
+    go : (b : Bool) → readable pa ≡ b → cond b (Some (number_at bytes pa 8)) None ≡ Some entry → (readable pa ≡ true) × (number_at bytes pa 8 ≡ entry)
+    go true is got = (is, cc)
+    go false is got = cc
+
+refused_fact : (readable : ℕ → Bool) (bytes : Bytes) (pa : ℕ) → entry_of readable bytes pa ≡ None → readable pa ≡ false
+refused_fact readable bytes pa e = go (readable pa) refl e
+  where
+    go : (b : Bool) → readable pa ≡ b → cond b (Some (number_at bytes pa 8)) None ≡ None → readable pa ≡ false
+    go true is got = cc
+    go false is got = is
+
+abbrev Run : (ℕ → Bool) → Bytes → WalkFlags → ℕ → Access → ℕ → ℕ → Got
+Run readable bytes flags va access level table = (walked readable flags va access level table).run bytes
+
+pub step_refused : (readable : ℕ → Bool) (bytes : Bytes) (flags : WalkFlags) (va : ℕ) (access : Access) (level table : ℕ) → entry_of readable bytes (entry_address level table va) ≡ None → Run readable bytes flags va access level table ≡ alone (Err (access_fault_of access))
+step_refused readable bytes flags va access level table got =
+    walked_refused readable bytes flags va access level table (refused_fact readable bytes (entry_address level table va) got)
+
+pub step_on : (readable : ℕ → Bool) (bytes : Bytes) (flags : WalkFlags) (va : ℕ) (access : Access) (level table entry : ℕ) → entry_of readable bytes (entry_address level table va) ≡ Some entry → 0 < level → is_link entry ≡ true → Run readable bytes flags va access level table ≡ after (entry_address level table va) (Run readable bytes flags va access (level - 1) (page_number entry))
+step_on readable bytes flags va access zero table entry got above link = absurd (omega arith)
+step_on readable bytes flags va access (suc level) table entry got above link =
+    let pa : ℕ = entry_address (suc level) table va in
+    let fact : (readable pa ≡ true) × (number_at bytes pa 8 ≡ entry) = read_fact readable bytes pa entry got in
+    let below : suc level - 1 ≡ level = omega arith in
+    walked_on readable bytes flags va access level table fact.0 (ap is_link fact.1 ∙ link)
+    ∙ ap (λ e. after pa (Run readable bytes flags va access level (page_number e))) fact.1
+    ∙ ap (λ l. after pa (Run readable bytes flags va access l (page_number entry))) (sym below)
+
+pub step_last : (readable : ℕ → Bool) (bytes : Bytes) (flags : WalkFlags) (va : ℕ) (access : Access) (level table entry : ℕ) → entry_of readable bytes (entry_address level table va) ≡ Some entry → level ≡ 0 → Run readable bytes flags va access level table ≡ after (entry_address level table va) (alone (ended level flags va access entry))
+step_last readable bytes flags va access zero table entry got last =
+    let pa : ℕ = entry_address 0 table va in
+    let fact : (readable pa ≡ true) × (number_at bytes pa 8 ≡ entry) = read_fact readable bytes pa entry got in
+    walked_last readable bytes flags va access table fact.0
+    ∙ ap (λ e. after pa (alone (ended 0 flags va access e))) fact.1
+step_last readable bytes flags va access (suc level) table entry got last = absurd (omega arith)
+
+pub step_ends : (readable : ℕ → Bool) (bytes : Bytes) (flags : WalkFlags) (va : ℕ) (access : Access) (level table entry : ℕ) → entry_of readable bytes (entry_address level table va) ≡ Some entry → is_link entry ≡ false → Run readable bytes flags va access level table ≡ after (entry_address level table va) (alone (ended level flags va access entry))
+step_ends readable bytes flags va access level table entry got none =
+    let pa : ℕ = entry_address level table va in
+    let fact : (readable pa ≡ true) × (number_at bytes pa 8 ≡ entry) = read_fact readable bytes pa entry got in
+    walked_ends readable bytes flags va access level table fact.0 (ap is_link fact.1 ∙ none)
+    ∙ ap (λ e. after pa (alone (ended level flags va access e))) fact.1
+
+-- ---- the list of reads
+
+pub no_reads : (reads : List Read) → reads ++ [] ≡ reads
+no_reads reads = append-nil reads
+
+pub one_read : (reads : List Read) (read : Read) (more : List Read) → (reads ++ read ∷ []) ++ more ≡ reads ++ read ∷ more
+one_read reads read more = append_assoc reads (read ∷ []) more
+
+-- ---- the whole translation
+
+pub translated_walks : (readable : ℕ → Bool) (bytes : Bytes) (satp : ℕ) (flags : WalkFlags) (va : ℕ) (access : Access) → is_canonical va ≡ true → (translated readable satp flags va access).run bytes ≡ Run readable bytes flags va access 2 (satp % 2 ^ 44)
+unfolding translated
+translated_walks readable bytes satp flags va access e =
+    ap (λ action. action.run bytes) (cond-true (is_canonical va) (walked readable flags va access 2 (satp % 2 ^ 44)) (give (Err (page_fault_of access))) e)
+
+pub translated_refused : (readable : ℕ → Bool) (bytes : Bytes) (satp : ℕ) (flags : WalkFlags) (va : ℕ) (access : Access) → is_canonical va ≡ false → (translated readable satp flags va access).run bytes ≡ alone (Err (page_fault_of access))
+unfolding translated
+translated_refused readable bytes satp flags va access e =
+    ap (λ action. action.run bytes) (cond-false (is_canonical va) (walked readable flags va access 2 (satp % 2 ^ 44)) (give (Err (page_fault_of access))) e)
+    ∙ given bytes (Err (page_fault_of access))
+
+-- ---- by the chain
+
+pub chain_from-stops : (readable : ℕ → Bool) (bytes : Bytes) (va level table : ℕ) → (readable (entry_address (suc level) table va) && is_link (number_at bytes (entry_address (suc level) table va) 8)) ≡ false → chain_from readable bytes va (suc level) table ≡ record { level = suc level; pa = entry_address (suc level) table va } ∷ []
+unfolding chain_from
+chain_from-stops readable bytes va level table e =
+    let pa : ℕ = entry_address (suc level) table va in
+    let entry : ℕ = number_at bytes pa 8 in
+    ap (λ (visits : List Visit). record { level = suc level; pa = pa } ∷ visits) (cond-false (readable pa && is_link entry) (chain_from readable bytes va level (page_number entry)) [] e)
+
+pub chain_from-goes_on : (readable : ℕ → Bool) (bytes : Bytes) (va level table : ℕ) → (readable (entry_address (suc level) table va) && is_link (number_at bytes (entry_address (suc level) table va) 8)) ≡ true → chain_from readable bytes va (suc level) table ≡ record { level = suc level; pa = entry_address (suc level) table va } ∷ chain_from readable bytes va level (page_number (number_at bytes (entry_address (suc level) table va) 8))
+unfolding chain_from
+chain_from-goes_on readable bytes va level table e =
+    let pa : ℕ = entry_address (suc level) table va in
+    let entry : ℕ = number_at bytes pa 8 in
+    ap (λ (visits : List Visit). record { level = suc level; pa = pa } ∷ visits) (cond-true (readable pa && is_link entry) (chain_from readable bytes va level (page_number entry)) [] e)
+
+pub chain_from-last : (readable : ℕ → Bool) (bytes : Bytes) (va table : ℕ) → chain_from readable bytes va 0 table ≡ record { level = 0; pa = entry_address 0 table va } ∷ []
+unfolding chain_from
+chain_from-last readable bytes va table = refl
+
+-- a chain of one entry
+single-read : (readable : ℕ → Bool) (bytes : Bytes) (flags : WalkFlags) (va : ℕ) (access : Access) (level pa : ℕ) → readable pa ≡ true → after pa (alone (ended level flags va access (number_at bytes pa 8))) ≡ by_chain readable bytes flags va access (record { level = level; pa = pa } ∷ [])
+unfolding outcome
+single-read readable bytes flags va access level pa e = rw e refl
+
+single-refused : (readable : ℕ → Bool) (bytes : Bytes) (flags : WalkFlags) (va : ℕ) (access : Access) (level pa : ℕ) → readable pa ≡ false → alone (Err (access_fault_of access)) ≡ by_chain readable bytes flags va access (record { level = level; pa = pa } ∷ [])
+unfolding outcome
+single-refused readable bytes flags va access level pa e = rw e refl
+
+-- an entry before a chain of some entries
+outcome-front : (readable : ℕ → Bool) (bytes : Bytes) (flags : WalkFlags) (va : ℕ) (access : Access) (visit : Visit) (level table : ℕ) → outcome readable bytes flags va access (visit ∷ chain_from readable bytes va level table) ≡ outcome readable bytes flags va access (chain_from readable bytes va level table)
+unfolding outcome chain_from
+outcome-front readable bytes flags va access visit zero table = refl
+outcome-front readable bytes flags va access visit (suc level) table = refl
+
+reads-front : (readable : ℕ → Bool) (level pa : ℕ) (visits : List Visit) → readable pa ≡ true → entry_read pa ∷ reads_of readable visits ≡ reads_of readable (record { level = level; pa = pa } ∷ visits)
+reads-front readable level pa visits e = rw e refl
+
+front : (readable : ℕ → Bool) (bytes : Bytes) (flags : WalkFlags) (va : ℕ) (access : Access) (above pa level table : ℕ) → readable pa ≡ true → after pa (by_chain readable bytes flags va access (chain_from readable bytes va level table)) ≡ by_chain readable bytes flags va access (record { level = above; pa = pa } ∷ chain_from readable bytes va level table)
+front readable bytes flags va access above pa level table e =
+    let visits : List Visit = chain_from readable bytes va level table in
+    ap (λ value. record { value = value; reads = entry_read pa ∷ reads_of readable visits; wrote = [] }) (sym (outcome-front readable bytes flags va access (record { level = above; pa = pa }) level table))
+    ∙ ap (λ reads. record { value = outcome readable bytes flags va access (record { level = above; pa = pa } ∷ visits); reads = reads; wrote = [] }) (reads-front readable above pa visits e)
+
+walked-by_chain : (readable : ℕ → Bool) (bytes : Bytes) (flags : WalkFlags) (va : ℕ) (access : Access) (level table : ℕ) → Run readable bytes flags va access level table ≡ by_chain readable bytes flags va access (chain_from readable bytes va level table)
+walked-by_chain readable bytes flags va access zero table =
+    let pa : ℕ = entry_address 0 table va in
+    elim (cases_Bool (readable pa)) [
+      | inl can ↦ walked_last readable bytes flags va access table can ∙ single-read readable bytes flags va access 0 pa can ∙ ap (by_chain readable bytes flags va access) (sym (chain_from-last readable bytes va table))
+      | inr cannot ↦ walked_refused readable bytes flags va access 0 table cannot ∙ single-refused readable bytes flags va access 0 pa cannot ∙ ap (by_chain readable bytes flags va access) (sym (chain_from-last readable bytes va table))
+    ]
+walked-by_chain readable bytes flags va access (suc level) table =
+    let pa : ℕ = entry_address (suc level) table va in
+    let entry : ℕ = number_at bytes pa 8 in
+    let below : Run readable bytes flags va access level (page_number entry) ≡ by_chain readable bytes flags va access (chain_from readable bytes va level (page_number entry)) = walked-by_chain readable bytes flags va access level (page_number entry) in
+    elim (cases_Bool (readable pa)) [
+      | inr cannot ↦ walked_refused readable bytes flags va access (suc level) table cannot ∙ single-refused readable bytes flags va access (suc level) pa cannot
+          ∙ ap (by_chain readable bytes flags va access) (sym (chain_from-stops readable bytes va level table (and_left (readable pa) (is_link entry) cannot)))
+      | inl can ↦ elim (cases_Bool (is_link entry)) [
+        | inl link ↦ walked_on readable bytes flags va access level table can link ∙ ap (after pa) below ∙ front readable bytes flags va access (suc level) pa level (page_number entry) can
+            ∙ ap (by_chain readable bytes flags va access) (sym (chain_from-goes_on readable bytes va level table (and_from (readable pa) (is_link entry) can link)))
+        | inr none ↦ walked_ends readable bytes flags va access (suc level) table can none ∙ single-read readable bytes flags va access (suc level) pa can
+            ∙ ap (by_chain readable bytes flags va access) (sym (chain_from-stops readable bytes va level table (and_right (readable pa) (is_link entry) none)))
+      ]
+    ]
+
+pub translated-by_chain : (readable : ℕ → Bool) (bytes : Bytes) (satp : ℕ) (flags : WalkFlags) (va : ℕ) (access : Access) → (translated readable satp flags va access).run bytes ≡ by_chain readable bytes flags va access (chain readable bytes satp va)
+unfolding chain outcome
+translated-by_chain readable bytes satp flags va access =
+    elim (cases_Bool (is_canonical va)) [
+      | inl can ↦ translated_walks readable bytes satp flags va access can ∙ walked-by_chain readable bytes flags va access 2 (satp % 2 ^ 44)
+          ∙ ap (by_chain readable bytes flags va access) (sym (cond-true (is_canonical va) (chain_from readable bytes va 2 (satp % 2 ^ 44)) [] can))
+      | inr cannot ↦ translated_refused readable bytes satp flags va access cannot
+          ∙ ap (by_chain readable bytes flags va access) (sym (cond-false (is_canonical va) (chain_from readable bytes va 2 (satp % 2 ^ 44)) [] cannot))
+    ]
+
+-- no walk writes
+pub translated_writes : (readable : ℕ → Bool) (bytes : Bytes) (satp : ℕ) (flags : WalkFlags) (va : ℕ) (access : Access) → ((translated readable satp flags va access).run bytes).wrote ≡ []
+translated_writes readable bytes satp flags va access = ap (λ got. got.wrote) (translated-by_chain readable bytes satp flags va access)
