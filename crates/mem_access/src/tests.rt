@@ -1,0 +1,147 @@
+use super::*;
+use csr_file::Csrs;
+use hart_words::{Cause, Map, Mode, NoMemory, PhysMem, Seen, Span};
+use std::test::Fail;
+
+const RAM: Span = Span {
+    base: 0x8000_0000,
+    size: 0x1000,
+};
+
+const IO: Span = Span {
+    base: 0x1000_0000,
+    size: 0x1000,
+};
+
+const MAP: Map = Map {
+    ram: RAM,
+    io: Some(IO),
+};
+
+/// A memory of zeros that refuses every write.
+#[derive(Drop)]
+struct Zeros {
+    ram: Span,
+}
+
+impl PhysMem for Zeros {
+    ghost bytes = { λ _ _. 0 };
+
+    ghost ram = { λ mem. mem.ram };
+
+    ghost is_ready = { λ _ _. ⊥ };
+
+    #[tactic(auto, using(crate::proofs::ZeroBytes::zero_number))]
+    fn read(&self, _pa: u64, _len: u8) -> u64 {
+        0
+    }
+
+    fn write(&mut self, _pa: u64, _len: u8, _value: u64) -> Result<(), NoMemory> {
+        Err(NoMemory)
+    }
+
+    fn ready(&mut self, _pa: u64) -> Result<(), NoMemory> {
+        Err(NoMemory)
+    }
+
+    fn copy(&self) -> Result<Zeros, NoMemory> {
+        Ok(Zeros { ram: self.ram })
+    }
+}
+
+/// Loads: the length, the address, whether it is LR, and what comes of it; the place is given by
+/// whether a device has it.
+#[test]
+fn loads(rt: HostRuntime) -> Result<(), Fail> {
+    let mem = Zeros { ram: RAM };
+    let misaligned = Cause::LoadAddressMisaligned;
+    let fault = Cause::LoadAccessFault;
+    let cases = [
+        (0x8000_0ff8, false, Ok(false)),
+        (0x8000_0ff8, true, Ok(false)),
+        (0x8000_0ffc, false, Err((misaligned, 0x8000_0ffc))),
+        (0x8000_1000, false, Err((fault, 0x8000_1000))),
+        (0x7fff_fff8, false, Err((fault, 0x7fff_fff8))),
+        (0x1000_0000, false, Ok(true)),
+        (0x1000_0000, true, Err((fault, 0x1000_0000))),
+        (0x1000_0004, true, Err((misaligned, 0x1000_0004))),
+        (u64::MAX - 7, false, Err((fault, u64::MAX - 7))),
+    ];
+    for (va, atomic, want) in cases {
+        let mut seen = Seen::empty();
+        let found = load(
+            &mem,
+            &Csrs::reset(),
+            &MAP,
+            Mode::Machine,
+            va,
+            8,
+            atomic,
+            &mut seen,
+        );
+        let told = match found {
+            Ok((place, _)) => Ok(place.io),
+            Err(refusal) => Err(refusal),
+        };
+        assert_eq!(rt; told, want);
+        assert_eq!(rt; seen.as_slice().len() == 1, want == Ok(false));
+    }
+    Ok(())
+}
+
+/// Places of stores, for SC and the AMOs without devices.
+#[test]
+fn places_of_stores(rt: HostRuntime) -> Result<(), Fail> {
+    let mem = Zeros { ram: RAM };
+    let misaligned = Cause::StoreAddressMisaligned;
+    let fault = Cause::StoreAccessFault;
+    let cases = [
+        (0x8000_0ffc, false, Ok(false)),
+        (0x8000_0ffe, false, Err((misaligned, 0x8000_0ffe))),
+        (0x8000_1000, true, Err((fault, 0x8000_1000))),
+        (0x1000_0ffc, false, Ok(true)),
+        (0x1000_0ffc, true, Err((fault, 0x1000_0ffc))),
+        (0x1000_1000, false, Err((fault, 0x1000_1000))),
+    ];
+    for (va, atomic, want) in cases {
+        let mut seen = Seen::empty();
+        let found = store_place(
+            &mem,
+            &Csrs::reset(),
+            &MAP,
+            Mode::Machine,
+            va,
+            4,
+            atomic,
+            &mut seen,
+        );
+        let told = match found {
+            Ok(place) => Ok(place.io),
+            Err(refusal) => Err(refusal),
+        };
+        assert_eq!(rt; told, want);
+    }
+    Ok(())
+}
+
+/// Fetches of the half 0x0000, which is an instruction of two bytes. Without an entry of physical
+/// memory protection that matches, a supervisor may reach nothing.
+#[test]
+fn fetches(rt: HostRuntime) -> Result<(), Fail> {
+    let mem = Zeros { ram: RAM };
+    let fault = Cause::InstructionAccessFault;
+    let cases = [
+        (0x8000_0ffe, Mode::Machine, Ok((0, 2))),
+        (0x8000_0ffe, Mode::Supervisor, Err((fault, 0x8000_0ffe))),
+        (0x8000_1000, Mode::Machine, Err((fault, 0x8000_1000))),
+        (0x1000_0000, Mode::Machine, Err((fault, 0x1000_0000))),
+    ];
+    for (pc, mode, want) in cases {
+        if pc % 2 == 0 {
+            let mut seen = Seen::empty();
+            let found = fetch(&mem, &Csrs::reset(), &MAP, mode, pc, &mut seen);
+            assert_eq!(rt; found, want);
+        }
+    }
+    Ok(())
+}
