@@ -4,7 +4,7 @@ use Rattle.std.specs.List.{list_any, starts_with}
 use Rattle.std.specs.Str.{bytes_eq}
 use Rattle.hart_words.specs.Signals.{name_of, place_of}
 use Rattle.hart_words.specs.declared.signal.Signal.{Signal}
-use Rattle.hart_words.specs.declared.signal.Signal.TheVariants.{Valid, Order, Intr, PcRdata, Mode, Ixl, Trap, Insn, RdAddr, RdWdata, PcWdata, Halt}
+use Rattle.hart_words.specs.declared.signal.Signal.TheVariants.{Valid, Order, Intr, PcRdata, Mode, Ixl, Trap, Insn, Rs1Addr, Rs1Rdata, Rs2Addr, Rs2Rdata, RdAddr, RdWdata, PcWdata, MemAddr, MemRmask, MemRdata, MemWmask, MemWdata, MemPaddr, Halt}
 use Rattle.csv_line.specs.Fields.{fields_of_line}
 use Rattle.rvfi_rows.specs.Gives.{◌>>◌, refuse_if}
 use Rattle.rvfi_rows.specs.declared.fault.HeaderFault.{HeaderFault}
@@ -18,7 +18,7 @@ ColumnList = List (Option Signal)
 
 -- the signals that are read; every other name is passed over
 abbrev pub known_signals : List Signal
-known_signals = Valid ∷ Order ∷ Intr ∷ PcRdata ∷ Mode ∷ Ixl ∷ Trap ∷ Insn ∷ RdAddr ∷ RdWdata ∷ PcWdata ∷ Halt ∷ []
+known_signals = Valid ∷ Order ∷ Intr ∷ PcRdata ∷ Mode ∷ Ixl ∷ Trap ∷ Insn ∷ Rs1Addr ∷ Rs1Rdata ∷ Rs2Addr ∷ Rs2Rdata ∷ RdAddr ∷ RdWdata ∷ PcWdata ∷ MemAddr ∷ MemRmask ∷ MemRdata ∷ MemWmask ∷ MemWdata ∷ MemPaddr ∷ Halt ∷ []
 
 -- a name less one `rvfi_` at its front
 unfoldable pub less_prefix : List ℕ → List ℕ

@@ -12,7 +12,7 @@ use std::alloc::Global;
 use std::marker::Model;
 
 /// The signals that are read from a trace.
-const KNOWN: [Signal; 12] = [
+const KNOWN: [Signal; 22] = [
     Signal::Valid,
     Signal::Order,
     Signal::Intr,
@@ -21,9 +21,19 @@ const KNOWN: [Signal; 12] = [
     Signal::Ixl,
     Signal::Trap,
     Signal::Insn,
+    Signal::Rs1Addr,
+    Signal::Rs1Rdata,
+    Signal::Rs2Addr,
+    Signal::Rs2Rdata,
     Signal::RdAddr,
     Signal::RdWdata,
     Signal::PcWdata,
+    Signal::MemAddr,
+    Signal::MemRmask,
+    Signal::MemRdata,
+    Signal::MemWmask,
+    Signal::MemWdata,
+    Signal::MemPaddr,
     Signal::Halt,
 ];
 

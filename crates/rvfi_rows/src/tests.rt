@@ -46,6 +46,29 @@ fn reads_rows(rt: HostRuntime) -> Result<(), Fail> {
     Ok(())
 }
 
+/// The columns of registers have 5 bits, those of byte masks 8.
+#[test]
+fn reads_registers_and_masks(rt: HostRuntime) -> Result<(), Fail> {
+    let alloc = rt.alloc();
+    let columns = read_header(alloc, b"mem_wmask,pc_rdata,rvfi_rs1_addr,insn")?;
+    let row = read_row(alloc, &columns, b"255,0,0x1f,0")?.ok_or("the row is valid")?;
+    assert_eq!(rt; row.shown(Signal::Rs1Addr), Some(31));
+    assert_eq!(rt; row.shown(Signal::MemWmask), Some(0xff));
+    assert_eq!(rt; row.shown(Signal::MemRmask), None);
+    for (line, signal) in [
+        (b"0x100,0,0,0".as_slice(), Signal::MemWmask),
+        (b",0,32,0", Signal::Rs1Addr),
+    ] {
+        assert_eq!(rt;
+            row_fault(alloc, &columns, line),
+            Some(RowFault::TooWide(signal))
+        );
+    }
+    let again = HeaderFault::Twice(Signal::Rs1Addr);
+    assert_eq!(rt; header_fault(alloc, b"rs1_addr,rvfi_rs1_addr"), Some(again));
+    Ok(())
+}
+
 #[test]
 fn refuses_rows(rt: HostRuntime) -> Result<(), Fail> {
     let alloc = rt.alloc();

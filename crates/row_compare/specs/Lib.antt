@@ -1,0 +1,4 @@
+pub mod Signals
+pub mod Sources
+pub mod Memory
+pub mod Difference
