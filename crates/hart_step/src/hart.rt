@@ -1,0 +1,63 @@
+//! A hart with its memory.
+
+ghost use Rattle.std.specs.Prelude.{◌≡◌, ◌%◌, [], IfOk, OnErr};
+ghost use Rattle.hart_words.specs.Map.{IsMap};
+ghost use Rattle.hart_words.specs.Actions.{Ran};
+ghost use Rattle.rvfi_rows.specs.Rows.{shown_in};
+
+use crate::state::Core;
+use hart_words::{Map, NoMemory, PhysMem, Seen, Wrote};
+use rvfi_rows::{Expected, Row};
+
+/// What a step gave: what the row must show, and what was read from memory and written to it.
+#[derive(Debug, Drop)]
+pub struct Stepped {
+    pub expected: Expected,
+    pub seen: Seen,
+    pub wrote: Wrote,
+}
+
+/// A hart: its state, and the memory that it runs over, whose RAM is that of its map.
+#[derive(Drop)]
+pub struct Hart<M> {
+    pub core: Core,
+    pub mem: M,
+}
+
+impl<M: PhysMem + Drop> Hart<M> {
+    ghost use Rattle.hart_step.specs.Cores.{core_at_reset, IsSound};
+    ghost use Rattle.hart_step.specs.Steps.{stepped};
+
+    /// A hart at reset over a memory: in M, at `pc`, with all registers 0.
+    pub fn reset(mem: M, pc: u64, map: Map) -> Hart<M>
+        requires even { pc % 2 ≡ 0 }
+        requires map { IsMap map }
+        requires ram { M.ram mem ≡ map.ram }
+        ensures core { result.core ≡ core_at_reset pc map }
+        ensures mem { result.mem ≡ mem }
+        ensures sound { IsSound result.core }
+        ensures ram_stays { M.ram result.mem ≡ result.core.map.ram }
+    {
+        Hart {
+            core: Core::reset(pc, map),
+            mem,
+        }
+    }
+
+    /// Steps the hart by a valid row: what the row must show, and what was read and written. Without
+    /// memory neither the state nor a byte changes.
+    ///
+    /// From the Unprivileged ISA and the Privileged Architecture, as far as the instruction table
+    /// goes; what they leave open is taken from the row, as riscv-formal's description of RVFI has it.
+    pub fn step(&mut self, row: &Row) -> Result<Stepped, NoMemory>
+        requires sound { IsSound self.old.core }
+        requires ram { M.ram self.old.mem ≡ self.old.core.map.ram }
+        ensures stepped { IfOk result (λ now. Ran (stepped self.old.core (shown_in row.now)) (record { next = self.new.core; expected = now.expected }) [] now.seen [] now.wrote (M.bytes self.old.mem) (M.bytes self.new.mem)) }
+        ensures err { OnErr result ((self.new.core ≡ self.old.core) × (M.bytes self.new.mem ≡ M.bytes self.old.mem)) }
+        ensures sound { IsSound self.new.core }
+        ensures map { self.new.core.map ≡ self.old.core.map }
+        ensures ram { M.ram self.new.mem ≡ M.ram self.old.mem }
+    {
+        self.core.step(&mut self.mem, row)
+    }
+}

@@ -1,0 +1,65 @@
+//! The state of a hart but for its memory.
+
+ghost use Rattle.std.specs.Prelude.{◌≡◌, ◌%◌};
+ghost use Rattle.hart_words.specs.Map.{IsMap};
+
+use csr_file::Csrs;
+use hart_words::{Map, Mode};
+use rv_atomic::Reservation;
+
+/// All of a hart but its memory.
+#[derive(Clone, Copy, Debug)]
+pub struct Core {
+    /// The integer registers by number; x0 is not looked at.
+    pub registers: [u64; 32],
+    /// The address of the next instruction.
+    pub pc: u64,
+    pub mode: Mode,
+    pub csrs: Csrs,
+    /// What LR reserved.
+    pub reservation: Reservation,
+    /// The order index that the next row must show, once one is known.
+    pub next_order: Option<u64>,
+    /// Whether the last row took a synchronous trap.
+    pub trapped_last: bool,
+    /// Whether a row showed that the hart halts.
+    pub halted: bool,
+    /// What stands at which physical address. No step changes it.
+    pub map: Map,
+}
+
+impl Core {
+    ghost use Rattle.hart_step.specs.Cores.{core_at_reset, register_of, IsSound};
+
+    /// A hart at reset: in M, at `pc`, with all registers 0.
+    #[tactic(auto, unfolding(crate::specs::Cores::core_at_reset))]
+    pub fn reset(pc: u64, map: Map) -> Core
+        requires even { pc % 2 ≡ 0 }
+        requires map { IsMap map }
+        ensures state { result ≡ core_at_reset pc map }
+        ensures map { result.map ≡ map }
+        ensures sound { IsSound result }
+    {
+        Core {
+            registers: [0; 32],
+            pc,
+            mode: Mode::Machine,
+            csrs: Csrs::reset(),
+            reservation: Reservation::NONE,
+            next_order: None,
+            trapped_last: false,
+            halted: false,
+            map,
+        }
+    }
+
+    /// The value of a register; 0 for x0.
+    pub(crate) fn register(&self, number: u8) -> u64
+        ensures { result ≡ register_of self.now number }
+    {
+        match self.registers.get(number as usize) {
+            Some(value) if number != 0 => *value,
+            _ => 0,
+        }
+    }
+}
