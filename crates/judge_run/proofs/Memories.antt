@@ -23,24 +23,24 @@ unfolding file_memory
 too_large job file front is more = let over : nat_lt job.max_image (length file) ≡ true = sym is.more ∙ more in rw over refl
 
 -- a file that was read whole
-whole : (job : JobView) (file : List ℕ) (front : Front) → HasFront file job.max_image front → front.more ≡ false → file_memory job file ≡ as_memory (image_of job.ram front.bytes.items)
+whole : (job : JobView) (file : List ℕ) (front : Front) → HasFront file job.max_image front → front.more ≡ false → file_memory job file ≡ as_memory (image_of job.map.ram front.bytes.items)
 unfolding file_memory
 whole job file front is more =
     let under : nat_lt job.max_image (length file) ≡ false = sym is.more ∙ more in
     let all : front.bytes.items ≡ file = is.bytes ∙ take_all job.max_image file (ltb-false job.max_image (length file) under) in
-    rw under (ap (λ text. as_memory (image_of job.ram text)) (sym all))
+    rw under (ap (λ text. as_memory (image_of job.map.ram text)) (sym all))
 
 pub pieces_refused : {X : Type 0} (view : X → ℕ → ℕ) (error : ImageError) (read : Result (ℕ → Option ℕ) ImageFault) → FailsAs (image_fault error) read → MeantBy view (Err (image_stop error)) (as_memory read)
 pieces_refused view (errors.Fault fault) read refused = ap as_memory refused
 pieces_refused view errors.NoMemory read refused = tt
 
 -- what stops the reading of a whole file stops the run
-pub whole_refused : {X Y : Type 0} (pieces : Y → ℕ → ℕ) (view : X → ℕ → ℕ) (job : JobView) (file : List ℕ) (front : Front) (stop : Stop) → HasFront file job.max_image front → front.more ≡ false → MeantBy pieces (Err stop) (as_memory (image_of job.ram front.bytes.items)) → MeantBy view (Err stop) (file_memory job file)
+pub whole_refused : {X Y : Type 0} (pieces : Y → ℕ → ℕ) (view : X → ℕ → ℕ) (job : JobView) (file : List ℕ) (front : Front) (stop : Stop) → HasFront file job.max_image front → front.more ≡ false → MeantBy pieces (Err stop) (as_memory (image_of job.map.ram front.bytes.items)) → MeantBy view (Err stop) (file_memory job file)
 whole_refused pieces view job file front (Known outcome) is more meant = whole job file front is more ∙ meant
 whole_refused pieces view job file front ReadFault is more meant = tt
 whole_refused pieces view job file front NoMemory is more meant = tt
 
-pub whole_built : (job : JobView) (file : List ℕ) (front : Front) (read memory : ℕ → ℕ) → HasFront file job.max_image front → front.more ≡ false → as_memory (image_of job.ram front.bytes.items) ≡ Ok read → memory ≡ read → file_memory job file ≡ Ok memory
+pub whole_built : (job : JobView) (file : List ℕ) (front : Front) (read memory : ℕ → ℕ) → HasFront file job.max_image front → front.more ≡ false → as_memory (image_of job.map.ram front.bytes.items) ≡ Ok read → memory ≡ read → file_memory job file ≡ Ok memory
 whole_built job file front read memory is more meant same = whole job file front is more ∙ meant ∙ ap (λ m. Ok m) (sym same)
 
 -- the memory of a told file by its front

@@ -4,8 +4,8 @@ use Rattle.std.proofs.lemmas.Option.{slice_get_within}
 use Rattle.std.proofs.lemmas.List.{drop_all}
 use Rattle.rvfi_rows.specs.declared.verdict.Verdict.{Verdict}
 use Rattle.rvfi_rows.specs.declared.verdict.Verdict.TheVariants.{Agrees}
-use Rattle.judge_run.specs.declared.rows.Progress.{Progress}
-use Rattle.judge_run.specs.Rows.{Setting, verdict_after, verdict_or, LineGives}
+use Rattle.rvfi_rows.specs.Columns.{ColumnList}
+use Rattle.judge_run.specs.Rows.{Standing, verdict_after, verdict_or, LineGives}
 
 drop_from : {A : Type 0} (xs : List A) (i : ℕ) (x : A) → Some x ≡ slice_get xs i → drop i xs ≡ x ∷ drop (suc i) xs
 drop_from [] i x is = absurd cc
@@ -23,14 +23,14 @@ drop_gone [] i is = drop_past [] i (omega arith)
 drop_gone (y ∷ xs) zero is = absurd cc
 drop_gone (y ∷ xs) (suc i) is = drop_gone xs i is
 
-pub line_turn : (setting : Setting) (before now : Progress) (lines : List (List ℕ)) (place : ℕ) (line : List ℕ) (end : Option Verdict) (whole : Verdict) → Some line ≡ slice_get lines place → LineGives setting before line end now → verdict_after setting before (drop place lines) ≡ whole → verdict_or end (verdict_after setting now (drop (place + 1) lines)) ≡ whole
-line_turn setting before now lines place line end whole here gives so_far =
-    sym (gives (drop (place + 1) lines)) ∙ sym (ap (λ rest. verdict_after setting before rest) (drop_found lines place line here)) ∙ so_far
+pub line_turn : (columns : ColumnList) (before now : Standing) (lines : List (List ℕ)) (place : ℕ) (line : List ℕ) (end : Option Verdict) (whole : Verdict) → Some line ≡ slice_get lines place → LineGives columns before line end now → verdict_after columns before (drop place lines) ≡ whole → verdict_or end (verdict_after columns now (drop (place + 1) lines)) ≡ whole
+line_turn columns before now lines place line end whole here gives so_far =
+    sym (gives (drop (place + 1) lines)) ∙ sym (ap (λ rest. verdict_after columns before rest) (drop_found lines place line here)) ∙ so_far
 
-pub lines_end : (setting : Setting) (before : Progress) (lines : List (List ℕ)) (place : ℕ) (whole : Verdict) → None ≡ slice_get lines place → verdict_after setting before (drop place lines) ≡ whole → Agrees before.rows before.valid ≡ whole
+pub lines_end : (columns : ColumnList) (before : Standing) (lines : List (List ℕ)) (place : ℕ) (whole : Verdict) → None ≡ slice_get lines place → verdict_after columns before (drop place lines) ≡ whole → Agrees before.rows before.valid ≡ whole
 unfolding verdict_after
-lines_end setting before lines place whole here so_far =
-    sym (ap (λ rest. verdict_after setting before rest) (drop_gone lines place here)) ∙ so_far
+lines_end columns before lines place whole here so_far =
+    sym (ap (λ rest. verdict_after columns before rest) (drop_gone lines place here)) ∙ so_far
 
 pub within : (lines : List (List ℕ)) (place : ℕ) (line : List ℕ) → Some line ≡ slice_get lines place → place < length lines
 within lines place line here = slice_get_within lines place line (sym here)

@@ -37,7 +37,7 @@ as_memory (Ok bytes) = Ok (λ address. unwrap_or (bytes address) 0)
 -- a text of too many bytes is refused before anything else in it
 unfoldable pub file_memory : JobView → List ℕ → Step (ℕ → ℕ)
 file_memory job text =
-    if nat_lt job.max_image (length text) then Err (Some (outcomes.ImageTooLarge job.max_image)) else as_memory (image_of job.ram text)
+    if nat_lt job.max_image (length text) then Err (Some (outcomes.ImageTooLarge job.max_image)) else as_memory (image_of job.map.ram text)
 
 unfoldable pub memory_of : JobView → Files → Step (ℕ → ℕ)
 memory_of job files = do
@@ -63,7 +63,7 @@ ended job ending (Refused row fault) = outcomes.Verdict (Refused row fault)
 abbrev pub by_header : JobView → (ℕ → ℕ) → Ending → Result ColumnList HeaderFault → List (List ℕ) → Outcome
 by_header job memory ending (Err fault) rows = outcomes.HeaderFault fault
 by_header job memory ending (Ok columns) rows =
-    ended job ending (verdict_after (record { memory = memory; ram = job.ram; columns = columns }) (at_reset job.pc) rows)
+    ended job ending (verdict_after columns (at_reset job.pc job.map memory) rows)
 
 abbrev pub by_lines : JobView → (ℕ → ℕ) → Ending → List (List ℕ) → Outcome
 by_lines job memory ending [] = without_header job ending

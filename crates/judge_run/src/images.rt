@@ -1,6 +1,6 @@
 //! The memory of the hart at reset.
 
-ghost use Rattle.std.specs.Prelude.{◌≡◌, ◌^◌, ◌≤◌, ℕ, List};
+ghost use Rattle.std.specs.Prelude.{◌≡◌, ◌^◌, ◌≤◌, ℕ, List, IfOk};
 ghost use Rattle.outside_ports.specs.Reading.{HasFront};
 ghost use Rattle.hart_words.specs.Map.{IsSpan};
 ghost use Rattle.image_text.specs.Bytes.{byte_at};
@@ -24,6 +24,7 @@ pub fn read_memory<H: Shelf>(alloc: Global, job: &Job, shelf: &mut H) -> Result<
     requires { IsLawful (job_view job.now) }
     ensures told { H.told shelf.new ≡ H.told shelf.old }
     ensures meant { MeantTold (H.told shelf.old) (λ image. byte_of image) result (λ files. memory_of (job_view job.now) files) }
+    ensures ram { IfOk result (λ image. image.ram ≡ job.now.map.ram) }
     ensures jobs { IsJobs result }
     ensures faults { CountsStop result (H.faults shelf.old) (H.faults shelf.new) }
     ensures misses { MissesStop result (H.told shelf.old) (λ files. memory_of (job_view job.now) files) (H.misses shelf.old) (H.misses shelf.new) }
@@ -39,6 +40,7 @@ pub fn read_memory<H: Shelf>(alloc: Global, job: &Job, shelf: &mut H) -> Result<
 fn memory_in(alloc: Global, job: &Job, front: &Front) -> Result<PageImage, Stop>
     requires { IsLawful (job_view job.now) }
     ensures meant { (file : List ℕ) → HasFront file (job_view job.now).max_image front.now → MeantBy (λ image. byte_of image) result (file_memory (job_view job.now) file) }
+    ensures ram { IfOk result (λ image. image.ram ≡ job.now.map.ram) }
     ensures jobs { IsJobs result }
     ensures read { WasRead result }
 {
@@ -47,11 +49,11 @@ fn memory_in(alloc: Global, job: &Job, front: &Front) -> Result<PageImage, Stop>
             most: job.max_image,
         }));
     }
-    let pieces = match pieces_in(alloc, &front.bytes, job.ram) {
+    let pieces = match pieces_in(alloc, &front.bytes, job.map.ram) {
         Ok(pieces) => pieces,
         Err(stop) => return Err(stop),
     };
-    match PageImage::build(alloc, &pieces, job.ram) {
+    match PageImage::build(alloc, &pieces, job.map.ram) {
         Ok(image) => Ok(image),
         Err(_) => Err(Stop::NoMemory),
     }

@@ -1,9 +1,7 @@
 //! The judge: words, an image and a trace in, one line of text and a status out.
 #![tactic(auto)]
 
-mod comparison;
 mod finding;
-mod hart;
 mod images;
 mod judging;
 mod rows;
@@ -11,9 +9,7 @@ mod stop;
 mod traces;
 mod writing;
 
-pub use comparison::first_difference;
 pub use finding::find_outcome;
-pub use hart::{Core, Expected};
 pub use images::read_memory;
 pub use judging::judge;
 pub use rows::{Progress, judge_lines};
@@ -21,5 +17,7 @@ pub use stop::Stop;
 pub use traces::judge_trace;
 pub use writing::write_all;
 
+#[cfg(test)]
+mod program_tests;
 #[cfg(test)]
 mod tests;

@@ -31,7 +31,7 @@ fn files(alloc: Global, image: &[u8], trace: &[u8]) -> Result<MemShelf, AllocErr
 }
 
 /// What a run over these files writes, and its status.
-fn judged<R: Threads + Sync>(
+pub fn judged<R: Threads + Sync>(
     rt: &R,
     alloc: Global,
     words: &[&str],

@@ -9,11 +9,14 @@ ghost use Rattle.judge_run.specs.Stops.{MeantTold, CountsStop, MissesStop, IsJob
 
 use crate::rows::judge_lines;
 use crate::stop::Stop;
+use hart_step::Hart;
+use hart_words::NoMemory;
 use judge_words::Job;
 use outside_ports::Shelf;
 use page_image::PageImage;
+use page_layers::Layered;
 use rvfi_rows::{HeaderError, Verdict, read_header};
-use std::alloc::{AllocError, Global};
+use std::alloc::Global;
 use trace_lines::{Ending, LineError, LineTaker, Piece};
 use trace_report::Outcome;
 
@@ -24,7 +27,8 @@ pub fn judge_trace<H: Shelf>(
     image: &PageImage,
     shelf: &mut H,
 ) -> Result<Outcome, Stop>
-    requires { IsLawful (job_view job.now) }
+    requires lawful { IsLawful (job_view job.now) }
+    requires ram { image.now.ram ≡ job.now.map.ram }
     ensures told { H.told shelf.new ≡ H.told shelf.old }
     ensures meant { MeantTold (H.told shelf.old) (λ outcome. outcome) result (λ files. trace_outcome (job_view job.now) (byte_of image.now) files) }
     ensures jobs { IsJobsOutcome result }
@@ -49,8 +53,9 @@ fn outcome_of(
     job: &Job,
     image: &PageImage,
     piece: &Piece,
-) -> Result<Outcome, AllocError>
-    requires { IsLawful (job_view job.now) }
+) -> Result<Outcome, NoMemory>
+    requires lawful { IsLawful (job_view job.now) }
+    requires ram { image.now.ram ≡ job.now.map.ram }
     ensures outcome { IfOk result (λ outcome. outcome ≡ lines_outcome (job_view job.now) (byte_of image.now) (piece_view piece.now)) }
     ensures jobs { IfOk result (λ outcome. is_no_job outcome ≡ false) }
 {
@@ -60,10 +65,11 @@ fn outcome_of(
     };
     let columns = match read_header(alloc, header) {
         Ok(columns) => columns,
-        Err(HeaderError::NoMemory) => return Err(AllocError),
+        Err(HeaderError::NoMemory) => return Err(NoMemory),
         Err(HeaderError::Fault(fault)) => return Ok(Outcome::HeaderFault(fault)),
     };
-    let verdict = judge_lines(alloc, image, job.ram, job.pc, &columns, &piece.lines)?;
+    let hart = Hart::reset(Layered::over(alloc, image), job.pc, job.map);
+    let verdict = judge_lines(alloc, hart, &columns, &piece.lines)?;
     Ok(at_end(job, piece.ending, verdict))
 }
 

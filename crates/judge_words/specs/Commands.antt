@@ -14,6 +14,10 @@ required_word name = record (new_rule name) { required = true }
 abbrev pub option_or : Text → Text → Rule
 option_or name default = record (new_rule name) { long = Some name; defaults = default ∷ [] }
 
+-- the same with no value where it is left out
+abbrev pub option_of : Text → Rule
+option_of name = record (new_rule name) { long = Some name }
+
 -- what may follow the word `judge`
 abbrev pub judge_rules : List Rule
 judge_rules =
@@ -21,6 +25,7 @@ judge_rules =
     ∷ required_word (codes "trace")
     ∷ option_or (codes "pc") (codes "0x80000000")
     ∷ option_or (codes "ram") (codes "0x80000000:0x8000000")
+    ∷ option_of (codes "io")
     ∷ option_or (codes "max-image") (codes "0x40000000")
     ∷ option_or (codes "max-trace") (codes "0x40000000")
     ∷ []

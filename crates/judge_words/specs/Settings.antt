@@ -8,7 +8,7 @@ settings_view settings = record {
   image = settings.image.now;
   trace = settings.trace.now;
   pc = settings.pc;
-  ram = settings.ram;
+  map = settings.map;
   max_image = settings.max_image;
   max_trace = settings.max_trace;
 }

@@ -1,8 +1,9 @@
 -- The values of the command line's options.
-use Rattle.std.specs.Prelude.{ℕ, ◌+◌, ◌%◌, ◌^◌, ◌==◌, ◌&&◌, nat_le, List, Option, Some, None, if◌then◌else◌}
+use Rattle.std.specs.Prelude.{ℕ, ◌+◌, ◌%◌, ◌^◌, ◌==◌, ◌&&◌, ◌||◌, nat_le, Bool, List, Option, Some, None, option_map, if◌then◌else◌}
 use Rattle.std.specs.List.{before_first, after_first}
 use Rattle.std.specs.Result.{result_ok}
 use Rattle.hart_words.specs.Numbers.{number_within}
+use Rattle.hart_words.specs.declared.map.Map.{Map}
 use Rattle.hart_words.specs.declared.map.Span.{Span}
 
 infixl 10 ◌>>=◌
@@ -40,3 +41,17 @@ span_of text = do
   base ← number (before_first (λ byte. byte == 58) text)
   size ← number (after_first (λ byte. byte == 58) text)
   whole_pages base size
+
+-- a range that may be left out
+abbrev pub optional_span : Option (List ℕ) → Option (Option Span)
+optional_span None = Some None
+optional_span (Some text) = option_map (λ span. Some span) (span_of text)
+
+-- two ranges with no byte in common
+abbrev pub are_apart : Span → Span → Bool
+are_apart one other = nat_le (one.base + one.size) other.base || nat_le (other.base + other.size) one.base
+
+-- RAM and IO, which have no byte in common
+abbrev pub map_of : Span → Option Span → Option Map
+map_of ram None = Some (record { ram = ram; io = None })
+map_of ram (Some io) = if are_apart ram io then Some (record { ram = ram; io = Some io }) else None

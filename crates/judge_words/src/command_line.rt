@@ -2,7 +2,7 @@
 
 ghost use Rattle.std.specs.Prelude.{◌≡◌, IfOk, MatchResult, None, true, false, map, option_map, string_bytes};
 ghost use Rattle.clap.specs.Words.{Row, app_of, first_of, found_of, is_simple_and_free, rows_of, rule_of, subcommand_rows_of};
-ghost use Rattle.judge_words.specs.Commands.{entered_by, given_to, judge_line, option_or, required_word};
+ghost use Rattle.judge_words.specs.Commands.{entered_by, given_to, judge_line, option_of, option_or, required_word};
 ghost use Rattle.judge_words.specs.declared.job.WordError.TheVariants.{NotAJob};
 
 use crate::job::WordError;
@@ -10,7 +10,7 @@ use clap::error::ErrorKind;
 use clap::{Arg, ArgMatches, Command};
 use std::alloc::{AllocError, Global};
 
-/// `rvjudge judge IMAGE TRACE [--pc A] [--ram B:S] [--max-image M] [--max-trace M]`
+/// `rvjudge judge IMAGE TRACE [--pc A] [--ram B:S] [--io B:S] [--max-image M] [--max-trace M]`
 pub fn judge_line<'a>(alloc: Global) -> Result<Command<'a>, AllocError>
     ensures { IfOk result (λ line. app_of line ≡ judge_line) }
 {
@@ -19,6 +19,7 @@ pub fn judge_line<'a>(alloc: Global) -> Result<Command<'a>, AllocError>
         .arg(required_word(alloc, "trace"))?
         .arg(option_or(alloc, "pc", "0x80000000"))?
         .arg(option_or(alloc, "ram", "0x80000000:0x8000000"))?
+        .arg(option(alloc, "io"))?
         .arg(option_or(alloc, "max-image", "0x40000000"))?
         .arg(option_or(alloc, "max-trace", "0x40000000"))?;
     Command::new(alloc, "rvjudge").subcommand(judge)
@@ -38,6 +39,14 @@ fn option_or<'a>(alloc: Global, name: &'a str, default: &'a str) -> Arg<'a>
     ensures local { result.global ≡ false }
 {
     Arg::new(alloc, name).long(name).default_value(default)
+}
+
+/// An option with a value that may be left out.
+fn option<'a>(alloc: Global, name: &'a str) -> Arg<'a>
+    ensures rule { rule_of result ≡ option_of name.entry.now }
+    ensures local { result.global ≡ false }
+{
+    Arg::new(alloc, name).long(name)
 }
 
 /// What `line` finds in the words, where it takes them.

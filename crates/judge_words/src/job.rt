@@ -7,20 +7,20 @@ ghost use Rattle.judge_words.specs.Settings.{settings_view};
 ghost use Rattle.judge_words.specs.declared.job.WordError.TheVariants.{NoMemory};
 
 use crate::command_line::{given_to, judge_line, parse, text_of};
-use crate::values::{read_even, read_limit, read_span};
+use crate::values::{map_of, read_even, read_io, read_limit, read_span};
 use clap::ArgMatches;
-use hart_words::Span;
+use hart_words::Map;
 use std::alloc::{AllocError, Global};
 use thiserror::Error;
 
 /// What the judge is asked to do: the names of the image and of the trace, the address of the first
-/// instruction, the range of RAM, and how many bytes either file may have.
+/// instruction, the ranges of RAM and of devices, and how many bytes either file may have.
 #[derive(Debug, Drop)]
 pub struct Job {
     pub image: String,
     pub trace: String,
     pub pc: u64,
-    pub ram: Span,
+    pub map: Map,
     pub max_image: u64,
     pub max_trace: u64,
 }
@@ -43,12 +43,14 @@ impl From<AllocError> for WordError {
 
 /// The job that the words of a command line ask for, the program's name first:
 ///
-/// `rvjudge judge IMAGE TRACE [--pc A] [--ram B:S] [--max-image M] [--max-trace M]`
+/// `rvjudge judge IMAGE TRACE [--pc A] [--ram B:S] [--io B:S] [--max-image M] [--max-trace M]`
 ///
 /// Each option stands at most once, as `--name value` or `--name=value`. Numbers are decimal, or
 /// hexadecimal after `0x`. A is even; B and S are multiples of 4,096, S at least 4,096 and B + S at
-/// most 2^56; each M is from 1 to 2^30. Left out, A is 0x80000000, B:S is 0x80000000:0x8000000 and
-/// M is 2^30. All other words are no job, those that ask for help among them.
+/// most 2^56, and the two ranges have no byte in common; each M is from 1 to 2^30.
+///
+/// Left out, A is 0x80000000, the B:S of RAM is 0x80000000:0x8000000, and M is 2^30; without `--io`
+/// there are no devices. All other words are no job, those that ask for help among them.
 #[tactic(auto, unfolding(crate::specs::Job::job_of))]
 pub fn read_words(alloc: Global, words: &Vec<String>) -> Result<Job, WordError>
     ensures job { Gives job_view (job_of (map string_bytes words.now.items)) result }
@@ -71,7 +73,7 @@ fn job_given(alloc: Global, given: &ArgMatches<'_>) -> Result<Job, WordError>
             image: String::from_str(alloc, settings.image)?,
             trace: String::from_str(alloc, settings.trace)?,
             pc: settings.pc,
-            ram: settings.ram,
+            map: settings.map,
             max_image: settings.max_image,
             max_trace: settings.max_trace,
         }),
@@ -84,7 +86,7 @@ struct Settings<'a> {
     image: &'a str,
     trace: &'a str,
     pc: u64,
-    ram: Span,
+    map: Map,
     max_image: u64,
     max_trace: u64,
 }
@@ -94,11 +96,14 @@ fn settings_from<'a>(given: &ArgMatches<'a>) -> Option<Settings<'a>>
     ensures job { option_map settings_view result ≡ job_from (rows_of (found_of given.now)) }
     ensures lawful { IfSome result (λ settings. IsLawful (settings_view settings)) }
 {
+    let ram = read_span(text_of(given, "ram")?)?;
+    let io = read_io(text_of(given, "io"))?;
+    let map = map_of(ram, io)?;
     Some(Settings {
         image: text_of(given, "image")?,
         trace: text_of(given, "trace")?,
         pc: read_even(text_of(given, "pc")?)?,
-        ram: read_span(text_of(given, "ram")?)?,
+        map,
         max_image: read_limit(text_of(given, "max-image")?)?,
         max_trace: read_limit(text_of(given, "max-trace")?)?,
     })

@@ -25,8 +25,8 @@ fn takes(
     assert_eq!(rt; job.image.as_str(), files.0);
     assert_eq!(rt; job.trace.as_str(), files.1);
     assert_eq!(rt; job.pc, numbers.0);
-    assert_eq!(rt; job.ram.base, numbers.1);
-    assert_eq!(rt; job.ram.size, numbers.2);
+    assert_eq!(rt; job.map.ram.base, numbers.1);
+    assert_eq!(rt; job.map.ram.size, numbers.2);
     assert_eq!(rt; job.max_image, numbers.3);
     assert_eq!(rt; job.max_trace, numbers.4);
     Ok(())
@@ -71,6 +71,31 @@ fn takes_jobs(rt: HostRuntime) -> Result<(), Fail> {
 }
 
 #[test]
+fn takes_devices(rt: HostRuntime) -> Result<(), Fail> {
+    let lines: [(&[&str], Option<(u64, u64)>); 4] = [
+        (&["rvjudge", "judge", "i", "t"], None),
+        (
+            &["rvjudge", "judge", "i", "t", "--io", "0x10000000:0x1000"],
+            Some((0x1000_0000, 0x1000)),
+        ),
+        (
+            &["rvjudge", "judge", "--io=0x7ffff000:0x1000", "i", "t"],
+            Some((0x7fff_f000, 0x1000)),
+        ),
+        (
+            &["rvjudge", "judge", "--io=0x88000000:8192", "i", "t"],
+            Some((0x8800_0000, 0x2000)),
+        ),
+    ];
+    for (words, devices) in lines {
+        let job = job_at(rt.alloc(), words)??;
+        assert_eq!(rt; job.map.ram.base, 0x8000_0000);
+        assert_eq!(rt; job.map.io.map(|io| (io.base, io.size)), devices);
+    }
+    Ok(())
+}
+
+#[test]
 fn refuses_other_words(rt: HostRuntime) -> Result<(), Fail> {
     let alloc = rt.alloc();
     let lines: [&[&str]; 16] = [
@@ -107,6 +132,12 @@ fn refuses_other_words(rt: HostRuntime) -> Result<(), Fail> {
         "--ram=0:4097",
         "--ram=0:4096:0",
         "--ram=0x100000000000000:4096",
+        "--io",
+        "--io=",
+        "--io=1:4096",
+        "--io=0x80000000:0x1000",
+        "--io=0x7ffff000:0x2000",
+        "--io=0x87fff000:0x1000",
         "--max-image=0",
         "--max-image=1073741825",
         "--max-trace=0",

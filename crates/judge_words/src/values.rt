@@ -1,10 +1,10 @@
 //! The values of options, read from their texts.
 
-ghost use Rattle.std.specs.Prelude.{◌≡◌, ◌≤◌, ◌%◌, ◌^◌, IfSome};
-ghost use Rattle.hart_words.specs.Map.{IsSpan};
-ghost use Rattle.judge_words.specs.Values.{number, even_number, byte_limit, span_of, whole_pages};
+ghost use Rattle.std.specs.Prelude.{◌≡◌, ◌≤◌, ◌%◌, ◌^◌, IfSome, IsTrue, option_map};
+ghost use Rattle.hart_words.specs.Map.{AreApart, IsMap, IsSpan};
+ghost use Rattle.judge_words.specs.Values.{number, even_number, byte_limit, span_of, whole_pages, optional_span, are_apart, map_of};
 
-use hart_words::{Span, read_number};
+use hart_words::{Map, Span, read_number};
 
 const PAGE: u64 = 4096;
 
@@ -61,4 +61,47 @@ fn pages(base: u64, size: u64) -> Option<Span>
     } else {
         None
     }
+}
+
+/// A range that may be left out.
+pub fn read_io(text: Option<&str>) -> Option<Option<Span>>
+    ensures value { result ≡ optional_span (option_map (λ text. text.now) text.entry) }
+    ensures span { IfSome result (λ io. IfSome io IsSpan) }
+{
+    match text {
+        None => Some(None),
+        Some(text) => match read_span(text) {
+            None => None,
+            Some(span) => Some(Some(span)),
+        },
+    }
+}
+
+/// RAM and IO, where they have no byte in common.
+pub fn map_of(ram: Span, io: Option<Span>) -> Option<Map>
+    requires ram { IsSpan ram }
+    requires io { IfSome io IsSpan }
+    ensures value { result ≡ map_of ram io }
+    ensures map { IfSome result IsMap }
+{
+    match io {
+        None => Some(Map { ram, io }),
+        Some(devices) => {
+            if are_apart(ram, devices) {
+                Some(Map { ram, io })
+            } else {
+                None
+            }
+        }
+    }
+}
+
+/// Whether two ranges have no byte in common.
+fn are_apart(one: Span, other: Span) -> bool
+    requires one { IsSpan one }
+    requires other { IsSpan other }
+    ensures value { result ≡ are_apart one other }
+    ensures apart { IsTrue result → AreApart one other }
+{
+    one.base + one.size <= other.base || other.base + other.size <= one.base
 }

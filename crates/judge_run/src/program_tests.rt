@@ -1,0 +1,211 @@
+//! Programs with their traces, by what the manual says of each instruction.
+
+use super::tests::judged;
+use std::alloc::Global;
+use std::process::Abort;
+use std::test::Fail;
+use std::thread::Threads;
+
+/// What a run is given, and the text that it writes.
+struct Case {
+    options: &'static [&'static str],
+    image: &'static [u8],
+    trace: &'static [u8],
+    text: &'static [u8],
+}
+
+/// Code of 16 bits nearly throughout, as the GNU assembler makes it: loads, stores, shifts, branches
+/// taken and not taken, calls, and one instruction of 4 bytes between them.
+const SHORT_IMAGE: &[u8] = b"@80000000
+    15 45 17 11 00 00 79 11 06 15 7D 15 2A 84 2A E4
+    A2 45 0D 8C 19 C0 A2 95 89 8D 91 C1 00 00 11 A0
+    00 00 02 67 02 97 48 C3 82 80
+    @80001000
+    28 00 00 80 00 00 00 00
+";
+
+const SHORT_TRACE: &[u8] = b"insn,pc_rdata,rd_addr,rd_wdata,pc_wdata,mem_addr,mem_wmask,mem_wdata
+0x4515,0x80000000,10,5,0x80000002,,0,
+0x00001117,0x80000002,2,0x80001002,0x80000006,,0,
+0x1179,0x80000006,2,0x80001000,0x80000008,,0,
+0x1506,0x80000008,10,0xa00000000,0x8000000a,,0,
+0x157d,0x8000000a,10,0x9ffffffff,0x8000000c,,0,
+0x842a,0x8000000c,8,0x9ffffffff,0x8000000e,,0,
+0xe42a,0x8000000e,0,0,0x80000010,0x80001008,0xff,0x9ffffffff
+0x45a2,0x80000010,11,0xffffffffffffffff,0x80000012,0x80001008,0,
+0x8c0d,0x80000012,8,0xa00000000,0x80000014,,0,
+0xc019,0x80000014,0,0,0x80000016,,0,
+0x95a2,0x80000016,11,0x9ffffffff,0x80000018,,0,
+0x8d89,0x80000018,11,0,0x8000001a,,0,
+0xc191,0x8000001a,0,0,0x8000001e,,0,
+0xa011,0x8000001e,0,0,0x80000022,,0,
+0x6702,0x80000022,14,0x80000028,0x80000024,0x80001000,0,
+0x9702,0x80000024,1,0x80000026,0x80000028,,0,
+0x8082,0x80000028,0,0,0x80000026,,0,
+0xc348,0x80000026,0,0,0x80000028,0x8000002c,0x0f,0xffffffff
+";
+
+const COMPUTES: [Case; 3] = [
+    Case {
+        options: &[],
+        image: b"@80000000 93 00 f0 ff 93 90 f0 03 13 01 f0 ff b3 c1 20 02 33 e2 00 02 b3 d2 00 02",
+        trace: b"insn,pc_rdata,rd_addr,rd_wdata\n0xfff00093,0x80000000,1,0xffffffffffffffff\n0x03f09093,0x80000004,1,0x8000000000000000\n0xfff00113,0x80000008,2,0xffffffffffffffff\n0x0220c1b3,0x8000000c,3,0x8000000000000000\n0x0200e233,0x80000010,4,0x8000000000000000\n0x0200d2b3,0x80000014,5,0xffffffffffffffff\n",
+        text: b"agrees 6\n",
+    },
+    Case {
+        options: &[],
+        image: b"@80000000 93 00 f0 ff 93 90 f0 03 13 01 f0 ff b3 c1 20 02 33 e2 00 02 b3 d2 00 02",
+        trace: b"insn,pc_rdata,rd_addr,rd_wdata\n0xfff00093,0x80000000,1,0xffffffffffffffff\n0x03f09093,0x80000004,1,0x8000000000000000\n0xfff00113,0x80000008,2,0xffffffffffffffff\n0x0220c1b3,0x8000000c,3,0\n0x0200e233,0x80000010,4,0x8000000000000000\n0x0200d2b3,0x80000014,5,0xffffffffffffffff\n",
+        text: b"differs row 4: rd_wdata expected 0x8000000000000000 found 0x0000000000000000\n",
+    },
+    Case {
+        options: &[],
+        image: b"@80000000 93 00 50 00 13 81 10 00",
+        trace: b"insn,pc_rdata,rs1_rdata\n0x00500093,0x80000000,\n0x00108113,0x80000004,5\n",
+        text: b"agrees 2\n",
+    },
+];
+
+const LOADS_AND_STORES: [Case; 5] = [
+    Case {
+        options: &[],
+        image: b"@80000000 17 11 00 00 23 30 11 00",
+        trace: b"insn,pc_rdata,mem_addr,mem_wmask,mem_wdata\n0x00001117,0x80000000,0,0,0\n0x00113023,0x80000004,0x80001000,0x7f,0\n",
+        text: b"differs row 2: mem_wmask expected 0x00000000000000ff found 0x000000000000007f\n",
+    },
+    Case {
+        options: &[],
+        image: b"@80000000 17 11 00 00 23 30 11 00",
+        trace: b"insn,pc_rdata,mem_addr,mem_wmask,mem_wdata\n0x00001117,0x80000000,0,0,0\n0x00113023,0x80000004,0x80001000,0xff,0\n",
+        text: b"agrees 2\n",
+    },
+    Case {
+        options: &[],
+        image: b"@80000000 17 01 00 00 83 01 31 10 @80000103 80",
+        trace: b"insn,pc_rdata,rd_wdata,mem_addr,mem_rmask,mem_rdata\n0x00000117,0x80000000,0x80000000,0,0,0\n0x10310183,0x80000004,0xffffffffffffff80,0x80000103,0x01,0x80\n",
+        text: b"agrees 2\n",
+    },
+    Case {
+        options: &[],
+        image: b"@80000000 17 01 00 00 83 01 31 10 @80000103 80",
+        trace: b"insn,pc_rdata,rd_wdata,mem_addr,mem_rmask,mem_rdata\n0x00000117,0x80000000,0x80000000,0,0,0\n0x10310183,0x80000004,0xffffffffffffff80,0x80000100,0x08,0x80000000\n",
+        text: b"agrees 2\n",
+    },
+    Case {
+        options: &[],
+        image: b"@80000000 17 01 00 00 83 01 31 10 @80000103 80",
+        trace: b"insn,pc_rdata,rd_wdata,mem_addr,mem_rmask,mem_rdata\n0x00000117,0x80000000,0x80000000,0,0,0\n0x10310183,0x80000004,0xffffffffffffff80,0x80000104,0x01,0x80\n",
+        text: b"differs row 2: mem_addr expected 0x0000000080000103 found 0x0000000080000104\n",
+    },
+];
+
+const ASKS_DEVICES: [Case; 2] = [
+    Case {
+        options: &["--io", "0x10000000:0x1000"],
+        image: b"@80000000 37 01 00 10 83 41 51 00",
+        trace: b"insn,pc_rdata,rd_wdata,mem_addr,mem_rmask,mem_rdata\n0x10000137,0x80000000,0x10000000,0,0,0\n0x00514183,0x80000004,0x60,0x10000005,1,0x60\n",
+        text: b"agrees 2\n",
+    },
+    Case {
+        options: &["--io", "0x10000000:0x1000"],
+        image: b"@80000000 37 01 00 10 83 41 51 00",
+        trace: b"insn,pc_rdata,rd_wdata,mem_addr,mem_rmask,mem_rdata\n0x10000137,0x80000000,0x10000000,0,0,0\n0x00514183,0x80000004,0x61,0x10000005,1,0x60\n",
+        text: b"differs row 2: rd_wdata expected 0x0000000000000060 found 0x0000000000000061\n",
+    },
+];
+
+const EXPANDS_AND_EXCHANGES: [Case; 5] = [
+    Case {
+        options: &[],
+        image: b"@80000000 95 40 fd 10",
+        trace: b"insn,pc_rdata,rd_addr,rd_wdata,pc_wdata\n0x4095,0x80000000,1,5,0x80000002\n0x10fd,0x80000002,1,4,0x80000004\n",
+        text: b"agrees 2\n",
+    },
+    Case {
+        options: &[],
+        image: b"@80000000 17 11 00 00 93 00 50 00 af 31 11 00",
+        trace: b"insn,pc_rdata,rd_wdata,mem_addr,mem_rmask,mem_wmask,mem_wdata\n0x00001117,0x80000000,0x80001000,,0,0,\n0x00500093,0x80000004,5,,0,0,\n0x001131af,0x80000008,0,0x80001000,0xff,0xff,4\n",
+        text: b"differs row 3: mem_wdata expected 0x0000000000000005 found 0x0000000000000004\n",
+    },
+    Case {
+        options: &[],
+        image: b"@80000000 17 11 00 00 93 00 50 00 af 31 11 00",
+        trace: b"insn,pc_rdata,rd_wdata,mem_addr,mem_rmask,mem_wmask,mem_wdata\n0x00001117,0x80000000,0x80001000,,0,0,\n0x00500093,0x80000004,5,,0,0,\n0x001131af,0x80000008,0,0x80001000,0xff,0xff,5\n",
+        text: b"agrees 3\n",
+    },
+    Case {
+        options: &[],
+        image: b"@80000000 17 11 00 00 af 31 01 10 2f 32 11 18 af 32 11 18",
+        trace: b"insn,pc_rdata,rd_wdata,mem_addr,mem_wmask\n0x00001117,0x80000000,0x80001000,,0\n0x100131af,0x80000004,0,0x80001000,0\n0x1811322f,0x80000008,0,0x80001000,0xff\n0x181132af,0x8000000c,0,0x80001000,0xff\n",
+        text: b"differs row 4: rd_wdata expected 0x0000000000000001 found 0x0000000000000000\n",
+    },
+    Case {
+        options: &[],
+        image: b"@80000000 17 11 00 00 af 31 01 10 2f 32 11 18 af 32 11 18",
+        trace: b"insn,pc_rdata,mem_addr,mem_wmask\n0x00001117,0x80000000,,0\n0x100131af,0x80000004,0x80001000,0\n0x1811322f,0x80000008,0x80001000,0xff\n0x181132af,0x8000000c,0x80001000,0xff\n",
+        text: b"differs row 4: mem_wmask expected 0x0000000000000000 found 0x00000000000000ff\n",
+    },
+];
+
+fn says<R: Threads + Sync + Abort>(rt: &R, alloc: Global, case: &Case) -> Result<(), Fail> {
+    let mut words = Vec::from_slice(alloc, &["rvjudge", "judge", "i", "t"])?;
+    for option in case.options {
+        words.push(*option)?;
+    }
+    let (_, sink) = judged(rt, alloc, words.as_slice(), case.image, case.trace)?;
+    assert_eq!(rt; sink.held.as_slice(), case.text);
+    Ok(())
+}
+
+#[test]
+fn computes(rt: HostRuntime) -> Result<(), Fail> {
+    for case in &COMPUTES {
+        says(&rt, rt.alloc(), case)?;
+    }
+    Ok(())
+}
+
+#[test]
+fn loads_and_stores(rt: HostRuntime) -> Result<(), Fail> {
+    for case in &LOADS_AND_STORES {
+        says(&rt, rt.alloc(), case)?;
+    }
+    Ok(())
+}
+
+#[test]
+fn asks_devices(rt: HostRuntime) -> Result<(), Fail> {
+    for case in &ASKS_DEVICES {
+        says(&rt, rt.alloc(), case)?;
+    }
+    Ok(())
+}
+
+#[test]
+fn expands_and_exchanges(rt: HostRuntime) -> Result<(), Fail> {
+    for case in &EXPANDS_AND_EXCHANGES {
+        says(&rt, rt.alloc(), case)?;
+    }
+    Ok(())
+}
+
+/// The same rows with the link of a jump as if the jump had 4 bytes: the front before it, and it.
+#[test]
+fn runs_short_code(rt: HostRuntime) -> Result<(), Fail> {
+    let link = b"insn,pc_rdata,rd_wdata\n0x9702,0x80000024,0x80000028\n";
+    let cases = [
+        (0x8000_0000_u64, SHORT_TRACE, b"agrees 18\n".as_slice()),
+        (
+            0x8000_0024,
+            link,
+            b"differs row 1: rd_wdata expected 0x0000000080000026 found 0x0000000080000028\n",
+        ),
+    ];
+    for (pc, trace, text) in cases {
+        let start = format!(in rt.alloc(); "{pc}")?;
+        let words = ["rvjudge", "judge", "i", "t", "--pc", start.as_str()];
+        let (_, sink) = judged(&rt, rt.alloc(), &words, SHORT_IMAGE, trace)?;
+        assert_eq!(rt; sink.held.as_slice(), text);
+    }
+    Ok(())
+}
