@@ -1,0 +1,12 @@
+#!/bin/sh
+# Judges a trace of 1,000,000 rows, or of as many as are given, of loads and stores over 64 MiB of
+# addresses, and prints rows per second and peak memory. The trace is that of run_compiled.py.
+set -eu
+rows=${1:-1000000}
+here=$(cd "$(dirname "$0")" && pwd)
+folder=$(mktemp -d)
+trap 'rm -rf "$folder"' EXIT
+python3 "$here/run_compiled.py" "$here/compiled/spread.hex" "$folder/trace" "$rows"
+"$here/../bin/rvjudge" >/dev/null || true
+python3 "$here/measure.py" --expect "agrees $rows" --rows "$rows" \
+    "$here/../bin/rvjudge" judge "$here/compiled/spread.hex" "$folder/trace"
