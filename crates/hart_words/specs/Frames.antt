@@ -1,8 +1,8 @@
--- Memories that agree on what was read give the same numbers, also after the same pieces were written.
+-- Memories that agree on what was read give the same numbers, also after the same writes were written.
 use Rattle.std.proofs.Common.{◌≡◌, ℕ, zero, suc, ◌+◌, ◌*◌, ◌-◌, ◌/◌, ◌%◌, ◌^◌, List, [], ◌∷◌, ◌++◌, refl, ap, ◌∙◌, if◌then◌else◌}
-use Rattle.hart_words.specs.declared.traces.Read.{Read}
-use Rattle.hart_words.specs.declared.traces.Piece.{Piece}
-use Rattle.hart_words.specs.Memory.{Bytes, number_at, is_within, stored, put, SameBytes, AgreeOn}
+use Rattle.hart_words.specs.declared.accesses.Read.{Read}
+use Rattle.hart_words.specs.declared.accesses.Write.{Write}
+use Rattle.hart_words.specs.Memory.{Bytes, number_at, is_within, stored, after_writes, SameBytes, AgreeOn}
 
 pub number_at-same : (pa len : ℕ) (one other : Bytes) → SameBytes pa len one other → number_at other pa len ≡ number_at one pa len
 unfolding number_at SameBytes
@@ -22,11 +22,11 @@ AgreeOn-stored [] at size value one other agree = tt
 AgreeOn-stored (read ∷ reads) at size value one other agree =
     (SameBytes-stored read.pa read.len at size value one other agree.0, AgreeOn-stored reads at size value one other agree.1)
 
-pub AgreeOn-put : (reads : List Read) (pieces : List Piece) (one other : Bytes) → AgreeOn reads one other → AgreeOn reads (put pieces one) (put pieces other)
-unfolding put
-AgreeOn-put reads [] one other agree = agree
-AgreeOn-put reads (piece ∷ pieces) one other agree =
-    AgreeOn-put reads pieces (stored piece.pa piece.len piece.value one) (stored piece.pa piece.len piece.value other) (AgreeOn-stored reads piece.pa piece.len piece.value one other agree)
+pub AgreeOn-after_writes : (reads : List Read) (writes : List Write) (one other : Bytes) → AgreeOn reads one other → AgreeOn reads (after_writes writes one) (after_writes writes other)
+unfolding after_writes
+AgreeOn-after_writes reads [] one other agree = agree
+AgreeOn-after_writes reads (write ∷ writes) one other agree =
+    AgreeOn-after_writes reads writes (stored write.pa write.len write.value one) (stored write.pa write.len write.value other) (AgreeOn-stored reads write.pa write.len write.value one other agree)
 
 pub AgreeOn-front : (reads more : List Read) (one other : Bytes) → AgreeOn (reads ++ more) one other → AgreeOn reads one other
 unfolding AgreeOn

@@ -1,29 +1,29 @@
--- Ranges of physical addresses.
-use Rattle.std.specs.Prelude.{◌≡◌, ℕ, ◌+◌, ◌<◌, ◌≤◌, ◌%◌, ◌^◌, ◌⊎◌, Bool, ◌&&◌, nat_le, IfSome}
-use Rattle.hart_words.specs.declared.map.Span.{Span}
+-- The map of physical addresses: RAM, a range of devices, and nothing elsewhere.
+use Rattle.std.specs.Prelude.{◌≡◌, Bool, true, false, Option, Some, None, IsTrue}
+use Rattle.std.specs.Option.{ForSome}
+use Rattle.std.proofs.Common.{refl, subst}
+use Rattle.hart_words.specs.declared.span.Span.{Span}
 use Rattle.hart_words.specs.declared.map.Map.{Map}
+use Rattle.hart_words.specs.Spans.{is_apart_from}
 
--- the byte at this address is one of the range
-abbrev pub Lies : ℕ → Span → Type 0
-Lies address span = (span.base ≤ address) × (address < span.base + span.size)
+-- devices, where there are any, have no byte in common with RAM
+abbrev pub IsApart : Span → Option Span → Type 0
+IsApart ram io = ForSome io (λ devices. IsTrue (is_apart_from ram devices))
 
--- whole pages of 4,096 bytes, at least one, below 2^56
-pub record IsSpan (span : Span) : Type 0 where
-  pub whole_base : span.base % 4096 ≡ 0
-  pub whole_size : span.size % 4096 ≡ 0
-  pub some : 4096 ≤ span.size
-  pub below : span.base + span.size ≤ 2 ^ 56
+pub apart_none : (ram : Span) → IsApart ram None
+apart_none ram devices is = cc
 
--- so many bytes from an address on are bytes of the range
-abbrev pub holds_all : Span → ℕ → ℕ → Bool
-holds_all span pa len = nat_le span.base pa && nat_le (pa + len) (span.base + span.size)
+pub apart_some : (ram io : Span) → is_apart_from ram io ≡ true → IsApart ram (Some io)
+apart_some ram io holds devices is =
+    let same : io ≡ devices = cc in
+    let P : Span → Type 0 = λ d. IsTrue (is_apart_from ram d) in
+    subst P same holds
 
--- two ranges with no byte in common
-abbrev pub AreApart : Span → Span → Type 0
-AreApart one other = (one.base + one.size ≤ other.base) ⊎ (other.base + other.size ≤ one.base)
+abbrev pub map_by : (ram io : Span) (test : Bool) → is_apart_from ram io ≡ test → Option Map
+map_by ram io false fails = None
+map_by ram io true holds = Some (record { ram = ram; io = Some io; apart = apart_some ram io holds })
 
--- RAM and IO are ranges, with no byte in common
-pub record IsMap (map : Map) : Type 0 where
-  pub ram : IsSpan map.ram
-  pub io : IfSome map.io IsSpan
-  pub apart : IfSome map.io (AreApart map.ram)
+-- RAM beside devices, where they have no byte in common
+unfoldable pub map_of : Span → Option Span → Option Map
+map_of ram None = Some (record { ram = ram; io = None; apart = apart_none ram })
+map_of ram (Some io) = map_by ram io (is_apart_from ram io) refl

@@ -1,8 +1,9 @@
 -- Physical memory: a byte at each address, and what reads and writes of numbers make of it.
 use Rattle.std.specs.Prelude.{◌≡◌, ℕ, zero, suc, ◌+◌, ◌-◌, ◌*◌, ◌/◌, ◌%◌, ◌^◌, ◌≤◌, Bool, ◌&&◌, nat_le, nat_lt, if◌then◌else◌, Option, Some, None, List, [], ◌∷◌}
-use Rattle.hart_words.specs.declared.map.Span.{Span}
-use Rattle.hart_words.specs.declared.traces.Read.{Read}
-use Rattle.hart_words.specs.declared.traces.Piece.{Piece}
+use Rattle.hart_words.specs.declared.span.Span.{Span}
+use Rattle.hart_words.specs.declared.span.TheConstants.{PAGE_SIZE}
+use Rattle.hart_words.specs.declared.accesses.Read.{Read}
+use Rattle.hart_words.specs.declared.accesses.Write.{Write}
 
 -- the byte at each address
 abbrev pub Bytes : Type 0
@@ -13,7 +14,7 @@ pub record IsPlace (ram : Span) (pa len : ℕ) : Type 0 where
   pub low : ram.base ≤ pa
   pub high : pa + len ≤ ram.base + ram.size
   pub narrow : pa + len ≤ 2 ^ 56
-  pub page : pa % 4096 + len ≤ 4096
+  pub page : pa % PAGE_SIZE + len ≤ PAGE_SIZE
   pub some : 1 ≤ len
   pub few : len ≤ 8
 
@@ -30,10 +31,10 @@ is_within pa len address = nat_le pa address && nat_lt address (pa + len)
 unfoldable pub stored : ℕ → ℕ → ℕ → Bytes → Bytes
 stored pa len value bytes address = if is_within pa len address then value / 256 ^ (address - pa) % 256 else bytes address
 
--- the bytes after pieces were written, one after another
-unfoldable pub put : List Piece → Bytes → Bytes
-put [] bytes = bytes
-put (piece ∷ pieces) bytes = put pieces (stored piece.pa piece.len piece.value bytes)
+-- the bytes after writes were written, one after another
+unfoldable pub after_writes : List Write → Bytes → Bytes
+after_writes [] bytes = bytes
+after_writes (write ∷ writes) bytes = after_writes writes (stored write.pa write.len write.value bytes)
 
 -- two memories have the same bytes from an address on
 unfoldable pub SameBytes : ℕ → ℕ → Bytes → Bytes → Type 0

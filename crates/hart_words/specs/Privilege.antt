@@ -2,6 +2,8 @@
 use Rattle.std.specs.Prelude.{ℕ}
 use Rattle.hart_words.specs.declared.privilege.Mode.{Mode}
 use Rattle.hart_words.specs.declared.privilege.Mode.TheVariants.{User, Supervisor, Machine}
+use Rattle.hart_words.specs.declared.privilege.Access.{Access}
+use Rattle.hart_words.specs.declared.privilege.Access.TheVariants.{Fetch, Load, Store}
 use Rattle.hart_words.specs.declared.privilege.Cause.{Cause}
 use Rattle.hart_words.specs.declared.privilege.Cause.TheVariants.{InstructionAccessFault, IllegalInstruction, Breakpoint, LoadAddressMisaligned, LoadAccessFault, StoreAddressMisaligned, StoreAccessFault, EnvironmentCallFromUser, EnvironmentCallFromSupervisor, EnvironmentCallFromMachine, InstructionPageFault, LoadPageFault, StorePageFault}
 
@@ -24,3 +26,15 @@ cause_code EnvironmentCallFromMachine = 11
 cause_code InstructionPageFault = 12
 cause_code LoadPageFault = 13
 cause_code StorePageFault = 15
+
+-- the access fault of each kind of access
+abbrev pub access_fault_of : Access → Cause
+access_fault_of Fetch = InstructionAccessFault
+access_fault_of Load = LoadAccessFault
+access_fault_of Store = StoreAccessFault
+
+-- its page fault
+abbrev pub page_fault_of : Access → Cause
+page_fault_of Fetch = InstructionPageFault
+page_fault_of Load = LoadPageFault
+page_fault_of Store = StorePageFault

@@ -1,161 +1,84 @@
--- The signals of a trace, by name and width.
-use Rattle.std.specs.Prelude.{ℕ, ◌+◌, ◌*◌, List, [], ◌++◌, codes}
+-- The signals of a trace, by index and width.
+use Rattle.std.specs.Prelude.{◌≡◌, ℕ, ◌+◌, ◌*◌, Option, Some, option_map, slice_get}
+use Rattle.std.specs.Option.{option_map_or}
 use Rattle.hart_words.specs.declared.signal.Signal.{Signal}
 use Rattle.hart_words.specs.declared.signal.Signal.TheVariants.{Valid, Order, Intr, PcRdata, Mode, Ixl, Trap, Insn, Rs1Addr, Rs1Rdata, Rs2Addr, Rs2Rdata, RdAddr, RdWdata, PcWdata, MemAddr, MemRmask, MemRdata, MemWmask, MemWdata, MemPaddr, Halt, Csr}
 use Rattle.hart_words.specs.declared.signal.CsrName.{CsrName}
 use Rattle.hart_words.specs.declared.signal.CsrName.TheVariants.{Mstatus, Misa, Medeleg, Mideleg, Mie, Mtvec, Mscratch, Mepc, Mcause, Mtval, Mip, Satp, Sstatus, Sie, Sip, Stvec, Sscratch, Sepc, Scause, Stval, Pmpcfg0, Pmpcfg2}
 use Rattle.hart_words.specs.declared.signal.CsrSide.{CsrSide}
 use Rattle.hart_words.specs.declared.signal.CsrSide.TheVariants.{Rmask, Wmask, Rdata, Wdata}
+use Rattle.hart_words.specs.declared.signal.SignalEntry.{SignalEntry}
+use Rattle.hart_words.specs.declared.signal.TheConstants.{SIGNALS}
 
--- how many bits a value of the signal has at most
-abbrev pub width_of : Signal → ℕ
-width_of Valid = 1
-width_of Order = 64
-width_of Intr = 1
-width_of PcRdata = 64
-width_of Mode = 2
-width_of Ixl = 2
-width_of Trap = 1
-width_of Insn = 32
-width_of Rs1Addr = 5
-width_of Rs1Rdata = 64
-width_of Rs2Addr = 5
-width_of Rs2Rdata = 64
-width_of RdAddr = 5
-width_of RdWdata = 64
-width_of PcWdata = 64
-width_of MemAddr = 64
-width_of MemRmask = 8
-width_of MemRdata = 64
-width_of MemWmask = 8
-width_of MemWdata = 64
-width_of MemPaddr = 64
-width_of Halt = 1
-width_of (Csr csr side) = 64
+-- what a row shows: a value for each signal that it has one for
+abbrev pub Shown : Type 0
+Shown = Signal → Option ℕ
 
 -- where a register stands among those that are shown, and a side among the four
-abbrev pub csr_place_of : CsrName → ℕ
-csr_place_of Mstatus = 0
-csr_place_of Misa = 1
-csr_place_of Medeleg = 2
-csr_place_of Mideleg = 3
-csr_place_of Mie = 4
-csr_place_of Mtvec = 5
-csr_place_of Mscratch = 6
-csr_place_of Mepc = 7
-csr_place_of Mcause = 8
-csr_place_of Mtval = 9
-csr_place_of Mip = 10
-csr_place_of Satp = 11
-csr_place_of Sstatus = 12
-csr_place_of Sie = 13
-csr_place_of Sip = 14
-csr_place_of Stvec = 15
-csr_place_of Sscratch = 16
-csr_place_of Sepc = 17
-csr_place_of Scause = 18
-csr_place_of Stval = 19
-csr_place_of Pmpcfg0 = 20
-csr_place_of Pmpcfg2 = 21
+abbrev pub csr_index_of : CsrName → ℕ
+csr_index_of Mstatus = 0
+csr_index_of Misa = 1
+csr_index_of Medeleg = 2
+csr_index_of Mideleg = 3
+csr_index_of Mie = 4
+csr_index_of Mtvec = 5
+csr_index_of Mscratch = 6
+csr_index_of Mepc = 7
+csr_index_of Mcause = 8
+csr_index_of Mtval = 9
+csr_index_of Mip = 10
+csr_index_of Satp = 11
+csr_index_of Sstatus = 12
+csr_index_of Sie = 13
+csr_index_of Sip = 14
+csr_index_of Stvec = 15
+csr_index_of Sscratch = 16
+csr_index_of Sepc = 17
+csr_index_of Scause = 18
+csr_index_of Stval = 19
+csr_index_of Pmpcfg0 = 20
+csr_index_of Pmpcfg2 = 21
 
-abbrev pub side_place_of : CsrSide → ℕ
-side_place_of Rmask = 0
-side_place_of Wmask = 1
-side_place_of Rdata = 2
-side_place_of Wdata = 3
+abbrev pub side_index_of : CsrSide → ℕ
+side_index_of Rmask = 0
+side_index_of Wmask = 1
+side_index_of Rdata = 2
+side_index_of Wdata = 3
 
--- where a signal stands among all, so that no two stand at one place
-abbrev pub place_of : Signal → ℕ
-place_of Valid = 0
-place_of Order = 1
-place_of Intr = 2
-place_of PcRdata = 3
-place_of Mode = 4
-place_of Ixl = 5
-place_of Trap = 6
-place_of Insn = 7
-place_of Rs1Addr = 8
-place_of Rs1Rdata = 9
-place_of Rs2Addr = 10
-place_of Rs2Rdata = 11
-place_of RdAddr = 12
-place_of RdWdata = 13
-place_of PcWdata = 14
-place_of MemAddr = 15
-place_of MemRmask = 16
-place_of MemRdata = 17
-place_of MemWmask = 18
-place_of MemWdata = 19
-place_of MemPaddr = 20
-place_of Halt = 21
-place_of (Csr csr side) = 22 + 4 * csr_place_of csr + side_place_of side
+-- where a signal stands among all
+abbrev pub index_of : Signal → ℕ
+index_of Valid = 0
+index_of Order = 1
+index_of Intr = 2
+index_of PcRdata = 3
+index_of Mode = 4
+index_of Ixl = 5
+index_of Trap = 6
+index_of Insn = 7
+index_of Rs1Addr = 8
+index_of Rs1Rdata = 9
+index_of Rs2Addr = 10
+index_of Rs2Rdata = 11
+index_of RdAddr = 12
+index_of RdWdata = 13
+index_of PcWdata = 14
+index_of MemAddr = 15
+index_of MemRmask = 16
+index_of MemRdata = 17
+index_of MemWmask = 18
+index_of MemWdata = 19
+index_of MemPaddr = 20
+index_of Halt = 21
+index_of (Csr csr side) = 22 + 4 * csr_index_of csr + side_index_of side
 
--- the name of a register
-unfoldable pub csr_name_of : CsrName → List ℕ
-csr_name_of Mstatus = codes "mstatus"
-csr_name_of Misa = codes "misa"
-csr_name_of Medeleg = codes "medeleg"
-csr_name_of Mideleg = codes "mideleg"
-csr_name_of Mie = codes "mie"
-csr_name_of Mtvec = codes "mtvec"
-csr_name_of Mscratch = codes "mscratch"
-csr_name_of Mepc = codes "mepc"
-csr_name_of Mcause = codes "mcause"
-csr_name_of Mtval = codes "mtval"
-csr_name_of Mip = codes "mip"
-csr_name_of Satp = codes "satp"
-csr_name_of Sstatus = codes "sstatus"
-csr_name_of Sie = codes "sie"
-csr_name_of Sip = codes "sip"
-csr_name_of Stvec = codes "stvec"
-csr_name_of Sscratch = codes "sscratch"
-csr_name_of Sepc = codes "sepc"
-csr_name_of Scause = codes "scause"
-csr_name_of Stval = codes "stval"
-csr_name_of Pmpcfg0 = codes "pmpcfg0"
-csr_name_of Pmpcfg2 = codes "pmpcfg2"
+-- the signal's line in the table
+unfoldable pub signal_entry_of : Signal → Option SignalEntry
+signal_entry_of signal = slice_get SIGNALS (index_of signal)
 
--- the end of a register's column
-unfoldable pub side_name_of : CsrSide → List ℕ
-side_name_of Rmask = codes "_rmask"
-side_name_of Wmask = codes "_wmask"
-side_name_of Rdata = codes "_rdata"
-side_name_of Wdata = codes "_wdata"
+-- how many bits a value of the signal has at most
+unfoldable pub width_of : Signal → ℕ
+width_of signal = option_map_or (λ entry. entry.width) (signal_entry_of signal) 64
 
--- the parts of a column's name
-unfoldable pub prefix_of : Signal → List ℕ
-prefix_of (Csr csr side) = codes "csr_"
-prefix_of _ = []
-
-unfoldable pub stem_of : Signal → List ℕ
-stem_of Valid = codes "valid"
-stem_of Order = codes "order"
-stem_of Intr = codes "intr"
-stem_of PcRdata = codes "pc_rdata"
-stem_of Mode = codes "mode"
-stem_of Ixl = codes "ixl"
-stem_of Trap = codes "trap"
-stem_of Insn = codes "insn"
-stem_of Rs1Addr = codes "rs1_addr"
-stem_of Rs1Rdata = codes "rs1_rdata"
-stem_of Rs2Addr = codes "rs2_addr"
-stem_of Rs2Rdata = codes "rs2_rdata"
-stem_of RdAddr = codes "rd_addr"
-stem_of RdWdata = codes "rd_wdata"
-stem_of PcWdata = codes "pc_wdata"
-stem_of MemAddr = codes "mem_addr"
-stem_of MemRmask = codes "mem_rmask"
-stem_of MemRdata = codes "mem_rdata"
-stem_of MemWmask = codes "mem_wmask"
-stem_of MemWdata = codes "mem_wdata"
-stem_of MemPaddr = codes "mem_paddr"
-stem_of Halt = codes "halt"
-stem_of (Csr csr side) = csr_name_of csr
-
-unfoldable pub suffix_of : Signal → List ℕ
-suffix_of (Csr csr side) = side_name_of side
-suffix_of _ = []
-
--- the name that a header gives the signal
-abbrev pub name_of : Signal → List ℕ
-name_of signal = prefix_of signal ++ stem_of signal ++ suffix_of signal
+-- the table has the signal at its index
+abbrev pub StandsAtItsIndex : Signal → Type 0
+StandsAtItsIndex signal = option_map (λ entry. entry.signal) (signal_entry_of signal) ≡ Some signal

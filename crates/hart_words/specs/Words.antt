@@ -4,6 +4,10 @@ use Rattle.std.specs.Int.{Width, w64, cast_signed, int_div_euclid, int_rem_eucli
 use Rattle.std.specs.Int.RustNames.{int_div, int_rem}
 use mir.Val.{bits}
 
+-- a bit field of a word: so many bits, from a bit on
+abbrev pub bit_field : ℕ → ℕ → ℕ → ℕ
+bit_field first count word = word / 2 ^ first % 2 ^ count
+
 -- a whole number modulo 2 to the width
 abbrev pub residue : Width → ℤ → ℕ
 residue w z = unsigned_abs (int_rem_euclid z (pos (2 ^ bits w)))

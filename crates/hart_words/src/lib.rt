@@ -1,25 +1,34 @@
-//! Words that every other crate of the judge speaks: address ranges, numbers as they are written, the
-//! signals of a trace.
+//! Words that every other crate of the judge speaks: ranges of addresses, numbers as they are written,
+//! the signals of a trace, integer registers, modes, causes and access sizes, arithmetic on words, and
+//! memory as a trait. Values go in and out; each call meets the definition of its stem in `specs/`,
+//! which also has what several crates share. From the Unprivileged ISA, the Privileged Architecture's
+//! chapter "Machine-Level ISA", and riscv-formal's description of RVFI.
 #![tactic(auto)]
 
+mod access_size;
+mod accesses;
 mod fault;
 pub mod laws;
 mod map;
 mod memory;
 mod numbers;
 mod privilege;
+mod registers;
 mod signal;
-mod traces;
+mod span;
 pub mod word_laws;
 mod words;
 
+pub use access_size::AccessSize;
+pub use accesses::{MOST_READS, MOST_WRITES, Read, Seen, Write, Wrote};
 pub use fault::NoMemory;
-pub use map::{Map, Span};
+pub use map::Map;
 pub use memory::{PhysMem, WalkMem};
 pub use numbers::{NumberFault, read_number};
 pub use privilege::{Access, Cause, Mode, PmpEntry, WalkFlags};
-pub use signal::{CsrName, CsrSide, Difference, Signal};
-pub use traces::{Piece, Read, Seen, Wrote};
+pub use registers::Registers;
+pub use signal::{CsrName, CsrSide, Difference, SIGNALS, Signal, SignalEntry};
+pub use span::{PAGE_BYTES, PAGE_SIZE, Span};
 pub use words::{div, divu, mulh, mulhsu, mulhu, rem, remu, sext};
 
 #[cfg(test)]

@@ -1,38 +1,36 @@
-/// A range of physical addresses. Base and size, in bytes, are multiples of 4,096; the size is at
-/// least 4,096, and the range ends at 2^56 at the latest.
-#[derive(Clone, Copy, Debug)]
-pub struct Span {
-    pub base: u64,
-    pub size: u64,
-}
+//! The map of RAM and devices.
+
+ghost use Rattle.std.specs.Prelude.{◌≡◌, IsTrue};
+ghost use Rattle.std.specs.Option.{ForSome};
+ghost use Rattle.hart_words.specs.Spans.{is_apart_from};
+
+use crate::span::Span;
 
 /// What stands at which physical address: RAM, and a range of devices where there is one. The two
-/// have no byte in common.
+/// have no byte in common; elsewhere is nothing.
 #[derive(Clone, Copy, Debug)]
 pub struct Map {
     pub ram: Span,
     pub io: Option<Span>,
+    ghost apart: { ForSome io (λ io. IsTrue (is_apart_from ram io)) },
 }
 
-impl Span {
-    ghost use Rattle.std.specs.Prelude.{◌↔◌, IsTrue};
-    ghost use Rattle.hart_words.specs.Map.{Lies, IsSpan, holds_all};
-    ghost use Rattle.std.specs.Prelude.{◌≡◌, ◌≤◌};
+impl Map {
+    ghost use Rattle.hart_words.specs.Map.{map_of};
 
-    /// Whether the byte at `address` lies in the range.
-    pub fn contains(&self, address: u64) -> bool
-        requires { IsSpan self.now }
-        ensures { IsTrue result ↔ Lies address self.now }
+    /// The map of these ranges, where they have no byte in common.
+    pub fn new(ram: Span, io: Option<Span>) -> Option<Map>
+        ensures { result ≡ map_of ram io }
     {
-        self.base <= address && address - self.base < self.size
-    }
-
-    /// Whether all of `len` bytes from the address `pa` on, at most 4,096, lie in the range.
-    pub fn holds(&self, pa: u64, len: u8) -> bool
-        requires { IsSpan self.now }
-        ensures { result ≡ holds_all self.now pa len }
-    {
-        let len = u64::from(len);
-        self.base <= pa && pa - self.base <= self.size - len
+        match io {
+            None => Some(Map { ram, io }),
+            Some(devices) => {
+                if ram.is_apart_from(&devices) {
+                    Some(Map { ram, io })
+                } else {
+                    None
+                }
+            }
+        }
     }
 }

@@ -1,7 +1,8 @@
 //! Physical memory, as the reference hart sees it.
 
-ghost use Rattle.std.specs.Prelude.{◌≡◌, ◌≤◌, ◌<◌, ◌*◌, ◌/◌, ◌^◌, ℕ, Bool, IsOk, IfOk, OnOk, OnErr};
-ghost use Rattle.hart_words.specs.declared.map.Span.{Span};
+ghost use Rattle.std.specs.Prelude.{◌≡◌, ◌≤◌, ◌<◌, ◌*◌, ◌/◌, ◌%◌, ◌^◌, ℕ, Bool, IsOk, IfOk, OnOk, OnErr};
+ghost use Rattle.hart_words.specs.declared.span.Span.{Span};
+ghost use Rattle.hart_words.specs.declared.span.TheConstants.{PAGE_SIZE};
 ghost use Rattle.hart_words.specs.Memory.{Bytes, IsPlace, entry_of, number_at, stored};
 
 use crate::fault::NoMemory;
@@ -29,7 +30,7 @@ pub trait PhysMem: Sized {
         requires { IsPlace (ram self.old) pa len }
         ensures ok { OnOk result (bytes self.new ≡ stored pa len value (bytes self.old)) }
         ensures err { OnErr result (bytes self.new ≡ bytes self.old) }
-        ensures admitted { is_ready self.old (pa / 4096) → IsOk result }
+        ensures admitted { is_ready self.old (pa / PAGE_SIZE) → IsOk result }
         ensures ready { (page : ℕ) → is_ready self.old page → is_ready self.new page }
         ensures ram { ram self.new ≡ ram self.old };
 
@@ -37,7 +38,7 @@ pub trait PhysMem: Sized {
     fn ready(&mut self, pa: u64) -> Result<(), NoMemory>
         requires { IsPlace (ram self.old) pa 1 }
         ensures bytes { bytes self.new ≡ bytes self.old }
-        ensures ok { OnOk result (is_ready self.new (pa / 4096)) }
+        ensures ok { OnOk result (is_ready self.new (pa / PAGE_SIZE)) }
         ensures ready { (page : ℕ) → is_ready self.old page → is_ready self.new page }
         ensures ram { ram self.new ≡ ram self.old };
 
@@ -57,5 +58,6 @@ pub trait WalkMem {
 
     /// The entry at an address, which is a multiple of 8, or none where the read is refused.
     fn entry(&self, pa: u64) -> Option<u64>
+        requires { pa % 8 ≡ 0 }
         ensures { result ≡ entry_of (is_readable self.now) (bytes self.now) pa };
 }

@@ -2,7 +2,7 @@
 //! the Privileged Architecture's chapters "Introduction" and "Machine-Level ISA".
 
 ghost use Rattle.std.specs.Prelude.{◌≡◌};
-ghost use Rattle.hart_words.specs.Privilege.{mode_number, cause_code};
+ghost use Rattle.hart_words.specs.Privilege.{mode_number, cause_code, access_fault_of, page_fault_of};
 
 /// A privilege mode, with its encoding.
 #[derive(Clone, Copy, Debug, PartialEq, Eq)]
@@ -27,6 +27,30 @@ pub enum Access {
     Fetch,
     Load,
     Store,
+}
+
+impl Access {
+    /// The access fault of an access of this kind.
+    pub fn access_fault(self) -> Cause
+        ensures { result ≡ access_fault_of self }
+    {
+        match self {
+            Access::Fetch => Cause::InstructionAccessFault,
+            Access::Load => Cause::LoadAccessFault,
+            Access::Store => Cause::StoreAccessFault,
+        }
+    }
+
+    /// The page fault of an access of this kind.
+    pub fn page_fault(self) -> Cause
+        ensures { result ≡ page_fault_of self }
+    {
+        match self {
+            Access::Fetch => Cause::InstructionPageFault,
+            Access::Load => Cause::LoadPageFault,
+            Access::Store => Cause::StorePageFault,
+        }
+    }
 }
 
 /// An exception, with its code in mcause.

@@ -1,8 +1,10 @@
-//! The signals of a trace: the columns that a row may show, after riscv-formal's description of RVFI.
+//! The signals of a trace: the columns that a row may show, after riscv-formal's description of
+//! RVFI.
 
-ghost use Rattle.std.specs.Prelude.{◌≡◌, ◌≤◌, ◌++◌, length, ℕ, List, MatchOption, false};
+ghost use Rattle.std.specs.Prelude.{◌≡◌, ◌≤◌, ◌<◌, ◌++◌, length, ℕ, List, MatchOption, false, option_copied, slice_get};
 ghost use Rattle.std.specs.Str.{bytes_eq};
-ghost use Rattle.hart_words.specs.Signals.{width_of, place_of, csr_place_of, side_place_of, name_of, csr_name_of, side_name_of, stem_of, prefix_of, suffix_of};
+ghost use Rattle.hart_words.specs.Signals.{csr_index_of, signal_entry_of, index_of, side_index_of, width_of};
+ghost use Rattle.hart_words.specs.SignalNames.{csr_name_of, name_of, prefix_of, side_name_of, stem_of, suffix_of};
 
 /// A column of a trace. All are RVFI's but `MemPaddr`, which is this judge's own.
 #[derive(Clone, Copy, Debug, PartialEq, Eq)]
@@ -79,24 +81,139 @@ pub struct Difference {
     pub found: u64,
 }
 
-impl Signal {
-    /// How many bits a value has at most.
-    pub fn width(self) -> u32
-        ensures { result ≡ width_of self }
-    {
-        match self {
-            Signal::Valid | Signal::Intr | Signal::Trap | Signal::Halt => 1,
-            Signal::Mode | Signal::Ixl => 2,
-            Signal::Rs1Addr | Signal::Rs2Addr | Signal::RdAddr => 5,
-            Signal::MemRmask | Signal::MemWmask => 8,
-            Signal::Insn => 32,
-            _ => 64,
-        }
-    }
+/// A signal and how many bits its values have at most.
+#[derive(Clone, Copy, Debug)]
+pub struct SignalEntry {
+    pub signal: Signal,
+    pub width: u32,
+}
 
+/// Entries as `signal => width`.
+macro_rules! entries {
+    ($($signal:expr => $width:literal),* $(,)?) => {
+        [$(SignalEntry { signal: $signal, width: $width }),*]
+    };
+}
+
+/// All signals, each at its index: in the order of comparison, in which `halt` is passed over.
+pub const SIGNALS: [SignalEntry; 110] = entries![
+    Signal::Valid => 1,
+    Signal::Order => 64,
+    Signal::Intr => 1,
+    Signal::PcRdata => 64,
+    Signal::Mode => 2,
+    Signal::Ixl => 2,
+    Signal::Trap => 1,
+    Signal::Insn => 32,
+    Signal::Rs1Addr => 5,
+    Signal::Rs1Rdata => 64,
+    Signal::Rs2Addr => 5,
+    Signal::Rs2Rdata => 64,
+    Signal::RdAddr => 5,
+    Signal::RdWdata => 64,
+    Signal::PcWdata => 64,
+    Signal::MemAddr => 64,
+    Signal::MemRmask => 8,
+    Signal::MemRdata => 64,
+    Signal::MemWmask => 8,
+    Signal::MemWdata => 64,
+    Signal::MemPaddr => 64,
+    Signal::Halt => 1,
+    Signal::Csr(CsrName::Mstatus, CsrSide::Rmask) => 64,
+    Signal::Csr(CsrName::Mstatus, CsrSide::Wmask) => 64,
+    Signal::Csr(CsrName::Mstatus, CsrSide::Rdata) => 64,
+    Signal::Csr(CsrName::Mstatus, CsrSide::Wdata) => 64,
+    Signal::Csr(CsrName::Misa, CsrSide::Rmask) => 64,
+    Signal::Csr(CsrName::Misa, CsrSide::Wmask) => 64,
+    Signal::Csr(CsrName::Misa, CsrSide::Rdata) => 64,
+    Signal::Csr(CsrName::Misa, CsrSide::Wdata) => 64,
+    Signal::Csr(CsrName::Medeleg, CsrSide::Rmask) => 64,
+    Signal::Csr(CsrName::Medeleg, CsrSide::Wmask) => 64,
+    Signal::Csr(CsrName::Medeleg, CsrSide::Rdata) => 64,
+    Signal::Csr(CsrName::Medeleg, CsrSide::Wdata) => 64,
+    Signal::Csr(CsrName::Mideleg, CsrSide::Rmask) => 64,
+    Signal::Csr(CsrName::Mideleg, CsrSide::Wmask) => 64,
+    Signal::Csr(CsrName::Mideleg, CsrSide::Rdata) => 64,
+    Signal::Csr(CsrName::Mideleg, CsrSide::Wdata) => 64,
+    Signal::Csr(CsrName::Mie, CsrSide::Rmask) => 64,
+    Signal::Csr(CsrName::Mie, CsrSide::Wmask) => 64,
+    Signal::Csr(CsrName::Mie, CsrSide::Rdata) => 64,
+    Signal::Csr(CsrName::Mie, CsrSide::Wdata) => 64,
+    Signal::Csr(CsrName::Mtvec, CsrSide::Rmask) => 64,
+    Signal::Csr(CsrName::Mtvec, CsrSide::Wmask) => 64,
+    Signal::Csr(CsrName::Mtvec, CsrSide::Rdata) => 64,
+    Signal::Csr(CsrName::Mtvec, CsrSide::Wdata) => 64,
+    Signal::Csr(CsrName::Mscratch, CsrSide::Rmask) => 64,
+    Signal::Csr(CsrName::Mscratch, CsrSide::Wmask) => 64,
+    Signal::Csr(CsrName::Mscratch, CsrSide::Rdata) => 64,
+    Signal::Csr(CsrName::Mscratch, CsrSide::Wdata) => 64,
+    Signal::Csr(CsrName::Mepc, CsrSide::Rmask) => 64,
+    Signal::Csr(CsrName::Mepc, CsrSide::Wmask) => 64,
+    Signal::Csr(CsrName::Mepc, CsrSide::Rdata) => 64,
+    Signal::Csr(CsrName::Mepc, CsrSide::Wdata) => 64,
+    Signal::Csr(CsrName::Mcause, CsrSide::Rmask) => 64,
+    Signal::Csr(CsrName::Mcause, CsrSide::Wmask) => 64,
+    Signal::Csr(CsrName::Mcause, CsrSide::Rdata) => 64,
+    Signal::Csr(CsrName::Mcause, CsrSide::Wdata) => 64,
+    Signal::Csr(CsrName::Mtval, CsrSide::Rmask) => 64,
+    Signal::Csr(CsrName::Mtval, CsrSide::Wmask) => 64,
+    Signal::Csr(CsrName::Mtval, CsrSide::Rdata) => 64,
+    Signal::Csr(CsrName::Mtval, CsrSide::Wdata) => 64,
+    Signal::Csr(CsrName::Mip, CsrSide::Rmask) => 64,
+    Signal::Csr(CsrName::Mip, CsrSide::Wmask) => 64,
+    Signal::Csr(CsrName::Mip, CsrSide::Rdata) => 64,
+    Signal::Csr(CsrName::Mip, CsrSide::Wdata) => 64,
+    Signal::Csr(CsrName::Satp, CsrSide::Rmask) => 64,
+    Signal::Csr(CsrName::Satp, CsrSide::Wmask) => 64,
+    Signal::Csr(CsrName::Satp, CsrSide::Rdata) => 64,
+    Signal::Csr(CsrName::Satp, CsrSide::Wdata) => 64,
+    Signal::Csr(CsrName::Sstatus, CsrSide::Rmask) => 64,
+    Signal::Csr(CsrName::Sstatus, CsrSide::Wmask) => 64,
+    Signal::Csr(CsrName::Sstatus, CsrSide::Rdata) => 64,
+    Signal::Csr(CsrName::Sstatus, CsrSide::Wdata) => 64,
+    Signal::Csr(CsrName::Sie, CsrSide::Rmask) => 64,
+    Signal::Csr(CsrName::Sie, CsrSide::Wmask) => 64,
+    Signal::Csr(CsrName::Sie, CsrSide::Rdata) => 64,
+    Signal::Csr(CsrName::Sie, CsrSide::Wdata) => 64,
+    Signal::Csr(CsrName::Sip, CsrSide::Rmask) => 64,
+    Signal::Csr(CsrName::Sip, CsrSide::Wmask) => 64,
+    Signal::Csr(CsrName::Sip, CsrSide::Rdata) => 64,
+    Signal::Csr(CsrName::Sip, CsrSide::Wdata) => 64,
+    Signal::Csr(CsrName::Stvec, CsrSide::Rmask) => 64,
+    Signal::Csr(CsrName::Stvec, CsrSide::Wmask) => 64,
+    Signal::Csr(CsrName::Stvec, CsrSide::Rdata) => 64,
+    Signal::Csr(CsrName::Stvec, CsrSide::Wdata) => 64,
+    Signal::Csr(CsrName::Sscratch, CsrSide::Rmask) => 64,
+    Signal::Csr(CsrName::Sscratch, CsrSide::Wmask) => 64,
+    Signal::Csr(CsrName::Sscratch, CsrSide::Rdata) => 64,
+    Signal::Csr(CsrName::Sscratch, CsrSide::Wdata) => 64,
+    Signal::Csr(CsrName::Sepc, CsrSide::Rmask) => 64,
+    Signal::Csr(CsrName::Sepc, CsrSide::Wmask) => 64,
+    Signal::Csr(CsrName::Sepc, CsrSide::Rdata) => 64,
+    Signal::Csr(CsrName::Sepc, CsrSide::Wdata) => 64,
+    Signal::Csr(CsrName::Scause, CsrSide::Rmask) => 64,
+    Signal::Csr(CsrName::Scause, CsrSide::Wmask) => 64,
+    Signal::Csr(CsrName::Scause, CsrSide::Rdata) => 64,
+    Signal::Csr(CsrName::Scause, CsrSide::Wdata) => 64,
+    Signal::Csr(CsrName::Stval, CsrSide::Rmask) => 64,
+    Signal::Csr(CsrName::Stval, CsrSide::Wmask) => 64,
+    Signal::Csr(CsrName::Stval, CsrSide::Rdata) => 64,
+    Signal::Csr(CsrName::Stval, CsrSide::Wdata) => 64,
+    Signal::Csr(CsrName::Pmpcfg0, CsrSide::Rmask) => 64,
+    Signal::Csr(CsrName::Pmpcfg0, CsrSide::Wmask) => 64,
+    Signal::Csr(CsrName::Pmpcfg0, CsrSide::Rdata) => 64,
+    Signal::Csr(CsrName::Pmpcfg0, CsrSide::Wdata) => 64,
+    Signal::Csr(CsrName::Pmpcfg2, CsrSide::Rmask) => 64,
+    Signal::Csr(CsrName::Pmpcfg2, CsrSide::Wmask) => 64,
+    Signal::Csr(CsrName::Pmpcfg2, CsrSide::Rdata) => 64,
+    Signal::Csr(CsrName::Pmpcfg2, CsrSide::Wdata) => 64,
+];
+
+impl Signal {
     /// Where the signal stands among all signals, from 0.
-    pub fn place(self) -> u8
-        ensures { result ≡ place_of self }
+    pub fn index(self) -> u8
+        ensures value { result ≡ index_of self }
+        ensures below { result < 110 }
     {
         match self {
             Signal::Valid => 0,
@@ -121,8 +238,27 @@ impl Signal {
             Signal::MemWdata => 19,
             Signal::MemPaddr => 20,
             Signal::Halt => 21,
-            Signal::Csr(csr, side) => 22 + 4 * csr.place() + side.place(),
+            Signal::Csr(csr, side) => 22 + 4 * csr.index() + side.index(),
         }
+    }
+
+    /// How many bits a value has at most.
+    #[tactic(auto, unfolding(crate::specs::Signals::width_of))]
+    pub fn width(self) -> u32
+        ensures value { result ≡ width_of self }
+        ensures most { result ≤ 64 }
+    {
+        match self.entry() {
+            Some(entry) => entry.width,
+            None => 64,
+        }
+    }
+
+    /// The signal's line in the table; every signal has one.
+    fn entry(self) -> Option<&'static SignalEntry>
+        ensures { option_copied result ≡ signal_entry_of self }
+    {
+        entry_at(&SIGNALS, self.index())
     }
 
     /// Whether a header gives the signal this name.
@@ -139,7 +275,7 @@ impl Signal {
     }
 
     /// The name's first part, which all registers' columns share: `csr_`, or nothing.
-    #[tactic(auto, unfolding(crate::specs::Signals::prefix_of))]
+    #[tactic(auto, unfolding(crate::specs::SignalNames::prefix_of))]
     pub fn prefix(self) -> &'static str
         ensures value { result.now ≡ prefix_of self }
         ensures short { length result.now ≤ 4 }
@@ -151,7 +287,7 @@ impl Signal {
     }
 
     /// The name's own part: the register's name, or the whole name of another column.
-    #[tactic(auto, unfolding(crate::specs::Signals::stem_of))]
+    #[tactic(auto, unfolding(crate::specs::SignalNames::stem_of))]
     pub fn stem(self) -> &'static str
         ensures value { result.now ≡ stem_of self }
         ensures short { length result.now ≤ 9 }
@@ -184,7 +320,7 @@ impl Signal {
     }
 
     /// The name's last part, the side of a register, or nothing.
-    #[tactic(auto, unfolding(crate::specs::Signals::suffix_of))]
+    #[tactic(auto, unfolding(crate::specs::SignalNames::suffix_of))]
     pub fn suffix(self) -> &'static str
         ensures value { result.now ≡ suffix_of self }
         ensures short { length result.now ≤ 6 }
@@ -196,23 +332,32 @@ impl Signal {
     }
 }
 
+/// The entry at an index.
+fn entry_at(entries: &[SignalEntry], index: u8) -> Option<&SignalEntry>
+    ensures { option_copied result ≡ slice_get entries.now index }
+{
+    entries.get(usize::from(index))
+}
+
 /// What stands in `text` after `front`, where it begins so.
 fn stripped<'a>(text: &'a [u8], front: &[u8]) -> Option<&'a [u8]>
-    ensures { (more : List ℕ) → MatchOption result (bytes_eq text.now (front.now ++ more) ≡ false) (λ rest. bytes_eq text.now (front.now ++ more) ≡ bytes_eq rest.now more) }
+    ensures { (more : List ℕ) → MatchOption result (bytes_eq text.now (front.now ++ more) ≡ false)
+        (λ rest. bytes_eq text.now (front.now ++ more) ≡ bytes_eq rest.now more) }
 {
     text.strip_prefix(front)
 }
 
 impl CsrName {
     /// Where the register stands among all that are shown, from 0.
-    pub fn place(self) -> u8
-        ensures { result ≡ csr_place_of self }
+    pub fn index(self) -> u8
+        ensures value { result ≡ csr_index_of self }
+        ensures below { result < 22 }
     {
         self as u8
     }
 
     /// The name in the Privileged Architecture, in lower case.
-    #[tactic(auto, unfolding(crate::specs::Signals::csr_name_of))]
+    #[tactic(auto, unfolding(crate::specs::SignalNames::csr_name_of))]
     pub fn name(self) -> &'static str
         ensures value { result.now ≡ csr_name_of self }
         ensures short { length result.now ≤ 9 }
@@ -246,14 +391,15 @@ impl CsrName {
 
 impl CsrSide {
     /// Where the side stands among the four, from 0.
-    pub fn place(self) -> u8
-        ensures { result ≡ side_place_of self }
+    pub fn index(self) -> u8
+        ensures value { result ≡ side_index_of self }
+        ensures below { result < 4 }
     {
         self as u8
     }
 
     /// The end of the column's name.
-    #[tactic(auto, unfolding(crate::specs::Signals::side_name_of))]
+    #[tactic(auto, unfolding(crate::specs::SignalNames::side_name_of))]
     pub fn suffix(self) -> &'static str
         ensures value { result.now ≡ side_name_of self }
         ensures short { length result.now ≤ 6 }
@@ -272,13 +418,19 @@ mod tests {
     use super::*;
 
     #[test]
-    fn signals_have_names(rt: HostRuntime) {
+    fn signals_have_names_and_widths(rt: HostRuntime) {
         let mask = Signal::Csr(CsrName::Mepc, CsrSide::Wmask);
-        assert!(rt; mask.is_named(b"csr_mepc_wmask"));
         assert!(rt; !mask.is_named(b"mepc_wmask"));
-        assert!(rt; Signal::Rs2Rdata.is_named(b"rs2_rdata"));
         assert!(rt; !Signal::Insn.is_named(b"insn_0"));
-        assert_eq!(rt; mask.width(), 64);
-        assert_eq!(rt; mask.place(), 51);
+        for (signal, index, name, width) in [
+            (Signal::Valid, 0, "valid", 1),
+            (Signal::Rs2Rdata, 11, "rs2_rdata", 64),
+            (Signal::MemWmask, 18, "mem_wmask", 8),
+            (mask, 51, "csr_mepc_wmask", 64),
+        ] {
+            assert_eq!(rt; signal.index(), index);
+            assert!(rt; signal.is_named(name.as_bytes()));
+            assert_eq!(rt; signal.width(), width);
+        }
     }
 }

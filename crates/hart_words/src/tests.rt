@@ -19,11 +19,24 @@ fn reads_numbers(rt: HostRuntime) -> Result<(), Fail> {
 }
 
 #[test]
-fn spans_hold_their_bytes(rt: HostRuntime) -> Result<(), Fail> {
-    let ram = Span {
-        base: 0x8000_0000,
-        size: 0x1000,
-    };
+fn ranges_are_whole_pages(rt: HostRuntime) -> Result<(), Fail> {
+    for (base, size, is_range) in [
+        (0, 0x1000, true),
+        (0x8000_0000, 0x800_0000, true),
+        ((1 << 56) - 0x1000, 0x1000, true),
+        ((1 << 56) - 0x1000, 0x2000, false),
+        (u64::MAX - 0xfff, 0x1000, false),
+        (0x8000_0000, 0, false),
+        (0x8000_0000, 0x1800, false),
+        (0x8000_0800, 0x1000, false),
+    ] {
+        assert_eq!(rt;
+            Span::new(base, size).is_some(),
+            is_range,
+            "{size} bytes at {base}"
+        );
+    }
+    let ram = Span::new(0x8000_0000, 0x1000).ok_or("no range")?;
     assert!(rt; ram.contains(0x8000_0fff));
     assert!(rt; !ram.contains(0x8000_1000));
     assert!(rt; !ram.contains(0x7fff_ffff));
@@ -37,7 +50,36 @@ fn spans_hold_their_bytes(rt: HostRuntime) -> Result<(), Fail> {
     ] {
         assert_eq!(rt; ram.holds(pa, len), is_held, "{len} bytes at {pa}");
     }
+    let behind = Span::new(0x8000_1000, 0x1000).ok_or("no range")?;
+    let over = Span::new(0x7fff_f000, 0x2000).ok_or("no range")?;
+    assert!(rt; Map::new(ram, None).is_some());
+    assert!(rt; Map::new(ram, Some(behind)).is_some());
+    assert!(rt; Map::new(ram, Some(over)).is_none());
     Ok(())
+}
+
+#[test]
+fn registers_keep_values_but_x0(rt: HostRuntime) {
+    let mut registers = Registers::zeros();
+    for number in 0..32 {
+        registers.set(number, 100 + u64::from(number));
+    }
+    registers.set(32, 7);
+    for (number, value) in [(0, 0), (1, 101), (31, 131), (32, 0)] {
+        assert_eq!(rt; registers.get(number), value);
+    }
+}
+
+#[test]
+fn sizes_of_accesses(rt: HostRuntime) {
+    for (size, bytes, bits) in [
+        (AccessSize::Byte, 1, 8),
+        (AccessSize::Halfword, 2, 16),
+        (AccessSize::Word, 4, 32),
+        (AccessSize::Doubleword, 8, 64),
+    ] {
+        assert_eq!(rt; (size.bytes(), size.bits()), (bytes, bits));
+    }
 }
 
 #[test]
@@ -59,19 +101,19 @@ fn accesses_are_noted_in_order(rt: HostRuntime) {
     let mut wrote = Wrote::empty();
     wrote.put(0x8000_0002, 2, 0xbbaa);
     wrote.put(0x8000_0000, 1, 7);
-    let pieces = [
-        Piece {
+    let writes = [
+        Write {
             pa: 0x8000_0002,
             len: 2,
             value: 0xbbaa,
         },
-        Piece {
+        Write {
             pa: 0x8000_0000,
             len: 1,
             value: 7,
         },
     ];
-    assert_eq!(rt; wrote.as_slice(), pieces.as_slice());
+    assert_eq!(rt; wrote.as_slice(), writes.as_slice());
 }
 
 /// The encodings of modes, and mcause of exceptions.

@@ -1,5 +1,5 @@
-//! Arithmetic on words, as the instructions have it. From the Unprivileged ISA's chapters "RV64I Base
-//! Integer Instruction Set" and "M Extension for Integer Multiplication and Division".
+//! Arithmetic on words, as the instructions have it. From the Unprivileged ISA's chapters "RV64I
+//! Base Integer Instruction Set" and "M Extension for Integer Multiplication and Division".
 
 ghost use Rattle.std.specs.Prelude.{◌≡◌, ◌≤◌, ◌*ℤ◌, ◌^◌, pos};
 ghost use Rattle.std.specs.Int.{w64, cast_signed, int_div_euclid};

@@ -1,11 +1,17 @@
 //! What a step reads from memory and writes to it.
 
 ghost use Rattle.std.specs.Prelude.{◌≡◌, ◌<◌, ◌≤◌, ◌+◌, ◌++◌, [], ◌∷◌, List, length};
-ghost use Rattle.hart_words.specs.declared.traces.Read.{Read};
-ghost use Rattle.hart_words.specs.declared.traces.Piece.{Piece};
+ghost use Rattle.hart_words.specs.declared.accesses.Read.{Read};
+ghost use Rattle.hart_words.specs.declared.accesses.Write.{Write};
 
 use arrayvec::ArrayVec;
 use std::marker::Model;
+
+/// The most reads of one step: those of a fetch, of a data access, and room for what comes.
+pub const MOST_READS: usize = 16;
+
+/// The most writes of one step.
+pub const MOST_WRITES: usize = 8;
 
 /// So many bytes of physical memory that were read, from an address on.
 #[derive(Clone, Copy, Debug, Default, PartialEq, Eq)]
@@ -17,27 +23,28 @@ pub struct Read {
 /// So many bytes of physical memory that were written from an address on: those of a number,
 /// little-endian.
 #[derive(Clone, Copy, Debug, Default, PartialEq, Eq)]
-pub struct Piece {
+pub struct Write {
     pub pa: u64,
     pub len: u8,
     pub value: u64,
 }
 
-/// The physical reads of one step, in their order; at most 16.
+/// The physical reads of one step, in their order.
 #[derive(Debug, Drop)]
 pub struct Seen {
-    reads: ArrayVec<Read, 16>,
+    reads: ArrayVec<Read, MOST_READS>,
 }
 
 impl Model for Seen {
     ghost use Rattle.std.specs.Prelude.{List, ◌≤◌, length};
-    ghost use Rattle.hart_words.specs.declared.traces.Read.{Read};
+    ghost use Rattle.hart_words.specs.declared.accesses.Read.{Read};
+    ghost use Rattle.hart_words.specs.declared.accesses.TheConstants.{MOST_READS};
 
     ghost Value = { List Read };
 
     ghost view = { λ seen. seen.reads.items };
 
-    ghost invariant = { λ seen. length seen.reads.items ≤ 16 };
+    ghost invariant = { λ seen. length seen.reads.items ≤ MOST_READS };
 }
 
 impl Seen {
@@ -52,7 +59,7 @@ impl Seen {
 
     /// Notes a read, where there is room for it.
     pub fn put(&mut self, pa: u64, len: u8)
-        requires { length self.old < 16 }
+        requires { length self.old < MOST_READS }
         ensures { self.new ≡ self.old ++ record { pa = pa; len = len } ∷ [] }
     {
         self.reads.push(Read { pa, len });
@@ -66,45 +73,46 @@ impl Seen {
     }
 }
 
-/// The pieces of memory that one step wrote, in their order; at most 8.
+/// The writes of one step, in their order.
 #[derive(Debug, Drop)]
 pub struct Wrote {
-    pieces: ArrayVec<Piece, 8>,
+    writes: ArrayVec<Write, MOST_WRITES>,
 }
 
 impl Model for Wrote {
     ghost use Rattle.std.specs.Prelude.{List, ◌≤◌, length};
-    ghost use Rattle.hart_words.specs.declared.traces.Piece.{Piece};
+    ghost use Rattle.hart_words.specs.declared.accesses.Write.{Write};
+    ghost use Rattle.hart_words.specs.declared.accesses.TheConstants.{MOST_WRITES};
 
-    ghost Value = { List Piece };
+    ghost Value = { List Write };
 
-    ghost view = { λ wrote. wrote.pieces.items };
+    ghost view = { λ wrote. wrote.writes.items };
 
-    ghost invariant = { λ wrote. length wrote.pieces.items ≤ 8 };
+    ghost invariant = { λ wrote. length wrote.writes.items ≤ MOST_WRITES };
 }
 
 impl Wrote {
-    /// No piece yet.
+    /// No write yet.
     pub fn empty() -> Wrote
         ensures { result ≡ [] }
     {
         Wrote {
-            pieces: ArrayVec::new(),
+            writes: ArrayVec::new(),
         }
     }
 
-    /// Notes a piece, where there is room for it.
+    /// Notes a write, where there is room for it.
     pub fn put(&mut self, pa: u64, len: u8, value: u64)
-        requires { length self.old < 8 }
+        requires { length self.old < MOST_WRITES }
         ensures { self.new ≡ self.old ++ record { pa = pa; len = len; value = value } ∷ [] }
     {
-        self.pieces.push(Piece { pa, len, value });
+        self.writes.push(Write { pa, len, value });
     }
 
-    /// The pieces in their order.
-    pub fn as_slice(&self) -> &[Piece]
+    /// The writes in their order.
+    pub fn as_slice(&self) -> &[Write]
         ensures { result.now ≡ self.now }
     {
-        self.pieces.as_slice()
+        self.writes.as_slice()
     }
 }
