@@ -3,7 +3,7 @@ use Rattle.std.proofs.Common.{◌≡◌, ℕ, ◌+◌, ◌-◌, ◌<◌, ◌≤�
 use Rattle.std.proofs.lemmas.List.{length-take-le}
 use Rattle.std.proofs.Math.Seq.{take-add}
 use Rattle.outside_ports.specs.Ports.{Files, misses_after, misses_of_file, IsMissing, IsThere, ReadsTold, ReadsFile}
-use Rattle.outside_ports.specs.Reading.{IsNext}
+use Rattle.outside_ports.specs.Front.{ReadsChunk}
 
 -- the bytes read so far are the front of the file
 abbrev pub IsRead : Option (List ℕ) → List ℕ → Type 0
@@ -14,7 +14,7 @@ pub read_none : (file : Option (List ℕ)) → IsRead file []
 read_none None = tt
 read_none (Some file) = (omega arith, refl)
 
-pub read_more : (file : Option (List ℕ)) (bytes chunk : List ℕ) (at count : ℕ) → at ≡ length bytes → count ≤ length chunk → IsRead file bytes → IsNext file at chunk count → IsRead file (bytes ++ take count chunk)
+pub read_more : (file : Option (List ℕ)) (bytes chunk : List ℕ) (at count : ℕ) → at ≡ length bytes → count ≤ length chunk → IsRead file bytes → ReadsChunk file at chunk count → IsRead file (bytes ++ take count chunk)
 read_more None bytes chunk at count is within so_far next = tt
 read_more (Some file) bytes chunk at count is within so_far next =
     let inside : count ≤ length file - length bytes = omega (arith, next.within) in

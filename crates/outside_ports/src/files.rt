@@ -1,6 +1,6 @@
 //! Named files in memory, and reads of them.
 
-ghost use Rattle.std.specs.Prelude.{◌≡◌, Some, None, option_copied, MatchOption, vec_len};
+ghost use Rattle.std.specs.Prelude.{◌≡◌, ◌-◌, min, length, option_copied};
 ghost use Rattle.outside_ports.specs.Ports.{Reads};
 ghost use Rattle.outside_ports.specs.Memory.{files_of};
 
@@ -21,7 +21,8 @@ pub fn bytes_of<'a>(files: &'a [NamedFile], name: &str) -> Option<&'a [u8]>
 
 /// Copies bytes of `file` from the place `at` on into `buf`, as many as there are and fit.
 pub fn copy_from(file: &[u8], at: u64, buf: &mut [u8]) -> usize
-    ensures { Reads file.now at buf.new result }
+    ensures bytes { Reads file.now at buf.new result }
+    ensures full { result ≡ min (length file.now - at) (length buf.new) }
 {
     let at = at as usize;
     if at >= file.len() {

@@ -1,22 +1,28 @@
-//! What the judge asks of the outside: files that are read by place, a place to write, and a gate
-//! that tests can close; with files, writers and gates in memory.
+//! What the judge asks of the outside: a `Shelf` of files that are read by place, a `Sink` that
+//! takes bytes, and a `Gate` that tests can close. Reads and writes go in, bytes and counts of
+//! faults come out, as specs/Ports.antt and specs/Counts.antt define. `read_front` gives the front
+//! of a file by specs/Front.antt. The ports in memory are for tests. No standard is followed here.
 #![tactic(auto)]
 
+mod fail_shelf;
+mod fail_sink;
 mod failure;
 mod files;
+mod front;
 mod gate;
-mod listed;
-mod memory;
-mod reading;
+mod mem_shelf;
+mod mem_sink;
 mod shelf;
 mod sink;
 
+pub use fail_shelf::FailShelf;
+pub use fail_sink::FailSink;
 pub use failure::Failed;
 pub use files::NamedFile;
+pub use front::{Front, ReadError, read_front};
 pub use gate::{Gate, OpenGate};
-pub use listed::{FailShelf, FailSink};
-pub use memory::{MemShelf, MemSink};
-pub use reading::{Front, ReadError, read_front};
+pub use mem_shelf::MemShelf;
+pub use mem_sink::MemSink;
 pub use shelf::Shelf;
 pub use sink::Sink;
 

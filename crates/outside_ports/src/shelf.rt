@@ -24,5 +24,6 @@ pub trait Shelf {
         ensures calm { OnOk result (faults self.new ≡ faults self.old) }
         ensures fault { OnErr result (Rose (faults self.old) (faults self.new)) }
         ensures kept { faults self.old ≤ faults self.new }
-        ensures misses { misses self.new ≡ misses_after (told self.old) name.now (misses self.old) };
+        ensures misses { misses self.new
+            ≡ misses_after (told self.old) name.now (misses self.old) };
 }

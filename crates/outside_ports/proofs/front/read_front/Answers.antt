@@ -2,7 +2,7 @@ use Rattle.std.proofs.lemmas.Grind.{common_steps}
 use Rattle.std.proofs.Common.{◌≡◌, ◌++◌, ◌≤◌, take, length, rules, arith, ◌∙◌}
 use Rattle.outside_ports.specs.Ports.{file_of}
 use Rattle.outside_ports.proofs.Fronts.{read_more}
-use Rattle.outside_ports.proofs.reading.read_front.Goals as goal
+use Rattle.outside_ports.proofs.front.read_front.Goals as goal
 
 pub reading-preserved : goal.reading-preserved
 reading-preserved g c =

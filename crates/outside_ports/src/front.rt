@@ -1,17 +1,19 @@
 //! The front of a file.
 
 ghost use Rattle.std.specs.Prelude.{◌≡◌, ◌≤◌, ◌<◌, ◌^◌, IfOk, OnOk, vec_len};
+ghost use Rattle.outside_ports.specs.Faults.{CountsFault, CountsMiss};
+ghost use Rattle.outside_ports.specs.Front.{IsFront, ReadsChunk, is_read_fault};
 ghost use Rattle.outside_ports.specs.Ports.{file_of, IsThere};
-ghost use Rattle.outside_ports.specs.Reading.{IsFront, IsNext, CountsFault, CountsMiss};
 
 use crate::shelf::Shelf;
 use std::alloc::{AllocError, AllocFailed, Global};
 use thiserror::Error;
 
-/// The first bytes of a file, and whether more follow.
+/// The first bytes of a file, at most so many as were asked for.
 #[derive(Drop)]
 pub struct Front {
     pub bytes: Vec<u8>,
+    /// Whether the file has more bytes than these.
     pub more: bool,
 }
 
@@ -21,13 +23,14 @@ pub enum ReadError {
     /// The shelf failed and counted it.
     #[error("a read failed")]
     ReadFault,
+    /// Memory was refused; the shelf counts nothing.
     #[error("out of memory")]
     NoMemory,
 }
 
 impl From<AllocError> for ReadError {
     ghost use Rattle.std.specs.Prelude.{◌≡◌};
-    ghost use Rattle.outside_ports.specs.declared.reading.ReadError.TheVariants.{NoMemory};
+    ghost use Rattle.outside_ports.specs.declared.front.ReadError.TheVariants.{NoMemory};
 
     ghost from_gives = { λ _ e. e ≡ NoMemory };
 
@@ -38,7 +41,7 @@ impl From<AllocError> for ReadError {
 
 impl<T: Drop> From<AllocFailed<T>> for ReadError {
     ghost use Rattle.std.specs.Prelude.{◌≡◌};
-    ghost use Rattle.outside_ports.specs.declared.reading.ReadError.TheVariants.{NoMemory};
+    ghost use Rattle.outside_ports.specs.declared.front.ReadError.TheVariants.{NoMemory};
 
     ghost from_gives = { λ _ e. e ≡ NoMemory };
 
@@ -48,7 +51,8 @@ impl<T: Drop> From<AllocFailed<T>> for ReadError {
 }
 
 /// Reads the first `most` bytes of a file, in reads of one chunk, until a read gives nothing or
-/// more than `most` bytes are there. A read that gives less than a chunk is not the end.
+/// more than `most` bytes are there. A read that gives less than a chunk is not the end. A name
+/// that is not there is a `ReadFault`.
 pub fn read_front<H: Shelf>(
     alloc: Global,
     shelf: &mut H,
@@ -57,11 +61,12 @@ pub fn read_front<H: Shelf>(
 ) -> Result<Front, ReadError>
     requires { most < 2 ^ 62 }
     ensures told { H.told shelf.new ≡ H.told shelf.old }
-    ensures front { IfOk result (λ front. IsFront (file_of (H.told shelf.old) name.now) most front) }
+    ensures front { IfOk result (IsFront (file_of (H.told shelf.old) name.now) most) }
     ensures there { OnOk result (IsThere (H.told shelf.old) name.now) }
     ensures short { IfOk result (λ front. vec_len front.bytes ≤ most) }
-    ensures faults { CountsFault result (H.faults shelf.old) (H.faults shelf.new) }
-    ensures misses { CountsMiss result (H.told shelf.old) name.now (H.misses shelf.old) (H.misses shelf.new) }
+    ensures faults { CountsFault is_read_fault result (H.faults shelf.old) (H.faults shelf.new) }
+    ensures misses { let told = H.told shelf.old in
+        CountsMiss is_read_fault result told name.now (H.misses shelf.old) (H.misses shelf.new) }
 {
     let mut bytes = Vec::new(alloc);
     let mut chunk = new_chunk(alloc)?;
@@ -76,7 +81,8 @@ pub fn read_front<H: Shelf>(
     Ok(Front { bytes, more: true })
 }
 
-/// The bytes that are asked for at once.
+/// The bytes that are asked for at once. No clause tells how many, since a goal of so many elements
+/// is too long.
 fn new_chunk(alloc: Global) -> Result<Vec<u8>, AllocError>
     ensures { IfOk result (λ chunk. 0 < vec_len chunk) }
 {
@@ -96,9 +102,11 @@ fn read_chunk<H: Shelf>(
     ensures len { vec_len chunk.new ≡ vec_len chunk.old }
     ensures within { IfOk result (λ count. count ≤ vec_len chunk.new) }
     ensures there { OnOk result (IsThere (H.told shelf.old) name.now) }
-    ensures next { IfOk result (λ count. IsNext (file_of (H.told shelf.old) name.now) at chunk.new.items count) }
-    ensures faults { CountsFault result (H.faults shelf.old) (H.faults shelf.new) }
-    ensures misses { CountsMiss result (H.told shelf.old) name.now (H.misses shelf.old) (H.misses shelf.new) }
+    ensures next { let file = file_of (H.told shelf.old) name.now in
+        IfOk result (λ count. ReadsChunk file at chunk.new.items count) }
+    ensures faults { CountsFault is_read_fault result (H.faults shelf.old) (H.faults shelf.new) }
+    ensures misses { let told = H.told shelf.old in
+        CountsMiss is_read_fault result told name.now (H.misses shelf.old) (H.misses shelf.new) }
 {
     match shelf.read(name, at, chunk) {
         Ok(count) => Ok(count),

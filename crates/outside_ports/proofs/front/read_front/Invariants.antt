@@ -1,7 +1,7 @@
 use Rattle.std.proofs.Common.{◌≡◌, ◌<◌, ◌+◌, ◌-◌, vec_len}
 use Rattle.outside_ports.specs.Ports.{file_of, IsThere}
 use Rattle.outside_ports.proofs.Fronts.{IsRead}
-use Rattle.outside_ports.proofs.reading.read_front.Given as goal
+use Rattle.outside_ports.proofs.front.read_front.Given as goal
 
 abbrev pub invariant-reading : goal.invariant-reading
 invariant-reading g l =

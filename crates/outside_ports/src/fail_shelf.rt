@@ -1,0 +1,72 @@
+ghost use Rattle.std.specs.Prelude.{◌≡◌, ◌≤◌, ◌⊎◌, ◌↔◌, IsErr, IfOk, OnOk, OnErr, IsNone, Contains, length};
+ghost use Rattle.outside_ports.specs.Counts.{Rose, counted};
+ghost use Rattle.outside_ports.specs.Ports.{ReadsTold, misses_after};
+ghost use Rattle.outside_ports.specs.Memory.{files_of, told_of, count_from};
+
+use crate::failure::Failed;
+use crate::files::bytes_of;
+use crate::mem_shelf::MemShelf;
+use crate::shelf::Shelf;
+
+/// A `MemShelf` whose listed calls fail besides. Calls of `read` count from 1; a listed call on a
+/// name that is not there is a miss too.
+#[derive(Drop)]
+pub struct FailShelf {
+    /// The files, and the counts of faults and misses.
+    pub shelf: MemShelf,
+    /// The numbers of the calls that fail, from 1.
+    pub failing: Vec<u64>,
+    /// How many calls there were.
+    pub calls: u64,
+}
+
+impl FailShelf {
+    /// A shelf over this one, of which the calls of these numbers fail.
+    pub fn new(shelf: MemShelf, failing: Vec<u64>) -> Self
+        ensures shelf { result.shelf ≡ shelf }
+        ensures failing { result.failing ≡ failing }
+        ensures calls { result.calls ≡ 0 }
+    {
+        FailShelf {
+            shelf,
+            failing,
+            calls: 0,
+        }
+    }
+}
+
+impl Shelf for FailShelf {
+    ghost told = { λ shelf. told_of shelf.shelf.files.items };
+
+    ghost faults = { λ shelf. shelf.shelf.faults };
+
+    ghost misses = { λ shelf. shelf.shelf.misses };
+
+    fn read(&mut self, name: &str, at: u64, buf: &mut [u8]) -> Result<usize, Failed>
+        ensures within { IfOk result (λ count. count ≤ length buf.new) }
+        ensures told { files_of self.new.shelf.files.items ≡ files_of self.old.shelf.files.items }
+        ensures bytes { ReadsTold (told_of self.old.shelf.files.items) name.now at buf.new result }
+        ensures full { let file = files_of self.old.shelf.files.items name.now in
+            IfOk result (λ count. count ≡ count_from file at (length buf.new)) }
+        ensures calm { OnOk result (self.new.shelf.faults ≡ self.old.shelf.faults) }
+        ensures fault { OnErr result (Rose self.old.shelf.faults self.new.shelf.faults) }
+        ensures kept { self.old.shelf.faults ≤ self.new.shelf.faults }
+        ensures misses { let told = told_of self.old.shelf.files.items in
+            self.new.shelf.misses ≡ misses_after told name.now self.old.shelf.misses }
+        ensures calls { self.new.calls ≡ counted self.old.calls }
+        ensures failing { self.new.failing ≡ self.old.failing }
+        ensures listed { IsErr result
+            ↔ (Contains self.old.failing.items (counted self.old.calls)
+            ⊎ IsNone (files_of self.old.shelf.files.items name.now)) }
+    {
+        self.calls = self.calls.saturating_add(1);
+        if self.failing.contains(&self.calls) {
+            self.shelf.faults = self.shelf.faults.saturating_add(1);
+            if bytes_of(&self.shelf.files, name).is_none() {
+                self.shelf.misses = self.shelf.misses.saturating_add(1);
+            }
+            return Err(Failed);
+        }
+        self.shelf.read(name, at, buf)
+    }
+}
