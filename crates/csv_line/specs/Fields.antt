@@ -7,29 +7,32 @@ use Rattle.csv.specs.Records.{fields_of}
 use Rattle.csv.specs.declared.parser.State.TheVariants.{StartRecord}
 use Rattle.csv_line.specs.declared.Fields.TheInside.{Inside}
 
--- a space or a tab
-abbrev pub is_blank : ℕ → Bool
-is_blank byte = (byte == 32) || (byte == 9)
+-- a space or a tab: the blanks at the ends of a field
+abbrev pub is_space_or_tab : ℕ → Bool
+is_space_or_tab byte = (byte == 32) || (byte == 9)
 
--- a text less the blanks at its front, at its end, and at both
-abbrev pub less_front : List ℕ → List ℕ
-less_front text = drop (prefix_len is_blank text) text
+-- a text less the spaces and tabs at its front
+abbrev pub trimmed_start_of : List ℕ → List ℕ
+trimmed_start_of text = drop (prefix_len is_space_or_tab text) text
 
-abbrev pub less_end : List ℕ → List ℕ
-less_end text = take (length text - suffix_len is_blank text) text
+-- less those at its end
+abbrev pub trimmed_end_of : List ℕ → List ℕ
+trimmed_end_of text = take (length text - suffix_len is_space_or_tab text) text
 
-unfoldable pub less_blanks : List ℕ → List ℕ
-less_blanks text = less_end (less_front text)
+-- less those at both ends
+unfoldable pub trimmed_of : List ℕ → List ℕ
+trimmed_of text = trimmed_end_of (trimmed_start_of text)
 
 -- the fields of a record, where there is one
 abbrev pub fields_read : Option Read → List (List ℕ)
 fields_read None = []
 fields_read (Some read) = read.0
 
--- the first record of the line, its fields less their blanks
+-- the first record of the line, each field trimmed; the mark EF BB BF at its front is no part of it
 unfoldable pub fields_of_line : List ℕ → List (List ℕ)
-fields_of_line line = map less_blanks (fields_read (next_record default_config StartRecord [] [] (strip_bom line)))
+fields_of_line line =
+    map trimmed_of (fields_read (next_record default_config StartRecord [] [] (strip_bom line)))
 
--- a record's fields, less their blanks
+-- a record's fields, each trimmed
 abbrev pub trimmed_fields : Inside → List (List ℕ)
-trimmed_fields fields = map less_blanks (fields_of fields.record)
+trimmed_fields fields = map trimmed_of (fields_of fields.record)

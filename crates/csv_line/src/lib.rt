@@ -1,14 +1,17 @@
-//! The fields of one line of comma-separated values, as the crate `csv` reads them.
+//! The fields of one line of comma-separated values. The bytes of a line go in; its fields come out
+//! in order, less the spaces and tabs at their ends, by specs/Fields.antt, which stands on what the
+//! crate `csv` defines of its default dialect. No other standard is followed: RFC 4180 allows line
+//! feeds inside quotes, and a line has none.
 #![tactic(auto)]
 
 ghost use Rattle.std.specs.Prelude.{◌≡◌, ◌↔◌, List, ℕ, [], length, slice_get, option_map, IfOk, IsTrue};
-ghost use Rattle.csv_line.specs.Fields.{fields_of_line, less_front, less_end, less_blanks};
+ghost use Rattle.csv_line.specs.Fields.{fields_of_line, trimmed_start_of, trimmed_end_of, trimmed_of};
 
 use csv::{ByteRecord, ReaderBuilder};
 use std::alloc::{AllocError, Global};
 use std::marker::Model;
 
-/// The fields of a line, in order, less the blanks at their ends.
+/// The fields of a line, in order, less the spaces and tabs at their ends.
 #[derive(Debug, Drop)]
 pub struct Fields {
     record: ByteRecord,
@@ -25,7 +28,7 @@ impl Model for Fields {
 
 /// The fields that `csv` reads from `line` alone, by its defaults and with no header row: those of
 /// the first record. A line with no record has no fields. Spaces and tabs at both ends of a field
-/// are dropped.
+/// are dropped, also where they stood inside quotes. Fails only where memory is refused.
 #[tactic(auto, unfolding(crate::specs::Fields::fields_of_line))]
 pub fn line_fields(alloc: Global, line: &[u8]) -> Result<Fields, AllocError>
     ensures { IfOk result (λ fields. fields ≡ fields_of_line line.now) }
@@ -52,33 +55,35 @@ impl Fields {
         self.record.len()
     }
 
+    /// Whether there are none, as of a line with no record.
     pub fn is_empty(&self) -> bool
         ensures { IsTrue result ↔ (self.now ≡ []) }
     {
         self.len() == 0
     }
 
-    /// The field at `index`, from 0.
+    /// The field at `index`, from 0; none from the number of fields on.
     pub fn get(&self, index: usize) -> Option<&[u8]>
         ensures { option_map (λ field. field.now) result ≡ slice_get self.now index }
     {
         match self.record.get(index) {
             None => None,
-            Some(field) => Some(without_blanks(field)),
+            Some(field) => Some(trim(field)),
         }
     }
 }
 
 /// A field less the spaces and tabs at both ends.
-#[tactic(auto, unfolding(crate::specs::Fields::less_blanks))]
-fn without_blanks(text: &[u8]) -> &[u8]
-    ensures { result.now ≡ less_blanks text.now }
+#[tactic(auto, unfolding(crate::specs::Fields::trimmed_of))]
+fn trim(text: &[u8]) -> &[u8]
+    ensures { result.now ≡ trimmed_of text.now }
 {
-    without_end(without_front(text))
+    trim_end(trim_start(text))
 }
 
-fn without_front(text: &[u8]) -> &[u8]
-    ensures { result.now ≡ less_front text.now }
+/// A text less the spaces and tabs at its front.
+fn trim_start(text: &[u8]) -> &[u8]
+    ensures { result.now ≡ trimmed_start_of text.now }
 {
     let mut rest = text;
     while let [b' ' | b'\t', more @ ..] = rest {
@@ -87,8 +92,9 @@ fn without_front(text: &[u8]) -> &[u8]
     rest
 }
 
-fn without_end(text: &[u8]) -> &[u8]
-    ensures { result.now ≡ less_end text.now }
+/// A text less the spaces and tabs at its end.
+fn trim_end(text: &[u8]) -> &[u8]
+    ensures { result.now ≡ trimmed_end_of text.now }
 {
     let mut end = text.len();
     while end > 0 && (text[end - 1] == b' ' || text[end - 1] == b'\t') {
