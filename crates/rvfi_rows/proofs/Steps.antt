@@ -1,22 +1,23 @@
 -- Going over the columns and the fields of a line, one after the other.
-use Rattle.std.proofs.Common.{◌≡◌, ◌∙◌, sym, ap, refl, ℕ, zero, suc, ◌+◌, ◌<◌, ◌≤◌, Bool, List, [], ◌∷◌, ◌++◌, length, take, drop, map, get_or, slice_get, Option, Some, None, Result, Ok, Err, add-one, append_assoc, arith}
+use Rattle.std.proofs.Common.{◌≡◌, ◌∙◌, sym, ap, refl, ℕ, zero, suc, ◌+◌, ◌<◌, ◌≤◌, Bool, List, [], ◌∷◌, ◌++◌, ◌==◌, true, false, length, take, drop, map, get_or, slice_get, Option, Some, None, Result, Ok, Err, add-one, arith}
 use Rattle.std.specs.Prelude.{if◌then◌else◌}
-use Rattle.std.proofs.lemmas.List.{append-nil, map-append, take_more}
+use Rattle.std.proofs.Math.Path.{fun_ext}
+use Rattle.std.proofs.lemmas.List.{map-append, take_more}
 use Rattle.std.proofs.lemmas.Option.{get_or_from_slice_get}
 use Rattle.std.proofs.Math.Seq.{drop-cons, take-suc}
 use Rattle.std.proofs.Math.ListN.{drop_of_length-le}
 use Rattle.hart_words.specs.declared.signal.Signal.{Signal}
 use Rattle.hart_words.specs.declared.signal.Signal.TheVariants.{Valid}
-use Rattle.rvfi_rows.specs.Gives.{◌>>=◌, FailsAs}
+use Rattle.hart_words.specs.Results.{◌>>=◌}
+use Rattle.hart_words.specs.Signals.{Shown, index_of}
+use Rattle.std.specs.Option.{option_or}
 use Rattle.rvfi_rows.specs.Columns.{ColumnList, stands_in, repeated_after, is_of}
-use Rattle.rvfi_rows.specs.Rows.{ShownList, row_fault, cell_of, shown_of, cells_of, valid_of}
+use Rattle.rvfi_rows.specs.Rows.{alone, cell_of, cells_of, field_shown, nothing, shown_then, valid_of, with_shown}
 use Rattle.rvfi_rows.specs.declared.fault.RowFault.{RowFault}
-use Rattle.rvfi_rows.specs.declared.fault.RowError.{RowError}
-use Rattle.rvfi_rows.specs.declared.fault.RowError.TheVariants as errors
 
 -- what was shown before, and what the rest shows
-abbrev pub with_front : ShownList → Result ShownList RowFault → Result ShownList RowFault
-with_front front rest = rest >>= λ row. Ok (front ++ row)
+abbrev pub with_front : Shown → Result Shown RowFault → Result Shown RowFault
+with_front front rest = rest >>= λ row. Ok (shown_then front row)
 
 drop_at : {A : Type 0} (xs : List A) (i : ℕ) (d : A) → i < length xs → drop i xs ≡ get_or xs i d ∷ drop (i + 1) xs
 drop_at xs i d lt = rw add-one (drop-cons xs i d lt)
@@ -87,59 +88,99 @@ valid-end columns fields i wanted le so_far = rw (drop_past columns i le) at so_
 
 -- ---- all cells
 
-regroup : (front first : ShownList) (rest : Result ShownList RowFault) → with_front front (rest >>= λ others. Ok (first ++ others)) ≡ with_front (front ++ first) rest
-regroup front first (Ok row) = ap (λ (cells : ShownList). Ok cells) (simp append_assoc)
+later : (one two three : Option ℕ) → option_or three (option_or two one) ≡ option_or (option_or three two) one
+later one two None = refl
+later one two (Some x) = refl
+
+joined : (front first others : Shown) → shown_then (shown_then front first) others ≡ shown_then front (shown_then first others)
+joined front first others = fun_ext (λ signal. later (front signal) (first signal) (others signal))
+
+none_later : (front : Shown) → shown_then front nothing ≡ front
+none_later front = refl
+
+-- ---- what one field adds
+
+pub adds_nothing : (front : Shown) → shown_then front nothing ≡ front
+adds_nothing front = refl
+
+none_alone : (test : Bool) (before : Option ℕ) → option_or (if test then None else None) before ≡ before
+none_alone true before = refl
+none_alone false before = refl
+
+pub adds_none : (front : Shown) (signal : Signal) → shown_then front (alone signal None) ≡ front
+adds_none front signal = fun_ext (λ other. none_alone (index_of other == index_of signal) (front other))
+
+one_alone : (test : Bool) (value : ℕ) (before : Option ℕ) → option_or (if test then Some value else None) before ≡ (if test then Some value else before)
+one_alone true value before = refl
+one_alone false value before = refl
+
+pub adds_one : (front : Shown) (signal : Signal) (value : ℕ) → shown_then front (alone signal (Some value)) ≡ with_shown front signal value
+adds_one front signal value = fun_ext (λ other. one_alone (index_of other == index_of signal) value (front other))
+
+regroup : (front first : Shown) (rest : Result Shown RowFault) → with_front front (rest >>= λ others. Ok (shown_then first others)) ≡ with_front (shown_then front first) rest
+regroup front first (Ok row) = ap (λ (cells : Shown). Ok cells) (sym (joined front first row))
 regroup front first (Err fault) = refl
 
 -- the cells of a field, and then those of the rest
-after : ShownList → Result ShownList RowFault → Result ShownList RowFault → Result ShownList RowFault
-after front first rest = first >>= λ cells. with_front (front ++ cells) rest
+after : Shown → Result Shown RowFault → Result Shown RowFault → Result Shown RowFault
+after front first rest = first >>= λ cells. with_front (shown_then front cells) rest
 
-cells-step : (columns : ColumnList) (fields : List (List ℕ)) (i : ℕ) (field : List ℕ) (front : ShownList) (wanted : Result ShownList RowFault) → i < length columns → Some field ≡ slice_get fields i
+cells-step : (columns : ColumnList) (fields : List (List ℕ)) (i : ℕ) (field : List ℕ) (front : Shown) (wanted : Result Shown RowFault) → i < length columns → Some field ≡ slice_get fields i
     → with_front front (cells_of (drop i columns) (drop i fields)) ≡ wanted
-    → after front (shown_of (get_or columns i None) field) (cells_of (drop (i + 1) columns) (drop (i + 1) fields)) ≡ wanted
+    → after front (field_shown (get_or columns i None) field) (cells_of (drop (i + 1) columns) (drop (i + 1) fields)) ≡ wanted
 unfolding cells_of after
 cells-step columns fields i field front wanted lt is so_far =
     let here = rw (drop_at columns i None lt, drop_found fields i field is) at so_far in
-    step front (shown_of (get_or columns i None) field) (cells_of (drop (i + 1) columns) (drop (i + 1) fields)) ∙ here
+    step front (field_shown (get_or columns i None) field) (cells_of (drop (i + 1) columns) (drop (i + 1) fields)) ∙ here
   where
-    step : (front : ShownList) (first rest : Result ShownList RowFault) → after front first rest ≡ with_front front (first >>= λ cells. (rest >>= λ others. Ok (cells ++ others)))
+    step : (front : Shown) (first rest : Result Shown RowFault) → after front first rest ≡ with_front front (first >>= λ cells. (rest >>= λ others. Ok (shown_then cells others)))
     step front (Ok cells) rest = sym (regroup front cells rest)
     step front (Err fault) rest = refl
 
-added : (front now : ShownList) (first rest : Result ShownList RowFault) (wanted : Result ShownList RowFault) → with_front front first ≡ Ok now → after front first rest ≡ wanted → with_front now rest ≡ wanted
+added : (front now : Shown) (first rest : Result Shown RowFault) (wanted : Result Shown RowFault) → with_front front first ≡ Ok now → after front first rest ≡ wanted → with_front now rest ≡ wanted
 unfolding after
-added front now (Ok cells) rest wanted is so_far = let same : front ++ cells ≡ now = cc in rw (← same) so_far
+added front now (Ok cells) rest wanted is so_far = let same : shown_then front cells ≡ now = cc in rw (← same) so_far
 added front now (Err fault) rest wanted is so_far = absurd cc
 
-failed : (e : RowError) (front : ShownList) (first rest : Result ShownList RowFault) (wanted : Result ShownList RowFault) → FailsAs (row_fault e) (with_front front first) → after front first rest ≡ wanted → FailsAs (row_fault e) wanted
+failed : (fault : RowFault) (front : Shown) (first rest : Result Shown RowFault) (wanted : Result Shown RowFault) → first ≡ Err fault → after front first rest ≡ wanted → Err fault ≡ wanted
 unfolding after
-failed errors.NoMemory front first rest wanted is so_far = tt
-failed (errors.Fault fault) front (Ok cells) rest wanted is so_far = absurd cc
-failed (errors.Fault fault) front (Err other) rest wanted is so_far = sym so_far ∙ is
+failed fault front (Ok cells) rest wanted is so_far = absurd cc
+failed fault front (Err other) rest wanted is so_far = let same : other ≡ fault = cc in ap (λ (f : RowFault). Err f) (sym same) ∙ so_far
 
-pub cells-next : (columns : ColumnList) (fields : List (List ℕ)) (i : ℕ) (field : List ℕ) (front now : ShownList) (wanted : Result ShownList RowFault) → i < length columns → Some field ≡ slice_get fields i
-    → with_front front (shown_of (get_or columns i None) field) ≡ Ok now
+pub cells-next : (columns : ColumnList) (fields : List (List ℕ)) (i : ℕ) (field : List ℕ) (front now : Shown) (wanted : Result Shown RowFault) → i < length columns → Some field ≡ slice_get fields i
+    → with_front front (field_shown (get_or columns i None) field) ≡ Ok now
     → with_front front (cells_of (drop i columns) (drop i fields)) ≡ wanted
     → with_front now (cells_of (drop (i + 1) columns) (drop (i + 1) fields)) ≡ wanted
 cells-next columns fields i field front now wanted lt is shown so_far = added front now _ _ wanted shown (cells-step columns fields i field front wanted lt is so_far)
 
-pub cells-fail : (columns : ColumnList) (fields : List (List ℕ)) (i : ℕ) (field : List ℕ) (front : ShownList) (e : RowError) (wanted : Result ShownList RowFault) → i < length columns → Some field ≡ slice_get fields i
-    → FailsAs (row_fault e) (with_front front (shown_of (get_or columns i None) field))
+pub cells-fail : (columns : ColumnList) (fields : List (List ℕ)) (i : ℕ) (field : List ℕ) (front : Shown) (fault : RowFault) (wanted : Result Shown RowFault) → i < length columns → Some field ≡ slice_get fields i
+    → field_shown (get_or columns i None) field ≡ Err fault
     → with_front front (cells_of (drop i columns) (drop i fields)) ≡ wanted
-    → FailsAs (row_fault e) wanted
-cells-fail columns fields i field front e wanted lt is shown so_far = failed e front _ _ wanted shown (cells-step columns fields i field front wanted lt is so_far)
+    → Err fault ≡ wanted
+cells-fail columns fields i field front fault wanted lt is shown so_far = failed fault front _ _ wanted shown (cells-step columns fields i field front wanted lt is so_far)
 
-no_cells : (front : ShownList) (columns : ColumnList) → with_front front (cells_of columns []) ≡ Ok front
+no_cells : (front : Shown) (columns : ColumnList) → with_front front (cells_of columns []) ≡ Ok front
 unfolding cells_of
-no_cells front [] = ap (λ (cells : ShownList). Ok cells) (append-nil front)
-no_cells front (column ∷ columns) = ap (λ (cells : ShownList). Ok cells) (append-nil front)
+no_cells front [] = refl
+no_cells front (column ∷ columns) = refl
 
-pub cells-gone : (columns : ColumnList) (fields : List (List ℕ)) (i : ℕ) (front : ShownList) (wanted : Result ShownList RowFault) → None ≡ slice_get fields i
-    → with_front front (cells_of (drop i columns) (drop i fields)) ≡ wanted → wanted ≡ Ok front
-cells-gone columns fields i front wanted is so_far = sym (rw (drop_gone fields i is) at so_far) ∙ no_cells front (drop i columns)
+pub cells-gone : (columns : ColumnList) (fields : List (List ℕ)) (i : ℕ) (front : Shown) (wanted : Result Shown RowFault) → None ≡ slice_get fields i
+    → with_front front (cells_of (drop i columns) (drop i fields)) ≡ wanted → Ok front ≡ wanted
+cells-gone columns fields i front wanted is so_far = sym (no_cells front (drop i columns)) ∙ (rw (drop_gone fields i is) at so_far)
 
-pub cells-end : (columns : ColumnList) (fields : List (List ℕ)) (i : ℕ) (front : ShownList) (wanted : Result ShownList RowFault) → length columns ≤ i
-    → with_front front (cells_of (drop i columns) (drop i fields)) ≡ wanted → wanted ≡ Ok front
+pub cells-end : (columns : ColumnList) (fields : List (List ℕ)) (i : ℕ) (front : Shown) (wanted : Result Shown RowFault) → length columns ≤ i
+    → with_front front (cells_of (drop i columns) (drop i fields)) ≡ wanted → Ok front ≡ wanted
 unfolding cells_of
-cells-end columns fields i front wanted le so_far = sym (rw (drop_past columns i le) at so_far) ∙ ap (λ (cells : ShownList). Ok cells) (append-nil front)
+cells-end columns fields i front wanted le so_far = rw (drop_past columns i le) at so_far
+
+-- before the first cell
+pub cells-start : (columns : ColumnList) (fields : List (List ℕ)) (shown : Shown) → shown ≡ nothing → with_front shown (cells_of columns fields) ≡ cells_of columns fields
+cells-start columns fields shown is = rw is (alone_front (cells_of columns fields))
+  where
+    alone_cell : (x : Option ℕ) → option_or x None ≡ x
+    alone_cell None = refl
+    alone_cell (Some value) = refl
+
+    alone_front : (rest : Result Shown RowFault) → with_front nothing rest ≡ rest
+    alone_front (Ok row) = ap (λ (cells : Shown). Ok cells) (fun_ext (λ signal. alone_cell (row signal)))
+    alone_front (Err fault) = refl

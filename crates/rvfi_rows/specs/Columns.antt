@@ -1,12 +1,16 @@
 -- The columns of a trace, as its header names them.
-use Rattle.std.specs.Prelude.{ℕ, Bool, false, ◌==◌, not, List, [], ◌∷◌, ◌++◌, map, drop, find, codes, nat_eq, Option, Some, None, Result, Ok, Err, if◌then◌else◌}
+use Rattle.std.specs.Prelude.{ℕ, Bool, false, ◌==◌, not, List, [], ◌∷◌, ◌++◌, map, take, drop, find, codes, nat_eq, Option, option_map, Some, None, Result, Ok, Err, if◌then◌else◌}
 use Rattle.std.specs.List.{list_any, starts_with}
 use Rattle.std.specs.Str.{bytes_eq}
-use Rattle.hart_words.specs.Signals.{name_of, place_of}
+use Rattle.hart_words.specs.Signals.{index_of}
+use Rattle.hart_words.specs.SignalNames.{name_of}
+use Rattle.hart_words.specs.declared.signal.SignalEntry.{SignalEntry}
+use Rattle.hart_words.specs.declared.signal.TheConstants.{SIGNALS}
+use Rattle.rvfi_rows.specs.declared.columns.TheConstants.{KNOWN_SIGNALS}
 use Rattle.hart_words.specs.declared.signal.Signal.{Signal}
-use Rattle.hart_words.specs.declared.signal.Signal.TheVariants.{Valid, Order, Intr, PcRdata, Mode, Ixl, Trap, Insn, Rs1Addr, Rs1Rdata, Rs2Addr, Rs2Rdata, RdAddr, RdWdata, PcWdata, MemAddr, MemRmask, MemRdata, MemWmask, MemWdata, MemPaddr, Halt}
+use Rattle.hart_words.specs.declared.signal.Signal.TheVariants.{Insn, PcRdata}
 use Rattle.csv_line.specs.Fields.{fields_of_line}
-use Rattle.rvfi_rows.specs.Gives.{◌>>◌, refuse_if}
+use Rattle.hart_words.specs.Results.{◌>>◌, refuse_if}
 use Rattle.rvfi_rows.specs.declared.fault.HeaderFault.{HeaderFault}
 use Rattle.rvfi_rows.specs.declared.fault.HeaderFault.TheVariants.{StrayReturn, Twice, NoColumn}
 use Rattle.rvfi_rows.specs.declared.fault.HeaderError.{HeaderError}
@@ -16,9 +20,9 @@ use Rattle.rvfi_rows.specs.declared.fault.HeaderError.TheVariants as errors
 abbrev pub ColumnList : Type 0
 ColumnList = List (Option Signal)
 
--- the signals that are read; every other name is passed over
-abbrev pub known_signals : List Signal
-known_signals = Valid ∷ Order ∷ Intr ∷ PcRdata ∷ Mode ∷ Ixl ∷ Trap ∷ Insn ∷ Rs1Addr ∷ Rs1Rdata ∷ Rs2Addr ∷ Rs2Rdata ∷ RdAddr ∷ RdWdata ∷ PcWdata ∷ MemAddr ∷ MemRmask ∷ MemRdata ∷ MemWmask ∷ MemWdata ∷ MemPaddr ∷ Halt ∷ []
+-- the signals that are read: the first of the table; every other name is passed over
+abbrev pub known_signals : List SignalEntry
+known_signals = take KNOWN_SIGNALS SIGNALS
 
 -- a name less one `rvfi_` at its front
 unfoldable pub less_prefix : List ℕ → List ℕ
@@ -26,7 +30,7 @@ less_prefix name = if starts_with nat_eq name (codes "rvfi_") then drop 5 name e
 
 -- the known signal of a name
 unfoldable pub signal_named : List ℕ → Option Signal
-signal_named name = find (λ signal. bytes_eq name (name_of signal)) known_signals
+signal_named name = option_map (λ entry. entry.signal) (find (λ entry. bytes_eq name (name_of entry.signal)) known_signals)
 
 -- what a field of the header names
 abbrev pub column_of : List ℕ → Option Signal
@@ -35,7 +39,7 @@ column_of field = signal_named (less_prefix field)
 -- the column shows the signal
 abbrev pub is_of : Signal → Option Signal → Bool
 is_of signal None = false
-is_of signal (Some shown) = place_of shown == place_of signal
+is_of signal (Some shown) = index_of shown == index_of signal
 
 -- some column shows the signal
 abbrev pub has_column : Signal → ColumnList → Bool
@@ -61,8 +65,8 @@ abbrev pub has_return : List ℕ → Bool
 has_return line = list_any (λ byte. byte == 13) line
 
 -- the columns of a header, or its first fault
-unfoldable pub columns_of : List ℕ → Result ColumnList HeaderFault
-columns_of line = do
+unfoldable pub header_columns : List ℕ → Result ColumnList HeaderFault
+header_columns line = do
   refuse_if (has_return line) StrayReturn
   let columns = map column_of (fields_of_line line)
   refuse_twice (repeated_after [] columns)

@@ -1,3 +1,4 @@
-pub mod Gives
 pub mod Columns
+pub mod Cells
 pub mod Rows
+pub mod Window

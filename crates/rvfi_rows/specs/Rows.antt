@@ -1,26 +1,19 @@
 -- The rows of a trace, as its lines show them.
-use Rattle.std.specs.Prelude.{ℕ, Bool, true, false, ◌==◌, not, List, [], ◌∷◌, ◌++◌, length, find, option_map, Option, Some, None, Result, Ok, Err, if◌then◌else◌}
+use Rattle.std.specs.Prelude.{◌≡◌, ℕ, Bool, true, false, ◌==◌, not, List, [], ◌∷◌, length, Option, Some, None, Result, Ok, Err, if◌then◌else◌}
+use Rattle.std.specs.Option.{option_or}
 use Rattle.hart_words.specs.Numbers.{number_within}
-use Rattle.hart_words.specs.Signals.{place_of, width_of}
+use Rattle.hart_words.specs.Signals.{Shown, index_of, width_of}
 use Rattle.hart_words.specs.declared.numbers.NumberFault.{NumberFault}
 use Rattle.hart_words.specs.declared.numbers.NumberFault.TheVariants as number
 use Rattle.hart_words.specs.declared.signal.Signal.{Signal}
 use Rattle.hart_words.specs.declared.signal.Signal.TheVariants.{Valid, Insn, PcRdata}
 use Rattle.csv_line.specs.Fields.{fields_of_line}
-use Rattle.rvfi_rows.specs.Gives.{◌>>=◌, ◌>>◌, refuse_if, Gives}
+use Rattle.hart_words.specs.Results.{◌>>=◌, ◌>>◌, refuse_if}
 use Rattle.rvfi_rows.specs.Columns.{ColumnList, is_of, has_return}
 use Rattle.rvfi_rows.specs.declared.fault.RowFault.{RowFault}
 use Rattle.rvfi_rows.specs.declared.fault.RowFault.TheVariants.{StrayReturn, FieldCount, Empty, NotNumber, TooWide}
 use Rattle.rvfi_rows.specs.declared.fault.RowError.{RowError}
 use Rattle.rvfi_rows.specs.declared.fault.RowError.TheVariants as errors
-
--- the signals that a row shows, from the left, with their values
-abbrev pub ShownList : Type 0
-ShownList = List (Signal × ℕ)
-
--- the value that a row shows of a signal
-unfoldable pub shown_in : ShownList → Signal → Option ℕ
-shown_in row signal = option_map (λ cell. cell.1) (find (λ cell. place_of cell.0 == place_of signal) row)
 
 -- the row has to show the signal
 abbrev pub is_needed : Signal → Bool
@@ -39,26 +32,37 @@ unfoldable pub cell_of : Signal → List ℕ → Result (Option ℕ) RowFault
 cell_of signal [] = if is_needed signal then Err (Empty signal) else Ok None
 cell_of signal (byte ∷ field) = value_or_fault signal (number_within (width_of signal) (byte ∷ field))
 
--- a signal with its value, where there is one
-abbrev pub shown_value : Signal → Option ℕ → ShownList
-shown_value signal None = []
-shown_value signal (Some value) = (signal, value) ∷ []
+-- nothing is shown
+abbrev pub nothing : Shown
+nothing _ = None
+
+-- one signal alone is shown, where it has a value
+abbrev pub alone : Signal → Option ℕ → Shown
+alone signal value other = if index_of other == index_of signal then value else None
+
+-- what is shown first and then; what comes later stands
+abbrev pub shown_then : Shown → Shown → Shown
+shown_then first later signal = option_or (later signal) (first signal)
+
+-- the same with one value more
+abbrev pub with_shown : Shown → Signal → ℕ → Shown
+with_shown before signal value other = if index_of other == index_of signal then Some value else before other
 
 -- what a field shows: nothing under an unknown name, else its column's signal, where it has a value
-unfoldable pub shown_of : Option Signal → List ℕ → Result ShownList RowFault
-shown_of None field = Ok []
-shown_of (Some signal) field = do
+unfoldable pub field_shown : Option Signal → List ℕ → Result Shown RowFault
+field_shown None field = Ok nothing
+field_shown (Some signal) field = do
   value ← cell_of signal field
-  Ok (shown_value signal value)
+  Ok (alone signal value)
 
 -- what all the fields show, or the first fault from the left
-unfoldable pub cells_of : ColumnList → List (List ℕ) → Result ShownList RowFault
-cells_of [] fields = Ok []
-cells_of (column ∷ columns) [] = Ok []
+unfoldable pub cells_of : ColumnList → List (List ℕ) → Result Shown RowFault
+cells_of [] fields = Ok nothing
+cells_of (column ∷ columns) [] = Ok nothing
 cells_of (column ∷ columns) (field ∷ fields) = do
-  first ← shown_of column field
+  first ← field_shown column field
   others ← cells_of columns fields
-  Ok (first ++ others)
+  Ok (shown_then first others)
 
 -- what the column `valid` shows, where there is one
 unfoldable pub valid_of : ColumnList → List (List ℕ) → Result (Option ℕ) RowFault
@@ -73,14 +77,14 @@ is_invalid (Some value) = value == 0
 
 -- the row of fields that are as many as the columns; none where it is not valid, and then no other
 -- field is looked at
-unfoldable pub row_from : ColumnList → List (List ℕ) → Result (Option ShownList) RowFault
+unfoldable pub row_from : ColumnList → List (List ℕ) → Result (Option Shown) RowFault
 row_from columns fields = do
   valid ← valid_of columns fields
   if is_invalid valid then Ok None else (cells_of columns fields >>= λ row. Ok (Some row))
 
 -- the row of a line, or its first fault
-unfoldable pub row_of : ColumnList → List ℕ → Result (Option ShownList) RowFault
-row_of columns line = do
+unfoldable pub row_of_line : ColumnList → List ℕ → Result (Option Shown) RowFault
+row_of_line columns line = do
   refuse_if (has_return line) StrayReturn
   let fields = fields_of_line line
   refuse_if (not (length fields == length columns)) FieldCount
@@ -91,6 +95,7 @@ abbrev pub row_fault : RowError → Option RowFault
 row_fault errors.NoMemory = None
 row_fault (errors.Fault fault) = Some fault
 
--- a list grows by what a step shows, unless the step fails
-abbrev pub Adds : ShownList → ShownList → Result (Unit {0}) RowError → Result ShownList RowFault → Type 0
-Adds before now result shown = Gives row_fault (λ _. now) result (shown >>= λ cells. Ok (before ++ cells))
+-- a row shows what a field shows besides, unless the field is refused
+abbrev pub Adds : Shown → Shown → Result (Unit {0}) RowFault → Result Shown RowFault → Type 0
+Adds before now (Ok done) shown = (shown >>= λ more. Ok (shown_then before more)) ≡ Ok now
+Adds before now (Err fault) shown = shown ≡ Err fault

@@ -1,41 +1,20 @@
 //! The columns of a trace.
 
-ghost use Rattle.std.specs.Prelude.{◌≡◌, ℕ, List, [], map};
+ghost use Rattle.std.specs.Prelude.{◌≡◌, ℕ, List, [], find, map, option_map};
+ghost use Rattle.std.specs.Str.{bytes_eq};
+ghost use Rattle.hart_words.specs.SignalNames.{name_of};
 ghost use Rattle.hart_words.specs.declared.signal.Signal.{Signal};
-ghost use Rattle.rvfi_rows.specs.Gives.{Gives};
-ghost use Rattle.rvfi_rows.specs.Columns.{columns_of, header_fault, column_of, signal_named, less_prefix, is_of, has_column, stands_in, repeated_after, has_return};
+ghost use Rattle.hart_words.specs.Results.{Gives};
+ghost use Rattle.rvfi_rows.specs.Columns.{header_columns, header_fault, column_of, signal_named, less_prefix, is_of, has_column, stands_in, repeated_after, has_return};
 
 use crate::fault::{HeaderError, HeaderFault};
 use csv_line::{Fields, line_fields};
-use hart_words::Signal;
+use hart_words::{SIGNALS, Signal, SignalEntry};
 use std::alloc::Global;
 use std::marker::Model;
 
-/// The signals that are read from a trace.
-const KNOWN: [Signal; 22] = [
-    Signal::Valid,
-    Signal::Order,
-    Signal::Intr,
-    Signal::PcRdata,
-    Signal::Mode,
-    Signal::Ixl,
-    Signal::Trap,
-    Signal::Insn,
-    Signal::Rs1Addr,
-    Signal::Rs1Rdata,
-    Signal::Rs2Addr,
-    Signal::Rs2Rdata,
-    Signal::RdAddr,
-    Signal::RdWdata,
-    Signal::PcWdata,
-    Signal::MemAddr,
-    Signal::MemRmask,
-    Signal::MemRdata,
-    Signal::MemWmask,
-    Signal::MemWdata,
-    Signal::MemPaddr,
-    Signal::Halt,
-];
+/// How many signals are read from a trace: the first of the table.
+pub const KNOWN_SIGNALS: usize = 22;
 
 /// For each field of a header the signal that it names, or none for an unknown name.
 #[derive(Debug, Drop)]
@@ -65,9 +44,9 @@ impl Columns {
 ///
 /// The faults, the first that holds: a carriage return stands in the line; a known name stands
 /// twice; `insn` is missing; `pc_rdata` is missing.
-#[tactic(auto, unfolding(crate::specs::Columns::columns_of))]
+#[tactic(auto, unfolding(crate::specs::Columns::header_columns))]
 pub fn read_header(alloc: Global, line: &[u8]) -> Result<Columns, HeaderError>
-    ensures { Gives header_fault (λ columns. columns) result (columns_of line.now) }
+    ensures { Gives header_fault (λ columns. columns) result (header_columns line.now) }
 {
     if has_carriage_return(line) {
         return Err(HeaderError::Fault(HeaderFault::StrayReturn));
@@ -99,7 +78,7 @@ pub(crate) fn is_column_of(signal: Signal, column: Option<Signal>) -> bool
 {
     match column {
         None => false,
-        Some(shown) => shown.place() == signal.place(),
+        Some(shown) => shown.index() == signal.index(),
     }
 }
 
@@ -164,9 +143,21 @@ fn without_prefix(name: &[u8]) -> &[u8]
     }
 }
 
+/// The known signal of a name.
 #[tactic(auto, unfolding(crate::specs::Columns::signal_named))]
 fn known_signal(name: &[u8]) -> Option<Signal>
     ensures { result ≡ signal_named name.now }
 {
-    KNOWN.iter().copied().find(|signal| signal.is_named(name))
+    signal_among(&SIGNALS[..KNOWN_SIGNALS], name)
+}
+
+/// The signal of a name among those of entries.
+fn signal_among(entries: &[SignalEntry], name: &[u8]) -> Option<Signal>
+    ensures { result ≡ option_map (λ entry. entry.signal)
+        (find (λ entry. bytes_eq name.now (name_of entry.signal)) entries.now) }
+{
+    entries
+        .iter()
+        .find(|entry| entry.signal.is_named(name))
+        .map(|entry| entry.signal)
 }

@@ -1,9 +1,9 @@
 //! What a valid row of a trace must show of one step of the reference hart.
 
-use hart_words::Mode;
+use hart_words::{Mode, Registers};
 
-/// What the reference hart did at a row. It decides, with the row's own addresses, which signals the
-/// row must show and which are free.
+/// What the reference hart did at a row. It decides, with the row's own addresses, which signals
+/// the row must show and which are free.
 #[derive(Clone, Copy, Debug)]
 pub enum Expected {
     /// The hart had halted before: no valid row should come, and nothing else is compared.
@@ -34,8 +34,8 @@ pub struct Retired {
 /// What an instruction that does not trap did.
 #[derive(Clone, Copy, Debug)]
 pub struct Effects {
-    /// The integer registers before the instruction, by number; x0 is not looked at.
-    pub registers: [u64; 32],
+    /// The integer registers before the instruction.
+    pub registers: Registers,
     /// The registers that it reads, 0 where it reads none.
     pub rs1: u8,
     pub rs2: u8,

@@ -1,17 +1,25 @@
 //! The header and the rows of a trace, after riscv-formal's description of RVFI.
+//!
+//! In comes a line of bytes. Out goes what the header names (`specs/Columns.antt`) or what the row
+//! shows (`specs/Rows.antt`), or the first fault; and for the crates above what a row must show of
+//! one step of the hart (`Expected`), and the verdict on rows (`Verdict`).
 #![tactic(auto)]
 
+mod cells;
 mod columns;
 mod expected;
 mod fault;
 mod row;
 mod verdict;
+mod window;
 
+pub use cells::read_row;
 pub use columns::{Columns, read_header};
 pub use expected::{Accessed, Effects, Expected, Retired};
 pub use fault::{HeaderError, HeaderFault, RowError, RowFault};
-pub use row::{Row, read_row};
+pub use row::Row;
 pub use verdict::Verdict;
+pub use window::distance_in_window;
 
 #[cfg(test)]
 mod tests;

@@ -1,143 +1,67 @@
-//! The rows of a trace.
+//! What a row of a trace shows.
 
-ghost use Rattle.std.specs.Prelude.{◌≡◌, ℕ, List};
-ghost use Rattle.rvfi_rows.specs.Gives.{Gives};
-ghost use Rattle.rvfi_rows.specs.Rows.{Adds};
-ghost use Rattle.rvfi_rows.specs.Rows.{row_of, row_from, row_fault, shown_in, cell_of, cells_of, valid_of, is_needed, value_or_fault, shown_of};
+ghost use Rattle.std.specs.Prelude.{◌≡◌, length};
 
-use crate::columns::{Columns, has_carriage_return, is_column_of};
-use crate::fault::{RowError, RowFault};
-use csv_line::{Fields, line_fields};
-use hart_words::{NumberFault, Signal, read_number};
-use std::alloc::Global;
-use std::marker::Model;
+use crate::cells::cell;
+use crate::fault::RowFault;
+use hart_words::Signal;
 
-/// What a valid row shows: signals with their values, in the order of the columns.
+/// What a valid row shows: a value for each signal that it shows. It takes no memory beyond itself.
 #[derive(Debug, Drop)]
 pub struct Row {
-    cells: Vec<(Signal, u64)>,
-}
-
-impl Model for Row {
-    ghost use Rattle.std.specs.Prelude.{List, ℕ};
-    ghost use Rattle.hart_words.specs.declared.signal.Signal.{Signal};
-
-    ghost Value = { List (Signal × ℕ) };
-
-    ghost view = { λ row. row.cells.items };
+    /// A bit for each signal, at its index: whether the row shows it.
+    shown: u128,
+    /// The values of the signals that are shown, each at its index.
+    values: [u64; 110],
+    ghost full: { length values ≡ 110 },
 }
 
 impl Row {
+    ghost use Rattle.rvfi_rows.specs.Cells.{shown_in};
+    ghost use Rattle.rvfi_rows.specs.Rows.{Adds, field_shown, nothing, with_shown};
+
+    /// A row that shows nothing.
+    pub(crate) fn empty() -> Row
+        ensures { shown_in result ≡ nothing }
+    {
+        Row {
+            shown: 0,
+            values: [0; 110],
+        }
+    }
+
     /// The value that the row shows of the signal, if it shows one.
-    #[tactic(auto, unfolding(crate::specs::Rows::shown_in))]
     pub fn shown(&self, signal: Signal) -> Option<u64>
         ensures { result ≡ shown_in self.now signal }
     {
-        self.cells
-            .iter()
-            .find(|cell| cell.0.place() == signal.place())
-            .map(|cell| cell.1)
+        let index = signal.index();
+        if (self.shown >> index) % 2 == 1 {
+            Some(self.values[usize::from(index)])
+        } else {
+            None
+        }
     }
-}
 
-/// The row of `line` under these columns. It is `None` where the column `valid` shows 0, and then no
-/// other field is looked at. A field is a number below 2 to the power of its column's width, in
-/// decimal or after `0x`; an empty one shows nothing.
-///
-/// The faults, the first that holds: a carriage return stands in the line; the fields are not as
-/// many as the columns; `valid` is no number or too wide; and for the known columns from the left,
-/// `insn` or `pc_rdata` is empty, or the field is no number or too wide.
-#[tactic(auto, unfolding(crate::specs::Rows::row_of))]
-pub fn read_row(alloc: Global, columns: &Columns, line: &[u8]) -> Result<Option<Row>, RowError>
-    ensures { Gives row_fault (λ row. row) result (row_of columns.now line.now) }
-{
-    if has_carriage_return(line) {
-        return Err(RowError::Fault(RowFault::StrayReturn));
+    /// Shows a value of the signal, in place of the one shown before, if any.
+    fn show(&mut self, signal: Signal, value: u64)
+        ensures { shown_in self.new ≡ with_shown (shown_in self.old) signal value }
+    {
+        let index = signal.index();
+        self.shown |= 1 << index;
+        self.values[usize::from(index)] = value;
     }
-    let fields = line_fields(alloc, line)?;
-    let columns = columns.as_slice();
-    if fields.len() != columns.len() {
-        return Err(RowError::Fault(RowFault::FieldCount));
-    }
-    row_of_fields(alloc, columns, &fields)
-}
 
-#[tactic(auto, unfolding(crate::specs::Rows::row_from))]
-fn row_of_fields(
-    alloc: Global,
-    columns: &[Option<Signal>],
-    fields: &Fields,
-) -> Result<Option<Row>, RowError>
-    ensures { Gives row_fault (λ row. row) result (row_from columns.now fields.now) }
-{
-    if valid_shown(columns, fields)? == Some(0) {
-        return Ok(None);
-    }
-    Ok(Some(cells(alloc, columns, fields)?))
-}
-
-/// What the column `valid` shows, where there is one.
-fn valid_shown(columns: &[Option<Signal>], fields: &Fields) -> Result<Option<u64>, RowFault>
-    ensures { result ≡ valid_of columns.now fields.now }
-{
-    for index in 0..columns.len() {
-        match fields.get(index) {
-            None => return Ok(None),
-            Some(field) => {
-                if is_column_of(Signal::Valid, columns[index]) {
-                    return cell(Signal::Valid, field);
-                }
+    /// Adds what a field shows under its column.
+    #[tactic(auto, unfolding(crate::specs::Rows::field_shown))]
+    pub(crate) fn add(&mut self, column: Option<Signal>, field: &[u8]) -> Result<(), RowFault>
+        ensures { Adds (shown_in self.old) (shown_in self.new) result
+            (field_shown column field.now) }
+    {
+        if let Some(signal) = column {
+            if let Some(value) = cell(signal, field)? {
+                self.show(signal, value);
             }
         }
-    }
-    Ok(None)
-}
-
-/// All the known columns' cells.
-fn cells(alloc: Global, columns: &[Option<Signal>], fields: &Fields) -> Result<Row, RowError>
-    ensures { Gives row_fault (λ row. row) result (cells_of columns.now fields.now) }
-{
-    let mut cells = Vec::with_capacity(alloc, columns.len())?;
-    for index in 0..columns.len() {
-        match fields.get(index) {
-            None => return Ok(Row { cells }),
-            Some(field) => add_shown(&mut cells, columns[index], field)?,
-        }
-    }
-    Ok(Row { cells })
-}
-
-/// Adds what a field shows.
-#[tactic(auto, unfolding(crate::specs::Rows::shown_of))]
-fn add_shown(
-    cells: &mut Vec<(Signal, u64)>,
-    column: Option<Signal>,
-    field: &[u8],
-) -> Result<(), RowError>
-    ensures { Adds cells.old.items cells.new.items result (shown_of column field.now) }
-{
-    if let Some(signal) = column {
-        if let Some(value) = cell(signal, field)? {
-            cells.push((signal, value))?;
-        }
-    }
-    Ok(())
-}
-
-/// What a field shows of its column's signal.
-#[tactic(auto, unfolding(crate::specs::Rows::cell_of))]
-fn cell(signal: Signal, field: &[u8]) -> Result<Option<u64>, RowFault>
-    ensures { result ≡ cell_of signal field.now }
-{
-    if field.is_empty() {
-        return match signal {
-            Signal::Insn | Signal::PcRdata => Err(RowFault::Empty(signal)),
-            _ => Ok(None),
-        };
-    }
-    match read_number(field, signal.width()) {
-        Ok(value) => Ok(Some(value)),
-        Err(NumberFault::NotNumber) => Err(RowFault::NotNumber(signal)),
-        Err(NumberFault::TooWide) => Err(RowFault::TooWide(signal)),
+        Ok(())
     }
 }

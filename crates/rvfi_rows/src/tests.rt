@@ -90,6 +90,21 @@ fn refuses_rows(rt: HostRuntime) -> Result<(), Fail> {
     Ok(())
 }
 
+/// An access lies in the eight bytes from an address on, or it does not; addresses wrap.
+#[test]
+fn accesses_lie_in_windows(rt: HostRuntime) {
+    for (va, len, mem_addr, distance) in [
+        (0x1000, 8, 0x1000, Some(0)),
+        (0x1007, 1, 0x1000, Some(7)),
+        (0x1004, 4, 0x1000, Some(4)),
+        (0x1004, 8, 0x1000, None),
+        (0x1000, 1, 0x1001, None),
+        (0x1, 2, u64::MAX, Some(2)),
+    ] {
+        assert_eq!(rt; distance_in_window(va, len, mem_addr), distance);
+    }
+}
+
 #[test]
 fn refuses_headers(rt: HostRuntime) {
     let alloc = rt.alloc();

@@ -1,3 +1,5 @@
+//! What is found out about the rows of a trace.
+
 use crate::fault::RowFault;
 use hart_words::Difference;
 

@@ -1,6 +1,6 @@
 use Rattle.std.proofs.Common.{◌∙◌, true, false}
 use Rattle.rvfi_rows.proofs.Steps.{valid-next, valid-gone, valid-end}
-use Rattle.rvfi_rows.proofs.row.valid_shown.Goals as goal
+use Rattle.rvfi_rows.proofs.cells.valid_shown.Goals as goal
 
 pub returns-in-None : goal.returns-in-None
 returns-in-None c = valid-gone c.args.columns.now c.args.fields.now c.loop-index.index _ c.in-None.ensures c.loop-index.invariant

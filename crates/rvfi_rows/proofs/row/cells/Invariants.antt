@@ -1,7 +1,0 @@
-use Rattle.std.proofs.Common.{◌≡◌, drop}
-use Rattle.rvfi_rows.specs.Rows.{cells_of}
-use Rattle.rvfi_rows.proofs.Steps.{with_front}
-use Rattle.rvfi_rows.proofs.row.cells.Given as goal
-
-abbrev pub invariant-loop-index : goal.invariant-loop-index
-invariant-loop-index l = with_front l.cells.items (cells_of (drop l.index l.columns) (drop l.index l.fields)) ≡ cells_of l.columns l.fields
