@@ -2,12 +2,13 @@
 use Rattle.std.specs.Prelude.{Option, Some, None}
 use Rattle.hart_words.specs.Privilege.{mode_number}
 use Rattle.hart_words.specs.declared.signal.Signal.TheVariants.{Valid, Order, Intr, PcRdata, Mode, Ixl, Trap, Insn, Rs1Addr, Rs1Rdata, Rs2Addr, Rs2Rdata, RdAddr, RdWdata, PcWdata}
+use Rattle.hart_words.specs.Signals.{Shown}
 use Rattle.hart_words.specs.declared.signal.Difference.{Difference}
 use Rattle.rvfi_rows.specs.declared.expected.Expected.{Expected}
 use Rattle.rvfi_rows.specs.declared.expected.Expected.TheVariants.{Halted, Retired}
 use Rattle.rvfi_rows.specs.declared.expected.Retired.{Retired as Retirement}
 use Rattle.rvfi_rows.specs.declared.expected.Effects.{Effects}
-use Rattle.row_compare.specs.Signals.{Shown, differs, difference_at, ◌<|>◌}
+use Rattle.row_compare.specs.Signals.{differs, difference_at, ◌<|>◌}
 use Rattle.row_compare.specs.Sources.{source_difference}
 use Rattle.row_compare.specs.Memory.{memory_difference}
 

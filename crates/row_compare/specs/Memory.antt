@@ -1,22 +1,17 @@
 -- The memory access of an instruction, as riscv-formal's description of RVFI has a row show it: an
 -- address, at which eight bytes begin, masks that say which of them are read and written, and their data.
-use Rattle.std.specs.Prelude.{ℕ, ◌+◌, ◌-◌, ◌*◌, ◌%◌, ◌^◌, nat_le, if◌then◌else◌, Option, Some, None}
+use Rattle.std.specs.Prelude.{ℕ, ◌+◌, ◌-◌, ◌*◌, ◌%◌, ◌^◌, Option, Some, None}
 use Rattle.hart_words.specs.declared.signal.Signal.TheVariants.{MemAddr, MemRmask, MemRdata, MemWmask, MemWdata, MemPaddr}
+use Rattle.hart_words.specs.Signals.{Shown}
 use Rattle.hart_words.specs.declared.signal.Difference.{Difference}
+use Rattle.rvfi_rows.specs.Window.{distance_of}
 use Rattle.rvfi_rows.specs.declared.expected.Accessed.{Accessed}
-use Rattle.row_compare.specs.Signals.{Shown, difference_at, difference_under, ◌<|>◌}
+use Rattle.row_compare.specs.Signals.{difference_at, difference_under, ◌<|>◌}
 
--- how far the access begins above an address
-abbrev pub above : ℕ → ℕ → ℕ
-above va address = (va + (2 ^ 64 - address)) % 2 ^ 64
-
--- the same, where all bytes of the access are among the eight from that address on
-abbrev pub distance : Accessed → ℕ → Option ℕ
-distance access address = if nat_le (above access.va address + access.len) 8 then Some (above access.va address) else None
-
+-- how far the access begins above the address that is shown, where all its bytes are among the eight from there on
 abbrev pub distance_shown : Accessed → Option ℕ → Option ℕ
 distance_shown access None = None
-distance_shown access (Some address) = distance access address
+distance_shown access (Some address) = distance_of access.va access.len address
 
 -- so many ones from a bit on
 abbrev pub ones : ℕ → ℕ → ℕ
@@ -38,7 +33,7 @@ moved_back pa (Some away) = Some ((pa + (2 ^ 64 - away)) % 2 ^ 64)
 
 abbrev pub expected_physical : Accessed → Option ℕ → Option ℕ
 expected_physical access None = Some access.pa
-expected_physical access (Some address) = moved_back access.pa (distance access address)
+expected_physical access (Some address) = moved_back access.pa (distance_of access.va access.len address)
 
 -- what was read is compared under the mask of its bytes; further bits of the shown mask are accepted
 abbrev pub read_difference : ℕ → Option ℕ → Option ℕ → Shown → Option Difference

@@ -4,10 +4,6 @@ use Rattle.std.specs.Option.{option_or}
 use Rattle.hart_words.specs.declared.signal.Signal.{Signal}
 use Rattle.hart_words.specs.declared.signal.Difference.{Difference}
 
--- what a row shows: a value for each signal that it has one for
-abbrev pub Shown : Type 0
-Shown = Signal → Option ℕ
-
 -- the first of two that is there
 infixl 10 ◌<|>◌
 abbrev pub ◌<|>◌ : Option Difference → Option Difference → Option Difference

@@ -4,7 +4,7 @@ ghost use Rattle.std.specs.Prelude.{◌≡◌, ◌≤◌, ◌+◌};
 ghost use Rattle.row_compare.specs.Signals.{difference_under};
 ghost use Rattle.row_compare.specs.Memory.{ones, byte_ones};
 
-use crate::comparing::difference_between;
+use crate::comparison::difference_between;
 use hart_words::{Difference, Signal};
 
 /// `count` ones from bit `from` on.

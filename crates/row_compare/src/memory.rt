@@ -1,13 +1,13 @@
 //! The memory access of an instruction.
 
 ghost use Rattle.std.specs.Prelude.{◌≡◌, ◌≤◌, ◌+◌, ◌*◌, ◌%◌, ◌^◌, IfSome};
-ghost use Rattle.rvfi_rows.specs.Rows.{shown_in};
-ghost use Rattle.row_compare.specs.Memory.{distance, distance_shown, expected_address, expected_physical, moved_back, read_difference, written_difference, access_difference_at, memory_difference};
+ghost use Rattle.rvfi_rows.specs.Cells.{shown_in};
+ghost use Rattle.row_compare.specs.Memory.{distance_shown, expected_address, expected_physical, moved_back, read_difference, written_difference, access_difference_at, memory_difference};
 
-use crate::comparing::compared;
+use crate::comparison::compared;
 use crate::masks::{byte_ones, difference_under, ones};
 use hart_words::{Difference, Signal};
-use rvfi_rows::{Accessed, Row};
+use rvfi_rows::{Accessed, Row, distance_in_window};
 
 /// The signals of memory. The row's address may lie below the access, as far as the access still
 /// lies in the eight bytes from there on; masks, data and the physical address are moved with it.
@@ -22,12 +22,13 @@ pub fn memory_difference(access: &Option<Accessed>, row: &Row) -> Option<Differe
 }
 
 fn access_difference(access: &Accessed, row: &Row) -> Option<Difference>
-    ensures { result ≡ access_difference_at access.now (distance_shown access.now (shown_in row.now Signal.MemAddr)) (shown_in row.now) }
+    ensures { let away = distance_shown access.now (shown_in row.now Signal.MemAddr) in
+        result ≡ access_difference_at access.now away (shown_in row.now) }
 {
     let address = row.shown(Signal::MemAddr);
     let away = match address {
         None => None,
-        Some(address) => distance(access, address),
+        Some(address) => distance_in_window(access.va, access.len, address),
     };
     let expected = match away {
         Some(_) => None,
@@ -35,25 +36,12 @@ fn access_difference(access: &Accessed, row: &Row) -> Option<Difference>
     };
     let physical = match address {
         None => Some(access.pa),
-        Some(address) => moved_back(access.pa, distance(access, address)),
+        Some(_) => moved_back(access.pa, away),
     };
     compared(Signal::MemAddr, expected, row)
         .or(read_difference(access, away, row))
         .or(written_difference(access, away, row))
         .or(compared(Signal::MemPaddr, physical, row))
-}
-
-/// How far the access begins above an address, where all its bytes are among the eight from there on.
-fn distance(access: &Accessed, address: u64) -> Option<u64>
-    ensures value { result ≡ distance access.now address }
-    ensures near { IfSome result (λ away. away + access.now.len ≤ 8) }
-{
-    let above = access.va.wrapping_sub(address);
-    if above <= 8 && above + u64::from(access.len) <= 8 {
-        Some(above)
-    } else {
-        None
-    }
 }
 
 fn moved_back(pa: u64, away: Option<u64>) -> Option<u64>
@@ -88,15 +76,17 @@ fn read_difference(access: &Accessed, away: Option<u64>, row: &Row) -> Option<Di
 
 fn written_difference(access: &Accessed, away: Option<u64>, row: &Row) -> Option<Difference>
     requires { IfSome away (λ away. away + access.now.len ≤ 8) }
-    ensures { result ≡ written_difference access.now.len away access.now.written (shown_in row.now) }
+    ensures { result ≡ written_difference access.now.len away access.now.written
+        (shown_in row.now) }
 {
     match access.written {
         None => compared(Signal::MemWmask, Some(0), row),
         Some(value) => match away {
             None => None,
             Some(away) => {
+                let mask = ones(away, access.len);
                 let data = byte_ones(away, access.len);
-                compared(Signal::MemWmask, Some(ones(away, access.len)), row).or(difference_under(
+                compared(Signal::MemWmask, Some(mask), row).or(difference_under(
                     Signal::MemWdata,
                     data,
                     moved_up(value, away),

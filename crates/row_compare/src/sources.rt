@@ -2,28 +2,29 @@
 
 ghost use Rattle.std.specs.Prelude.{◌≡◌, Option, option_map};
 ghost use Rattle.hart_words.specs.declared.signal.Difference.{Difference};
-ghost use Rattle.rvfi_rows.specs.Rows.{shown_in};
-ghost use Rattle.row_compare.specs.Sources.{value_in, source_read, source_shown, source_difference};
+ghost use Rattle.rvfi_rows.specs.Cells.{shown_in};
+ghost use Rattle.row_compare.specs.Sources.{source_read, source_shown, source_difference};
 
-use crate::comparing::compared;
-use hart_words::{Difference, Signal};
+use crate::comparison::compared;
+use hart_words::{Difference, Registers, Signal};
 use rvfi_rows::Row;
 
-/// The number and the value of a register that is read: `address` and `contents` are the signals that
-/// show them. The value is that of the register which the row names, where it names one.
+/// The number and the value of a register that is read: `address` and `contents` are the signals
+/// that show them. The value is that of the register which the row names, where it names one.
 #[tactic(auto, unfolding(crate::specs::Sources::source_difference))]
 pub fn source_difference(
     address: Signal,
     contents: Signal,
-    registers: &[u64; 32],
+    registers: &Registers,
     source: u8,
     row: &Row,
 ) -> Option<Difference>
-    ensures { result ≡ source_difference address contents registers.now source (shown_in row.now address) (shown_in row.now contents) }
+    ensures { result ≡ source_difference address contents registers.now source
+        (shown_in row.now address) (shown_in row.now contents) }
 {
     let value = match source_shown(source, row.shown(address)) {
         None => None,
-        Some(number) => Some(value_in(registers, number)),
+        Some(number) => Some(registers.numbered(number)),
     };
     compared(address, source_read(source), row).or(compared(contents, value, row))
 }
@@ -44,14 +45,5 @@ fn source_shown(source: u8, named: Option<u64>) -> Option<u64>
     match named {
         None => source_read(source),
         Some(named) => Some(named),
-    }
-}
-
-fn value_in(registers: &[u64; 32], number: u64) -> u64
-    ensures { result ≡ value_in registers.now number }
-{
-    match registers.get(number as usize) {
-        Some(value) if number != 0 => *value,
-        _ => 0,
     }
 }

@@ -1,5 +1,5 @@
 use super::*;
-use hart_words::{Difference, Mode, Signal};
+use hart_words::{Difference, Mode, Registers, Signal};
 use rvfi_rows::{Accessed, Effects, Expected, Retired, read_header, read_row};
 use std::alloc::Global;
 use std::process::Abort;
@@ -55,10 +55,9 @@ fn retired(effects: Option<Effects>) -> Retired {
 }
 
 fn effects(access: Option<Accessed>) -> Effects {
-    let mut registers = [0; 32];
-    registers[0] = 9;
-    registers[1] = 0x11;
-    registers[2] = 0x22;
+    let mut registers = Registers::zeros();
+    registers.set(1, 0x11);
+    registers.set(2, 0x22);
     Effects {
         registers,
         rs1: 1,

@@ -1,7 +1,7 @@
 //! The first signal in which a row differs from what the hart did.
 
 ghost use Rattle.std.specs.Prelude.{◌≡◌};
-ghost use Rattle.rvfi_rows.specs.Rows.{shown_in};
+ghost use Rattle.rvfi_rows.specs.Cells.{shown_in};
 ghost use Rattle.row_compare.specs.Signals.{differs, difference_at};
 ghost use Rattle.row_compare.specs.Difference.{retired_difference, effects_difference, difference_in, difference_of};
 
@@ -11,9 +11,9 @@ use hart_words::{Difference, Signal};
 use rvfi_rows::{Effects, Expected, Retired, Row};
 
 /// The first difference in the order of comparison, if there is one: `order`, `intr`, `pc_rdata`,
-/// `mode`, `ixl`, `trap`, `insn`, the sources, the destination, `pc_wdata`, and memory. Only signals
-/// that the row shows are compared, and only those that are not free. Of a row that traps, nothing
-/// behind `insn` is compared; of one that comes after the hart halted, only `valid`.
+/// `mode`, `ixl`, `trap`, `insn`, the sources, the destination, `pc_wdata`, and memory. Only
+/// signals that the row shows are compared, and only those that are not free. Of a row that traps,
+/// nothing behind `insn` is compared; of one that comes after the hart halted, only `valid`.
 #[tactic(auto, unfolding(crate::specs::Difference::difference_of))]
 pub fn first_difference(expected: &Expected, row: &Row) -> Option<Difference>
     ensures { result ≡ difference_of expected.now (shown_in row.now) }
