@@ -1,63 +1,54 @@
 -- What a token leads to.
-use Rattle.std.proofs.Common.{◌≡◌, ℕ, ◌+◌, ◌%◌, ◌^◌, ◌↔◌, Bool, true, false, List, ◌∷◌, Option, is_some, Ok, Err, IsTrue, refl, inl, inr, arith}
+use Rattle.std.proofs.Common.{◌≡◌, ℕ, ◌+◌, ◌%◌, ◌^◌, true, false, List, ◌∷◌, Option, is_some, Ok, Err, IsTrue, refl, inl, inr, arith}
 use Rattle.std.proofs.lemmas.Bool.Decides.{nat_tests}
-use Rattle.hart_words.specs.declared.map.Span.{Span}
-use Rattle.hart_words.specs.Map.{Lies}
+use Rattle.hart_words.specs.declared.span.Span.{Span}
 use Rattle.image_text.specs.declared.fault.FaultKind.{FaultKind}
 use Rattle.image_text.specs.declared.fault.FaultKind.TheVariants.{OutsideRam, Overlap}
 use Rattle.image_text.specs.declared.word.Word.{Word}
 use Rattle.image_text.specs.declared.word.Word.TheVariants.{Byte, Address}
 use Rattle.image_text.specs.Bytes.{with_byte}
-use Rattle.image_text.specs.Image.{word_of, put, is_in, in_line, bytes_after}
-use Rattle.image_text.specs.Tokens.{Token}
+use Rattle.image_text.specs.Image.{word_of, placed, in_line, bytes_after}
+use Rattle.hart_words.specs.Spans.{Lies, is_in}
+use Rattle.image_text.specs.Tokens.{TokenView}
 use Rattle.image_text.proofs.TokenLemmas.{test}
 use Rattle.image_text.proofs.Pages.{eq_other}
 use Rattle.std.proofs.lemmas.Bool.{cases_eq}
 use Rattle.image_text.specs.declared.fault.ImageFault.{ImageFault}
-use Rattle.image_text.specs.Gives.{◌>>=◌}
+use Rattle.hart_words.specs.Results.{◌>>=◌}
 use Rattle.std.proofs.Common.{[], ◌∙◌, subst, sym}
 use Rattle.std.specs.Prelude.{Result, None}
 use Rattle.image_text.specs.Image.{image_of}
 use Rattle.image_text.specs.Tokens.{tokens_of}
 
--- the test of an address is the fact
-pub in_is : (ram : Span) (address : ℕ) (b : Bool) → (IsTrue b ↔ Lies address ram) → is_in ram address ≡ b
-in_is ram address true h = let lies = h.0 refl in grind (arith, nat_tests, lies)
-in_is ram address false h =
-    elim (test (is_in ram address)) [
-      | inl is ↦ (let lies : Lies address ram = grind (arith, nat_tests, is) in let none = h.1 lies in cc)
-      | inr not ↦ not
-    ]
-
-pub put_address : (ram : Span) (bytes : ℕ → Option ℕ) (address next : ℕ) → put ram bytes address (Address next) ≡ Ok (bytes, next)
-unfolding put
+pub put_address : (ram : Span) (bytes : ℕ → Option ℕ) (address next : ℕ) → placed ram bytes address (Address next) ≡ Ok (bytes, next)
+unfolding placed
 put_address ram bytes address next = refl
 
-pub put_outside : (ram : Span) (bytes : ℕ → Option ℕ) (address value : ℕ) → is_in ram address ≡ false → put ram bytes address (Byte value) ≡ Err OutsideRam
-unfolding put
+pub put_outside : (ram : Span) (bytes : ℕ → Option ℕ) (address value : ℕ) → is_in ram address ≡ false → placed ram bytes address (Byte value) ≡ Err OutsideRam
+unfolding placed
 put_outside ram bytes address value h = rw h refl
 
-pub put_overlap : (ram : Span) (bytes : ℕ → Option ℕ) (address value : ℕ) → is_in ram address ≡ true → is_some (bytes address) ≡ true → put ram bytes address (Byte value) ≡ Err Overlap
-unfolding put
+pub put_overlap : (ram : Span) (bytes : ℕ → Option ℕ) (address value : ℕ) → is_in ram address ≡ true → is_some (bytes address) ≡ true → placed ram bytes address (Byte value) ≡ Err Overlap
+unfolding placed
 put_overlap ram bytes address value h taken = rw (h, taken) refl
 
 pub put_byte : (ram : Span) (bytes : ℕ → Option ℕ) (address value : ℕ) → is_in ram address ≡ true → is_some (bytes address) ≡ false
-    → put ram bytes address (Byte value) ≡ Ok (with_byte bytes address value, (address + 1) % 2 ^ 64)
-unfolding put
+    → placed ram bytes address (Byte value) ≡ Ok (with_byte bytes address value, (address + 1) % 2 ^ 64)
+unfolding placed
 put_byte ram bytes address value h free = rw (h, free) refl
 
-pub after_bad : (ram : Span) (bytes : ℕ → Option ℕ) (address : ℕ) (token : Token) (others : List Token) (kind : FaultKind)
+pub after_bad : (ram : Span) (bytes : ℕ → Option ℕ) (address : ℕ) (token : TokenView) (others : List TokenView) (kind : FaultKind)
     → word_of token.bytes ≡ Err kind → bytes_after ram bytes address (token ∷ others) ≡ Err (record { kind = kind; line = token.line })
 unfolding bytes_after
 after_bad ram bytes address token others kind word = rw word refl
 
-pub after_refused : (ram : Span) (bytes : ℕ → Option ℕ) (address : ℕ) (token : Token) (others : List Token) (word : Word) (kind : FaultKind)
-    → word_of token.bytes ≡ Ok word → put ram bytes address word ≡ Err kind → bytes_after ram bytes address (token ∷ others) ≡ Err (record { kind = kind; line = token.line })
+pub after_refused : (ram : Span) (bytes : ℕ → Option ℕ) (address : ℕ) (token : TokenView) (others : List TokenView) (word : Word) (kind : FaultKind)
+    → word_of token.bytes ≡ Ok word → placed ram bytes address word ≡ Err kind → bytes_after ram bytes address (token ∷ others) ≡ Err (record { kind = kind; line = token.line })
 unfolding bytes_after
 after_refused ram bytes address token others word kind is refused = rw (is, refused) refl
 
-pub after_put : (ram : Span) (bytes : ℕ → Option ℕ) (address : ℕ) (token : Token) (others : List Token) (word : Word) (new : ℕ → Option ℕ) (next : ℕ)
-    → word_of token.bytes ≡ Ok word → put ram bytes address word ≡ Ok (new, next) → bytes_after ram bytes address (token ∷ others) ≡ bytes_after ram new next others
+pub after_put : (ram : Span) (bytes : ℕ → Option ℕ) (address : ℕ) (token : TokenView) (others : List TokenView) (word : Word) (new : ℕ → Option ℕ) (next : ℕ)
+    → word_of token.bytes ≡ Ok word → placed ram bytes address word ≡ Ok (new, next) → bytes_after ram bytes address (token ∷ others) ≡ bytes_after ram new next others
 unfolding bytes_after
 after_put ram bytes address token others word new next is puts = rw (is, puts) refl
 
@@ -79,7 +70,7 @@ with_inside ram bytes address value here inside a some =
       | inr apart ↦ inside a (rw (eq_other a address apart) at some)
     ]
 
-put_inside : (ram : Span) (bytes : ℕ → Option ℕ) (address : ℕ) (word : Word) (next : (ℕ → Option ℕ) × ℕ) → put ram bytes address word ≡ Ok next → AreInside ram bytes → AreInside ram next.0
+put_inside : (ram : Span) (bytes : ℕ → Option ℕ) (address : ℕ) (word : Word) (next : (ℕ → Option ℕ) × ℕ) → placed ram bytes address word ≡ Ok next → AreInside ram bytes → AreInside ram next.0
 put_inside ram bytes address (Address a) next h inside =
     let P : (ℕ → Option ℕ) × ℕ → Type 0 = λ n. AreInside ram n.0 in
     subst P (ok_same _ _ (sym (put_address ram bytes address a) ∙ h)) inside
@@ -93,12 +84,12 @@ put_inside ram bytes address (Byte value) next h inside =
       | inr outside ↦ (let none = sym (put_outside ram bytes address value outside) ∙ h in cc)
     ]
 
-pub all_inside : (ram : Span) (bytes : ℕ → Option ℕ) (address : ℕ) (tokens : List Token) (new : ℕ → Option ℕ) → AreInside ram bytes → bytes_after ram bytes address tokens ≡ Ok new → AreInside ram new
+pub all_inside : (ram : Span) (bytes : ℕ → Option ℕ) (address : ℕ) (tokens : List TokenView) (new : ℕ → Option ℕ) → AreInside ram bytes → bytes_after ram bytes address tokens ≡ Ok new → AreInside ram new
 unfolding bytes_after
 all_inside ram bytes address [] new inside h = subst (AreInside ram) (ok_same _ _ h) inside
 all_inside ram bytes address (token ∷ others) new inside h =
     let word = step_ok token.line (word_of token.bytes) _ new h in
-    let next = step_ok token.line (put ram bytes address word.0) _ new word.2 in
+    let next = step_ok token.line (placed ram bytes address word.0) _ new word.2 in
     all_inside ram next.0.0 next.0.1 others new (put_inside ram bytes address word.0 next.0 next.1 inside) next.2
 
 pub image_inside : (ram : Span) (text : List ℕ) (bytes : ℕ → Option ℕ) → image_of ram text ≡ Ok bytes → (a : ℕ) → IsTrue (is_some (bytes a)) → Lies a ram

@@ -3,7 +3,7 @@ use Rattle.std.proofs.Common.{◌≡◌, ℕ, ◌+◌, ◌≤◌, ◌⊎◌, Boo
 use Rattle.std.specs.Prelude.{◌==◌, slice_index}
 use Rattle.std.proofs.lemmas.Bool.{cases_eq}
 use Rattle.image_text.proofs.Pages.{eq_other}
-use Rattle.image_text.specs.Tokens.{Token, is_blank, opens_line, opens_block, has_close, Plain, LineComment, BlockComment, uncommented, joined, runs, tokens_from}
+use Rattle.image_text.specs.Tokens.{TokenView, is_blank, opens_line, opens_block, has_close, Plain, LineComment, BlockComment, uncommented, begun_by, runs, tokens_from}
 use Rattle.image_text.specs.Fronts.{opens_comment, begins_with_close, run_len}
 
 pub test : (x : Bool) → (x ≡ true) ⊎ (x ≡ false)
@@ -171,16 +171,16 @@ pub run_ends_opens : (a : ℕ) (rest : List ℕ) → is_blank a ≡ false → op
 run_ends_opens a rest blank h = run_ends a rest (rw (blank, h) refl)
 
 -- what stands before a blank is a token by itself
-joined_blank : (line b c : ℕ) (text rest : List ℕ) (tokens : List Token) → text ≡ c ∷ rest → is_blank c ≡ true → joined line b text tokens ≡ record { line = line; bytes = b ∷ [] } ∷ tokens
+joined_blank : (line b c : ℕ) (text rest : List ℕ) (tokens : List TokenView) → text ≡ c ∷ rest → is_blank c ≡ true → begun_by line b text tokens ≡ record { line = line; bytes = b ∷ [] } ∷ tokens
 joined_blank line b c text rest [] e h = rw e refl
 joined_blank line b c text rest (first ∷ others) e h = rw (e, h) refl
 
 -- what stands before another byte begins that byte's token
-joined_text : (line b c : ℕ) (text rest : List ℕ) (tokens : List Token) (first : Token) (others : List Token) → text ≡ c ∷ rest → is_blank c ≡ false → tokens ≡ first ∷ others
-    → joined line b text tokens ≡ record { line = first.line; bytes = b ∷ first.bytes } ∷ others
+joined_text : (line b c : ℕ) (text rest : List ℕ) (tokens : List TokenView) (first : TokenView) (others : List TokenView) → text ≡ c ∷ rest → is_blank c ≡ false → tokens ≡ first ∷ others
+    → begun_by line b text tokens ≡ record { line = first.line; bytes = b ∷ first.bytes } ∷ others
 joined_text line b c text rest tokens first others e h is = rw (e, is, h) refl
 
-runs_text : (line a : ℕ) (rest : List ℕ) → is_blank a ≡ false → runs line (a ∷ rest) ≡ joined line a rest (runs line rest)
+runs_text : (line a : ℕ) (rest : List ℕ) → is_blank a ≡ false → runs line (a ∷ rest) ≡ begun_by line a rest (runs line rest)
 unfolding runs
 runs_text line a rest blank = rw (blank, text_no_feed a blank) refl
 

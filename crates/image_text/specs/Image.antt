@@ -1,9 +1,10 @@
 -- The image that a Verilog memory text describes, or its first fault.
-use Rattle.std.specs.Prelude.{ℕ, ◌+◌, ◌%◌, ◌^◌, Bool, ◌==◌, ◌&&◌, nat_lt, nat_le, if◌then◌else◌, List, [], ◌∷◌, length, Option, Some, None, is_some, not, slice_index, Result, Ok, Err}
+use Rattle.std.specs.Prelude.{ℕ, ◌+◌, ◌%◌, ◌^◌, Bool, ◌==◌, ◌&&◌, nat_le, if◌then◌else◌, List, [], ◌∷◌, length, Option, Some, None, is_some, not, slice_index, Result, Ok, Err}
 use Rattle.std.specs.List.{list_all}
 use Rattle.std.specs.Char.{is_digit}
 use Rattle.std.specs.Str.Parse.{digits_value}
-use Rattle.hart_words.specs.declared.map.Span.{Span}
+use Rattle.hart_words.specs.declared.span.Span.{Span}
+use Rattle.hart_words.specs.Spans.{is_in}
 use Rattle.image_text.specs.declared.fault.FaultKind.{FaultKind}
 use Rattle.image_text.specs.declared.fault.FaultKind.TheVariants.{BadByte, BadAddress, OutsideRam, Overlap, OpenComment}
 use Rattle.image_text.specs.declared.fault.ImageFault.{ImageFault}
@@ -12,8 +13,8 @@ use Rattle.image_text.specs.declared.fault.ImageError.TheVariants as errors
 use Rattle.image_text.specs.declared.word.Word.{Word}
 use Rattle.image_text.specs.declared.word.Word.TheVariants.{Byte, Address}
 use Rattle.image_text.specs.Bytes.{with_byte}
-use Rattle.image_text.specs.Gives.{◌>>=◌}
-use Rattle.image_text.specs.Tokens.{Token, tokens_of, opens_block}
+use Rattle.hart_words.specs.Results.{◌>>=◌}
+use Rattle.image_text.specs.Tokens.{TokenView, tokens_of, opens_block}
 
 -- the fault that an error stands for; want of memory is none
 abbrev pub image_fault : ImageError → Option ImageFault
@@ -38,14 +39,10 @@ word_of (first ∷ rest) =
         if nat_le 1 (length digits) && nat_le (length digits) 16 && are_digits digits then Ok (Address (digits_value 16 digits))
         else Err BadAddress
 
--- the address is one of RAM
-abbrev pub is_in : Span → ℕ → Bool
-is_in ram address = nat_le ram.base address && nat_lt address (ram.base + ram.size)
-
 -- the bytes and the address after a word: an address sets it, and a byte stands at it and moves it on
-unfoldable pub put : Span → (ℕ → Option ℕ) → ℕ → Word → Result ((ℕ → Option ℕ) × ℕ) FaultKind
-put ram bytes address (Address next) = Ok (bytes, next)
-put ram bytes address (Byte value) =
+unfoldable pub placed : Span → (ℕ → Option ℕ) → ℕ → Word → Result ((ℕ → Option ℕ) × ℕ) FaultKind
+placed ram bytes address (Address next) = Ok (bytes, next)
+placed ram bytes address (Byte value) =
     if not (is_in ram address) then Err OutsideRam
     else if is_some (bytes address) then Err Overlap
     else Ok (with_byte bytes address value, (address + 1) % 2 ^ 64)
@@ -56,11 +53,11 @@ in_line line (Ok x) = Ok x
 in_line line (Err kind) = Err (record { kind = kind; line = line })
 
 -- the bytes after a list of tokens, or the first fault
-unfoldable pub bytes_after : Span → (ℕ → Option ℕ) → ℕ → List Token → Result (ℕ → Option ℕ) ImageFault
+unfoldable pub bytes_after : Span → (ℕ → Option ℕ) → ℕ → List TokenView → Result (ℕ → Option ℕ) ImageFault
 bytes_after ram bytes address [] = Ok bytes
 bytes_after ram bytes address (token ∷ others) = do
   word ← in_line token.line (word_of token.bytes)
-  next ← in_line token.line (put ram bytes address word)
+  next ← in_line token.line (placed ram bytes address word)
   bytes_after ram next.0 next.1 others
 
 -- the image of a text: no byte at first, and the address 0

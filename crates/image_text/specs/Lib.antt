@@ -1,4 +1,3 @@
-pub mod Gives
 pub mod Bytes
 pub mod Tokens
 pub mod Fronts

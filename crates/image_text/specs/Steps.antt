@@ -1,17 +1,17 @@
 -- What one step over a text tells of its tokens.
 use Rattle.std.specs.Prelude.{◌≡◌, ℕ, ◌+◌, ◌<◌, ◌^◌, List, [], ◌∷◌, length, Option, Some, None, true, false}
-use Rattle.image_text.specs.declared.tokens.Piece.{Piece}
+use Rattle.image_text.specs.declared.tokens.Token.{Token}
 use Rattle.image_text.specs.declared.tokens.Rest.{Rest}
 use Rattle.image_text.specs.declared.tokens.Step.{Step}
 use Rattle.image_text.specs.declared.tokens.Step.TheVariants.{Skipped, Found, End}
-use Rattle.image_text.specs.Tokens.{Token, tokens_from, has_close, Plain, BlockComment}
+use Rattle.image_text.specs.Tokens.{TokenView, tokens_from, has_close, Plain, BlockComment}
 
 -- a token without where it lies in memory
-abbrev pub token_seen : Piece → Token
+abbrev pub token_seen : Token → TokenView
 token_seen piece = record { line = piece.line; bytes = piece.bytes.now }
 
 -- the tokens that are left
-abbrev pub tokens_left : Rest → List Token
+abbrev pub tokens_left : Rest → List TokenView
 tokens_left rest = tokens_from rest.line Plain rest.text.now
 
 -- less of the text is left, and its lines can still be counted

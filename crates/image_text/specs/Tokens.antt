@@ -46,29 +46,29 @@ uncommented BlockComment (a ∷ b ∷ rest) =
     else uncommented BlockComment (b ∷ rest)
 
 -- a token and the line that it begins in
-pub record Token : Type 0 where
+pub record TokenView : Type 0 where
   pub line : ℕ
   pub bytes : List ℕ
 
 -- a byte in front of a text whose tokens are known: it is a token, or begins the first of them
-abbrev pub joined : ℕ → ℕ → List ℕ → List Token → List Token
-joined line b (c ∷ rest) (first ∷ others) =
+abbrev pub begun_by : ℕ → ℕ → List ℕ → List TokenView → List TokenView
+begun_by line b (c ∷ rest) (first ∷ others) =
     if is_blank c then record { line = line; bytes = b ∷ [] } ∷ first ∷ others
     else record { line = first.line; bytes = b ∷ first.bytes } ∷ others
-joined line b text tokens = record { line = line; bytes = b ∷ [] } ∷ tokens
+begun_by line b text tokens = record { line = line; bytes = b ∷ [] } ∷ tokens
 
 -- the runs of bytes that are not blank, in a text that begins in a line
-unfoldable pub runs : ℕ → List ℕ → List Token
+unfoldable pub runs : ℕ → List ℕ → List TokenView
 runs line [] = []
 runs line (b ∷ rest) =
     if b == 10 then runs (line + 1) rest
     else if is_blank b then runs line rest
-    else joined line b rest (runs line rest)
+    else begun_by line b rest (runs line rest)
 
 -- the tokens of a text that begins in a line and a region
-abbrev pub tokens_from : ℕ → Region → List ℕ → List Token
+abbrev pub tokens_from : ℕ → Region → List ℕ → List TokenView
 tokens_from line region text = runs line (uncommented region text)
 
 -- the tokens of a text
-abbrev pub tokens_of : List ℕ → List Token
+abbrev pub tokens_of : List ℕ → List TokenView
 tokens_of text = tokens_from 1 Plain text

@@ -1,15 +1,17 @@
 //! The bytes of an image and where they stand.
 
 ghost use Rattle.std.specs.Prelude.{◌≡◌, length};
+ghost use Rattle.hart_words.specs.declared.span.TheConstants.{PAGE_SIZE};
 
+use hart_words::{PAGE_BYTES, PAGE_SIZE};
 use std::alloc::{AllocError, Global};
 use std::collections::BTreeMap;
 
 /// 4,096 addresses, and the byte that each of them has.
 #[derive(Drop)]
 pub struct PiecePage {
-    bytes: [Option<u8>; 4096],
-    ghost full: { length bytes ≡ 4096 },
+    bytes: [Option<u8>; PAGE_BYTES],
+    ghost full: { length bytes ≡ PAGE_SIZE },
 }
 
 impl PiecePage {
@@ -17,12 +19,13 @@ impl PiecePage {
     ghost use Rattle.std.specs.List.{slice_index_or};
 
     /// The bytes of the page, 0 where it has none.
-    pub fn plain(&self) -> [u8; 4096]
-        ensures len { length result ≡ 4096 }
-        ensures value { (k : ℕ) → k < 4096 → slice_index result k ≡ unwrap_or (slice_index_or self.now.bytes k None) 0 }
+    pub fn plain(&self) -> [u8; PAGE_BYTES]
+        ensures len { length result ≡ PAGE_SIZE }
+        ensures value { (k : ℕ) → k < PAGE_SIZE
+            → slice_index result k ≡ unwrap_or (slice_index_or self.now.bytes k None) 0 }
     {
-        let mut plain = [0; 4096];
-        for k in 0..4096 {
+        let mut plain = [0; PAGE_BYTES];
+        for k in 0..PAGE_BYTES {
             plain[k] = self.bytes[k].unwrap_or(0);
         }
         plain
@@ -54,8 +57,8 @@ impl Pieces {
     pub fn byte(&self, address: u64) -> Option<u8>
         ensures { result ≡ byte_at self.now address }
     {
-        let page = self.pages.get(&(address / 4096))?;
-        page.bytes[(address % 4096) as usize]
+        let page = self.pages.get(&(address / PAGE_SIZE))?;
+        page.bytes[(address % PAGE_SIZE) as usize]
     }
 
     /// The pages by their number, which is an address divided by 4,096.
@@ -70,7 +73,7 @@ impl Pieces {
         ensures put { OnOk result (byte_at self.new ≡ with_byte (byte_at self.old) address value) }
         ensures err { OnErr result (byte_at self.new ≡ byte_at self.old) }
     {
-        self.ready(alloc, address / 4096)?;
+        self.ready(alloc, address / PAGE_SIZE)?;
         self.set(address, value);
         Ok(())
     }
@@ -84,7 +87,7 @@ impl Pieces {
             return Ok(());
         }
         let page = PiecePage {
-            bytes: [None; 4096],
+            bytes: [None; PAGE_BYTES],
         };
         let page = Box::new(alloc, page)?;
         self.pages.insert(number, page)?;
@@ -93,11 +96,11 @@ impl Pieces {
 
     /// Puts a byte into a page that is there.
     fn set(&mut self, address: u64, value: u8)
-        requires { IsTrue (has_page self.old (address / 4096)) }
+        requires { IsTrue (has_page self.old (address / PAGE_SIZE)) }
         ensures { byte_at self.new ≡ with_byte (byte_at self.old) address value }
     {
-        match self.pages.get_mut(&(address / 4096)) {
-            Some(page) => page.bytes[(address % 4096) as usize] = Some(value),
+        match self.pages.get_mut(&(address / PAGE_SIZE)) {
+            Some(page) => page.bytes[(address % PAGE_SIZE) as usize] = Some(value),
             None => unreachable!(),
         }
     }

@@ -3,13 +3,12 @@ use hart_words::Span;
 use std::alloc::Global;
 use std::test::Fail;
 
-const RAM: Span = Span {
-    base: 0x8000_0000,
-    size: 0x1_0000,
-};
+fn ram() -> Result<Span, Fail> {
+    Ok(Span::new(0x8000_0000, 0x1_0000).ok_or("no range")?)
+}
 
-fn fault_of(alloc: Global, text: &str) -> Option<ImageFault> {
-    match read_image(alloc, text.as_bytes(), RAM) {
+fn fault_of(alloc: Global, text: &str, ram: Span) -> Option<ImageFault> {
+    match read_image(alloc, text.as_bytes(), ram) {
         Err(ImageError::Fault(fault)) => Some(fault),
         _ => None,
     }
@@ -18,7 +17,7 @@ fn fault_of(alloc: Global, text: &str) -> Option<ImageFault> {
 #[test]
 fn bytes_of_a_text(rt: HostRuntime) -> Result<(), Fail> {
     let text = "// a program\n@80000000 93 00/*x*/50\t00\r\n@8000fFfF\x0caB // end";
-    let pieces = read_image(rt.alloc(), text.as_bytes(), RAM)?;
+    let pieces = read_image(rt.alloc(), text.as_bytes(), ram()?)?;
     assert_eq!(rt; pieces.byte(0x8000_0000), Some(0x93));
     assert_eq!(rt; pieces.byte(0x8000_0001), Some(0x00));
     assert_eq!(rt; pieces.byte(0x8000_0002), Some(0x50));
@@ -31,7 +30,7 @@ fn bytes_of_a_text(rt: HostRuntime) -> Result<(), Fail> {
 }
 
 #[test]
-fn faults_with_their_lines(rt: HostRuntime) {
+fn faults_with_their_lines(rt: HostRuntime) -> Result<(), Fail> {
     for (text, kind, line) in [
         ("@80000000 9", FaultKind::BadByte, 1),
         ("@zz", FaultKind::BadAddress, 1),
@@ -46,8 +45,12 @@ fn faults_with_their_lines(rt: HostRuntime) {
         ("/* \n \n */ 93@80000000", FaultKind::BadByte, 3),
         ("*/", FaultKind::BadByte, 1),
     ] {
-        assert_eq!(rt; fault_of(rt.alloc(), text), Some(ImageFault { kind, line }));
+        assert_eq!(rt;
+            fault_of(rt.alloc(), text, ram()?),
+            Some(ImageFault { kind, line })
+        );
     }
+    Ok(())
 }
 
 #[test]

@@ -8,7 +8,7 @@ ghost use Rattle.image_text.specs.Steps.{StepGives, BlockGives};
 /// A run of bytes that are neither blank nor in a comment, or the `/*` of a comment that is never
 /// closed, with the line, from 1, in which it begins.
 #[derive(Clone, Copy)]
-pub struct Piece<'a> {
+pub struct Token<'a> {
     pub line: u64,
     pub bytes: &'a [u8],
 }
@@ -23,7 +23,7 @@ pub struct Rest<'a> {
 /// What stands at the front of a text.
 pub enum Step<'a> {
     Skipped(Rest<'a>),
-    Found(Piece<'a>, Rest<'a>),
+    Found(Token<'a>, Rest<'a>),
     End,
 }
 
@@ -45,7 +45,7 @@ pub fn next_step(rest: Rest<'_>) -> Step<'_>
         return over_comment(rest);
     }
     let (bytes, after) = rest.text.split_at(run_length(rest.text));
-    let token = Piece {
+    let token = Token {
         line: rest.line,
         bytes,
     };
@@ -72,7 +72,7 @@ fn over_comment(rest: Rest<'_>) -> Step<'_>
     match after_block(rest.line, comment) {
         Some(after) => Step::Skipped(after),
         None => Step::Found(
-            Piece {
+            Token {
                 line: rest.line,
                 bytes: mark,
             },

@@ -17,7 +17,8 @@ pub enum Word {
 fn digits_of(digits: &[u8]) -> Option<u64>
     requires { length digits.now ≤ 16 }
     ensures small { IfSome result (λ value. value < 16 ^ length digits.now) }
-    ensures value { result ≡ (if are_digits digits.now then Some (digits_value 16 digits.now) else None) }
+    ensures value { result ≡
+        (if are_digits digits.now then Some (digits_value 16 digits.now) else None) }
 {
     let mut value = 0u64;
     for digit in digits {

@@ -2,7 +2,7 @@ use Rattle.std.proofs.Common.{◌≡◌, ◌+◌, ◌<◌, ◌^◌, length}
 use Rattle.image_text.specs.Image.{image_of}
 use Rattle.image_text.specs.Steps.{tokens_left}
 use Rattle.image_text.specs.Taking.{led_to}
-use Rattle.image_text.proofs.reading.read_image.Given as goal
+use Rattle.image_text.proofs.image.read_image.Given as goal
 
 abbrev pub invariant-loop-after : goal.invariant-loop-after
 invariant-loop-after l = record {

@@ -1,27 +1,27 @@
 //! A text read whole.
 
 ghost use Rattle.std.specs.Prelude.{◌≡◌, ℕ, IfOk, IsTrue, is_some};
-ghost use Rattle.hart_words.specs.Map.{IsSpan, Lies};
+ghost use Rattle.hart_words.specs.Spans.{Lies};
 ghost use Rattle.image_text.specs.Bytes.{byte_at};
-ghost use Rattle.image_text.specs.Gives.{Gives};
+ghost use Rattle.hart_words.specs.Results.{Gives};
 ghost use Rattle.image_text.specs.Image.{image_fault, image_of};
 
 use crate::fault::{FaultKind, ImageError, ImageFault};
 use crate::pieces::Pieces;
-use crate::tokens::{Piece, Rest, Step, next_step};
+use crate::tokens::{Rest, Step, Token, next_step};
 use crate::word::{Word, read_word};
 use hart_words::Span;
 use std::alloc::Global;
 
-/// The image that a Verilog memory text of bytes describes, as `$readmemh` reads it: `@` and 1 to 16
-/// hexadecimal digits set the address, two digits put a byte there, and blanks and comments separate.
-/// The error is the first fault in text order.
+/// The image that a Verilog memory text of bytes describes, as `$readmemh` reads it: `@` and 1 to
+/// 16 hexadecimal digits set the address, two digits put a byte there, and blanks and comments
+/// separate. The error is the first fault in text order.
 pub fn read_image(alloc: Global, text: &[u8], ram: Span) -> Result<Pieces, ImageError>
-    requires { IsSpan ram }
     ensures exact { Gives image_fault byte_at result (image_of ram text.now) }
-    ensures inside { IfOk result (λ pieces. (a : ℕ) → IsTrue (is_some (byte_at pieces a)) → Lies a ram) }
+    ensures inside { IfOk result (λ pieces. (a : ℕ) → IsTrue (is_some (byte_at pieces a))
+        → Lies a ram) }
 {
-    let mut image = Underway {
+    let mut image = PartialImage {
         pieces: Pieces::empty(alloc),
         address: 0,
     };
@@ -40,17 +40,16 @@ pub fn read_image(alloc: Global, text: &[u8], ram: Span) -> Result<Pieces, Image
 
 /// An image read so far, and the address of the next byte.
 #[derive(Drop)]
-struct Underway {
+struct PartialImage {
     pieces: Pieces,
     address: u64,
 }
 
-impl Underway {
+impl PartialImage {
     ghost use Rattle.image_text.specs.Taking.{TakeGives};
 
     /// Does what a token says.
-    fn take(&mut self, alloc: Global, token: Piece<'_>, ram: Span) -> Result<(), ImageError>
-        requires { IsSpan ram }
+    fn take(&mut self, alloc: Global, token: Token<'_>, ram: Span) -> Result<(), ImageError>
         ensures { TakeGives ram self.old token.entry self.new result }
     {
         match read_word(token.bytes) {

@@ -2,7 +2,7 @@ use Rattle.std.proofs.Common.{◌∙◌, sym, ap}
 use Rattle.image_text.specs.Image.{bytes_after}
 use Rattle.image_text.specs.Taking.{led_to}
 use Rattle.image_text.proofs.ImageLemmas.{image_inside}
-use Rattle.image_text.proofs.reading.read_image.Goals as goal
+use Rattle.image_text.proofs.image.read_image.Goals as goal
 
 pub returns-in-End-clause-exact : goal.returns-in-End-clause-exact
 unfolding bytes_after
