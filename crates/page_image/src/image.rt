@@ -1,8 +1,9 @@
 //! Pages of bytes by their number.
 
 ghost use Rattle.std.specs.Prelude.{◌≡◌, length};
+ghost use Rattle.hart_words.specs.declared.span.TheConstants.{PAGE_SIZE};
 
-use hart_words::{NoMemory, Span};
+use hart_words::{NoMemory, PAGE_BYTES, PAGE_SIZE, Span};
 use image_text::Pieces;
 use std::alloc::Global;
 use std::collections::BTreeMap;
@@ -10,8 +11,8 @@ use std::collections::BTreeMap;
 /// 4,096 addresses and their bytes.
 #[derive(Drop)]
 struct Page {
-    bytes: [u8; 4096],
-    ghost full: { length bytes ≡ 4096 },
+    bytes: [u8; PAGE_BYTES],
+    ghost full: { length bytes ≡ PAGE_SIZE },
 }
 
 /// The bytes of RAM before the first step: those of an image, and 0 elsewhere.
@@ -49,8 +50,8 @@ impl PageImage {
     pub fn byte(&self, pa: u64) -> u8
         ensures { result ≡ byte_of self.now pa }
     {
-        match self.pages.get(&(pa / 4096)) {
-            Some(page) => page.bytes[(pa % 4096) as usize],
+        match self.pages.get(&(pa / PAGE_SIZE)) {
+            Some(page) => page.bytes[(pa % PAGE_SIZE) as usize],
             None => 0,
         }
     }

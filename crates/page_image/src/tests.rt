@@ -8,10 +8,7 @@ fn is_shared<T: Send + Sync>(_value: &T) {}
 
 #[test]
 fn bytes_of_ram(rt: HostRuntime) -> Result<(), Fail> {
-    let ram = Span {
-        base: 0x8000_0000,
-        size: 0x1_0000,
-    };
+    let ram = Span::new(0x8000_0000, 0x1_0000).ok_or("no range")?;
     let pieces = read_image(rt.alloc(), b"@80000ffe 12 34 56 @8000f000 78", ram)?;
     let image = PageImage::build(rt.alloc(), &pieces, ram)?;
     for (address, byte) in [
