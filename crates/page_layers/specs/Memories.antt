@@ -2,12 +2,13 @@
 use Rattle.std.specs.Prelude.{◌≡◌, ℕ, ◌/◌, Bool, true, is_some, unwrap_or}
 use Rattle.std.specs.BTreeMap.{get}
 use Rattle.std.specs.Ordering.{nat_cmp}
-use Rattle.hart_words.specs.declared.map.Span.{Span}
+use Rattle.hart_words.specs.declared.span.Span.{Span}
 use Rattle.hart_words.specs.Memory.{Bytes}
 use Rattle.page_image.specs.Bytes.{byte_of}
 use Rattle.page_layers.specs.declared.layered.Layered.{Layered}
 use Rattle.page_layers.specs.declared.map_mem.MapMem.{MapMem}
 use Rattle.page_layers.specs.Pages.{own_byte, over}
+use Rattle.hart_words.specs.declared.span.TheConstants.{PAGE_SIZE}
 
 -- the image's bytes under the pages that were written
 abbrev pub layered_bytes : Layered → Bytes
@@ -26,4 +27,4 @@ has_byte mem pa = is_some (get nat_cmp mem.bytes pa)
 
 -- the map has a byte of its own at each address of the page
 abbrev pub HasPage : MapMem → ℕ → Type 0
-HasPage mem page = (pa : ℕ) → pa / 4096 ≡ page → has_byte mem pa ≡ true
+HasPage mem page = (pa : ℕ) → pa / PAGE_SIZE ≡ page → has_byte mem pa ≡ true

@@ -3,10 +3,11 @@ use Rattle.std.specs.Prelude.{ℕ, ◌/◌, ◌%◌, Bool, Option, option_map, i
 use Rattle.std.specs.BTreeMap.{get}
 use Rattle.std.specs.Ordering.{nat_cmp}
 use Rattle.page_layers.specs.declared.pages.Pages.{Pages}
+use Rattle.hart_words.specs.declared.span.TheConstants.{PAGE_SIZE}
 
 -- the byte at an address, where its page is there
 unfoldable pub own_byte : Pages → ℕ → Option ℕ
-own_byte pages pa = option_map (λ page. slice_index page.value.bytes (pa % 4096)) (get nat_cmp pages.pages (pa / 4096))
+own_byte pages pa = option_map (λ page. slice_index page.value.bytes (pa % PAGE_SIZE)) (get nat_cmp pages.pages (pa / PAGE_SIZE))
 
 -- the page of this number is there
 unfoldable pub has_page : Pages → ℕ → Bool

@@ -5,7 +5,7 @@ ghost use Rattle.page_image.specs.Bytes.{byte_of};
 
 use crate::numbers::{ByteMem, number_of, put_number};
 use crate::pages::Pages;
-use hart_words::{NoMemory, PhysMem};
+use hart_words::{NoMemory, PAGE_BYTES, PAGE_SIZE, PhysMem};
 use page_image::PageImage;
 use std::alloc::Global;
 
@@ -55,7 +55,7 @@ impl<'a> ByteMem for Layered<'a> {
     }
 
     fn admit(&mut self, pa: u64) -> Result<(), NoMemory> {
-        let number = pa / 4096;
+        let number = pa / PAGE_SIZE;
         if self.pages.contains(number) {
             return Ok(());
         }
@@ -103,14 +103,15 @@ impl<'a> PhysMem for Layered<'a> {
 }
 
 /// The bytes of a page of the image.
-fn page_of(image: &PageImage, number: u64) -> [u8; 4096]
+fn page_of(image: &PageImage, number: u64) -> [u8; PAGE_BYTES]
     requires { number < 2 ^ 52 }
-    ensures full { length result ≡ 4096 }
-    ensures bytes { (k : ℕ) → k < 4096 → slice_index result k ≡ byte_of image.now (number * 4096 + k) }
+    ensures full { length result ≡ PAGE_SIZE }
+    ensures bytes { (k : ℕ) → k < PAGE_SIZE
+        → slice_index result k ≡ byte_of image.now (number * PAGE_SIZE + k) }
 {
-    let mut bytes = [0; 4096];
-    for k in 0..4096 {
-        bytes[k] = image.byte(number * 4096 + k as u64);
+    let mut bytes = [0; PAGE_BYTES];
+    for k in 0..PAGE_BYTES {
+        bytes[k] = image.byte(number * PAGE_SIZE + k as u64);
     }
     bytes
 }

@@ -1,7 +1,7 @@
 //! A plain memory over an ordered map, for tests.
 
 use crate::numbers::{ByteMem, number_of, put_number};
-use hart_words::{NoMemory, PhysMem, Span};
+use hart_words::{NoMemory, PAGE_SIZE, PhysMem, Span};
 use std::alloc::Global;
 use std::collections::BTreeMap;
 
@@ -62,8 +62,8 @@ impl ByteMem for MapMem {
     }
 
     fn admit(&mut self, pa: u64) -> Result<(), NoMemory> {
-        let first = pa - pa % 4096;
-        for k in 0..4096 {
+        let first = pa - pa % PAGE_SIZE;
+        for k in 0..PAGE_SIZE {
             self.hold(first + k)?;
         }
         Ok(())

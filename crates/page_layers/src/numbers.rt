@@ -1,10 +1,10 @@
 //! Numbers of several bytes over a memory of single bytes.
 
 ghost use Rattle.std.specs.Prelude.{◌≡◌, ◌≤◌, ◌<◌, ◌+◌, ◌*◌, ◌/◌, ◌%◌, ◌^◌, ℕ, IsOk, OnOk};
-ghost use Rattle.hart_words.specs.declared.map.Span.{Span};
+ghost use Rattle.hart_words.specs.declared.span.Span.{Span};
 ghost use Rattle.hart_words.specs.Memory.{Bytes, number_at, stored};
 
-use hart_words::NoMemory;
+use hart_words::{NoMemory, PAGE_SIZE};
 
 /// A memory of single bytes that admits writes by pages of 4,096 bytes.
 pub trait ByteMem {
@@ -24,14 +24,14 @@ pub trait ByteMem {
     /// Takes what memory the page of an address needs.
     fn admit(&mut self, pa: u64) -> Result<(), NoMemory>
         ensures bytes { bytes self.new ≡ bytes self.old }
-        ensures ok { OnOk result (admits self.new (pa / 4096)) }
-        ensures admitted { admits self.old (pa / 4096) → IsOk result }
+        ensures ok { OnOk result (admits self.new (pa / PAGE_SIZE)) }
+        ensures admitted { admits self.old (pa / PAGE_SIZE) → IsOk result }
         ensures keeps { (page : ℕ) → admits self.old page → admits self.new page }
         ensures ram { ram self.new ≡ ram self.old };
 
     /// Sets the byte at an address whose page was admitted.
     fn set(&mut self, pa: u64, value: u8)
-        requires { admits self.old (pa / 4096) }
+        requires { admits self.old (pa / PAGE_SIZE) }
         ensures bytes { bytes self.new ≡ stored pa 1 value (bytes self.old) }
         ensures keeps { (page : ℕ) → admits self.old page → admits self.new page }
         ensures ram { ram self.new ≡ ram self.old };
@@ -57,8 +57,8 @@ pub fn number_of<M: ByteMem>(mem: &M, pa: u64, len: u8) -> u64
 pub fn put_number<M: ByteMem>(mem: &mut M, pa: u64, len: u8, value: u64)
     requires few { len ≤ 8 }
     requires inside { pa + len < 2 ^ 64 }
-    requires page { pa % 4096 + len ≤ 4096 }
-    requires admitted { M.admits mem.old (pa / 4096) }
+    requires page { pa % PAGE_SIZE + len ≤ PAGE_SIZE }
+    requires admitted { M.admits mem.old (pa / PAGE_SIZE) }
     ensures bytes { M.bytes mem.new ≡ stored pa len value (M.bytes mem.old) }
     ensures keeps { (page : ℕ) → M.admits mem.old page → M.admits mem.new page }
     ensures ram { M.ram mem.new ≡ M.ram mem.old }

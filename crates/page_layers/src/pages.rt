@@ -1,15 +1,16 @@
 //! Pages of bytes by their number.
 
 ghost use Rattle.std.specs.Prelude.{◌≡◌, length};
+ghost use Rattle.hart_words.specs.declared.span.TheConstants.{PAGE_SIZE};
 
-use hart_words::NoMemory;
+use hart_words::{NoMemory, PAGE_BYTES, PAGE_SIZE};
 use std::alloc::{AllocError, Global};
 use std::collections::BTreeMap;
 
 /// 4,096 addresses and their bytes.
 pub struct Page {
-    bytes: [u8; 4096],
-    ghost full: { length bytes ≡ 4096 },
+    bytes: [u8; PAGE_BYTES],
+    ghost full: { length bytes ≡ PAGE_SIZE },
 }
 
 impl Copy for Page {}
@@ -50,8 +51,8 @@ impl Pages {
     pub fn byte(&self, pa: u64) -> Option<u8>
         ensures { result ≡ own_byte self.now pa }
     {
-        let page = self.pages.get(&(pa / 4096))?;
-        Some(page.bytes[(pa % 4096) as usize])
+        let page = self.pages.get(&(pa / PAGE_SIZE))?;
+        Some(page.bytes[(pa % PAGE_SIZE) as usize])
     }
 
     /// Whether a page is there.
@@ -63,12 +64,20 @@ impl Pages {
     }
 
     /// Adds a page, unless it is there.
-    pub fn add(&mut self, alloc: Global, number: u64, bytes: [u8; 4096]) -> Result<(), NoMemory>
+    pub fn add(
+        &mut self,
+        alloc: Global,
+        number: u64,
+        bytes: [u8; PAGE_BYTES],
+    ) -> Result<(), NoMemory>
         requires absent { has_page self.old number ≡ false }
-        requires full { length bytes ≡ 4096 }
+        requires full { length bytes ≡ PAGE_SIZE }
         ensures ok { OnOk result (IsTrue (has_page self.new number)) }
-        ensures bytes { (base : ℕ → ℕ) → ((k : ℕ) → k < 4096 → slice_index bytes k ≡ base (number * 4096 + k)) → over (own_byte self.new) base ≡ over (own_byte self.old) base }
-        ensures keeps { (page : ℕ) → IsTrue (has_page self.old page) → IsTrue (has_page self.new page) }
+        ensures bytes { (base : ℕ → ℕ)
+            → ((k : ℕ) → k < PAGE_SIZE → slice_index bytes k ≡ base (number * PAGE_SIZE + k))
+            → over (own_byte self.new) base ≡ over (own_byte self.old) base }
+        ensures keeps { (page : ℕ) → IsTrue (has_page self.old page)
+            → IsTrue (has_page self.new page) }
     {
         let page = Box::new(alloc, Page { bytes })?;
         self.pages.insert(number, page)?;
@@ -77,12 +86,14 @@ impl Pages {
 
     /// Sets the byte at an address whose page is there.
     pub fn set(&mut self, pa: u64, value: u8)
-        requires { IsTrue (has_page self.old (pa / 4096)) }
-        ensures bytes { (base : ℕ → ℕ) → over (own_byte self.new) base ≡ stored pa 1 value (over (own_byte self.old) base) }
-        ensures keeps { (page : ℕ) → IsTrue (has_page self.old page) → IsTrue (has_page self.new page) }
+        requires { IsTrue (has_page self.old (pa / PAGE_SIZE)) }
+        ensures bytes { (base : ℕ → ℕ)
+            → over (own_byte self.new) base ≡ stored pa 1 value (over (own_byte self.old) base) }
+        ensures keeps { (page : ℕ) → IsTrue (has_page self.old page)
+            → IsTrue (has_page self.new page) }
     {
-        match self.pages.get_mut(&(pa / 4096)) {
-            Some(page) => page.bytes[(pa % 4096) as usize] = value,
+        match self.pages.get_mut(&(pa / PAGE_SIZE)) {
+            Some(page) => page.bytes[(pa % PAGE_SIZE) as usize] = value,
             None => unreachable!(),
         }
     }

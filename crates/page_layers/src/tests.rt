@@ -1,8 +1,8 @@
-ghost use Rattle.std.specs.Prelude.{◌≡◌, ◌^◌, IsTrue};
+ghost use Rattle.std.specs.Prelude.{◌≡◌, IsTrue};
 ghost use Rattle.hart_words.specs.Memory.{IsPlace};
 
 use super::*;
-use hart_words::{PhysMem, Span};
+use hart_words::{PAGE_SIZE, PhysMem, Span};
 use image_text::read_image;
 use page_image::PageImage;
 use std::process::Abort;
@@ -62,72 +62,71 @@ const LEFT: Numbers = &[
 ];
 
 /// RAM of three pages.
-fn three_pages() -> Span
-    ensures { result ≡ record { base = 2 ^ 31; size = 12288 } }
-{
-    Span {
-        base: 0x8000_0000,
-        size: 0x3000,
-    }
+fn three_pages() -> Result<Span, Fail> {
+    Ok(Span::new(0x8000_0000, 0x3000).ok_or("no range")?)
 }
 
-/// Whether so many bytes lie in one page of that RAM.
-fn is_place(pa: u64, len: u8) -> bool
-    ensures { IsTrue result → IsPlace (record { base = 2 ^ 31; size = 12288 }) pa len }
+/// Whether so many bytes lie in one page of RAM.
+fn is_place(ram: &Span, pa: u64, len: u8) -> bool
+    ensures { IsTrue result → IsPlace ram.now pa len }
 {
-    let len = u64::from(len);
-    1 <= len && len <= 8 && 0x8000_0000 <= pa && pa <= 0x8000_3000 - len && pa % 4096 + len <= 4096
+    1 <= len && len <= 8 && ram.holds(pa, len) && pa % PAGE_SIZE + u64::from(len) <= PAGE_SIZE
 }
 
-fn shows<M: PhysMem>(rt: &impl Abort, mem: &M, numbers: Numbers)
-    requires { M.ram mem.now ≡ record { base = 2 ^ 31; size = 12288 } }
+fn shows<M: PhysMem>(rt: &impl Abort, mem: &M, ram: &Span, numbers: Numbers)
+    requires { M.ram mem.now ≡ ram.now }
 {
     for (pa, len, value) in numbers {
-        assert!(rt; is_place(*pa, *len));
+        assert!(rt; is_place(ram, *pa, *len));
         assert_eq!(rt; mem.read(*pa, *len), *value, "at {pa}");
     }
 }
 
-fn write_all<M: PhysMem>(rt: &impl Abort, mem: &mut M, numbers: Numbers) -> Result<(), Fail>
-    requires { M.ram mem.old ≡ record { base = 2 ^ 31; size = 12288 } }
+fn write_all<M: PhysMem>(
+    rt: &impl Abort,
+    mem: &mut M,
+    ram: &Span,
+    numbers: Numbers,
+) -> Result<(), Fail>
+    requires { M.ram mem.old ≡ ram.now }
     ensures { M.ram mem.new ≡ M.ram mem.old }
 {
     for (pa, len, value) in numbers {
-        assert!(rt; is_place(*pa, *len));
+        assert!(rt; is_place(ram, *pa, *len));
         mem.write(*pa, *len, *value)?;
     }
     Ok(())
 }
 
 /// Takes what memory each page needs.
-fn ready_all<M: PhysMem>(rt: &impl Abort, mem: &mut M) -> Result<(), Fail>
-    requires { M.ram mem.old ≡ record { base = 2 ^ 31; size = 12288 } }
+fn ready_all<M: PhysMem>(rt: &impl Abort, mem: &mut M, ram: &Span) -> Result<(), Fail>
+    requires { M.ram mem.old ≡ ram.now }
     ensures { M.ram mem.new ≡ M.ram mem.old }
 {
     for pa in [0x8000_0abc, 0x8000_1000, 0x8000_2fff] {
-        assert!(rt; is_place(pa, 1));
+        assert!(rt; is_place(ram, pa, 1));
         mem.ready(pa)?;
     }
     Ok(())
 }
 
 /// A memory with the image's bytes is written to, copied, and written to again.
-fn serves<M: PhysMem + Drop>(rt: &impl Abort, mut mem: M) -> Result<(), Fail>
-    requires { M.ram mem ≡ record { base = 2 ^ 31; size = 12288 } }
+fn serves<M: PhysMem + Drop>(rt: &impl Abort, mut mem: M, ram: &Span) -> Result<(), Fail>
+    requires { M.ram mem ≡ ram.now }
 {
-    shows(rt, &mem, SHOWN);
+    shows(rt, &mem, ram, SHOWN);
     let mut other = mem.copy()?;
-    ready_all(rt, &mut mem)?;
-    shows(rt, &mem, SHOWN);
-    write_all(rt, &mut mem, WRITTEN)?;
-    shows(rt, &mem, LEFT);
-    shows(rt, &other, SHOWN);
+    ready_all(rt, &mut mem, ram)?;
+    shows(rt, &mem, ram, SHOWN);
+    write_all(rt, &mut mem, ram, WRITTEN)?;
+    shows(rt, &mem, ram, LEFT);
+    shows(rt, &other, ram, SHOWN);
     let written = mem.copy()?;
-    write_all(rt, &mut mem, LOADED)?;
-    shows(rt, &written, LEFT);
-    shows(rt, &other, SHOWN);
-    write_all(rt, &mut other, WRITTEN)?;
-    shows(rt, &other, LEFT);
+    write_all(rt, &mut mem, ram, LOADED)?;
+    shows(rt, &written, ram, LEFT);
+    shows(rt, &other, ram, SHOWN);
+    write_all(rt, &mut other, ram, WRITTEN)?;
+    shows(rt, &other, ram, LEFT);
     Ok(())
 }
 
@@ -135,16 +134,18 @@ fn is_sent<T: Send>(_value: &T) {}
 
 #[test]
 fn serves_over_an_image(rt: HostRuntime) -> Result<(), Fail> {
-    let pieces = read_image(rt.alloc(), IMAGE, three_pages())?;
-    let image = PageImage::build(rt.alloc(), &pieces, three_pages())?;
+    let ram = three_pages()?;
+    let pieces = read_image(rt.alloc(), IMAGE, ram)?;
+    let image = PageImage::build(rt.alloc(), &pieces, ram)?;
     let mem = Layered::over(rt.alloc(), &image);
     is_sent(&mem);
-    serves(&rt, mem)
+    serves(&rt, mem, &ram)
 }
 
 #[test]
 fn serves_over_a_map(rt: HostRuntime) -> Result<(), Fail> {
-    let mut mem = MapMem::zeros(rt.alloc(), three_pages());
-    write_all(&rt, &mut mem, LOADED)?;
-    serves(&rt, mem)
+    let ram = three_pages()?;
+    let mut mem = MapMem::zeros(rt.alloc(), ram);
+    write_all(&rt, &mut mem, &ram, LOADED)?;
+    serves(&rt, mem, &ram)
 }
