@@ -7,7 +7,8 @@ use Rattle.std.proofs.lemmas.Bool.{eqb-true}
 use Rattle.std.proofs.lemmas.Bool.Decides.{nat_tests}
 use Rattle.std.proofs.lemmas.List.Sums.{AllPass-from_list_all}
 use Rattle.rv_decode.specs.declared.patterns.Pattern.{Pattern}
-use Rattle.rv_decode.specs.Table.{NeverBoth, NoTwoRowsMeet}
+use Rattle.hart_words.specs.Tables.{NeverBoth, MeetsOneAtMost}
+use Rattle.rv_decode.specs.Table.{meets}
 
 abbrev pub are_apart : Pattern → Pattern → Bool
 are_apart one other = not (bit_and one.bits other.mask == bit_and other.bits one.mask)
@@ -23,7 +24,7 @@ both false b h = cc
 differ : (a b : ℕ) → a ≡ b → not (a == b) ≡ true → ⊥
 differ a b same h = grind (arith, nat_tests)
 
-never : (one other : Pattern) → are_apart one other ≡ true → NeverBoth one other
+never : (one other : Pattern) → are_apart one other ≡ true → NeverBoth meets one other
 never one other apart word here there =
     let first : bit_and word one.mask ≡ one.bits = eqb-true _ _ here in
     let second : bit_and word other.mask ≡ other.bits = eqb-true _ _ there in
@@ -31,11 +32,11 @@ never one other apart word here there =
     let right : bit_and other.bits one.mask ≡ bit_and word (bit_and one.mask other.mask) = rw (← second) (and_assoc one.mask word other.mask ∙ ap (λ m. bit_and word m) (and_comm other.mask one.mask)) in
     differ _ _ (left ∙ sym right) apart
 
-each : (row : Pattern) (rows : List Pattern) → list_all (are_apart row) rows ≡ true → All (NeverBoth row) rows
+each : (row : Pattern) (rows : List Pattern) → list_all (are_apart row) rows ≡ true → All (NeverBoth meets row) rows
 each row rows h k d inside = never row (get_or rows k d) (AllPass-from_list_all (are_apart row) rows h k d inside)
 
-pub no_two_meet : (rows : List Pattern) → all_apart rows ≡ true → NoTwoRowsMeet rows
+pub no_two_meet : (rows : List Pattern) → all_apart rows ≡ true → MeetsOneAtMost meets rows
 no_two_meet [] h = λ i j d lt inside. absurd (omega arith)
 no_two_meet (row ∷ rows) h =
     let parts = both (list_all (are_apart row) rows) (all_apart rows) h in
-    AllPairs-cons NeverBoth row rows (each row rows parts.0) (no_two_meet rows parts.1)
+    AllPairs-cons (NeverBoth meets) row rows (each row rows parts.0) (no_two_meet rows parts.1)

@@ -7,8 +7,8 @@ use Rattle.std.proofs.lemmas.Bool.{eqb-true}
 use Rattle.std.proofs.lemmas.Bool.Decides.{nat_tests}
 use Rattle.std.proofs.lemmas.List.Folds.{find-append}
 use Rattle.rv_decode.specs.declared.patterns.Pattern.{Pattern}
-use Rattle.rv_decode.specs.Fields.{op_of}
-use Rattle.rv_decode.specs.Table.{Opcode, opcodes, all_rows, rows_with, meets, op_in}
+use Rattle.rv_decode.specs.Fields.{operation_of}
+use Rattle.rv_decode.specs.Table.{Opcode, opcodes, all_rows, rows_of, meets, decoded_by}
 
 -- the row asks for the opcode
 abbrev pub asks : ℕ → Pattern → Bool
@@ -49,7 +49,7 @@ unmet code (row ∷ rows) word all other =
     let first : meets row word ≡ false = unmet_row code row word parts.0 other (meets row word) refl in
     rw first (unmet code rows word parts.1 other)
 
-none_with : (more : List Opcode) (code word : ℕ) → list_all (λ other. not (other.code == code)) more ≡ true → (code == word) ≡ true → rows_with more word ≡ []
+none_with : (more : List Opcode) (code word : ℕ) → list_all (λ other. not (other.code == code)) more ≡ true → (code == word) ≡ true → rows_of more word ≡ []
 none_with [] code word others same = refl
 none_with (opcode ∷ more) code word others same =
     let parts = both (not (opcode.code == code)) (list_all (λ other. not (other.code == code)) more) others in
@@ -63,24 +63,24 @@ or_none (Some row) = refl
 by_test : (opcode : Opcode) (more : List Opcode) (word : ℕ)
     → list_all (asks opcode.code) opcode.rows ≡ true
     → list_all (λ other. not (other.code == opcode.code)) more ≡ true
-    → find (λ row. meets row word) (all_rows more) ≡ find (λ row. meets row word) (rows_with more (word % 128))
+    → find (λ row. meets row word) (all_rows more) ≡ find (λ row. meets row word) (rows_of more (word % 128))
     → (test : Bool) → (opcode.code == word % 128) ≡ test
-    → find (λ row. meets row word) (opcode.rows ++ all_rows more) ≡ find (λ row. meets row word) (if test then opcode.rows else rows_with more (word % 128))
+    → find (λ row. meets row word) (opcode.rows ++ all_rows more) ≡ find (λ row. meets row word) (if test then opcode.rows else rows_of more (word % 128))
 by_test opcode more word rows others ih true is =
-    let gone : rows_with more (word % 128) ≡ [] = none_with more opcode.code (word % 128) others is in
+    let gone : rows_of more (word % 128) ≡ [] = none_with more opcode.code (word % 128) others is in
     let none : find (λ row. meets row word) (all_rows more) ≡ None = ih ∙ ap (find (λ row. meets row word)) gone in
     find-append (λ row. meets row word) opcode.rows (all_rows more) ∙ (rw none (or_none (find (λ row. meets row word) opcode.rows)))
 by_test opcode more word rows others ih false is =
     let none : find (λ row. meets row word) opcode.rows ≡ None = unmet opcode.code opcode.rows word rows is in
     find-append (λ row. meets row word) opcode.rows (all_rows more) ∙ (rw none ih)
 
-pub found : (map : List Opcode) (word : ℕ) → is_map map ≡ true → find (λ row. meets row word) (all_rows map) ≡ find (λ row. meets row word) (rows_with map (word % 128))
+pub found : (map : List Opcode) (word : ℕ) → is_map map ≡ true → find (λ row. meets row word) (all_rows map) ≡ find (λ row. meets row word) (rows_of map (word % 128))
 found [] word h = refl
 found (opcode ∷ more) word h =
     let parts = both (list_all (asks opcode.code) opcode.rows) (list_all (λ other. not (other.code == opcode.code)) more && is_map more) h in
     let rest = both (list_all (λ other. not (other.code == opcode.code)) more) (is_map more) parts.1 in
     by_test opcode more word parts.0 rest.0 (found more word rest.1) (opcode.code == word % 128) refl
 
-pub scanned : (word : ℕ) → op_in (rows_with opcodes (word % 128)) word ≡ op_in (all_rows opcodes) word
-unfolding op_in opcodes
-scanned word = ap (option_map (λ row. op_of row.form word)) (sym (found opcodes word refl))
+pub scanned : (word : ℕ) → decoded_by (rows_of opcodes (word % 128)) word ≡ decoded_by (all_rows opcodes) word
+unfolding decoded_by opcodes
+scanned word = ap (option_map (λ row. operation_of row.form word)) (sym (found opcodes word refl))

@@ -1,4 +1,5 @@
--- The registers that an instruction writes and reads, and where its jumps go, from the Unprivileged ISA's chapters on its instructions.
+-- The registers that an instruction writes and reads, and where its jumps go.
+-- From the Unprivileged ISA's chapters on its instructions.
 use Rattle.std.specs.Prelude.{◌≡◌, ℕ, ◌<◌, ◌%◌}
 use Rattle.rv_decode.specs.declared.operation.Op.{Op}
 use Rattle.rv_decode.specs.declared.operation.Op.TheVariants.{Lui, Auipc, Jal, Jalr, Branch, Load, Store, Immediate, ImmediateWord, Register, RegisterWord, Fence, FenceI, Ecall, Ebreak, LoadReserved, StoreConditional, Amo}

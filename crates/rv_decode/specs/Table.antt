@@ -1,9 +1,160 @@
--- What a 32-bit word means: the row of the instruction table that it meets. From the Unprivileged ISA's chapter "RV32/64G Instruction Set Listings".
-use Rattle.std.specs.Prelude.{◌≡◌, ℕ, Bool, true, List, [], ◌∷◌, ◌++◌, Option, option_map, find, bit_and, ◌==◌, AllPairs, if◌then◌else◌}
+-- What a 32-bit word means: the row of the instruction table that it meets.
+-- From the Unprivileged ISA's chapter "RV32/64G Instruction Set Listings": a row gives the opcode (bits 6:0), funct3 (14:12), and funct7 (31:25), funct6 (31:26) or funct5 (31:27).
+use Rattle.std.specs.Prelude.{ℕ, Bool, List, [], ◌∷◌, ◌++◌, Option, option_map, find, bit_and, ◌==◌, if◌then◌else◌}
 use Rattle.rv_decode.specs.declared.operation.Op.{Op}
+use Rattle.rv_decode.specs.declared.operation.BranchOp.TheVariants.{Beq, Bne, Blt, Bge, Bltu, Bgeu}
+use Rattle.rv_decode.specs.declared.operation.LoadOp.TheVariants.{Lb, Lh, Lw, Ld, Lbu, Lhu, Lwu}
+use Rattle.rv_decode.specs.declared.operation.StoreOp.TheVariants.{Sb, Sh, Sw, Sd}
+use Rattle.rv_decode.specs.declared.operation.ImmediateOp.TheVariants.{Addi, Slti, Sltiu, Xori, Ori, Andi, Slli, Srli, Srai}
+use Rattle.rv_decode.specs.declared.operation.ImmediateWordOp.TheVariants.{Addiw, Slliw, Srliw, Sraiw}
+use Rattle.rv_decode.specs.declared.operation.RegisterOp.TheVariants.{Add, Sub, Sll, Slt, Sltu, Xor, Srl, Sra, Or, And, Mul, Mulh, Mulhsu, Mulhu, Div, Divu, Rem, Remu}
+use Rattle.rv_decode.specs.declared.operation.RegisterWordOp.TheVariants.{Addw, Subw, Sllw, Srlw, Sraw, Mulw, Divw, Divuw, Remw, Remuw}
+use Rattle.rv_decode.specs.declared.operation.Width.TheVariants.{Word, Doubleword}
+use Rattle.rv_decode.specs.declared.operation.AmoOp.TheVariants.{Amoswap, Amoadd, Amoxor, Amoand, Amoor, Amomin, Amomax, Amominu, Amomaxu}
+use Rattle.rv_decode.specs.declared.patterns.Form.TheVariants.{Lui, Auipc, Jal, Jalr, Branch, Load, Store, Immediate, Shift, ImmediateWord, ShiftWord, Register, RegisterWord, Fence, FenceI, Ecall, Ebreak, LoadReserved, StoreConditional, Amo}
 use Rattle.rv_decode.specs.declared.patterns.Pattern.{Pattern}
-use Rattle.rv_decode.specs.declared.patterns.TheConstants.{LUI_ROWS, AUIPC_ROWS, JAL_ROWS, JALR_ROWS, BRANCH_ROWS, LOAD_ROWS, STORE_ROWS, OP_IMM_ROWS, OP_IMM_32_ROWS, OP_ROWS, OP_32_ROWS, MISC_MEM_ROWS, SYSTEM_ROWS, AMO_ROWS}
-use Rattle.rv_decode.specs.Fields.{op_of}
+use Rattle.rv_decode.specs.Patterns.{by_opcode, by_funct3, by_funct5, by_funct5_and_rs2, by_funct6, by_funct7, by_word}
+use Rattle.rv_decode.specs.Fields.{operation_of}
+
+-- LUI: the opcode alone
+abbrev pub lui_rows : List Pattern
+lui_rows = by_opcode 0x37 Lui ∷ []
+
+-- AUIPC
+abbrev pub auipc_rows : List Pattern
+auipc_rows = by_opcode 0x17 Auipc ∷ []
+
+-- JAL
+abbrev pub jal_rows : List Pattern
+jal_rows = by_opcode 0x6f Jal ∷ []
+
+-- JALR
+abbrev pub jalr_rows : List Pattern
+jalr_rows = by_funct3 0x67 0 Jalr ∷ []
+
+-- BRANCH
+abbrev pub branch_rows : List Pattern
+branch_rows =
+    by_funct3 0x63 0 (Branch Beq) ∷
+    by_funct3 0x63 1 (Branch Bne) ∷
+    by_funct3 0x63 4 (Branch Blt) ∷
+    by_funct3 0x63 5 (Branch Bge) ∷
+    by_funct3 0x63 6 (Branch Bltu) ∷
+    by_funct3 0x63 7 (Branch Bgeu) ∷ []
+
+-- LOAD
+abbrev pub load_rows : List Pattern
+load_rows =
+    by_funct3 0x03 0 (Load Lb) ∷
+    by_funct3 0x03 1 (Load Lh) ∷
+    by_funct3 0x03 2 (Load Lw) ∷
+    by_funct3 0x03 3 (Load Ld) ∷
+    by_funct3 0x03 4 (Load Lbu) ∷
+    by_funct3 0x03 5 (Load Lhu) ∷
+    by_funct3 0x03 6 (Load Lwu) ∷ []
+
+-- STORE
+abbrev pub store_rows : List Pattern
+store_rows =
+    by_funct3 0x23 0 (Store Sb) ∷
+    by_funct3 0x23 1 (Store Sh) ∷
+    by_funct3 0x23 2 (Store Sw) ∷
+    by_funct3 0x23 3 (Store Sd) ∷ []
+
+-- OP_IMM; a shift's amount has 6 bits
+abbrev pub op_imm_rows : List Pattern
+op_imm_rows =
+    by_funct3 0x13 0 (Immediate Addi) ∷
+    by_funct3 0x13 2 (Immediate Slti) ∷
+    by_funct3 0x13 3 (Immediate Sltiu) ∷
+    by_funct3 0x13 4 (Immediate Xori) ∷
+    by_funct3 0x13 6 (Immediate Ori) ∷
+    by_funct3 0x13 7 (Immediate Andi) ∷
+    by_funct6 0x13 1 0x00 (Shift Slli) ∷
+    by_funct6 0x13 5 0x00 (Shift Srli) ∷
+    by_funct6 0x13 5 0x10 (Shift Srai) ∷ []
+
+-- OP_IMM_32; a shift's amount has 5 bits
+abbrev pub op_imm_32_rows : List Pattern
+op_imm_32_rows =
+    by_funct3 0x1b 0 (ImmediateWord Addiw) ∷
+    by_funct7 0x1b 1 0x00 (ShiftWord Slliw) ∷
+    by_funct7 0x1b 5 0x00 (ShiftWord Srliw) ∷
+    by_funct7 0x1b 5 0x20 (ShiftWord Sraiw) ∷ []
+
+-- OP
+abbrev pub op_rows : List Pattern
+op_rows =
+    by_funct7 0x33 0 0x00 (Register Add) ∷
+    by_funct7 0x33 0 0x20 (Register Sub) ∷
+    by_funct7 0x33 1 0x00 (Register Sll) ∷
+    by_funct7 0x33 2 0x00 (Register Slt) ∷
+    by_funct7 0x33 3 0x00 (Register Sltu) ∷
+    by_funct7 0x33 4 0x00 (Register Xor) ∷
+    by_funct7 0x33 5 0x00 (Register Srl) ∷
+    by_funct7 0x33 5 0x20 (Register Sra) ∷
+    by_funct7 0x33 6 0x00 (Register Or) ∷
+    by_funct7 0x33 7 0x00 (Register And) ∷
+    by_funct7 0x33 0 0x01 (Register Mul) ∷
+    by_funct7 0x33 1 0x01 (Register Mulh) ∷
+    by_funct7 0x33 2 0x01 (Register Mulhsu) ∷
+    by_funct7 0x33 3 0x01 (Register Mulhu) ∷
+    by_funct7 0x33 4 0x01 (Register Div) ∷
+    by_funct7 0x33 5 0x01 (Register Divu) ∷
+    by_funct7 0x33 6 0x01 (Register Rem) ∷
+    by_funct7 0x33 7 0x01 (Register Remu) ∷ []
+
+-- OP_32
+abbrev pub op_32_rows : List Pattern
+op_32_rows =
+    by_funct7 0x3b 0 0x00 (RegisterWord Addw) ∷
+    by_funct7 0x3b 0 0x20 (RegisterWord Subw) ∷
+    by_funct7 0x3b 1 0x00 (RegisterWord Sllw) ∷
+    by_funct7 0x3b 5 0x00 (RegisterWord Srlw) ∷
+    by_funct7 0x3b 5 0x20 (RegisterWord Sraw) ∷
+    by_funct7 0x3b 0 0x01 (RegisterWord Mulw) ∷
+    by_funct7 0x3b 4 0x01 (RegisterWord Divw) ∷
+    by_funct7 0x3b 5 0x01 (RegisterWord Divuw) ∷
+    by_funct7 0x3b 6 0x01 (RegisterWord Remw) ∷
+    by_funct7 0x3b 7 0x01 (RegisterWord Remuw) ∷ []
+
+-- MISC_MEM; the other fields of a fence are ignored
+abbrev pub misc_mem_rows : List Pattern
+misc_mem_rows =
+    by_funct3 0x0f 0 Fence ∷
+    by_funct3 0x0f 1 FenceI ∷ []
+
+-- SYSTEM
+abbrev pub system_rows : List Pattern
+system_rows =
+    by_word 0x00000073 Ecall ∷
+    by_word 0x00100073 Ebreak ∷ []
+
+-- AMO; aq and rl are ignored
+abbrev pub amo_rows : List Pattern
+amo_rows =
+    by_funct5 0x2f 2 0x00 (Amo Amoadd Word) ∷
+    by_funct5 0x2f 2 0x01 (Amo Amoswap Word) ∷
+    by_funct5_and_rs2 0x2f 2 0x02 0 (LoadReserved Word) ∷
+    by_funct5 0x2f 2 0x03 (StoreConditional Word) ∷
+    by_funct5 0x2f 2 0x04 (Amo Amoxor Word) ∷
+    by_funct5 0x2f 2 0x08 (Amo Amoor Word) ∷
+    by_funct5 0x2f 2 0x0c (Amo Amoand Word) ∷
+    by_funct5 0x2f 2 0x10 (Amo Amomin Word) ∷
+    by_funct5 0x2f 2 0x14 (Amo Amomax Word) ∷
+    by_funct5 0x2f 2 0x18 (Amo Amominu Word) ∷
+    by_funct5 0x2f 2 0x1c (Amo Amomaxu Word) ∷
+    by_funct5 0x2f 3 0x00 (Amo Amoadd Doubleword) ∷
+    by_funct5 0x2f 3 0x01 (Amo Amoswap Doubleword) ∷
+    by_funct5_and_rs2 0x2f 3 0x02 0 (LoadReserved Doubleword) ∷
+    by_funct5 0x2f 3 0x03 (StoreConditional Doubleword) ∷
+    by_funct5 0x2f 3 0x04 (Amo Amoxor Doubleword) ∷
+    by_funct5 0x2f 3 0x08 (Amo Amoor Doubleword) ∷
+    by_funct5 0x2f 3 0x0c (Amo Amoand Doubleword) ∷
+    by_funct5 0x2f 3 0x10 (Amo Amomin Doubleword) ∷
+    by_funct5 0x2f 3 0x14 (Amo Amomax Doubleword) ∷
+    by_funct5 0x2f 3 0x18 (Amo Amominu Doubleword) ∷
+    by_funct5 0x2f 3 0x1c (Amo Amomaxu Doubleword) ∷ []
 
 -- an opcode, the low 7 bits of a word, and its rows
 pub record Opcode : Type 0 where
@@ -13,20 +164,20 @@ pub record Opcode : Type 0 where
 -- the opcode map
 unfoldable pub opcodes : List Opcode
 opcodes =
-    record { code = 0x37; rows = LUI_ROWS } ∷
-    record { code = 0x17; rows = AUIPC_ROWS } ∷
-    record { code = 0x6f; rows = JAL_ROWS } ∷
-    record { code = 0x67; rows = JALR_ROWS } ∷
-    record { code = 0x63; rows = BRANCH_ROWS } ∷
-    record { code = 0x03; rows = LOAD_ROWS } ∷
-    record { code = 0x23; rows = STORE_ROWS } ∷
-    record { code = 0x13; rows = OP_IMM_ROWS } ∷
-    record { code = 0x1b; rows = OP_IMM_32_ROWS } ∷
-    record { code = 0x33; rows = OP_ROWS } ∷
-    record { code = 0x3b; rows = OP_32_ROWS } ∷
-    record { code = 0x0f; rows = MISC_MEM_ROWS } ∷
-    record { code = 0x73; rows = SYSTEM_ROWS } ∷
-    record { code = 0x2f; rows = AMO_ROWS } ∷ []
+    record { code = 0x37; rows = lui_rows } ∷
+    record { code = 0x17; rows = auipc_rows } ∷
+    record { code = 0x6f; rows = jal_rows } ∷
+    record { code = 0x67; rows = jalr_rows } ∷
+    record { code = 0x63; rows = branch_rows } ∷
+    record { code = 0x03; rows = load_rows } ∷
+    record { code = 0x23; rows = store_rows } ∷
+    record { code = 0x13; rows = op_imm_rows } ∷
+    record { code = 0x1b; rows = op_imm_32_rows } ∷
+    record { code = 0x33; rows = op_rows } ∷
+    record { code = 0x3b; rows = op_32_rows } ∷
+    record { code = 0x0f; rows = misc_mem_rows } ∷
+    record { code = 0x73; rows = system_rows } ∷
+    record { code = 0x2f; rows = amo_rows } ∷ []
 
 -- the rows of all opcodes
 abbrev pub all_rows : List Opcode → List Pattern
@@ -34,26 +185,18 @@ all_rows [] = []
 all_rows (opcode ∷ more) = opcode.rows ++ all_rows more
 
 -- the rows of one opcode
-abbrev pub rows_with : List Opcode → ℕ → List Pattern
-rows_with [] code = []
-rows_with (opcode ∷ more) code = if opcode.code == code then opcode.rows else rows_with more code
+abbrev pub rows_of : List Opcode → ℕ → List Pattern
+rows_of [] code = []
+rows_of (opcode ∷ more) code = if opcode.code == code then opcode.rows else rows_of more code
 
 -- the word meets the row
 abbrev pub meets : Pattern → ℕ → Bool
 meets row word = bit_and word row.mask == row.bits
 
 -- the instruction of the row that the word meets
-unfoldable pub op_in : List Pattern → ℕ → Option Op
-op_in rows word = option_map (λ row. op_of row.form word) (find (λ row. meets row word) rows)
+unfoldable pub decoded_by : List Pattern → ℕ → Option Op
+decoded_by rows word = option_map (λ row. operation_of row.form word) (find (λ row. meets row word) rows)
 
 -- the instruction of the row of the table that the word meets
-unfoldable pub instruction_of : ℕ → Option Op
-instruction_of word = op_in (all_rows opcodes) word
-
--- no word meets both rows
-abbrev pub NeverBoth : Pattern → Pattern → Type 0
-NeverBoth one other = (word : ℕ) → meets one word ≡ true → meets other word ≡ true → ⊥
-
--- no word meets two rows, so that which row comes first decides nothing
-abbrev pub NoTwoRowsMeet : List Pattern → Type 0
-NoTwoRowsMeet rows = AllPairs NeverBoth rows
+unfoldable pub decoded : ℕ → Option Op
+decoded word = decoded_by (all_rows opcodes) word

@@ -1,21 +1,20 @@
-//! The instruction table: what each 32-bit word means, and the one row that it meets.
+//! What a 32-bit word means: `decode` takes the word and gives its instruction with its operands,
+//! or `None` where it is illegal. It meets `decoded` in `specs/Table.antt`, where the instructions
+//! of RV64IMA stand in the columns of the Unprivileged ISA's chapter "RV32/64G Instruction Set
+//! Listings"; `laws` says that no word meets two rows.
 #![tactic(auto)]
 
-mod decoding;
+mod decoder;
 pub mod laws;
+pub mod opcodes;
 mod operands;
 mod operation;
 mod patterns;
 
-pub use decoding::decode;
+pub use decoder::decode;
 pub use operation::{
     AmoOp, BranchOp, ImmediateOp, ImmediateWordOp, LoadOp, Op, RegisterOp, RegisterWordOp, StoreOp,
     Width,
-};
-pub use patterns::{
-    AMO_ROWS, AUIPC_ROWS, BRANCH_ROWS, Form, JAL_ROWS, JALR_ROWS, LOAD_ROWS, LUI_ROWS,
-    MISC_MEM_ROWS, OP_32_ROWS, OP_IMM_32_ROWS, OP_IMM_ROWS, OP_ROWS, Pattern, STORE_ROWS,
-    SYSTEM_ROWS,
 };
 
 #[cfg(test)]

@@ -1,40 +1,27 @@
 //! The fields of a 32-bit word.
 
-ghost use Rattle.std.specs.Prelude.{◌≡◌, ◌≤◌, ◌<◌, ◌^◌, ◌%◌};
-ghost use Rattle.rv_decode.specs.Fields.{field, signed_to_64, immediate_i, immediate_s, immediate_b, immediate_u, immediate_j, op_of};
+ghost use Rattle.std.specs.Prelude.{◌≡◌, ◌<◌, ◌^◌, ◌%◌};
+ghost use Rattle.hart_words.specs.Words.{bit_field};
+ghost use Rattle.rv_decode.specs.Fields.{immediate_i, immediate_s, immediate_b, immediate_u, immediate_j, operation_of};
 ghost use Rattle.rv_decode.specs.Operands.{HasEvenOffset, HasRegisters};
 
 use crate::operation::Op;
 use crate::patterns::Form;
+use hart_words::sext;
 
 /// The `count` bits of `word` from bit `first` on.
 fn field_of(word: u32, first: u32, count: u32) -> u32
     requires inside { first < 32 }
     requires few { count < 32 }
-    ensures { result ≡ field first count word }
+    ensures { result ≡ bit_field first count word }
 {
     (word >> first) % 2u32.pow(count)
-}
-
-/// A signed number of `bits` bits, extended to 64.
-fn extended(number: u32, bits: u32) -> u64
-    requires some { 1 ≤ bits }
-    requires few { bits ≤ 32 }
-    requires fits { number < 2 ^ bits }
-    ensures { result ≡ signed_to_64 bits number }
-{
-    let number = u64::from(number);
-    if number < 2u64.pow(bits - 1) {
-        number
-    } else {
-        u64::MAX - 2u64.pow(bits) + 1 + number
-    }
 }
 
 /// The register whose number stands in the 5 bits from `first` on.
 fn register(word: u32, first: u32) -> u8
     requires { first < 32 }
-    ensures number { result ≡ field first 5 word }
+    ensures number { result ≡ bit_field first 5 word }
     ensures below { result < 32 }
 {
     field_of(word, first, 5) as u8
@@ -44,17 +31,21 @@ fn register(word: u32, first: u32) -> u8
 fn i_immediate(word: u32) -> u64
     ensures { result ≡ immediate_i word }
 {
-    extended(field_of(word, 20, 12), 12)
+    sext(u64::from(field_of(word, 20, 12)), 12)
 }
 
 /// The offset of the S-format.
 fn s_immediate(word: u32) -> u64
     ensures { result ≡ immediate_s word }
 {
-    extended(field_of(word, 25, 7) * 0x20 + field_of(word, 7, 5), 12)
+    sext(
+        u64::from(field_of(word, 25, 7) * 0x20 + field_of(word, 7, 5)),
+        12,
+    )
 }
 
 /// The offset of the B-format, a multiple of 2.
+#[tactic(auto, using(crate::proofs::Even::even_of_13))]
 fn b_immediate(word: u32) -> u64
     ensures number { result ≡ immediate_b word }
     ensures even { result % 2 ≡ 0 }
@@ -63,17 +54,18 @@ fn b_immediate(word: u32) -> u64
         + field_of(word, 7, 1) * 0x800
         + field_of(word, 25, 6) * 0x20
         + field_of(word, 8, 4) * 2;
-    extended(number, 13)
+    sext(u64::from(number), 13)
 }
 
 /// The immediate of the U-format: the upper 20 bits of a 32-bit number.
 fn u_immediate(word: u32) -> u64
     ensures { result ≡ immediate_u word }
 {
-    extended(field_of(word, 12, 20) * 4096, 32)
+    sext(u64::from(field_of(word, 12, 20) * 4096), 32)
 }
 
 /// The offset of the J-format, a multiple of 2.
+#[tactic(auto, using(crate::proofs::Even::even_of_21))]
 fn j_immediate(word: u32) -> u64
     ensures number { result ≡ immediate_j word }
     ensures even { result % 2 ≡ 0 }
@@ -82,12 +74,12 @@ fn j_immediate(word: u32) -> u64
         + field_of(word, 12, 8) * 0x1000
         + field_of(word, 20, 1) * 0x800
         + field_of(word, 21, 10) * 2;
-    extended(number, 21)
+    sext(u64::from(number), 21)
 }
 
 /// The instruction of this form with the operands that stand in the word.
 pub fn operation(form: Form, word: u32) -> Op
-    ensures meaning { result ≡ op_of form word }
+    ensures meaning { result ≡ operation_of form word }
     ensures registers { HasRegisters result }
     ensures even { HasEvenOffset result }
 {

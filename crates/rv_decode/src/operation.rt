@@ -1,5 +1,7 @@
 //! Instructions with their operands, in the terms of the Unprivileged ISA.
 
+use hart_words::AccessSize;
+
 /// An instruction. Registers are numbers from 0 to 31; immediates are extended to 64 bits and
 /// scaled as the instruction uses them; offsets are added to pc or to rs1 modulo 2^64.
 #[derive(Clone, Copy, Debug, PartialEq, Eq)]
@@ -19,7 +21,8 @@ pub enum Op {
         rd: u8,
         offset: u64,
     },
-    /// Puts the address of the next instruction into rd and jumps to rs1 plus the offset, less bit 0.
+    /// Puts the address of the next instruction into rd and jumps to rs1 plus the offset, with bit
+    /// 0 cleared.
     Jalr {
         rd: u8,
         rs1: u8,
@@ -285,7 +288,22 @@ pub enum RegisterWordOp {
 #[derive(Clone, Copy, Debug, PartialEq, Eq)]
 pub enum Width {
     Word,
-    Double,
+    Doubleword,
+}
+
+impl Width {
+    ghost use Rattle.std.specs.Prelude.{◌≡◌};
+    ghost use Rattle.rv_decode.specs.Widths.{size_of};
+
+    /// The size of the access.
+    pub fn size(self) -> AccessSize
+        ensures { result ≡ size_of self }
+    {
+        match self {
+            Width::Word => AccessSize::Word,
+            Width::Doubleword => AccessSize::Doubleword,
+        }
+    }
 }
 
 /// The atomic memory operations.

@@ -1,10 +1,11 @@
-//! The rows of the instruction table, each written once: the bits that an instruction fixes, and
-//! how its operands stand in the word. From the Unprivileged ISA's chapter "RV32/64G Instruction
-//! Set Listings"; one list for each opcode, under the opcode's name there.
+//! The rows of the instruction table, as masks: the bits that an instruction fixes, and how its
+//! operands stand in the word. One list for each opcode; `rows_with` holds each row to its columns
+//! in `specs/Table.antt`.
 
 ghost use Rattle.std.specs.Prelude.{◌≡◌};
-ghost use Rattle.rv_decode.specs.Table.{rows_with, opcodes};
+ghost use Rattle.rv_decode.specs.Table.{rows_of, opcodes};
 
+use crate::opcodes;
 use crate::operation::{
     AmoOp, BranchOp, ImmediateOp, ImmediateWordOp, LoadOp, RegisterOp, RegisterWordOp, StoreOp,
     Width,
@@ -54,15 +55,15 @@ macro_rules! rows {
     };
 }
 
-pub const LUI_ROWS: [Pattern; 1] = rows![0x0000007f 0x00000037 Form::Lui];
+const LUI_ROWS: [Pattern; 1] = rows![0x0000007f 0x00000037 Form::Lui];
 
-pub const AUIPC_ROWS: [Pattern; 1] = rows![0x0000007f 0x00000017 Form::Auipc];
+const AUIPC_ROWS: [Pattern; 1] = rows![0x0000007f 0x00000017 Form::Auipc];
 
-pub const JAL_ROWS: [Pattern; 1] = rows![0x0000007f 0x0000006f Form::Jal];
+const JAL_ROWS: [Pattern; 1] = rows![0x0000007f 0x0000006f Form::Jal];
 
-pub const JALR_ROWS: [Pattern; 1] = rows![0x0000707f 0x00000067 Form::Jalr];
+const JALR_ROWS: [Pattern; 1] = rows![0x0000707f 0x00000067 Form::Jalr];
 
-pub const BRANCH_ROWS: [Pattern; 6] = rows![
+const BRANCH_ROWS: [Pattern; 6] = rows![
     0x0000707f 0x00000063 Form::Branch(BranchOp::Beq),
     0x0000707f 0x00001063 Form::Branch(BranchOp::Bne),
     0x0000707f 0x00004063 Form::Branch(BranchOp::Blt),
@@ -71,7 +72,7 @@ pub const BRANCH_ROWS: [Pattern; 6] = rows![
     0x0000707f 0x00007063 Form::Branch(BranchOp::Bgeu),
 ];
 
-pub const LOAD_ROWS: [Pattern; 7] = rows![
+const LOAD_ROWS: [Pattern; 7] = rows![
     0x0000707f 0x00000003 Form::Load(LoadOp::Lb),
     0x0000707f 0x00001003 Form::Load(LoadOp::Lh),
     0x0000707f 0x00002003 Form::Load(LoadOp::Lw),
@@ -81,14 +82,14 @@ pub const LOAD_ROWS: [Pattern; 7] = rows![
     0x0000707f 0x00006003 Form::Load(LoadOp::Lwu),
 ];
 
-pub const STORE_ROWS: [Pattern; 4] = rows![
+const STORE_ROWS: [Pattern; 4] = rows![
     0x0000707f 0x00000023 Form::Store(StoreOp::Sb),
     0x0000707f 0x00001023 Form::Store(StoreOp::Sh),
     0x0000707f 0x00002023 Form::Store(StoreOp::Sw),
     0x0000707f 0x00003023 Form::Store(StoreOp::Sd),
 ];
 
-pub const OP_IMM_ROWS: [Pattern; 9] = rows![
+const OP_IMM_ROWS: [Pattern; 9] = rows![
     0x0000707f 0x00000013 Form::Immediate(ImmediateOp::Addi),
     0x0000707f 0x00002013 Form::Immediate(ImmediateOp::Slti),
     0x0000707f 0x00003013 Form::Immediate(ImmediateOp::Sltiu),
@@ -100,14 +101,14 @@ pub const OP_IMM_ROWS: [Pattern; 9] = rows![
     0xfc00707f 0x40005013 Form::Shift(ImmediateOp::Srai),
 ];
 
-pub const OP_IMM_32_ROWS: [Pattern; 4] = rows![
+const OP_IMM_32_ROWS: [Pattern; 4] = rows![
     0x0000707f 0x0000001b Form::ImmediateWord(ImmediateWordOp::Addiw),
     0xfe00707f 0x0000101b Form::ShiftWord(ImmediateWordOp::Slliw),
     0xfe00707f 0x0000501b Form::ShiftWord(ImmediateWordOp::Srliw),
     0xfe00707f 0x4000501b Form::ShiftWord(ImmediateWordOp::Sraiw),
 ];
 
-pub const OP_ROWS: [Pattern; 18] = rows![
+const OP_ROWS: [Pattern; 18] = rows![
     0xfe00707f 0x00000033 Form::Register(RegisterOp::Add),
     0xfe00707f 0x40000033 Form::Register(RegisterOp::Sub),
     0xfe00707f 0x00001033 Form::Register(RegisterOp::Sll),
@@ -128,7 +129,7 @@ pub const OP_ROWS: [Pattern; 18] = rows![
     0xfe00707f 0x02007033 Form::Register(RegisterOp::Remu),
 ];
 
-pub const OP_32_ROWS: [Pattern; 10] = rows![
+const OP_32_ROWS: [Pattern; 10] = rows![
     0xfe00707f 0x0000003b Form::RegisterWord(RegisterWordOp::Addw),
     0xfe00707f 0x4000003b Form::RegisterWord(RegisterWordOp::Subw),
     0xfe00707f 0x0000103b Form::RegisterWord(RegisterWordOp::Sllw),
@@ -142,18 +143,18 @@ pub const OP_32_ROWS: [Pattern; 10] = rows![
 ];
 
 /// The fields of a fence beside its opcode and funct3 are ignored.
-pub const MISC_MEM_ROWS: [Pattern; 2] = rows![
+const MISC_MEM_ROWS: [Pattern; 2] = rows![
     0x0000707f 0x0000000f Form::Fence,
     0x0000707f 0x0000100f Form::FenceI,
 ];
 
-pub const SYSTEM_ROWS: [Pattern; 2] = rows![
+const SYSTEM_ROWS: [Pattern; 2] = rows![
     0xffffffff 0x00000073 Form::Ecall,
     0xffffffff 0x00100073 Form::Ebreak,
 ];
 
 /// Bits 26 and 25, aq and rl, are left open.
-pub const AMO_ROWS: [Pattern; 22] = rows![
+const AMO_ROWS: [Pattern; 22] = rows![
     0xf800707f 0x0000202f Form::Amo(AmoOp::Amoadd, Width::Word),
     0xf800707f 0x0800202f Form::Amo(AmoOp::Amoswap, Width::Word),
     0xf9f0707f 0x1000202f Form::LoadReserved(Width::Word),
@@ -165,39 +166,39 @@ pub const AMO_ROWS: [Pattern; 22] = rows![
     0xf800707f 0xa000202f Form::Amo(AmoOp::Amomax, Width::Word),
     0xf800707f 0xc000202f Form::Amo(AmoOp::Amominu, Width::Word),
     0xf800707f 0xe000202f Form::Amo(AmoOp::Amomaxu, Width::Word),
-    0xf800707f 0x0000302f Form::Amo(AmoOp::Amoadd, Width::Double),
-    0xf800707f 0x0800302f Form::Amo(AmoOp::Amoswap, Width::Double),
-    0xf9f0707f 0x1000302f Form::LoadReserved(Width::Double),
-    0xf800707f 0x1800302f Form::StoreConditional(Width::Double),
-    0xf800707f 0x2000302f Form::Amo(AmoOp::Amoxor, Width::Double),
-    0xf800707f 0x4000302f Form::Amo(AmoOp::Amoor, Width::Double),
-    0xf800707f 0x6000302f Form::Amo(AmoOp::Amoand, Width::Double),
-    0xf800707f 0x8000302f Form::Amo(AmoOp::Amomin, Width::Double),
-    0xf800707f 0xa000302f Form::Amo(AmoOp::Amomax, Width::Double),
-    0xf800707f 0xc000302f Form::Amo(AmoOp::Amominu, Width::Double),
-    0xf800707f 0xe000302f Form::Amo(AmoOp::Amomaxu, Width::Double),
+    0xf800707f 0x0000302f Form::Amo(AmoOp::Amoadd, Width::Doubleword),
+    0xf800707f 0x0800302f Form::Amo(AmoOp::Amoswap, Width::Doubleword),
+    0xf9f0707f 0x1000302f Form::LoadReserved(Width::Doubleword),
+    0xf800707f 0x1800302f Form::StoreConditional(Width::Doubleword),
+    0xf800707f 0x2000302f Form::Amo(AmoOp::Amoxor, Width::Doubleword),
+    0xf800707f 0x4000302f Form::Amo(AmoOp::Amoor, Width::Doubleword),
+    0xf800707f 0x6000302f Form::Amo(AmoOp::Amoand, Width::Doubleword),
+    0xf800707f 0x8000302f Form::Amo(AmoOp::Amomin, Width::Doubleword),
+    0xf800707f 0xa000302f Form::Amo(AmoOp::Amomax, Width::Doubleword),
+    0xf800707f 0xc000302f Form::Amo(AmoOp::Amominu, Width::Doubleword),
+    0xf800707f 0xe000302f Form::Amo(AmoOp::Amomaxu, Width::Doubleword),
 ];
 
 /// The rows of an opcode, the low 7 bits of a word.
 #[tactic(auto, unfolding(crate::specs::Table::opcodes))]
-pub fn rows_of(opcode: u32) -> &'static [Pattern]
-    ensures { result.now ≡ rows_with opcodes opcode }
+pub fn rows_with(opcode: u32) -> &'static [Pattern]
+    ensures { result.now ≡ rows_of opcodes opcode }
 {
     match opcode {
-        0x37 => &LUI_ROWS,
-        0x17 => &AUIPC_ROWS,
-        0x6f => &JAL_ROWS,
-        0x67 => &JALR_ROWS,
-        0x63 => &BRANCH_ROWS,
-        0x03 => &LOAD_ROWS,
-        0x23 => &STORE_ROWS,
-        0x13 => &OP_IMM_ROWS,
-        0x1b => &OP_IMM_32_ROWS,
-        0x33 => &OP_ROWS,
-        0x3b => &OP_32_ROWS,
-        0x0f => &MISC_MEM_ROWS,
-        0x73 => &SYSTEM_ROWS,
-        0x2f => &AMO_ROWS,
+        opcodes::LUI => &LUI_ROWS,
+        opcodes::AUIPC => &AUIPC_ROWS,
+        opcodes::JAL => &JAL_ROWS,
+        opcodes::JALR => &JALR_ROWS,
+        opcodes::BRANCH => &BRANCH_ROWS,
+        opcodes::LOAD => &LOAD_ROWS,
+        opcodes::STORE => &STORE_ROWS,
+        opcodes::OP_IMM => &OP_IMM_ROWS,
+        opcodes::OP_IMM_32 => &OP_IMM_32_ROWS,
+        opcodes::OP => &OP_ROWS,
+        opcodes::OP_32 => &OP_32_ROWS,
+        opcodes::MISC_MEM => &MISC_MEM_ROWS,
+        opcodes::SYSTEM => &SYSTEM_ROWS,
+        opcodes::AMO => &AMO_ROWS,
         _ => &[],
     }
 }

@@ -1,6 +1,7 @@
 //! Words with their meaning, from the listing of an assembler (GNU binutils for riscv64).
 
 use super::*;
+use hart_words::AccessSize;
 use std::test::Fail;
 
 /// The immediate that is so much below zero.
@@ -378,7 +379,7 @@ fn decodes_atomics(rt: HostRuntime) -> Result<(), Fail> {
         (
             0x100b_342f,
             Op::LoadReserved {
-                width: Width::Double,
+                width: Width::Doubleword,
                 rd: 8,
                 rs1: 22,
             },
@@ -387,33 +388,60 @@ fn decodes_atomics(rt: HostRuntime) -> Result<(), Fail> {
         (
             0x160b_342f,
             Op::LoadReserved {
-                width: Width::Double,
+                width: Width::Doubleword,
                 rd: 8,
                 rs1: 22,
             },
         ),
         // sc.d x9, x14, (x23)
-        (0x18eb_b4af, store_conditional(Width::Double, 9, 23, 14)),
+        (0x18eb_b4af, store_conditional(Width::Doubleword, 9, 23, 14)),
         // sc.d.rl x9, x14, (x23)
-        (0x1aeb_b4af, store_conditional(Width::Double, 9, 23, 14)),
+        (0x1aeb_b4af, store_conditional(Width::Doubleword, 9, 23, 14)),
         // amoswap.d x10, x24, (x6)
-        (0x0983_352f, amo(AmoOp::Amoswap, Width::Double, 10, 6, 24)),
+        (
+            0x0983_352f,
+            amo(AmoOp::Amoswap, Width::Doubleword, 10, 6, 24),
+        ),
         // amoadd.d.aq x11, x23, (x9)
-        (0x0574_b5af, amo(AmoOp::Amoadd, Width::Double, 11, 9, 23)),
+        (
+            0x0574_b5af,
+            amo(AmoOp::Amoadd, Width::Doubleword, 11, 9, 23),
+        ),
         // amoxor.d.rl x12, x22, (x12)
-        (0x2366_362f, amo(AmoOp::Amoxor, Width::Double, 12, 12, 22)),
+        (
+            0x2366_362f,
+            amo(AmoOp::Amoxor, Width::Doubleword, 12, 12, 22),
+        ),
         // amoand.d.aqrl x13, x21, (x15)
-        (0x6757_b6af, amo(AmoOp::Amoand, Width::Double, 13, 15, 21)),
+        (
+            0x6757_b6af,
+            amo(AmoOp::Amoand, Width::Doubleword, 13, 15, 21),
+        ),
         // amoor.d x14, x20, (x18)
-        (0x4149_372f, amo(AmoOp::Amoor, Width::Double, 14, 18, 20)),
+        (
+            0x4149_372f,
+            amo(AmoOp::Amoor, Width::Doubleword, 14, 18, 20),
+        ),
         // amomin.d.aq x15, x19, (x21)
-        (0x853a_b7af, amo(AmoOp::Amomin, Width::Double, 15, 21, 19)),
+        (
+            0x853a_b7af,
+            amo(AmoOp::Amomin, Width::Doubleword, 15, 21, 19),
+        ),
         // amomax.d.rl x16, x18, (x24)
-        (0xa32c_382f, amo(AmoOp::Amomax, Width::Double, 16, 24, 18)),
+        (
+            0xa32c_382f,
+            amo(AmoOp::Amomax, Width::Doubleword, 16, 24, 18),
+        ),
         // amominu.d.aqrl x17, x17, (x27)
-        (0xc71d_b8af, amo(AmoOp::Amominu, Width::Double, 17, 27, 17)),
+        (
+            0xc71d_b8af,
+            amo(AmoOp::Amominu, Width::Doubleword, 17, 27, 17),
+        ),
         // amomaxu.d x18, x16, (x30)
-        (0xe10f_392f, amo(AmoOp::Amomaxu, Width::Double, 18, 30, 16)),
+        (
+            0xe10f_392f,
+            amo(AmoOp::Amomaxu, Width::Doubleword, 18, 30, 16),
+        ),
     ];
     for (word, op) in rows {
         assert_eq!(rt; decode(word), Some(op), "at {word}");
@@ -488,7 +516,7 @@ fn refuses_words(rt: HostRuntime) -> Result<(), Fail> {
     Ok(())
 }
 
-/// The registers of a load, a store, a branch and a jump.
+/// The registers of a load, a store, a branch and a jump, and the sizes of atomics.
 #[test]
 fn names_registers(rt: HostRuntime) -> Result<(), Fail> {
     let rows = [
@@ -505,6 +533,8 @@ fn names_registers(rt: HostRuntime) -> Result<(), Fail> {
             registers
         );
     }
+    assert_eq!(rt; Width::Word.size(), AccessSize::Word);
+    assert_eq!(rt; Width::Doubleword.size(), AccessSize::Doubleword);
     Ok(())
 }
 
@@ -549,9 +579,9 @@ fn checksum(opcode: u32) -> u64 {
 ///
 /// The list was made so: an assembler (GNU binutils 2.40 for riscv64, as Debian has it) was given
 /// each word by `.insn` for rv64ima; `objdump -d -M numeric,no-aliases` printed its instruction, or
-/// a plain number where it has none; each instruction's name was numbered as `place` does. The
-/// opcodes of fences, whose other fields a hart ignores, and of the calls of the environment are left
-/// out. For each other opcode here is the checksum of the list.
+/// a plain number where it has none; each instruction's name was numbered as `place` does. For
+/// each opcode here is the checksum of the list; the two that it leaves out have a test of their
+/// own.
 #[test]
 fn decodes_as_listed(rt: HostRuntime) -> Result<(), Fail> {
     let listed = [
@@ -570,6 +600,25 @@ fn decodes_as_listed(rt: HostRuntime) -> Result<(), Fail> {
     ];
     for (opcode, sum) in listed {
         assert_eq!(rt; checksum(opcode), sum, "opcode {opcode}");
+    }
+    Ok(())
+}
+
+/// Words of the two opcodes that the list leaves out: a fence has any other field, and a word with a
+/// destination is no call of the environment.
+#[test]
+fn decodes_fences_and_system_words(rt: HostRuntime) -> Result<(), Fail> {
+    for funct3 in 0..8u32 {
+        let fence = match funct3 {
+            0 => Some(Op::Fence),
+            1 => Some(Op::FenceI),
+            _ => None,
+        };
+        for upper in 0..4096u32 {
+            let fields = upper << 20 | 6 << 15 | funct3 << 12 | 5 << 7;
+            assert_eq!(rt; decode(fields | 0x0f), fence, "at {fields}");
+            assert_eq!(rt; decode(fields | 0x73), None, "at {fields}");
+        }
     }
     Ok(())
 }

@@ -1,26 +1,28 @@
+//! The instruction of a 32-bit word.
+
 ghost use Rattle.std.specs.Prelude.{◌≡◌, IfSome};
 ghost use Rattle.rv_decode.specs.Operands.{HasEvenOffset, HasRegisters};
-ghost use Rattle.rv_decode.specs.Table.{instruction_of, op_in};
+ghost use Rattle.rv_decode.specs.Table.{decoded, decoded_by};
 
 use crate::operands::operation;
 use crate::operation::Op;
-use crate::patterns::{Pattern, rows_of};
+use crate::patterns::{Pattern, rows_with};
 
 /// The instruction that a 32-bit word means, or `None` where it meets no row of the table: it is
 /// then illegal.
-#[tactic(auto, using(crate::proofs::ByOpcode::scanned), unfolding(crate::specs::Table::instruction_of))]
+#[tactic(auto, using(crate::proofs::ByOpcode::scanned), unfolding(crate::specs::Table::decoded))]
 pub fn decode(word: u32) -> Option<Op>
-    ensures meaning { result ≡ instruction_of word }
+    ensures meaning { result ≡ decoded word }
     ensures registers { IfSome result HasRegisters }
     ensures even { IfSome result HasEvenOffset }
 {
-    op_among(rows_of(word % 128), word)
+    decode_by(rows_with(word % 128), word)
 }
 
 /// The instruction of the row that the word meets.
-#[tactic(auto, unfolding(crate::specs::Table::op_in))]
-fn op_among(rows: &[Pattern], word: u32) -> Option<Op>
-    ensures meaning { result ≡ op_in rows.now word }
+#[tactic(auto, unfolding(crate::specs::Table::decoded_by))]
+fn decode_by(rows: &[Pattern], word: u32) -> Option<Op>
+    ensures meaning { result ≡ decoded_by rows.now word }
     ensures registers { IfSome result HasRegisters }
     ensures even { IfSome result HasEvenOffset }
 {
