@@ -1,3 +1,5 @@
-pub mod Compressed
+pub mod Formats
+pub mod Encodings
 pub mod Immediates
-pub mod Words
+pub mod Patterns
+pub mod Table

@@ -1,8 +1,10 @@
 //! What holds of the table as a whole.
 
-ghost use Rattle.rv_compressed.specs.Compressed.{NoTwoRowsMeet, table};
+ghost use Rattle.hart_words.specs.Tables.{MeetsOneAtMost};
+ghost use Rattle.rv_compressed.specs.Patterns.{meets};
+ghost use Rattle.rv_compressed.specs.Table.{table};
 
-/// No half meets two rows of the table.
+/// No parcel meets two rows of the table.
 pub fn rows_are_apart()
-    ensures { NoTwoRowsMeet table }
+    ensures { MeetsOneAtMost meets table }
 {}

@@ -1,20 +1,19 @@
-//! The rows of the table of compressed instructions: the bits that each fixes, and which of its
-//! words are reserved. From the Unprivileged ISA's chapter on the C extension, "RVC Instruction
-//! Set Listings".
+//! The rows of the table of compressed instructions, as masks: the bits that each fixes, and which
+//! of its parcels are reserved. `expansion` holds each row to its columns in `specs/Table.antt`.
 
 ghost use Rattle.std.specs.Prelude.{◌≡◌};
-ghost use Rattle.rv_compressed.specs.Compressed.{holds, meets};
+ghost use Rattle.rv_compressed.specs.Patterns.{holds, meets};
 
-use crate::instruction::Instruction;
+use crate::compressed_op::CompressedOp;
 
-/// A row of the table: a half is this instruction where it equals `bits` under `mask` and the
+/// A row of the table: a parcel is this instruction where it equals `bits` under `mask` and the
 /// condition holds; where only the condition fails, it is reserved or another row's.
 #[derive(Clone, Copy, Debug)]
 pub struct Pattern {
     pub mask: u16,
     pub bits: u16,
     pub condition: Condition,
-    pub instruction: Instruction,
+    pub op: CompressedOp,
 }
 
 /// What a row asks for beside its fixed bits.
@@ -28,34 +27,34 @@ pub enum Condition {
 }
 
 impl Condition {
-    fn holds(self, half: u16) -> bool
-        ensures { result ≡ holds self half }
+    fn holds(self, parcel: u16) -> bool
+        ensures { result ≡ holds self parcel }
     {
         match self {
             Condition::Always => true,
-            Condition::NotZero(field) => half & field != 0,
-            Condition::NotZeroNorX2(field) => half & field != 0 && half & 0x0f80 != 0x0100,
+            Condition::NotZero(field) => parcel & field != 0,
+            Condition::NotZeroNorX2(field) => parcel & field != 0 && parcel & 0x0f80 != 0x0100,
         }
     }
 }
 
 impl Pattern {
-    /// Whether the half is this row's.
-    pub fn fits(&self, half: u16) -> bool
-        ensures { result ≡ meets self.now half }
+    /// Whether the parcel is this row's.
+    pub fn meets(&self, parcel: u16) -> bool
+        ensures { result ≡ meets self.now parcel }
     {
-        half & self.mask == self.bits && self.condition.holds(half)
+        parcel & self.mask == self.bits && self.condition.holds(parcel)
     }
 }
 
-/// Rows as `mask bits condition instruction`.
+/// Rows as `mask bits condition op`.
 macro_rules! rows {
-    ($($mask:literal $bits:literal $condition:expr => $instruction:ident),* $(,)?) => {
+    ($($mask:literal $bits:literal $condition:expr => $op:ident),* $(,)?) => {
         [$(Pattern {
             mask: $mask,
             bits: $bits,
             condition: $condition,
-            instruction: Instruction::$instruction,
+            op: CompressedOp::$op,
         }),*]
     };
 }

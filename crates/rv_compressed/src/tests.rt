@@ -1,12 +1,12 @@
 use super::*;
-use crate::expansion::expanded_word;
+use crate::expansion::expansion;
 use rv_decode::decode;
 use std::test::Fail;
 
-/// Halves with the 32-bit words of their expansions, from the listing of a disassembler (GNU
+/// Parcels with the 32-bit words of their expansions, from the listing of a disassembler (GNU
 /// binutils for riscv64).
 #[test]
-fn expands_halves(rt: HostRuntime) -> Result<(), Fail> {
+fn expands_parcels(rt: HostRuntime) -> Result<(), Fail> {
     let rows = [
         // c.addi4spn x11,x2,544
         (0x140c, 0x2201_0593),
@@ -93,9 +93,9 @@ fn expands_halves(rt: HostRuntime) -> Result<(), Fail> {
         // c.sdsp x1,112(x2)
         (0xf886, 0x0611_3823),
     ];
-    for (half, word) in rows {
-        assert_eq!(rt; expanded_word(half), Some(word), "at {half}");
-        assert_eq!(rt; expand(half), decode(word), "at {half}");
+    for (parcel, word) in rows {
+        assert_eq!(rt; expansion(parcel), Some(word), "at {parcel}");
+        assert_eq!(rt; expand(parcel), decode(word), "at {parcel}");
     }
     Ok(())
 }
@@ -127,17 +127,17 @@ fn expands_hints(rt: HostRuntime) -> Result<(), Fail> {
         // c.add x0,x1
         (0x9006, 0x0010_0033),
     ];
-    for (half, word) in rows {
-        assert_eq!(rt; expanded_word(half), Some(word), "at {half}");
-        assert_eq!(rt; expand(half), decode(word), "at {half}");
+    for (parcel, word) in rows {
+        assert_eq!(rt; expansion(parcel), Some(word), "at {parcel}");
+        assert_eq!(rt; expand(parcel), decode(word), "at {parcel}");
     }
     Ok(())
 }
 
-/// Reserved halves, those of floating point, and the low halves of longer instructions.
+/// Reserved parcels, those of floating point, and the low parcels of longer instructions.
 #[test]
-fn refuses_halves(rt: HostRuntime) -> Result<(), Fail> {
-    let halves = [
+fn refuses_parcels(rt: HostRuntime) -> Result<(), Fail> {
+    let parcels = [
         // the word that is always illegal
         0x0000,
         // c.addi4spn of 0
@@ -174,37 +174,37 @@ fn refuses_halves(rt: HostRuntime) -> Result<(), Fail> {
         0x2002,
         // c.fsdsp
         0xa002,
-        // the low half of addi
+        // the low parcel of addi
         0x0093,
-        // the low half of ecall
+        // the low parcel of ecall
         0x0073,
         // all ones
         0xffff,
     ];
-    for half in halves {
-        assert_eq!(rt; expand(half), None, "at {half}");
+    for parcel in parcels {
+        assert_eq!(rt; expand(parcel), None, "at {parcel}");
     }
     Ok(())
 }
 
-/// The checksum of the words that 2,048 halves expand to, every fourth from `first` on: 0 stands
-/// for a half that is refused. This is FNV-1a of 64 bits, a word at a time.
+/// The checksum of the words that 2,048 parcels expand to, every fourth from `first` on: 0 stands
+/// for a parcel that is refused. This is FNV-1a of 64 bits, a word at a time.
 fn checksum(first: u16) -> u64 {
     let mut sum: u64 = 0xcbf2_9ce4_8422_2325;
     for place in 0..2048u16 {
-        let word = expanded_word(first.wrapping_add(place * 4)).unwrap_or(0);
+        let word = expansion(first.wrapping_add(place * 4)).unwrap_or(0);
         sum = (sum ^ u64::from(word)).wrapping_mul(0x0000_0100_0000_01b3);
     }
     sum
 }
 
-/// All 49,152 halves whose low bits are not 11, against a disassembler's list of them.
+/// All 49,152 parcels whose low bits are not 11, against a disassembler's list of them.
 ///
 /// The list was made so: an assembler (GNU binutils 2.40 for riscv64, as Debian has it) was given
-/// each half by `.insn` for rv64imac; `objdump -d -M numeric,no-aliases` printed its compressed
+/// each parcel by `.insn` for rv64imac; `objdump -d -M numeric,no-aliases` printed its compressed
 /// instruction, or a plain number where it has none; each was written as the 32-bit instruction
 /// that the standard says it expands to, at its own place, and the assembler, with compressed
-/// instructions off, gave that word. One half differs, and is put as the standard has it: 0x6101,
+/// instructions off, gave that word. One parcel differs, and is put as the standard has it: 0x6101,
 /// C.ADDI16SP of 0, is reserved, where the disassembler prints an addition of 0. For each pair of
 /// low bits and bits 15:13 here is the checksum of the list.
 #[test]
@@ -241,14 +241,14 @@ fn expands_as_listed(rt: HostRuntime) -> Result<(), Fail> {
     Ok(())
 }
 
-/// Each half that expands means an instruction.
+/// Each parcel that expands means an instruction.
 #[test]
 fn expansions_decode(rt: HostRuntime) -> Result<(), Fail> {
-    for half in 0..=u16::MAX {
+    for parcel in 0..=u16::MAX {
         assert_eq!(rt;
-            expand(half).is_some(),
-            expanded_word(half).is_some(),
-            "at {half}"
+            expand(parcel).is_some(),
+            expansion(parcel).is_some(),
+            "at {parcel}"
         );
     }
     Ok(())

@@ -1,7 +1,7 @@
 /// The instructions of RV64C without those on floating-point registers: C.ADDI4SPN is `Addi4spn`.
 /// C.NOP is C.ADDI with x0.
 #[derive(Clone, Copy, Debug)]
-pub enum Instruction {
+pub enum CompressedOp {
     Addi4spn,
     Lw,
     Ld,
