@@ -5,7 +5,7 @@ use Rattle.std.proofs.Math.Nat.{mod-mod}
 use Rattle.hart_words.proofs.Extended.{extends_signs}
 use Rattle.rv_decode.specs.declared.operation.RegisterWordOp.TheVariants.{Addw, Subw, Sllw, Srlw, Sraw, Mulw, Divw, Divuw, Remw, Remuw}
 use Rattle.rv_decode.specs.declared.operation.ImmediateWordOp.TheVariants.{Addiw, Slliw, Srliw, Sraiw}
-use Rattle.rv_integer.specs.Results.{low, of_immediate_word, of_register_words}
+use Rattle.rv_integer.specs.Results.{low, computed_immediate_word, computed_register_word}
 use Rattle.rv_integer.specs.WordForms.{RegisterWordsAreWords, ImmediateWordsAreWords, RegisterWordsIgnoreUpperBits, ImmediateWordsIgnoreUpperBits}
 use Rattle.std.specs.Int.{w64}
 use Rattle.hart_words.specs.Words.{sign_extended, residue, signed_of}
@@ -31,7 +31,7 @@ low_amount : (x : ℕ) → low x % 32 ≡ x % 32
 low_amount x = omega arith
 
 pub register_words : RegisterWordsAreWords
-unfolding of_register_words
+unfolding computed_register_word
 register_words Addw a b = twice _
 register_words Subw a b = twice _
 register_words Sllw a b = twice _
@@ -44,14 +44,14 @@ register_words Remw a b = twice _
 register_words Remuw a b = twice _
 
 pub immediate_words : ImmediateWordsAreWords
-unfolding of_immediate_word
+unfolding computed_immediate_word
 immediate_words Addiw a imm = twice _
 immediate_words Slliw a imm = twice _
 immediate_words Srliw a imm = twice _
 immediate_words Sraiw a imm = twice _
 
 pub registers_ignore : RegisterWordsIgnoreUpperBits
-unfolding of_register_words
+unfolding computed_register_word
 registers_ignore Addw a b fits = same_low (low a + low b) (a + b) (omega arith)
 registers_ignore Subw a b fits = same_low (low a + (2 ^ 64 - low b)) (a + (2 ^ 64 - b)) (omega arith)
 registers_ignore Sllw a b fits = rw (low_low a, low_amount b) refl
@@ -64,7 +64,7 @@ registers_ignore Remw a b fits = rw (low_low a, low_low b) refl
 registers_ignore Remuw a b fits = rw (low_low a, low_low b) refl
 
 pub immediates_ignore : ImmediateWordsIgnoreUpperBits
-unfolding of_immediate_word
+unfolding computed_immediate_word
 immediates_ignore Addiw a imm = same_low (low a + imm) (a + imm) (omega arith)
 immediates_ignore Slliw a imm = rw (low_low a) refl
 immediates_ignore Srliw a imm = rw (low_low a) refl

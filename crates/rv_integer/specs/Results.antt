@@ -1,6 +1,10 @@
--- What each instruction computes: one equation a name, on whole numbers. From the Unprivileged ISA's chapters "RV32I Base Integer Instruction Set", "RV64I Base Integer Instruction Set" and "M Extension for Integer Multiplication and Division".
+-- What each instruction computes: one equation a name, on whole numbers.
+-- From the Unprivileged ISA's chapters "RV32I Base Integer Instruction Set", "RV64I Base Integer Instruction Set" and "M Extension for Integer Multiplication and Division".
 use Rattle.std.specs.Prelude.{ℕ, ◌+◌, ◌-◌, ◌*◌, ◌/◌, ◌%◌, ◌^◌, Bool, true, false, not, ◌==◌, nat_lt, pos, int_lt, if◌then◌else◌, bit_and, bit_or, bit_xor}
 use Rattle.std.specs.Int.{w32, w64, cast_signed, int_div_euclid}
+use Rattle.hart_words.specs.declared.access_size.AccessSize.{AccessSize}
+use Rattle.hart_words.specs.declared.access_size.AccessSize.TheVariants.{Byte, Halfword, Word, Doubleword}
+use Rattle.hart_words.specs.AccessSizes.{bits_of}
 use Rattle.hart_words.specs.Words.{residue, sign_extended, high_signed, high_mixed, high_unsigned, quotient_signed, quotient_unsigned, remainder_signed, remainder_unsigned}
 use Rattle.rv_decode.specs.declared.operation.Op.{Op}
 use Rattle.rv_decode.specs.declared.operation.Op.TheVariants as ops
@@ -19,21 +23,21 @@ use Rattle.rv_decode.specs.declared.operation.RegisterOp.TheVariants as register
 use Rattle.rv_decode.specs.declared.operation.RegisterWordOp.{RegisterWordOp}
 use Rattle.rv_decode.specs.declared.operation.RegisterWordOp.TheVariants as register_words
 use Rattle.rv_decode.specs.declared.operation.Width.{Width}
-use Rattle.rv_decode.specs.declared.operation.Width.TheVariants as widths
-use Rattle.rv_integer.specs.declared.outcome.IntResult.{IntResult}
-use Rattle.rv_integer.specs.declared.outcome.IntResult.TheVariants as results
+use Rattle.rv_decode.specs.Widths.{size_of}
+use Rattle.rv_integer.specs.declared.int_result.IntResult.{IntResult}
+use Rattle.rv_integer.specs.declared.int_result.IntResult.TheVariants as results
 
 -- the low 32 bits
 abbrev pub low : ℕ → ℕ
 low x = x % 2 ^ 32
 
 -- a sum modulo 2 ^ 64
-abbrev pub sum_of : ℕ → ℕ → ℕ
-sum_of a b = (a + b) % 2 ^ 64
+abbrev pub wrapped_sum : ℕ → ℕ → ℕ
+wrapped_sum a b = (a + b) % 2 ^ 64
 
 -- a difference modulo 2 ^ 64
-abbrev pub difference_of : ℕ → ℕ → ℕ
-difference_of a b = (a + (2 ^ 64 - b)) % 2 ^ 64
+abbrev pub wrapped_difference : ℕ → ℕ → ℕ
+wrapped_difference a b = (a + (2 ^ 64 - b)) % 2 ^ 64
 
 -- 1 where the first is less than the second as signed numbers, else 0
 abbrev pub is_less_signed : ℕ → ℕ → ℕ
@@ -65,7 +69,8 @@ right_shift_word a b = sign_extended 32 (low a / 2 ^ (b % 32))
 
 -- a right shift so, on a signed number
 abbrev pub signed_right_shift_word : ℕ → ℕ → ℕ
-signed_right_shift_word a b = sign_extended 32 (residue w32 (int_div_euclid (cast_signed w32 (low a)) (pos (2 ^ (b % 32)))))
+signed_right_shift_word a b =
+    sign_extended 32 (residue w32 (int_div_euclid (cast_signed w32 (low a)) (pos (2 ^ (b % 32)))))
 
 -- whether a branch is taken
 unfoldable pub is_taken : BranchOp → ℕ → ℕ → Bool
@@ -77,102 +82,107 @@ is_taken branches.Bltu a b = nat_lt a b
 is_taken branches.Bgeu a b = not (nat_lt a b)
 
 -- a register's value with an immediate
-unfoldable pub of_immediate : ImmediateOp → ℕ → ℕ → ℕ
-of_immediate immediates.Addi a imm = sum_of a imm
-of_immediate immediates.Slti a imm = is_less_signed a imm
-of_immediate immediates.Sltiu a imm = is_less_unsigned a imm
-of_immediate immediates.Xori a imm = bit_xor a imm
-of_immediate immediates.Ori a imm = bit_or a imm
-of_immediate immediates.Andi a imm = bit_and a imm
-of_immediate immediates.Slli a imm = left_shift a imm
-of_immediate immediates.Srli a imm = right_shift a imm
-of_immediate immediates.Srai a imm = signed_right_shift a imm
+unfoldable pub computed_immediate : ImmediateOp → ℕ → ℕ → ℕ
+computed_immediate immediates.Addi a imm = wrapped_sum a imm
+computed_immediate immediates.Slti a imm = is_less_signed a imm
+computed_immediate immediates.Sltiu a imm = is_less_unsigned a imm
+computed_immediate immediates.Xori a imm = bit_xor a imm
+computed_immediate immediates.Ori a imm = bit_or a imm
+computed_immediate immediates.Andi a imm = bit_and a imm
+computed_immediate immediates.Slli a imm = left_shift a imm
+computed_immediate immediates.Srli a imm = right_shift a imm
+computed_immediate immediates.Srai a imm = signed_right_shift a imm
 
 -- the same on 32 bits
-unfoldable pub of_immediate_word : ImmediateWordOp → ℕ → ℕ → ℕ
-of_immediate_word immediate_words.Addiw a imm = sign_extended 32 (a + imm)
-of_immediate_word immediate_words.Slliw a imm = left_shift_word a imm
-of_immediate_word immediate_words.Srliw a imm = right_shift_word a imm
-of_immediate_word immediate_words.Sraiw a imm = signed_right_shift_word a imm
+unfoldable pub computed_immediate_word : ImmediateWordOp → ℕ → ℕ → ℕ
+computed_immediate_word immediate_words.Addiw a imm = sign_extended 32 (a + imm)
+computed_immediate_word immediate_words.Slliw a imm = left_shift_word a imm
+computed_immediate_word immediate_words.Srliw a imm = right_shift_word a imm
+computed_immediate_word immediate_words.Sraiw a imm = signed_right_shift_word a imm
 
 -- two registers' values
-unfoldable pub of_registers : RegisterOp → ℕ → ℕ → ℕ
-of_registers registers.Add a b = sum_of a b
-of_registers registers.Sub a b = difference_of a b
-of_registers registers.Sll a b = left_shift a b
-of_registers registers.Slt a b = is_less_signed a b
-of_registers registers.Sltu a b = is_less_unsigned a b
-of_registers registers.Xor a b = bit_xor a b
-of_registers registers.Srl a b = right_shift a b
-of_registers registers.Sra a b = signed_right_shift a b
-of_registers registers.Or a b = bit_or a b
-of_registers registers.And a b = bit_and a b
-of_registers registers.Mul a b = a * b % 2 ^ 64
-of_registers registers.Mulh a b = high_signed a b
-of_registers registers.Mulhsu a b = high_mixed a b
-of_registers registers.Mulhu a b = high_unsigned a b
-of_registers registers.Div a b = quotient_signed w64 a b
-of_registers registers.Divu a b = quotient_unsigned w64 a b
-of_registers registers.Rem a b = remainder_signed w64 a b
-of_registers registers.Remu a b = remainder_unsigned a b
+unfoldable pub computed_register : RegisterOp → ℕ → ℕ → ℕ
+computed_register registers.Add a b = wrapped_sum a b
+computed_register registers.Sub a b = wrapped_difference a b
+computed_register registers.Sll a b = left_shift a b
+computed_register registers.Slt a b = is_less_signed a b
+computed_register registers.Sltu a b = is_less_unsigned a b
+computed_register registers.Xor a b = bit_xor a b
+computed_register registers.Srl a b = right_shift a b
+computed_register registers.Sra a b = signed_right_shift a b
+computed_register registers.Or a b = bit_or a b
+computed_register registers.And a b = bit_and a b
+computed_register registers.Mul a b = a * b % 2 ^ 64
+computed_register registers.Mulh a b = high_signed a b
+computed_register registers.Mulhsu a b = high_mixed a b
+computed_register registers.Mulhu a b = high_unsigned a b
+computed_register registers.Div a b = quotient_signed w64 a b
+computed_register registers.Divu a b = quotient_unsigned w64 a b
+computed_register registers.Rem a b = remainder_signed w64 a b
+computed_register registers.Remu a b = remainder_unsigned a b
 
 -- the same on 32 bits
-unfoldable pub of_register_words : RegisterWordOp → ℕ → ℕ → ℕ
-of_register_words register_words.Addw a b = sign_extended 32 (a + b)
-of_register_words register_words.Subw a b = sign_extended 32 (a + (2 ^ 64 - b))
-of_register_words register_words.Sllw a b = left_shift_word a b
-of_register_words register_words.Srlw a b = right_shift_word a b
-of_register_words register_words.Sraw a b = signed_right_shift_word a b
-of_register_words register_words.Mulw a b = sign_extended 32 (a * b)
-of_register_words register_words.Divw a b = sign_extended 32 (quotient_signed w32 (low a) (low b))
-of_register_words register_words.Divuw a b = sign_extended 32 (quotient_unsigned w32 (low a) (low b))
-of_register_words register_words.Remw a b = sign_extended 32 (remainder_signed w32 (low a) (low b))
-of_register_words register_words.Remuw a b = sign_extended 32 (remainder_unsigned (low a) (low b))
+unfoldable pub computed_register_word : RegisterWordOp → ℕ → ℕ → ℕ
+computed_register_word register_words.Addw a b = sign_extended 32 (a + b)
+computed_register_word register_words.Subw a b = sign_extended 32 (a + (2 ^ 64 - b))
+computed_register_word register_words.Sllw a b = left_shift_word a b
+computed_register_word register_words.Srlw a b = right_shift_word a b
+computed_register_word register_words.Sraw a b = signed_right_shift_word a b
+computed_register_word register_words.Mulw a b = sign_extended 32 (a * b)
+computed_register_word register_words.Divw a b = sign_extended 32 (quotient_signed w32 (low a) (low b))
+computed_register_word register_words.Divuw a b = sign_extended 32 (quotient_unsigned w32 (low a) (low b))
+computed_register_word register_words.Remw a b = sign_extended 32 (remainder_signed w32 (low a) (low b))
+computed_register_word register_words.Remuw a b = sign_extended 32 (remainder_unsigned (low a) (low b))
 
--- a load of so many bytes, and whether they are sign-extended
-abbrev pub load_at : LoadOp → ℕ → IntResult
-load_at loads.Lb address = results.Load address 1 true
-load_at loads.Lh address = results.Load address 2 true
-load_at loads.Lw address = results.Load address 4 true
-load_at loads.Ld address = results.Load address 8 true
-load_at loads.Lbu address = results.Load address 1 false
-load_at loads.Lhu address = results.Load address 2 false
-load_at loads.Lwu address = results.Load address 4 false
+-- a load of a size, and whether it is sign-extended
+abbrev pub load_of : LoadOp → ℕ → IntResult
+load_of loads.Lb address = results.Load address Byte true
+load_of loads.Lh address = results.Load address Halfword true
+load_of loads.Lw address = results.Load address Word true
+load_of loads.Ld address = results.Load address Doubleword true
+load_of loads.Lbu address = results.Load address Byte false
+load_of loads.Lhu address = results.Load address Halfword false
+load_of loads.Lwu address = results.Load address Word false
 
--- a store of so many bytes: the low ones
-abbrev pub store_at : StoreOp → ℕ → ℕ → IntResult
-store_at stores.Sb address b = results.Store address 1 (b % 2 ^ 8)
-store_at stores.Sh address b = results.Store address 2 (b % 2 ^ 16)
-store_at stores.Sw address b = results.Store address 4 (b % 2 ^ 32)
-store_at stores.Sd address b = results.Store address 8 b
+-- a store's size
+abbrev pub size_of_store : StoreOp → AccessSize
+size_of_store stores.Sb = Byte
+size_of_store stores.Sh = Halfword
+size_of_store stores.Sw = Word
+size_of_store stores.Sd = Doubleword
 
--- the bytes of an atomic access
-abbrev pub bytes_of : Width → ℕ
-bytes_of widths.Word = 4
-bytes_of widths.Double = 8
+-- the low bits, as many as an access has
+abbrev pub low_bits : AccessSize → ℕ → ℕ
+low_bits size x = x % 2 ^ bits_of size
 
--- a conditional store of so many bytes: the low ones
-abbrev pub conditional_at : Width → ℕ → ℕ → IntResult
-conditional_at widths.Word address b = results.StoreConditional address 4 (b % 2 ^ 32)
-conditional_at widths.Double address b = results.StoreConditional address 8 b
+-- a store of the low bits
+abbrev pub store_of : StoreOp → ℕ → ℕ → IntResult
+store_of op address b = results.Store address (size_of_store op) (low_bits (size_of_store op) b)
+
+-- a conditional store of them
+abbrev pub store_conditional_of : Width → ℕ → ℕ → IntResult
+store_conditional_of width address b =
+    results.StoreConditional address (size_of width) (low_bits (size_of width) b)
 
 -- by instruction, its sources' values, its address and its length
-unfoldable pub result_of : Op → ℕ → ℕ → ℕ → ℕ → IntResult
-result_of (ops.Lui rd imm) a b pc len = results.Value imm
-result_of (ops.Auipc rd imm) a b pc len = results.Value (sum_of pc imm)
-result_of (ops.Jal rd offset) a b pc len = results.Jump (sum_of pc len) (sum_of pc offset)
-result_of (ops.Jalr rd rs1 offset) a b pc len = results.Jump (sum_of pc len) (sum_of a offset / 2 * 2)
-result_of (ops.Branch op rs1 rs2 offset) a b pc len = results.Continue (if is_taken op a b then sum_of pc offset else sum_of pc len)
-result_of (ops.Load op rd rs1 offset) a b pc len = load_at op (sum_of a offset)
-result_of (ops.Store op rs1 rs2 offset) a b pc len = store_at op (sum_of a offset) b
-result_of (ops.Immediate op rd rs1 imm) a b pc len = results.Value (of_immediate op a imm)
-result_of (ops.ImmediateWord op rd rs1 imm) a b pc len = results.Value (of_immediate_word op a imm)
-result_of (ops.Register op rd rs1 rs2) a b pc len = results.Value (of_registers op a b)
-result_of (ops.RegisterWord op rd rs1 rs2) a b pc len = results.Value (of_register_words op a b)
-result_of ops.Fence a b pc len = results.Continue (sum_of pc len)
-result_of ops.FenceI a b pc len = results.Continue (sum_of pc len)
-result_of ops.Ecall a b pc len = results.EnvironmentCall
-result_of ops.Ebreak a b pc len = results.Breakpoint
-result_of (ops.LoadReserved width rd rs1) a b pc len = results.LoadReserved a (bytes_of width)
-result_of (ops.StoreConditional width rd rs1 rs2) a b pc len = conditional_at width a b
-result_of (ops.Amo op width rd rs1 rs2) a b pc len = results.Exchange op width a (bytes_of width) b
+unfoldable pub computed : Op → ℕ → ℕ → ℕ → ℕ → IntResult
+computed (ops.Lui rd imm) a b pc len = results.Value imm
+computed (ops.Auipc rd imm) a b pc len = results.Value (wrapped_sum pc imm)
+computed (ops.Jal rd offset) a b pc len = results.Jump (wrapped_sum pc len) (wrapped_sum pc offset)
+computed (ops.Jalr rd rs1 offset) a b pc len =
+    results.Jump (wrapped_sum pc len) (wrapped_sum a offset / 2 * 2)
+computed (ops.Branch op rs1 rs2 offset) a b pc len =
+    results.Continue (if is_taken op a b then wrapped_sum pc offset else wrapped_sum pc len)
+computed (ops.Load op rd rs1 offset) a b pc len = load_of op (wrapped_sum a offset)
+computed (ops.Store op rs1 rs2 offset) a b pc len = store_of op (wrapped_sum a offset) b
+computed (ops.Immediate op rd rs1 imm) a b pc len = results.Value (computed_immediate op a imm)
+computed (ops.ImmediateWord op rd rs1 imm) a b pc len = results.Value (computed_immediate_word op a imm)
+computed (ops.Register op rd rs1 rs2) a b pc len = results.Value (computed_register op a b)
+computed (ops.RegisterWord op rd rs1 rs2) a b pc len = results.Value (computed_register_word op a b)
+computed ops.Fence a b pc len = results.Continue (wrapped_sum pc len)
+computed ops.FenceI a b pc len = results.Continue (wrapped_sum pc len)
+computed ops.Ecall a b pc len = results.EnvironmentCall
+computed ops.Ebreak a b pc len = results.Breakpoint
+computed (ops.LoadReserved width rd rs1) a b pc len = results.LoadReserved a (size_of width)
+computed (ops.StoreConditional width rd rs1 rs2) a b pc len = store_conditional_of width a b
+computed (ops.Amo op width rd rs1 rs2) a b pc len = results.Amo op width a b

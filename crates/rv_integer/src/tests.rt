@@ -1,4 +1,5 @@
 use super::*;
+use hart_words::AccessSize;
 use rv_decode::{
     AmoOp, BranchOp, ImmediateOp, ImmediateWordOp, LoadOp, Op, RegisterOp, RegisterWordOp, StoreOp,
     Width,
@@ -162,80 +163,58 @@ fn branches(rt: HostRuntime) -> Result<(), Fail> {
     Ok(())
 }
 
+/// Upper immediates and jumps: the instruction, the value of rs1, pc, the length, and the result.
+/// JALR clears bit 0 of its sum.
 #[test]
 fn computes_upper_immediates_and_jumps(rt: HostRuntime) -> Result<(), Fail> {
-    assert_eq!(rt;
-        compute(
-            Op::Lui {
-                rd: 1,
-                imm: LEAST_WORD
-            },
-            0,
-            0,
-            4,
-            4
-        ),
-        IntResult::Value(LEAST_WORD)
-    );
-    assert_eq!(rt;
-        compute(
-            Op::Auipc {
-                rd: 1,
-                imm: LEAST_WORD
-            },
-            0,
-            0,
-            0x8000_0004,
-            4
-        ),
-        IntResult::Value(4)
-    );
     let back = MINUS_ONE - 3;
-    assert_eq!(rt;
-        compute(
-            Op::Jal {
-                rd: 1,
-                offset: back
-            },
-            0,
-            0,
-            0,
-            2
-        ),
-        IntResult::Jump {
-            link: 2,
-            target: back
-        }
-    );
-    assert_eq!(rt;
-        compute(
-            Op::Jalr {
-                rd: 1,
-                rs1: 2,
-                offset: 2
-            },
-            MINUS_ONE,
-            0,
-            MINUS_ONE - 1,
-            4
-        ),
-        IntResult::Jump { link: 2, target: 0 }
-    );
+    let lui = Op::Lui {
+        rd: 1,
+        imm: LEAST_WORD,
+    };
+    let auipc = Op::Auipc {
+        rd: 1,
+        imm: LEAST_WORD,
+    };
+    let jal = Op::Jal {
+        rd: 1,
+        offset: back,
+    };
+    let jalr = Op::Jalr {
+        rd: 1,
+        rs1: 2,
+        offset: 2,
+    };
+    let cases = [
+        (lui, 0, 4, 4, IntResult::Value(LEAST_WORD)),
+        (auipc, 0, 0x8000_0004, 4, IntResult::Value(4)),
+        (jal, 0, 0, 2, jump(2, back)),
+        (jalr, MINUS_ONE, MINUS_ONE - 1, 4, jump(2, 0)),
+        (jalr, 5, 0x1000, 4, jump(0x1004, 6)),
+        (jalr, 4, 0x1000, 2, jump(0x1002, 6)),
+    ];
+    for (op, a, pc, len, wanted) in cases {
+        assert_eq!(rt; compute(op, a, 0, pc, len), wanted);
+    }
     Ok(())
+}
+
+fn jump(link: u64, target: u64) -> IntResult {
+    IntResult::Jump { link, target }
 }
 
 #[test]
 fn asks_for_accesses(rt: HostRuntime) -> Result<(), Fail> {
     let loads = [
-        (LoadOp::Lb, 1, true),
-        (LoadOp::Lh, 2, true),
-        (LoadOp::Lw, 4, true),
-        (LoadOp::Ld, 8, true),
-        (LoadOp::Lbu, 1, false),
-        (LoadOp::Lhu, 2, false),
-        (LoadOp::Lwu, 4, false),
+        (LoadOp::Lb, AccessSize::Byte, true),
+        (LoadOp::Lh, AccessSize::Halfword, true),
+        (LoadOp::Lw, AccessSize::Word, true),
+        (LoadOp::Ld, AccessSize::Doubleword, true),
+        (LoadOp::Lbu, AccessSize::Byte, false),
+        (LoadOp::Lhu, AccessSize::Halfword, false),
+        (LoadOp::Lwu, AccessSize::Word, false),
     ];
-    for (op, len, signed) in loads {
+    for (op, size, signed) in loads {
         let op = Op::Load {
             op,
             rd: 1,
@@ -246,18 +225,18 @@ fn asks_for_accesses(rt: HostRuntime) -> Result<(), Fail> {
             compute(op, 0, 0, 0, 4),
             IntResult::Load {
                 address: MINUS_ONE,
-                len,
+                size,
                 signed
             }
         );
     }
     let stores = [
-        (StoreOp::Sb, 1, 0xef),
-        (StoreOp::Sh, 2, 0xcdef),
-        (StoreOp::Sw, 4, 0x89ab_cdef),
-        (StoreOp::Sd, 8, 0x0123_4567_89ab_cdef),
+        (StoreOp::Sb, AccessSize::Byte, 0xef),
+        (StoreOp::Sh, AccessSize::Halfword, 0xcdef),
+        (StoreOp::Sw, AccessSize::Word, 0x89ab_cdef),
+        (StoreOp::Sd, AccessSize::Doubleword, 0x0123_4567_89ab_cdef),
     ];
-    for (op, len, value) in stores {
+    for (op, size, value) in stores {
         let op = Op::Store {
             op,
             rs1: 2,
@@ -268,7 +247,7 @@ fn asks_for_accesses(rt: HostRuntime) -> Result<(), Fail> {
             compute(op, 0x1000, 0x0123_4567_89ab_cdef, 0, 4),
             IntResult::Store {
                 address: 0x1008,
-                len,
+                size,
                 value
             }
         );
@@ -291,20 +270,20 @@ fn asks_for_the_rest(rt: HostRuntime) -> Result<(), Fail> {
             },
             IntResult::LoadReserved {
                 address: 0x1000,
-                len: 4,
+                size: AccessSize::Word,
             },
         ),
         (
             Op::StoreConditional {
-                width: Width::Double,
+                width: Width::Doubleword,
                 rd: 1,
                 rs1: 2,
                 rs2: 3,
             },
             IntResult::StoreConditional {
                 address: 0x1000,
+                size: AccessSize::Doubleword,
                 value: 7,
-                len: 8,
             },
         ),
         (
@@ -315,12 +294,11 @@ fn asks_for_the_rest(rt: HostRuntime) -> Result<(), Fail> {
                 rs1: 2,
                 rs2: 3,
             },
-            IntResult::Exchange {
+            IntResult::Amo {
                 op: AmoOp::Amoadd,
                 width: Width::Word,
                 address: 0x1000,
                 b: 7,
-                len: 4,
             },
         ),
     ];

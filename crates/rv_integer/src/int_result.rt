@@ -1,3 +1,6 @@
+//! What an instruction asks for.
+
+use hart_words::AccessSize;
 use rv_decode::{AmoOp, Width};
 
 /// What an instruction asks for, short of memory and control registers.
@@ -14,35 +17,34 @@ pub enum IntResult {
     Continue {
         next_pc: u64,
     },
-    /// A load of `len` bytes, sign-extended where `signed`, at a virtual address.
+    /// A load at a virtual address, sign-extended where `signed`.
     Load {
         address: u64,
-        len: u8,
+        size: AccessSize,
         signed: bool,
     },
-    /// A store of the low `len` bytes of `value`.
+    /// A store of a value of the access's bits.
     Store {
         address: u64,
-        len: u8,
+        size: AccessSize,
         value: u64,
     },
-    /// A load (LR) of `len` bytes, 4 or 8, that reserves its address.
+    /// A load of a word or doubleword (LR) that reserves its address.
     LoadReserved {
         address: u64,
-        len: u8,
+        size: AccessSize,
     },
-    /// A store (SC) of the low `len` bytes of `value`, where the address is still reserved.
+    /// A store of a word or doubleword (SC), where the address is still reserved.
     StoreConditional {
         address: u64,
-        len: u8,
+        size: AccessSize,
         value: u64,
     },
-    /// An atomic memory operation (AMO) on `len` bytes, with the value `b` of rs2.
-    Exchange {
+    /// An atomic memory operation (AMO) of a width, with the value `b` of rs2.
+    Amo {
         op: AmoOp,
         width: Width,
         address: u64,
-        len: u8,
         b: u64,
     },
     /// An environment call (ECALL).

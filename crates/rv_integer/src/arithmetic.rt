@@ -1,15 +1,15 @@
 //! Operations on 64 bits.
 
 ghost use Rattle.std.specs.Prelude.{◌≡◌};
-ghost use Rattle.rv_integer.specs.Results.{of_immediate, of_registers, left_shift, right_shift, signed_right_shift};
+ghost use Rattle.rv_integer.specs.Results.{computed_immediate, computed_register, left_shift, right_shift, signed_right_shift};
 
 use hart_words::{div, divu, mulh, mulhsu, mulhu, rem, remu};
 use rv_decode::{ImmediateOp, RegisterOp};
 
 /// A register's value combined with an immediate, or shifted by its low 6 bits.
-#[tactic(auto, unfolding(crate::specs::Results::of_immediate))]
-pub fn with_immediate(op: ImmediateOp, a: u64, imm: u64) -> u64
-    ensures { result ≡ of_immediate op a imm }
+#[tactic(auto, unfolding(crate::specs::Results::computed_immediate))]
+pub fn compute_immediate(op: ImmediateOp, a: u64, imm: u64) -> u64
+    ensures { result ≡ computed_immediate op a imm }
 {
     match op {
         ImmediateOp::Addi => a.wrapping_add(imm),
@@ -25,9 +25,9 @@ pub fn with_immediate(op: ImmediateOp, a: u64, imm: u64) -> u64
 }
 
 /// Two registers' values combined, or the first shifted by the low 6 bits of the second.
-#[tactic(auto, unfolding(crate::specs::Results::of_registers))]
-pub fn with_register(op: RegisterOp, a: u64, b: u64) -> u64
-    ensures { result ≡ of_registers op a b }
+#[tactic(auto, unfolding(crate::specs::Results::computed_register))]
+pub fn compute_register(op: RegisterOp, a: u64, b: u64) -> u64
+    ensures { result ≡ computed_register op a b }
 {
     match op {
         RegisterOp::Add => a.wrapping_add(b),
