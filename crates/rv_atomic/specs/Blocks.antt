@@ -1,9 +1,11 @@
--- What a reservation covers. From the Unprivileged ISA's chapter "A Extension for Atomic Instructions"; its reservation set is an aligned block of 64 bytes here.
+-- What a reservation covers.
+-- From the Unprivileged ISA's chapter "A Extension for Atomic Instructions"; its reservation set is an aligned block here.
 use Rattle.std.specs.Prelude.{◌≡◌, ℕ, ◌+◌, ◌-◌, ◌/◌, ◌<◌, Bool, false, ◌&&◌, ◌==◌, Option, Some, None}
+use Rattle.rv_atomic.specs.declared.reservation.TheConstants.{BLOCK_SIZE}
 
 -- the number of the block in which a byte lies
 abbrev pub block_of : ℕ → ℕ
-block_of address = address / 64
+block_of address = address / BLOCK_SIZE
 
 -- the byte lies in the reserved block
 abbrev pub IsReserved : Option ℕ → ℕ → Type 0

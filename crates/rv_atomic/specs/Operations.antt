@@ -1,25 +1,27 @@
--- The atomic memory operations: what memory gets, one equation a name, on whole numbers. From the Unprivileged ISA's chapter "A Extension for Atomic Instructions".
+-- The atomic memory operations: what memory gets, one equation a name, on whole numbers.
+-- From the Unprivileged ISA's chapter "A Extension for Atomic Instructions".
 use Rattle.std.specs.Prelude.{ℕ, ◌+◌, ◌%◌, ◌^◌, min, max, ℤ, int_lt, if◌then◌else◌, bit_and, bit_or, bit_xor}
 use Rattle.std.specs.Int.{w32, w64, cast_signed}
+use Rattle.hart_words.specs.AccessSizes.{bits_of}
+use Rattle.rv_decode.specs.Widths.{size_of}
 use Rattle.rv_decode.specs.declared.operation.Width.{Width}
-use Rattle.rv_decode.specs.declared.operation.Width.TheVariants.{Word, Double}
+use Rattle.rv_decode.specs.declared.operation.Width.TheVariants.{Word, Doubleword}
 use Rattle.rv_decode.specs.declared.operation.AmoOp.{AmoOp}
 use Rattle.rv_decode.specs.declared.operation.AmoOp.TheVariants.{Amoswap, Amoadd, Amoxor, Amoand, Amoor, Amomin, Amomax, Amominu, Amomaxu}
 
 -- the bits that an instruction of a width works on
-abbrev pub bits_of : Width → ℕ
-bits_of Word = 32
-bits_of Double = 64
+abbrev pub width_bits : Width → ℕ
+width_bits width = bits_of (size_of width)
 
 -- a number of so many bits as a signed one
 abbrev pub signed_at : Width → ℕ → ℤ
 signed_at Word x = cast_signed w32 x
-signed_at Double x = cast_signed w64 x
+signed_at Doubleword x = cast_signed w64 x
 
 -- what memory held, combined with the register's value, both of the width's bits
 unfoldable pub combined : AmoOp → Width → ℕ → ℕ → ℕ
 combined Amoswap width x y = y
-combined Amoadd width x y = (x + y) % 2 ^ bits_of width
+combined Amoadd width x y = (x + y) % 2 ^ width_bits width
 combined Amoxor width x y = bit_xor x y
 combined Amoand width x y = bit_and x y
 combined Amoor width x y = bit_or x y
@@ -29,5 +31,5 @@ combined Amominu width x y = min x y
 combined Amomaxu width x y = max x y
 
 -- the low bits of both, combined
-unfoldable pub written : AmoOp → Width → ℕ → ℕ → ℕ
-written op width old b = combined op width (old % 2 ^ bits_of width) (b % 2 ^ bits_of width)
+unfoldable pub amo_of : AmoOp → Width → ℕ → ℕ → ℕ
+amo_of op width old b = combined op width (old % 2 ^ width_bits width) (b % 2 ^ width_bits width)

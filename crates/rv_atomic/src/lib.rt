@@ -1,4 +1,8 @@
-//! Atomic memory operations, and the reservation that LR makes and SC asks for.
+//! Atomic memory operations and reservations: `amo` takes what memory holds and a register's value
+//! and gives what memory gets; `Reservation` is what LR reserves and SC asks for. They meet
+//! `amo_of` in `specs/Operations.antt` and the definitions of `specs/Blocks.antt`, from the
+//! Unprivileged ISA's chapter "A Extension for Atomic Instructions"; `laws` says what minima and
+//! maxima are.
 #![tactic(auto)]
 
 pub mod laws;
@@ -6,7 +10,7 @@ mod operations;
 mod reservation;
 
 pub use operations::amo;
-pub use reservation::Reservation;
+pub use reservation::{BLOCK_SIZE, Reservation};
 
 #[cfg(test)]
 mod tests;

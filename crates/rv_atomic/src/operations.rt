@@ -1,20 +1,22 @@
+//! The atomic memory operations.
+
 ghost use Rattle.std.specs.Prelude.{◌≡◌, ◌<◌, ◌%◌, ◌^◌};
-ghost use Rattle.rv_decode.specs.declared.operation.Width.TheVariants.{Word, Double};
-ghost use Rattle.rv_atomic.specs.Operations.{written, combined, bits_of};
+ghost use Rattle.rv_decode.specs.declared.operation.Width.TheVariants.{Word, Doubleword};
+ghost use Rattle.rv_atomic.specs.Operations.{amo_of, combined, width_bits};
 
 use rv_decode::{AmoOp, Width};
 
 /// What memory gets from an atomic memory operation, where it held `old` and rs2 has the value `b`:
 /// on 32 bits the low halves of both are combined, and the result is below 2^32. From the
 /// Unprivileged ISA's chapter "A Extension for Atomic Instructions".
-#[tactic(auto, unfolding(crate::specs::Operations::written))]
+#[tactic(auto, unfolding(crate::specs::Operations::amo_of))]
 pub fn amo(op: AmoOp, width: Width, old: u64, b: u64) -> u64
-    ensures value { result ≡ written op width old b }
-    ensures fits { result < 2 ^ bits_of width }
+    ensures value { result ≡ amo_of op width old b }
+    ensures fits { result < 2 ^ width_bits width }
 {
     match width {
-        Width::Word => u64::from(on_words(op, low_word(old), low_word(b))),
-        Width::Double => on_doubles(op, old, b),
+        Width::Word => u64::from(combine_words(op, low_word(old), low_word(b))),
+        Width::Doubleword => combine_doublewords(op, old, b),
     }
 }
 
@@ -26,7 +28,7 @@ fn low_word(x: u64) -> u32
 }
 
 #[tactic(auto, unfolding(crate::specs::Operations::combined))]
-fn on_words(op: AmoOp, low_old: u32, low_b: u32) -> u32
+fn combine_words(op: AmoOp, low_old: u32, low_b: u32) -> u32
     ensures { result ≡ combined op Word low_old low_b }
 {
     match op {
@@ -44,8 +46,8 @@ fn on_words(op: AmoOp, low_old: u32, low_b: u32) -> u32
 }
 
 #[tactic(auto, unfolding(crate::specs::Operations::combined))]
-fn on_doubles(op: AmoOp, old: u64, b: u64) -> u64
-    ensures { result ≡ combined op Double old b }
+fn combine_doublewords(op: AmoOp, old: u64, b: u64) -> u64
+    ensures { result ≡ combined op Doubleword old b }
 {
     match op {
         AmoOp::Amoswap => b,

@@ -1,7 +1,12 @@
-/// What a hart has reserved: an aligned block of 64 bytes of physical memory, or nothing.
+//! What a hart has reserved.
+
+/// How many bytes a reservation covers: an aligned block of physical memory.
+pub const BLOCK_SIZE: u64 = 64;
+
+/// What a hart has reserved: an aligned block of physical memory, or nothing.
 #[derive(Clone, Copy, Debug, PartialEq, Eq)]
 pub struct Reservation {
-    /// The block's number: the address of each of its bytes divided by 64.
+    /// The block's number: the address of each of its bytes divided by `BLOCK_SIZE`.
     pub block: Option<u64>,
 }
 
@@ -16,7 +21,7 @@ impl Reservation {
     pub fn set(&mut self, pa: u64)
         ensures { self.new.block ≡ Some (block_of pa) }
     {
-        self.block = Some(pa / 64);
+        self.block = Some(pa / BLOCK_SIZE);
     }
 
     /// Whether all of the `len` bytes from `pa` on, at least one, lie in the reserved block.
@@ -27,7 +32,8 @@ impl Reservation {
     {
         match self.block {
             None => false,
-            Some(block) => pa / 64 == block && pa % 64 + u64::from(len) <= 64,
+            Some(block) => pa / BLOCK_SIZE == block
+                && pa % BLOCK_SIZE + u64::from(len) <= BLOCK_SIZE,
         }
     }
 

@@ -32,7 +32,7 @@ fn combines(rt: HostRuntime) -> Result<(), Fail> {
         (AmoOp::Amomaxu, 0x8000_0000, 1, 0x8000_0000, 0x8000_0000),
     ];
     for (op, old, b, double, word) in cases {
-        assert_eq!(rt; amo(op, Width::Double, old, b), double);
+        assert_eq!(rt; amo(op, Width::Doubleword, old, b), double);
         assert_eq!(rt; amo(op, Width::Word, old, b), word);
     }
     Ok(())
