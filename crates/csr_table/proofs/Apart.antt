@@ -1,17 +1,18 @@
--- Ranges of addresses of which one ends before the other begins have no address in common.
+-- Ranges of which one ends before the other begins have no address in common.
 use Rattle.std.proofs.Common.{◌≡◌, ℕ, ◌<◌, ◌≤◌, ◌⊎◌, inl, inr, Bool, true, false, ◌&&◌, ◌||◌, List, [], ◌∷◌, nat_lt, nat_le, All, refl, arith, get_or}
 use Rattle.std.specs.List.{list_all}
 use Rattle.std.proofs.lemmas.List.Kept.{AllPairs-cons}
 use Rattle.std.proofs.lemmas.Bool.Decides.{nat_tests}
 use Rattle.std.proofs.lemmas.List.Sums.{AllPass-from_list_all}
-use Rattle.csr_table.specs.Lines.{Line, NeverBoth, NoTwoLinesMeet, lines}
+use Rattle.hart_words.specs.Tables.{NeverBoth, MeetsOneAtMost}
+use Rattle.csr_table.specs.Addresses.{CsrRange, lists, csr_ranges}
 
-abbrev pub are_apart : Line → Line → Bool
+abbrev pub are_apart : CsrRange → CsrRange → Bool
 are_apart this other = nat_lt this.last other.first || nat_lt other.last this.first
 
-abbrev pub all_apart : List Line → Bool
+abbrev pub all_apart : List CsrRange → Bool
 all_apart [] = true
-all_apart (line ∷ rest) = list_all (are_apart line) rest && all_apart rest
+all_apart (range ∷ rest) = list_all (are_apart range) rest && all_apart rest
 
 both : (a b : Bool) → (a && b) ≡ true → (a ≡ true) × (b ≡ true)
 both true b h = (refl, h)
@@ -25,20 +26,20 @@ within first last address h =
 ordered : (a b c d : ℕ) → (nat_lt a b || nat_lt c d) ≡ true → (a < b) ⊎ (c < d)
 ordered a b c d h = grind (arith, nat_tests)
 
-never : (this other : Line) → are_apart this other ≡ true → NeverBoth this other
+never : (this other : CsrRange) → are_apart this other ≡ true → NeverBoth lists this other
 never this other apart address here there =
     let low = within this.first this.last address here in
     let high = within other.first other.last address there in
     elim (ordered this.last other.first other.last this.first apart) [ inl lt ↦ omega arith | inr lt ↦ omega arith ]
 
-each : (line : Line) (rest : List Line) → list_all (are_apart line) rest ≡ true → All (NeverBoth line) rest
-each line rest h k d inside = never line (get_or rest k d) (AllPass-from_list_all (are_apart line) rest h k d inside)
+each : (range : CsrRange) (rest : List CsrRange) → list_all (are_apart range) rest ≡ true → All (NeverBoth lists range) rest
+each range rest h k d inside = never range (get_or rest k d) (AllPass-from_list_all (are_apart range) rest h k d inside)
 
-no_two_meet : (part : List Line) → all_apart part ≡ true → NoTwoLinesMeet part
+no_two_meet : (part : List CsrRange) → all_apart part ≡ true → MeetsOneAtMost lists part
 no_two_meet [] h = λ i j d lt inside. absurd (omega arith)
-no_two_meet (line ∷ rest) h =
-    let parts = both (list_all (are_apart line) rest) (all_apart rest) h in
-    AllPairs-cons NeverBoth line rest (each line rest parts.0) (no_two_meet rest parts.1)
+no_two_meet (range ∷ rest) h =
+    let parts = both (list_all (are_apart range) rest) (all_apart rest) h in
+    AllPairs-cons (NeverBoth lists) range rest (each range rest parts.0) (no_two_meet rest parts.1)
 
-pub lines_apart : NoTwoLinesMeet lines
-lines_apart = no_two_meet lines refl
+pub ranges_apart : MeetsOneAtMost lists csr_ranges
+ranges_apart = no_two_meet csr_ranges refl

@@ -1,20 +1,22 @@
+//! The rows of the table, by address.
+
 ghost use Rattle.std.specs.Prelude.{◌≡◌};
-ghost use Rattle.csr_table.specs.Lines.{row_of, csr_in, lines, machine_lines, supervisor_lines, counter_lines};
+ghost use Rattle.csr_table.specs.Addresses.{csr_row_of, csr_in, csr_ranges, machine_ranges, supervisor_ranges, counter_ranges};
 
 use crate::registers::{Csr, CsrRow};
 
 /// The row of a register's address, or `None` where no register has it. From the Privileged
 /// Architecture's chapter "Control and Status Registers (CSRs)".
-#[tactic(auto, unfolding(crate::specs::Lines::row_of, crate::specs::Lines::csr_in))]
+#[tactic(auto, unfolding(crate::specs::Addresses::csr_row_of, crate::specs::Addresses::csr_in))]
 pub fn row(address: u16) -> Option<CsrRow>
-    ensures { result ≡ row_of address }
+    ensures { result ≡ csr_row_of address }
 {
-    match named(address) {
+    match csr_at(address) {
         None => None,
         Some(csr) => {
             Some(CsrRow {
-                least_mode: (address / 256 % 4) as u8,
-                read_only: address / 1024 % 4 == 3,
+                least_mode: ((address >> 8) % 4) as u8,
+                read_only: (address >> 10) % 4 == 3,
                 csr,
             })
         }
@@ -23,18 +25,18 @@ pub fn row(address: u16) -> Option<CsrRow>
 
 /// What an address names.
 #[tactic(auto, using(crate::proofs::Parts::in_three))]
-fn named(address: u16) -> Option<Csr>
-    ensures { result ≡ csr_in lines address }
+fn csr_at(address: u16) -> Option<Csr>
+    ensures { result ≡ csr_in csr_ranges address }
 {
-    machine(address)
-        .or(supervisor(address))
-        .or(counter(address))
+    machine_csr_at(address)
+        .or(supervisor_csr_at(address))
+        .or(counter_csr_at(address))
 }
 
 /// What an address names among the machine's registers.
-#[tactic(auto, unfolding(crate::specs::Lines::csr_in))]
-fn machine(address: u16) -> Option<Csr>
-    ensures { result ≡ csr_in machine_lines address }
+#[tactic(auto, unfolding(crate::specs::Addresses::csr_in))]
+fn machine_csr_at(address: u16) -> Option<Csr>
+    ensures { result ≡ csr_in machine_ranges address }
 {
     match address {
         0x300 => Some(Csr::Mstatus),
@@ -57,9 +59,9 @@ fn machine(address: u16) -> Option<Csr>
 }
 
 /// What an address names among the supervisor's registers.
-#[tactic(auto, unfolding(crate::specs::Lines::csr_in))]
-fn supervisor(address: u16) -> Option<Csr>
-    ensures { result ≡ csr_in supervisor_lines address }
+#[tactic(auto, unfolding(crate::specs::Addresses::csr_in))]
+fn supervisor_csr_at(address: u16) -> Option<Csr>
+    ensures { result ≡ csr_in supervisor_ranges address }
 {
     match address {
         0x100 => Some(Csr::Sstatus),
@@ -77,9 +79,9 @@ fn supervisor(address: u16) -> Option<Csr>
 }
 
 /// What an address names among the counters and the registers that tell which core this is.
-#[tactic(auto, unfolding(crate::specs::Lines::csr_in))]
-fn counter(address: u16) -> Option<Csr>
-    ensures { result ≡ csr_in counter_lines address }
+#[tactic(auto, unfolding(crate::specs::Addresses::csr_in))]
+fn counter_csr_at(address: u16) -> Option<Csr>
+    ensures { result ≡ csr_in counter_ranges address }
 {
     match address {
         0xB00 => Some(Csr::Mcycle),

@@ -23,7 +23,7 @@ fn names_registers(rt: HostRuntime) -> Result<(), Fail> {
         };
         assert_eq!(rt; row(address), Some(wanted));
     }
-    laws::lines_are_apart();
+    laws::no_address_is_listed_twice();
     Ok(())
 }
 
