@@ -7,7 +7,7 @@ use Rattle.std.proofs.lemmas.Nat.Bits.{bit_at_above, bit_at_and, bit_at_or, bit_
 use Rattle.std.proofs.lemmas.Bool.{cases_eq}
 use Rattle.std.proofs.lemmas.Grind.{and_not_apart}
 use Rattle.csr_file.specs.Fields.{bit_is_set, merged, mpp_of}
-use Rattle.csr_file.specs.Sound.{IsWithin}
+use Rattle.csr_file.specs.Legal.{IsWithin}
 
 -- a number of 64 bits has none further up
 pub no_high_bit : (value bit : ℕ) → value < 2 ^ 64 → 64 ≤ bit → bit_is_set value bit ≡ false
@@ -71,6 +71,13 @@ merges mask old value small bit inside = elim (cases (bit_at mask bit) (bit_at-l
   | inl is ↦ bit_taken mask old value bit small inside is.0 ∙ ap (λ b. if b then bit_at value bit else bit_at old bit) (sym is.1)
   | inr is ↦ bit_kept mask old value bit small inside is.0 ∙ ap (λ b. if b then bit_at value bit else bit_at old bit) (sym is.1)
 ]
+
+-- a bit that a mask leaves out is 0 under it
+pub out_of : (value mask i : ℕ) → bit_at mask i ≡ 0 → bit_at (bit_and value mask) i ≡ 0
+out_of value mask i none = bit_at_and value mask i ∙ ap (min (bit_at value i)) none ∙ none_of_two (bit_at value i)
+  where
+    none_of_two : (n : ℕ) → min n 0 ≡ 0
+    none_of_two n = omega arith
 
 -- bits that the mask leaves out stay, taken together
 pub merged_keeps : (mask old value rest : ℕ) → mask < 2 ^ 64 → rest < 2 ^ 64 → bit_and mask rest ≡ 0 → bit_and (merged mask old value) rest ≡ bit_and old rest

@@ -1,4 +1,4 @@
 pub mod Bits
 pub mod Places
-pub mod Sound
+pub mod Legal
 pub mod Writes

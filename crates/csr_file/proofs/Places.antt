@@ -1,14 +1,15 @@
--- No two registers stand at one place, and what one of them gets changes no other.
+-- No two registers stand at one index, and what one of them gets changes no other.
 use Rattle.std.proofs.Common.{◌≡◌, ◌≢◌, ℕ, ◌<◌, List, [], ◌∷◌, length, get_or, refl, ap, ◌∙◌, sym, subst, lit<, get_or-set_same, get_or-set_other}
 use Rattle.csr_file.specs.declared.csrs.Csrs.{Csrs}
-use Rattle.csr_file.specs.declared.csrs.Held.{Held}
-use Rattle.csr_file.specs.declared.csrs.Held.TheVariants.{Mstatus, Medeleg, Mideleg, Mie, Mtvec, Mcounteren, Menvcfg, Mcountinhibit, Mscratch, Mepc, Mcause, Mtval, Mip, Stvec, Scounteren, Senvcfg, Sscratch, Sepc, Scause, Stval, Satp}
-use Rattle.csr_file.specs.Registers.{at, with_at, place}
+use Rattle.csr_file.specs.declared.stored_csr.StoredCsr.{StoredCsr}
+use Rattle.csr_file.specs.declared.stored_csr.StoredCsr.TheVariants.{Mstatus, Medeleg, Mideleg, Mie, Mtvec, Mcounteren, Menvcfg, Mcountinhibit, Mscratch, Mepc, Mcause, Mtval, Mip, Stvec, Scounteren, Senvcfg, Sscratch, Sepc, Scause, Stval, Satp}
+use Rattle.csr_file.specs.declared.stored_csr.TheConstants.{STORED_CSRS}
+use Rattle.csr_file.specs.Registers.{at, with_at, stored_index_of}
 
-abbrev all : List Held
+abbrev all : List StoredCsr
 all = Mstatus ∷ Medeleg ∷ Mideleg ∷ Mie ∷ Mtvec ∷ Mcounteren ∷ Menvcfg ∷ Mcountinhibit ∷ Mscratch ∷ Mepc ∷ Mcause ∷ Mtval ∷ Mip ∷ Stvec ∷ Scounteren ∷ Senvcfg ∷ Sscratch ∷ Sepc ∷ Scause ∷ Stval ∷ Satp ∷ []
 
-found : (held : Held) → get_or all (place held) Mstatus ≡ held
+found : (stored : StoredCsr) → get_or all (stored_index_of stored) Mstatus ≡ stored
 found Mstatus = refl
 found Medeleg = refl
 found Mideleg = refl
@@ -31,10 +32,10 @@ found Scause = refl
 found Stval = refl
 found Satp = refl
 
-pub same_place : (one other : Held) → place one ≡ place other → one ≡ other
-same_place one other e = sym (found one) ∙ ap (λ n. get_or all n Mstatus) e ∙ found other
+pub same_index : (one other : StoredCsr) → stored_index_of one ≡ stored_index_of other → one ≡ other
+same_index one other e = sym (found one) ∙ ap (λ n. get_or all n Mstatus) e ∙ found other
 
-inside : (held : Held) → place held < 21
+inside : (stored : StoredCsr) → stored_index_of stored < 21
 inside Mstatus = lit< tt
 inside Medeleg = lit< tt
 inside Mideleg = lit< tt
@@ -58,11 +59,11 @@ inside Stval = lit< tt
 inside Satp = lit< tt
 
 -- a register has what it got, where there is a place for it
-pub at_same : (csrs : Csrs) (held : Held) (value : ℕ) → length csrs.values ≡ 21 → at (with_at csrs held value) held ≡ value
+pub at_same : (csrs : Csrs) (stored : StoredCsr) (value : ℕ) → length csrs.values ≡ STORED_CSRS → at (with_at csrs stored value) stored ≡ value
 unfolding at with_at
-at_same csrs held value whole = get_or-set_same csrs.values (place held) value 0 (subst (λ n. place held < n) (sym whole) (inside held))
+at_same csrs stored value whole = get_or-set_same csrs.values (stored_index_of stored) value 0 (subst (λ n. stored_index_of stored < n) (sym whole) (inside stored))
 
 -- any other has what it had
-pub at_other : (csrs : Csrs) (held other : Held) (value : ℕ) → place other ≢ place held → at (with_at csrs held value) other ≡ at csrs other
+pub at_other : (csrs : Csrs) (stored other : StoredCsr) (value : ℕ) → stored_index_of other ≢ stored_index_of stored → at (with_at csrs stored value) other ≡ at csrs other
 unfolding at with_at
-at_other csrs held other value apart = get_or-set_other csrs.values (place held) (place other) value 0 apart
+at_other csrs stored other value apart = get_or-set_other csrs.values (stored_index_of stored) (stored_index_of other) value 0 apart

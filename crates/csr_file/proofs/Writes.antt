@@ -1,71 +1,51 @@
--- A write leaves all but the register behind the one written.
+-- A write leaves all but the register that it writes.
 use Rattle.std.proofs.Common.{◌≡◌, ◌≢◌, ℕ, Some, refl, ap, sym}
 use Rattle.csr_table.specs.declared.registers.Csr.{Csr}
-use Rattle.csr_table.specs.declared.registers.Csr.TheVariants as csr
 use Rattle.csr_file.specs.declared.csrs.Csrs.{Csrs}
-use Rattle.csr_file.specs.declared.csrs.Held.{Held}
-use Rattle.csr_file.specs.declared.csrs.Held.TheVariants.{Mstatus, Medeleg, Mideleg, Mie, Mtvec, Mcounteren, Menvcfg, Mcountinhibit, Mscratch, Mepc, Mcause, Mtval, Mip, Stvec, Scounteren, Senvcfg, Sscratch, Sepc, Scause, Stval}
-use Rattle.csr_file.specs.Registers.{at, with_at, place}
-use Rattle.csr_file.specs.Values.{written}
-use Rattle.csr_file.specs.Laws.{LeavesOtherRegisters, LeavesProtection}
-use Rattle.csr_file.proofs.Places.{at_other, same_place}
+use Rattle.csr_file.specs.declared.stored_csr.StoredCsr.{StoredCsr}
+use Rattle.csr_file.specs.declared.stored_csr.StoredCsr.TheVariants.{Mstatus, Mie, Mip}
+use Rattle.csr_file.specs.declared.csr_kind.CsrKind.{CsrKind}
+use Rattle.csr_file.specs.declared.csr_kind.CsrKind.TheVariants.{Stored, Status, Pending, SupervisorStatus, SupervisorEnables, SupervisorPending, Constant, OfCore, Counter, ClosedCounter}
+use Rattle.csr_file.specs.Registers.{at, with_at, stored_index_of}
+use Rattle.csr_file.specs.Table.{csr_kind_of}
+use Rattle.csr_file.specs.Values.{status_write_of, csr_write_of}
+use Rattle.csr_file.specs.Laws.{LeavesOtherRegisters, LeavesProtection, written_register_of}
+use Rattle.csr_file.proofs.Places.{at_other, same_index}
 
-other_place : (held other : Held) → (Some held ≢ Some other) → place other ≢ place held
-other_place held other apart same = apart (ap Some (sym (same_place other held same)))
+other_index : (stored other : StoredCsr) → (Some stored ≢ Some other) → stored_index_of other ≢ stored_index_of stored
+other_index stored other apart same = apart (ap Some (sym (same_index other stored same)))
 
-leaves : (csrs : Csrs) (held other : Held) (value : ℕ) → (Some held ≢ Some other) → at (with_at csrs held value) other ≡ at csrs other
-leaves csrs held other value apart = at_other csrs held other value (other_place held other apart)
+leaves : (csrs : Csrs) (stored other : StoredCsr) (value : ℕ) → (Some stored ≢ Some other) → at (with_at csrs stored value) other ≡ at csrs other
+leaves csrs stored other value apart = at_other csrs stored other value (other_index stored other apart)
+
+by_kind : (csrs : Csrs) (kind : CsrKind) (value : ℕ) (other : StoredCsr) → written_register_of kind ≢ Some other → at (csr_write_of csrs kind value) other ≡ at csrs other
+unfolding csr_write_of status_write_of
+by_kind csrs (Stored stored) value other apart = leaves csrs stored other _ apart
+by_kind csrs Status value other apart = leaves csrs Mstatus other _ apart
+by_kind csrs Pending value other apart = leaves csrs Mip other _ apart
+by_kind csrs SupervisorStatus value other apart = leaves csrs Mstatus other _ apart
+by_kind csrs SupervisorEnables value other apart = leaves csrs Mie other _ apart
+by_kind csrs SupervisorPending value other apart = leaves csrs Mip other _ apart
+by_kind csrs (Constant number) value other apart = refl
+by_kind csrs OfCore value other apart = refl
+by_kind csrs (Counter bit) value other apart = refl
+by_kind csrs ClosedCounter value other apart = refl
 
 pub leaves_registers : (csrs : Csrs) (csr : Csr) (value : ℕ) → LeavesOtherRegisters csrs csr value
-unfolding written
-leaves_registers csrs csr.Mstatus value held apart = leaves csrs Mstatus held _ apart
-leaves_registers csrs csr.Medeleg value held apart = leaves csrs Medeleg held _ apart
-leaves_registers csrs csr.Mideleg value held apart = leaves csrs Mideleg held _ apart
-leaves_registers csrs csr.Mie value held apart = leaves csrs Mie held _ apart
-leaves_registers csrs csr.Mtvec value held apart = leaves csrs Mtvec held _ apart
-leaves_registers csrs csr.Mcounteren value held apart = leaves csrs Mcounteren held _ apart
-leaves_registers csrs csr.Menvcfg value held apart = leaves csrs Menvcfg held _ apart
-leaves_registers csrs csr.Mcountinhibit value held apart = leaves csrs Mcountinhibit held _ apart
-leaves_registers csrs csr.Mscratch value held apart = leaves csrs Mscratch held _ apart
-leaves_registers csrs csr.Mepc value held apart = leaves csrs Mepc held _ apart
-leaves_registers csrs csr.Mcause value held apart = leaves csrs Mcause held _ apart
-leaves_registers csrs csr.Mtval value held apart = leaves csrs Mtval held _ apart
-leaves_registers csrs csr.Mip value held apart = leaves csrs Mip held _ apart
-leaves_registers csrs csr.Sstatus value held apart = leaves csrs Mstatus held _ apart
-leaves_registers csrs csr.Sie value held apart = leaves csrs Mie held _ apart
-leaves_registers csrs csr.Stvec value held apart = leaves csrs Stvec held _ apart
-leaves_registers csrs csr.Scounteren value held apart = leaves csrs Scounteren held _ apart
-leaves_registers csrs csr.Senvcfg value held apart = leaves csrs Senvcfg held _ apart
-leaves_registers csrs csr.Sscratch value held apart = leaves csrs Sscratch held _ apart
-leaves_registers csrs csr.Sepc value held apart = leaves csrs Sepc held _ apart
-leaves_registers csrs csr.Scause value held apart = leaves csrs Scause held _ apart
-leaves_registers csrs csr.Stval value held apart = leaves csrs Stval held _ apart
-leaves_registers csrs csr.Sip value held apart = leaves csrs Mip held _ apart
-leaves_registers csrs _ value held apart = refl
+leaves_registers csrs csr value = by_kind csrs (csr_kind_of csr) value
+
+protection_by_kind : (csrs : Csrs) (kind : CsrKind) (value : ℕ) → ((csr_write_of csrs kind value).pmpcfg ≡ csrs.pmpcfg) × ((csr_write_of csrs kind value).pmpaddr ≡ csrs.pmpaddr)
+unfolding csr_write_of status_write_of with_at
+protection_by_kind csrs (Stored stored) value = (refl, refl)
+protection_by_kind csrs Status value = (refl, refl)
+protection_by_kind csrs Pending value = (refl, refl)
+protection_by_kind csrs SupervisorStatus value = (refl, refl)
+protection_by_kind csrs SupervisorEnables value = (refl, refl)
+protection_by_kind csrs SupervisorPending value = (refl, refl)
+protection_by_kind csrs (Constant number) value = (refl, refl)
+protection_by_kind csrs OfCore value = (refl, refl)
+protection_by_kind csrs (Counter bit) value = (refl, refl)
+protection_by_kind csrs ClosedCounter value = (refl, refl)
 
 pub leaves_protection : (csrs : Csrs) (csr : Csr) (value : ℕ) → LeavesProtection csrs csr value
-unfolding written with_at
-leaves_protection csrs csr.Mstatus value = (refl, refl)
-leaves_protection csrs csr.Medeleg value = (refl, refl)
-leaves_protection csrs csr.Mideleg value = (refl, refl)
-leaves_protection csrs csr.Mie value = (refl, refl)
-leaves_protection csrs csr.Mtvec value = (refl, refl)
-leaves_protection csrs csr.Mcounteren value = (refl, refl)
-leaves_protection csrs csr.Menvcfg value = (refl, refl)
-leaves_protection csrs csr.Mcountinhibit value = (refl, refl)
-leaves_protection csrs csr.Mscratch value = (refl, refl)
-leaves_protection csrs csr.Mepc value = (refl, refl)
-leaves_protection csrs csr.Mcause value = (refl, refl)
-leaves_protection csrs csr.Mtval value = (refl, refl)
-leaves_protection csrs csr.Mip value = (refl, refl)
-leaves_protection csrs csr.Sstatus value = (refl, refl)
-leaves_protection csrs csr.Sie value = (refl, refl)
-leaves_protection csrs csr.Stvec value = (refl, refl)
-leaves_protection csrs csr.Scounteren value = (refl, refl)
-leaves_protection csrs csr.Senvcfg value = (refl, refl)
-leaves_protection csrs csr.Sscratch value = (refl, refl)
-leaves_protection csrs csr.Sepc value = (refl, refl)
-leaves_protection csrs csr.Scause value = (refl, refl)
-leaves_protection csrs csr.Stval value = (refl, refl)
-leaves_protection csrs csr.Sip value = (refl, refl)
-leaves_protection csrs _ value = (refl, refl)
+leaves_protection csrs csr value = protection_by_kind csrs (csr_kind_of csr) value

@@ -1,5 +1,20 @@
--- Bits and fields of the registers, from the Privileged Architecture's chapter "Machine-Level ISA" (mstatus, mip).
-use Rattle.std.specs.Prelude.{ℕ, ◌-◌, ◌/◌, ◌%◌, ◌^◌, Bool, ◌==◌, bit_and, bit_or, if◌then◌else◌}
+-- Bits and fields of the registers, from the Privileged Architecture's chapter "Machine-Level ISA" (mstatus,
+-- mip).
+use Rattle.std.specs.Prelude.{ℕ, ◌+◌, ◌-◌, ◌*◌, ◌/◌, ◌%◌, ◌^◌, Bool, ◌==◌, bit_and, bit_or, List, [], ◌∷◌}
+use Rattle.csr_file.specs.declared.fields.TheConstants.{MPP}
+
+-- the number that has just these bits
+abbrev pub bits : List ℕ → ℕ
+bits [] = 0
+bits (bit ∷ more) = 2 ^ bit + bits more
+
+-- the bits of a field: so many from the lowest on
+abbrev pub field_bits : ℕ → ℕ → ℕ
+field_bits lowest count = (2 ^ count - 1) * 2 ^ lowest
+
+-- all bits of a register
+abbrev pub all_bits : ℕ
+all_bits = 2 ^ 64 - 1
 
 -- the bit of a value is set
 abbrev pub bit_is_set : ℕ → ℕ → Bool
@@ -7,16 +22,8 @@ bit_is_set value bit = value / 2 ^ bit % 2 == 1
 
 -- the bits of a mask from one value, all others from the old one
 unfoldable pub merged : ℕ → ℕ → ℕ → ℕ
-merged mask old value = bit_or (bit_and old (2 ^ 64 - 1 - mask)) (bit_and value mask)
+merged mask old value = bit_or (bit_and old (all_bits - mask)) (bit_and value mask)
 
--- MPP, bits 12:11 of mstatus
+-- MPP of mstatus, two bits
 abbrev pub mpp_of : ℕ → ℕ
-mpp_of status = status / 2 ^ 11 % 4
-
--- what a write of mstatus writes: SIE, MIE, SPIE, MPIE, SPP, MPP, MPRV, SUM, MXR, TVM, TW, TSR; MPP keeps its old value where it would become 2, which is no mode
-abbrev pub mstatus_mask : ℕ → ℕ
-mstatus_mask value = if mpp_of value == 2 then 0x7E01AA else 0x7E19AA
-
--- the bits of mip that may be lines from outside: MSIP, MTIP, SEIP, MEIP
-abbrev pub line_bits : ℕ
-line_bits = 0xA88
+mpp_of status = status / 2 ^ MPP % 4

@@ -1,6 +1,7 @@
-pub mod Registers
 pub mod Fields
+pub mod Table
+pub mod Registers
 pub mod Values
 pub mod Access
-pub mod Sound
+pub mod Legal
 pub mod Laws

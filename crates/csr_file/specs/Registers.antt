@@ -1,51 +1,58 @@
--- The registers that are held, from the Privileged Architecture's chapters "Control and Status Registers (CSRs)" and "Machine-Level ISA".
-use Rattle.std.specs.Prelude.{ℕ, List, ◌∷◌, map, slice_index, slice_set, replicate}
+-- The registers that are stored, from the Privileged Architecture's chapters "Control and Status Registers
+-- (CSRs)" and "Machine-Level ISA".
+use Rattle.std.specs.Prelude.{ℕ, ◌-◌, List, ◌∷◌, map, slice_index, slice_set, replicate}
 use Rattle.std.specs.List.{range_with_len}
 use Rattle.hart_words.specs.declared.privilege.PmpEntry.{PmpEntry}
 use Rattle.csr_file.specs.declared.csrs.Csrs.{Csrs}
-use Rattle.csr_file.specs.declared.csrs.Held.{Held}
-use Rattle.csr_file.specs.declared.csrs.Held.TheVariants.{Mstatus, Medeleg, Mideleg, Mie, Mtvec, Mcounteren, Menvcfg, Mcountinhibit, Mscratch, Mepc, Mcause, Mtval, Mip, Stvec, Scounteren, Senvcfg, Sscratch, Sepc, Scause, Stval, Satp}
+use Rattle.csr_file.specs.declared.stored_csr.StoredCsr.{StoredCsr}
+use Rattle.csr_file.specs.declared.stored_csr.StoredCsr.TheVariants.{Mstatus, Medeleg, Mideleg, Mie, Mtvec, Mcounteren, Menvcfg, Mcountinhibit, Mscratch, Mepc, Mcause, Mtval, Mip, Stvec, Scounteren, Senvcfg, Sscratch, Sepc, Scause, Stval, Satp}
+use Rattle.csr_file.specs.declared.stored_csr.TheConstants.{STORED_CSRS}
+use Rattle.csr_file.specs.Table.{status_constant}
 
 -- where a register's value stands
-abbrev pub place : Held → ℕ
-place Mstatus = 0
-place Medeleg = 1
-place Mideleg = 2
-place Mie = 3
-place Mtvec = 4
-place Mcounteren = 5
-place Menvcfg = 6
-place Mcountinhibit = 7
-place Mscratch = 8
-place Mepc = 9
-place Mcause = 10
-place Mtval = 11
-place Mip = 12
-place Stvec = 13
-place Scounteren = 14
-place Senvcfg = 15
-place Sscratch = 16
-place Sepc = 17
-place Scause = 18
-place Stval = 19
-place Satp = 20
+abbrev pub stored_index_of : StoredCsr → ℕ
+stored_index_of Mstatus = 0
+stored_index_of Medeleg = 1
+stored_index_of Mideleg = 2
+stored_index_of Mie = 3
+stored_index_of Mtvec = 4
+stored_index_of Mcounteren = 5
+stored_index_of Menvcfg = 6
+stored_index_of Mcountinhibit = 7
+stored_index_of Mscratch = 8
+stored_index_of Mepc = 9
+stored_index_of Mcause = 10
+stored_index_of Mtval = 11
+stored_index_of Mip = 12
+stored_index_of Stvec = 13
+stored_index_of Scounteren = 14
+stored_index_of Senvcfg = 15
+stored_index_of Sscratch = 16
+stored_index_of Sepc = 17
+stored_index_of Scause = 18
+stored_index_of Stval = 19
+stored_index_of Satp = 20
 
--- the value of a register
-unfoldable pub at : Csrs → Held → ℕ
-at csrs held = slice_index csrs.values (place held)
+-- the value of a stored register
+unfoldable pub at : Csrs → StoredCsr → ℕ
+at csrs stored = slice_index csrs.values (stored_index_of stored)
 
 -- the same registers with another value in one
-unfoldable pub with_at : Csrs → Held → ℕ → Csrs
-with_at csrs held value = record csrs { values = slice_set csrs.values (place held) value }
+unfoldable pub with_at : Csrs → StoredCsr → ℕ → Csrs
+with_at csrs stored value = record csrs { values = slice_set csrs.values (stored_index_of stored) value }
 
--- at reset mstatus has its constants (UXL and SXL are 2), and all else is 0
+-- at reset mstatus has its constants, and all else is 0
 unfoldable pub csrs_at_reset : Csrs
-csrs_at_reset = record { values = 0xA_0000_0000 ∷ replicate 20 0; pmpcfg = replicate 16 0; pmpaddr = replicate 16 0 }
+csrs_at_reset = record {
+  values = status_constant ∷ replicate (STORED_CSRS - 1) 0;
+  pmpcfg = replicate 16 0;
+  pmpaddr = replicate 16 0;
+}
 
 -- the entry of physical memory protection with this number
-abbrev pub entry_at : Csrs → ℕ → PmpEntry
-entry_at csrs i = record { cfg = slice_index csrs.pmpcfg i; addr = slice_index csrs.pmpaddr i }
+abbrev pub pmp_entry_of : Csrs → ℕ → PmpEntry
+pmp_entry_of csrs i = record { cfg = slice_index csrs.pmpcfg i; addr = slice_index csrs.pmpaddr i }
 
 -- all entries of physical memory protection, in their order
-unfoldable pub entries_of : Csrs → List PmpEntry
-entries_of csrs = map (entry_at csrs) (range_with_len 0 16)
+unfoldable pub pmp_entries_of : Csrs → List PmpEntry
+pmp_entries_of csrs = map (pmp_entry_of csrs) (range_with_len 0 16)

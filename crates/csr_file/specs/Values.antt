@@ -1,127 +1,131 @@
--- What each register reads as, and what a write leaves: a line a register, from the Privileged Architecture's chapters "Machine-Level ISA" and "Supervisor-Level ISA".
-use Rattle.std.specs.Prelude.{ℕ, ◌+◌, ◌-◌, ◌*◌, ◌/◌, ◌%◌, ◌^◌, bit_and, bit_or, slice_range}
+-- What each register reads as, and what a write leaves, from the Privileged Architecture's chapters
+-- "Machine-Level ISA" and "Supervisor-Level ISA".
+use Rattle.std.specs.Prelude.{ℕ, ◌+◌, ◌-◌, bit_and, bit_or, slice_range}
 use Rattle.std.specs.Int.{w64, from_le_bytes}
 use Rattle.hart_words.specs.declared.signal.CsrName.{CsrName}
 use Rattle.hart_words.specs.declared.signal.CsrName.TheVariants as names
-use Rattle.csr_table.specs.declared.registers.Csr.{Csr}
 use Rattle.csr_table.specs.declared.registers.Csr.TheVariants as csr
 use Rattle.csr_file.specs.declared.csrs.Csrs.{Csrs}
-use Rattle.csr_file.specs.declared.csrs.Held.TheVariants.{Mstatus, Medeleg, Mideleg, Mie, Mtvec, Mcounteren, Menvcfg, Mcountinhibit, Mscratch, Mepc, Mcause, Mtval, Mip, Stvec, Scounteren, Senvcfg, Sscratch, Sepc, Scause, Stval, Satp}
+use Rattle.csr_file.specs.declared.stored_csr.StoredCsr.TheVariants.{Mstatus, Mideleg, Mie, Mip, Satp}
+use Rattle.csr_file.specs.declared.csr_kind.CsrKind.{CsrKind}
+use Rattle.csr_file.specs.declared.csr_kind.CsrKind.TheVariants.{Stored, Status, Pending, SupervisorStatus, SupervisorEnables, SupervisorPending, Constant, OfCore, Counter, ClosedCounter}
 use Rattle.csr_file.specs.declared.access.CsrRead.{CsrRead}
 use Rattle.csr_file.specs.Registers.{at, with_at}
-use Rattle.csr_file.specs.Fields.{merged, mstatus_mask, line_bits}
+use Rattle.csr_file.specs.Fields.{all_bits, merged}
+use Rattle.csr_file.specs.Table.{csr_kind_of, line_bits, sip_writable, sstatus_shown, sstatus_writable, status_written_bits, writable_bits}
 
--- the interrupts that are pending: those held in mip, and the lines from outside
-unfoldable pub pending : Csrs → ℕ → ℕ
-pending csrs lines = bit_or (at csrs Mip) (bit_and lines line_bits)
+-- the interrupts that are pending: those stored in mip, and the lines from outside
+unfoldable pub pending_interrupts_of : Csrs → ℕ → ℕ
+pending_interrupts_of csrs lines = bit_or (at csrs Mip) (bit_and lines line_bits)
 
--- the value that a register reads as; counters and what tells the core are not held, and read as 0 here
-unfoldable pub read_value : Csrs → Csr → ℕ → ℕ
-read_value csrs csr.Mstatus lines = at csrs Mstatus
-read_value csrs csr.Misa lines = 0x8000000000141105
-read_value csrs csr.Medeleg lines = at csrs Medeleg
-read_value csrs csr.Mideleg lines = at csrs Mideleg
-read_value csrs csr.Mie lines = at csrs Mie
-read_value csrs csr.Mtvec lines = at csrs Mtvec
-read_value csrs csr.Mcounteren lines = at csrs Mcounteren
-read_value csrs csr.Menvcfg lines = at csrs Menvcfg
-read_value csrs csr.Mcountinhibit lines = at csrs Mcountinhibit
-read_value csrs csr.Mscratch lines = at csrs Mscratch
-read_value csrs csr.Mepc lines = at csrs Mepc
-read_value csrs csr.Mcause lines = at csrs Mcause
-read_value csrs csr.Mtval lines = at csrs Mtval
-read_value csrs csr.Mip lines = pending csrs lines
-read_value csrs csr.Sstatus lines = bit_and (at csrs Mstatus) 0x3000C0122
-read_value csrs csr.Sie lines = bit_and (at csrs Mie) (at csrs Mideleg)
-read_value csrs csr.Stvec lines = at csrs Stvec
-read_value csrs csr.Scounteren lines = at csrs Scounteren
-read_value csrs csr.Senvcfg lines = at csrs Senvcfg
-read_value csrs csr.Sscratch lines = at csrs Sscratch
-read_value csrs csr.Sepc lines = at csrs Sepc
-read_value csrs csr.Scause lines = at csrs Scause
-read_value csrs csr.Stval lines = at csrs Stval
-read_value csrs csr.Sip lines = bit_and (pending csrs lines) (at csrs Mideleg)
-read_value csrs _ lines = 0
+-- the value that a register reads as; what the core decides is 0 here
+unfoldable pub csr_value_of : Csrs → CsrKind → ℕ → ℕ
+csr_value_of csrs (Stored stored) lines = at csrs stored
+csr_value_of csrs Status lines = at csrs Mstatus
+csr_value_of csrs Pending lines = pending_interrupts_of csrs lines
+csr_value_of csrs SupervisorStatus lines = bit_and (at csrs Mstatus) sstatus_shown
+csr_value_of csrs SupervisorEnables lines = bit_and (at csrs Mie) (at csrs Mideleg)
+csr_value_of csrs SupervisorPending lines = bit_and (pending_interrupts_of csrs lines) (at csrs Mideleg)
+csr_value_of csrs (Constant number) lines = number
+csr_value_of csrs OfCore lines = 0
+csr_value_of csrs (Counter bit) lines = 0
+csr_value_of csrs ClosedCounter lines = 0
 
--- the bits of a value that the core decides: all of a counter and of what tells the core; of mip those that may be lines and are not held, and of sip these under mideleg
-unfoldable pub free_of : Csrs → Csr → ℕ
-free_of csrs csr.Mip = bit_and (2 ^ 64 - 1 - at csrs Mip) line_bits
-free_of csrs csr.Sip = bit_and (bit_and (2 ^ 64 - 1 - at csrs Mip) line_bits) (at csrs Mideleg)
-free_of csrs csr.Mcycle = 2 ^ 64 - 1
-free_of csrs csr.Minstret = 2 ^ 64 - 1
-free_of csrs (csr.Mhpmcounter number) = 2 ^ 64 - 1
-free_of csrs csr.Cycle = 2 ^ 64 - 1
-free_of csrs csr.Time = 2 ^ 64 - 1
-free_of csrs csr.Instret = 2 ^ 64 - 1
-free_of csrs (csr.Hpmcounter number) = 2 ^ 64 - 1
-free_of csrs csr.Mvendorid = 2 ^ 64 - 1
-free_of csrs csr.Marchid = 2 ^ 64 - 1
-free_of csrs csr.Mimpid = 2 ^ 64 - 1
-free_of csrs csr.Mhartid = 2 ^ 64 - 1
-free_of csrs csr.Mconfigptr = 2 ^ 64 - 1
-free_of csrs _ = 0
+-- what the set and clear forms start from: the value read, but of mip the stored bits alone
+unfoldable pub csr_base_of : Csrs → CsrKind → ℕ → ℕ
+csr_base_of csrs Pending lines = at csrs Mip
+csr_base_of csrs (Stored stored) lines = csr_value_of csrs (Stored stored) lines
+csr_base_of csrs Status lines = csr_value_of csrs Status lines
+csr_base_of csrs SupervisorStatus lines = csr_value_of csrs SupervisorStatus lines
+csr_base_of csrs SupervisorEnables lines = csr_value_of csrs SupervisorEnables lines
+csr_base_of csrs SupervisorPending lines = csr_value_of csrs SupervisorPending lines
+csr_base_of csrs (Constant number) lines = csr_value_of csrs (Constant number) lines
+csr_base_of csrs OfCore lines = csr_value_of csrs OfCore lines
+csr_base_of csrs (Counter bit) lines = csr_value_of csrs (Counter bit) lines
+csr_base_of csrs ClosedCounter lines = csr_value_of csrs ClosedCounter lines
 
--- what the set and clear forms start from: the value read, but of mip the held bits alone
-unfoldable pub base_of : Csrs → Csr → ℕ → ℕ
-base_of csrs csr.Mip lines = at csrs Mip
-base_of csrs csr lines = read_value csrs csr lines
+-- the bits that may be lines and are not stored
+abbrev pub open_lines_of : Csrs → ℕ
+open_lines_of csrs = bit_and (all_bits - at csrs Mip) line_bits
+
+-- the bits of a value that the core decides, or that may be lines: of sip those under mideleg
+unfoldable pub free_bits_of : Csrs → CsrKind → ℕ
+free_bits_of csrs (Stored stored) = 0
+free_bits_of csrs Status = 0
+free_bits_of csrs Pending = open_lines_of csrs
+free_bits_of csrs SupervisorStatus = 0
+free_bits_of csrs SupervisorEnables = 0
+free_bits_of csrs SupervisorPending = bit_and (open_lines_of csrs) (at csrs Mideleg)
+free_bits_of csrs (Constant number) = 0
+free_bits_of csrs OfCore = all_bits
+free_bits_of csrs (Counter bit) = all_bits
+free_bits_of csrs ClosedCounter = all_bits
+
+-- the bits of a value that are taken from the row, where the row shows these lines: they take nothing away
+-- from what the core decides
+abbrev pub taken_bits_of : Csrs → CsrKind → ℕ → ℕ
+taken_bits_of csrs (Stored stored) shown = free_bits_of csrs (Stored stored)
+taken_bits_of csrs Status shown = free_bits_of csrs Status
+taken_bits_of csrs Pending shown = bit_and (free_bits_of csrs Pending) (all_bits - shown)
+taken_bits_of csrs SupervisorStatus shown = free_bits_of csrs SupervisorStatus
+taken_bits_of csrs SupervisorEnables shown = free_bits_of csrs SupervisorEnables
+taken_bits_of csrs SupervisorPending shown =
+    bit_and (free_bits_of csrs SupervisorPending) (all_bits - shown)
+taken_bits_of csrs (Constant number) shown = free_bits_of csrs (Constant number)
+taken_bits_of csrs OfCore shown = free_bits_of csrs OfCore
+taken_bits_of csrs (Counter bit) shown = free_bits_of csrs (Counter bit)
+taken_bits_of csrs ClosedCounter shown = free_bits_of csrs ClosedCounter
 
 -- what a read of a register gives
-unfoldable pub read_of : Csrs → Csr → ℕ → CsrRead
-read_of csrs csr lines = record { value = read_value csrs csr lines; free = free_of csrs csr; base = base_of csrs csr lines }
+unfoldable pub csr_read_of : Csrs → CsrKind → ℕ → CsrRead
+csr_read_of csrs kind lines =
+    record { value = csr_value_of csrs kind lines; free = free_bits_of csrs kind; base = csr_base_of csrs kind lines }
 
--- the registers after a lawful write of a register
-unfoldable pub written : Csrs → Csr → ℕ → Csrs
-written csrs csr.Mstatus value = with_at csrs Mstatus (merged (mstatus_mask value) (at csrs Mstatus) value)
-written csrs csr.Medeleg value = with_at csrs Medeleg (bit_and value 0xB3FF)
-written csrs csr.Mideleg value = with_at csrs Mideleg (bit_and value 0x222)
-written csrs csr.Mie value = with_at csrs Mie (bit_and value 0xAAA)
-written csrs csr.Mtvec value = with_at csrs Mtvec (value / 4 * 4 + value % 2)
-written csrs csr.Mcounteren value = with_at csrs Mcounteren (bit_and value 7)
-written csrs csr.Menvcfg value = with_at csrs Menvcfg (bit_and value 1)
-written csrs csr.Mcountinhibit value = with_at csrs Mcountinhibit (bit_and value 5)
-written csrs csr.Mscratch value = with_at csrs Mscratch value
-written csrs csr.Mepc value = with_at csrs Mepc (value / 2 * 2)
-written csrs csr.Mcause value = with_at csrs Mcause value
-written csrs csr.Mtval value = with_at csrs Mtval value
-written csrs csr.Mip value = with_at csrs Mip (bit_and value 0x222)
-written csrs csr.Sstatus value = with_at csrs Mstatus (merged 0xC0122 (at csrs Mstatus) value)
-written csrs csr.Sie value = with_at csrs Mie (merged (at csrs Mideleg) (at csrs Mie) value)
-written csrs csr.Stvec value = with_at csrs Stvec (value / 4 * 4 + value % 2)
-written csrs csr.Scounteren value = with_at csrs Scounteren (bit_and value 7)
-written csrs csr.Senvcfg value = with_at csrs Senvcfg (bit_and value 1)
-written csrs csr.Sscratch value = with_at csrs Sscratch value
-written csrs csr.Sepc value = with_at csrs Sepc (value / 2 * 2)
-written csrs csr.Scause value = with_at csrs Scause value
-written csrs csr.Stval value = with_at csrs Stval value
-written csrs csr.Sip value = with_at csrs Mip (merged (bit_and (at csrs Mideleg) 2) (at csrs Mip) value)
-written csrs _ value = csrs
+-- the registers after a write of mstatus
+unfoldable pub status_write_of : Csrs → ℕ → Csrs
+status_write_of csrs value =
+    with_at csrs Mstatus (merged (status_written_bits value) (at csrs Mstatus) value)
+
+-- the registers after a legal write of a register
+unfoldable pub csr_write_of : Csrs → CsrKind → ℕ → Csrs
+csr_write_of csrs (Stored stored) value = with_at csrs stored (bit_and value (writable_bits stored))
+csr_write_of csrs Status value = status_write_of csrs value
+csr_write_of csrs Pending value = with_at csrs Mip (bit_and value (writable_bits Mip))
+csr_write_of csrs SupervisorStatus value =
+    with_at csrs Mstatus (merged sstatus_writable (at csrs Mstatus) value)
+csr_write_of csrs SupervisorEnables value = with_at csrs Mie (merged (at csrs Mideleg) (at csrs Mie) value)
+csr_write_of csrs SupervisorPending value =
+    with_at csrs Mip (merged (bit_and (at csrs Mideleg) sip_writable) (at csrs Mip) value)
+csr_write_of csrs (Constant number) value = csrs
+csr_write_of csrs OfCore value = csrs
+csr_write_of csrs (Counter bit) value = csrs
+csr_write_of csrs ClosedCounter value = csrs
 
 -- eight configuration bytes of physical memory protection, the lowest first
-abbrev pub packed : Csrs → ℕ → ℕ
-packed csrs first = from_le_bytes w64 (slice_range csrs.pmpcfg first (first + 8))
+abbrev pub packed_pmpcfg_of : Csrs → ℕ → ℕ
+packed_pmpcfg_of csrs first = from_le_bytes w64 (slice_range csrs.pmpcfg first (first + 8))
 
 -- the value that a trace shows of a register
-unfoldable pub shown_of : Csrs → CsrName → ℕ → ℕ
-shown_of csrs names.Mstatus lines = read_value csrs csr.Mstatus lines
-shown_of csrs names.Misa lines = read_value csrs csr.Misa lines
-shown_of csrs names.Medeleg lines = read_value csrs csr.Medeleg lines
-shown_of csrs names.Mideleg lines = read_value csrs csr.Mideleg lines
-shown_of csrs names.Mie lines = read_value csrs csr.Mie lines
-shown_of csrs names.Mtvec lines = read_value csrs csr.Mtvec lines
-shown_of csrs names.Mscratch lines = read_value csrs csr.Mscratch lines
-shown_of csrs names.Mepc lines = read_value csrs csr.Mepc lines
-shown_of csrs names.Mcause lines = read_value csrs csr.Mcause lines
-shown_of csrs names.Mtval lines = read_value csrs csr.Mtval lines
-shown_of csrs names.Mip lines = read_value csrs csr.Mip lines
-shown_of csrs names.Satp lines = at csrs Satp
-shown_of csrs names.Sstatus lines = read_value csrs csr.Sstatus lines
-shown_of csrs names.Sie lines = read_value csrs csr.Sie lines
-shown_of csrs names.Sip lines = read_value csrs csr.Sip lines
-shown_of csrs names.Stvec lines = read_value csrs csr.Stvec lines
-shown_of csrs names.Sscratch lines = read_value csrs csr.Sscratch lines
-shown_of csrs names.Sepc lines = read_value csrs csr.Sepc lines
-shown_of csrs names.Scause lines = read_value csrs csr.Scause lines
-shown_of csrs names.Stval lines = read_value csrs csr.Stval lines
-shown_of csrs names.Pmpcfg0 lines = packed csrs 0
-shown_of csrs names.Pmpcfg2 lines = packed csrs 8
+unfoldable pub shown_csr : Csrs → CsrName → ℕ → ℕ
+shown_csr csrs names.Mstatus lines = csr_value_of csrs (csr_kind_of csr.Mstatus) lines
+shown_csr csrs names.Misa lines = csr_value_of csrs (csr_kind_of csr.Misa) lines
+shown_csr csrs names.Medeleg lines = csr_value_of csrs (csr_kind_of csr.Medeleg) lines
+shown_csr csrs names.Mideleg lines = csr_value_of csrs (csr_kind_of csr.Mideleg) lines
+shown_csr csrs names.Mie lines = csr_value_of csrs (csr_kind_of csr.Mie) lines
+shown_csr csrs names.Mtvec lines = csr_value_of csrs (csr_kind_of csr.Mtvec) lines
+shown_csr csrs names.Mscratch lines = csr_value_of csrs (csr_kind_of csr.Mscratch) lines
+shown_csr csrs names.Mepc lines = csr_value_of csrs (csr_kind_of csr.Mepc) lines
+shown_csr csrs names.Mcause lines = csr_value_of csrs (csr_kind_of csr.Mcause) lines
+shown_csr csrs names.Mtval lines = csr_value_of csrs (csr_kind_of csr.Mtval) lines
+shown_csr csrs names.Mip lines = csr_value_of csrs (csr_kind_of csr.Mip) lines
+shown_csr csrs names.Satp lines = at csrs Satp
+shown_csr csrs names.Sstatus lines = csr_value_of csrs (csr_kind_of csr.Sstatus) lines
+shown_csr csrs names.Sie lines = csr_value_of csrs (csr_kind_of csr.Sie) lines
+shown_csr csrs names.Sip lines = csr_value_of csrs (csr_kind_of csr.Sip) lines
+shown_csr csrs names.Stvec lines = csr_value_of csrs (csr_kind_of csr.Stvec) lines
+shown_csr csrs names.Sscratch lines = csr_value_of csrs (csr_kind_of csr.Sscratch) lines
+shown_csr csrs names.Sepc lines = csr_value_of csrs (csr_kind_of csr.Sepc) lines
+shown_csr csrs names.Scause lines = csr_value_of csrs (csr_kind_of csr.Scause) lines
+shown_csr csrs names.Stval lines = csr_value_of csrs (csr_kind_of csr.Stval) lines
+shown_csr csrs names.Pmpcfg0 lines = packed_pmpcfg_of csrs 0
+shown_csr csrs names.Pmpcfg2 lines = packed_pmpcfg_of csrs 8

@@ -1,59 +1,57 @@
-//! The registers that are held. From the Privileged Architecture's chapters "Control and Status
-//! Registers (CSRs)" and "Machine-Level ISA".
+//! The registers that are stored: reads and writes by address, and what a trace shows. From the
+//! Privileged Architecture's chapters "Control and Status Registers (CSRs)", "Machine-Level ISA"
+//! and "Supervisor-Level ISA".
 
-ghost use Rattle.std.specs.Prelude.{◌≡◌};
-ghost use Rattle.csr_file.specs.Registers.{at, with_at, csrs_at_reset, entries_of};
-ghost use Rattle.csr_file.specs.Sound.{IsSound};
+ghost use Rattle.std.specs.Prelude.{◌≡◌, ◌≤◌, ◌+◌, ◌-◌, ◌^◌, Ok, Err, OnOk, OnErr};
+ghost use Rattle.csr_file.specs.Fields.{merged};
+ghost use Rattle.csr_file.specs.Table.{csr_kind_of, status_written_bits};
+ghost use Rattle.csr_file.specs.Registers.{at, with_at, csrs_at_reset, pmp_entries_of};
+ghost use Rattle.csr_file.specs.Values.{pending_interrupts_of, csr_value_of, csr_base_of, free_bits_of, taken_bits_of, csr_read_of, status_write_of, csr_write_of, packed_pmpcfg_of, shown_csr};
+ghost use Rattle.csr_file.specs.Access.{counter_is_enabled, is_enabled, may_read, may_write, read_at, write_at};
+ghost use Rattle.csr_file.specs.Legal.{IsLegal};
 
-use hart_words::PmpEntry;
+use crate::access::{CsrRead, Illegal};
+use crate::csr_kind::CsrKind;
+use crate::fields::{MPP, has_bit, merge};
+use crate::stored_csr::{STORED_CSRS, StoredCsr};
+use csr_table::{Csr, CsrRow, row};
+use hart_words::{CsrName, Mode, PmpEntry};
 
-/// A register that is held in `Csrs::values`, at its number here.
-#[derive(Clone, Copy, Debug, PartialEq, Eq)]
-pub enum Held {
-    Mstatus,
-    Medeleg,
-    Mideleg,
-    Mie,
-    Mtvec,
-    Mcounteren,
-    Menvcfg,
-    Mcountinhibit,
-    Mscratch,
-    Mepc,
-    Mcause,
-    Mtval,
-    Mip,
-    Stvec,
-    Scounteren,
-    Senvcfg,
-    Sscratch,
-    Sepc,
-    Scause,
-    Stval,
-    Satp,
-}
+/// The constants of mstatus: UXL and SXL are 2.
+const STATUS_CONSTANT: u64 = 0xA_0000_0000;
 
-/// How many registers `Csrs::values` holds.
-pub const HELD: usize = 21;
+/// The bits of mstatus without MPP that a write can set.
+const WRITABLE_WITHOUT_MPP: u64 = 0x7E_01AA;
 
-/// All control and status registers that the reference hart holds. Physical memory protection has
+/// The bits of mstatus that sstatus shows, and those of them that a write of it can set.
+const SSTATUS_SHOWN: u64 = 0x3_000C_0122;
+
+const SSTATUS_WRITABLE: u64 = 0xC_0122;
+
+/// The bits of mip that a write of sip can set, under mideleg: SSIP.
+const SIP_WRITABLE: u64 = 2;
+
+/// The bits of mip that may be lines from outside: MSIP, MTIP, SEIP, MEIP.
+const LINES: u64 = 0xA88;
+
+/// All control and status registers that the reference hart stores. Physical memory protection has
 /// 16 entries, each with a configuration byte and an address register.
 #[derive(Clone, Copy, Debug, PartialEq, Eq)]
 pub struct Csrs {
-    pub values: [u64; HELD],
+    pub values: [u64; STORED_CSRS],
     pub pmpcfg: [u8; 16],
     pub pmpaddr: [u64; 16],
 }
 
 impl Csrs {
-    /// The registers at reset: mstatus has its constants, UXL and SXL 2, and all else is 0.
-    #[tactic(auto, using(crate::proofs::Sound::reset_sound), unfolding(crate::specs::Registers::csrs_at_reset))]
+    /// The registers at reset: mstatus has its constants, and all else is 0.
+    #[tactic(auto, using(crate::proofs::Legal::reset_legal), unfolding(crate::specs::Registers::csrs_at_reset))]
     pub fn reset() -> Csrs
         ensures value { result ≡ csrs_at_reset }
-        ensures sound { IsSound result }
+        ensures legal { IsLegal result }
     {
-        let mut values = [0; HELD];
-        values[Held::Mstatus as usize] = 0xA_0000_0000;
+        let mut values = [0; STORED_CSRS];
+        values[StoredCsr::Mstatus as usize] = STATUS_CONSTANT;
         Csrs {
             values,
             pmpcfg: [0; 16],
@@ -61,26 +59,26 @@ impl Csrs {
         }
     }
 
-    /// The value of a register.
+    /// The value of a stored register.
     #[tactic(auto, unfolding(crate::specs::Registers::at))]
-    pub fn get(&self, held: Held) -> u64
-        ensures { result ≡ at self.now held }
+    pub fn get(&self, stored: StoredCsr) -> u64
+        ensures { result ≡ at self.now stored }
     {
-        self.values[held as usize]
+        self.values[stored as usize]
     }
 
-    /// Puts a value into a register.
+    /// Puts a value into a stored register.
     #[tactic(auto, unfolding(crate::specs::Registers::with_at))]
-    pub fn set(&mut self, held: Held, value: u64)
-        ensures { self.new ≡ with_at self.old held value }
+    pub fn set(&mut self, stored: StoredCsr, value: u64)
+        ensures { self.new ≡ with_at self.old stored value }
     {
-        self.values[held as usize] = value;
+        self.values[stored as usize] = value;
     }
 
     /// The entries of physical memory protection.
-    #[tactic(auto, unfolding(crate::specs::Registers::entries_of))]
+    #[tactic(auto, unfolding(crate::specs::Registers::pmp_entries_of))]
     pub fn pmp_entries(&self) -> [PmpEntry; 16]
-        ensures { result ≡ entries_of self.now }
+        ensures { result ≡ pmp_entries_of self.now }
     {
         let mut entries = [PmpEntry { cfg: 0, addr: 0 }; 16];
         for i in 0..16 {
@@ -90,5 +88,260 @@ impl Csrs {
             };
         }
         entries
+    }
+
+    /// What a read of the register at `address` gives in a mode, with these interrupt lines (bits
+    /// 3, 7, 9 and 11 count).
+    #[tactic(auto, unfolding(crate::specs::Access::read_at))]
+    pub fn read(&self, address: u16, mode: Mode, lines: u64) -> Result<CsrRead, Illegal>
+        ensures { result ≡ read_at self.now address mode lines }
+    {
+        match row(address) {
+            None => Err(Illegal),
+            Some(row) => {
+                if self.may_read(mode, row) {
+                    Ok(self.read_csr(CsrKind::of(row.csr), lines))
+                } else {
+                    Err(Illegal)
+                }
+            }
+        }
+    }
+
+    /// The bits of a read value that are to be taken from the row, where the row shows the
+    /// interrupt lines `shown_lines` in csr_mip_rdata: all of what the core decides, and of mip and
+    /// sip those that may be lines and are neither stored nor shown.
+    pub fn taken_bits(&self, csr: Csr, shown_lines: u64) -> u64
+        ensures { result ≡ taken_bits_of self.now (csr_kind_of csr) shown_lines }
+    {
+        let kind = CsrKind::of(csr);
+        match kind {
+            CsrKind::Pending | CsrKind::SupervisorPending => self.free_bits(kind) & !shown_lines,
+            CsrKind::OfCore | CsrKind::Counter(_) | CsrKind::ClosedCounter => self.free_bits(kind),
+            CsrKind::Stored(_) | CsrKind::Status | CsrKind::SupervisorStatus => self.free_bits(
+                kind,
+            ),
+            CsrKind::SupervisorEnables | CsrKind::Constant(_) => self.free_bits(kind),
+        }
+    }
+
+    /// Writes the register at `address` in a mode. A register without writable bits stays as it
+    /// was; a refused write changes nothing.
+    #[tactic(auto, unfolding(crate::specs::Access::write_at))]
+    pub fn write(&mut self, address: u16, mode: Mode, value: u64) -> Result<(), Illegal>
+        ensures ok { OnOk result (write_at self.old address mode value ≡ Ok self.new) }
+        ensures err { OnErr result (write_at self.old address mode value ≡ Err (record {})) }
+        ensures unchanged { OnErr result (self.new ≡ self.old) }
+        ensures legal { IsLegal self.old → IsLegal self.new }
+    {
+        match row(address) {
+            None => Err(Illegal),
+            Some(row) => {
+                if self.may_write(mode, row) {
+                    self.write_csr(CsrKind::of(row.csr), value);
+                    Ok(())
+                } else {
+                    Err(Illegal)
+                }
+            }
+        }
+    }
+
+    /// The value that a trace shows of a register, with these interrupt lines.
+    #[tactic(auto, unfolding(crate::specs::Values::shown_csr))]
+    pub fn shown(&self, name: CsrName, lines: u64) -> u64
+        ensures { result ≡ shown_csr self.now name lines }
+    {
+        match name {
+            CsrName::Mstatus => self.value(CsrKind::of(Csr::Mstatus), lines),
+            CsrName::Misa => self.value(CsrKind::of(Csr::Misa), lines),
+            CsrName::Medeleg => self.value(CsrKind::of(Csr::Medeleg), lines),
+            CsrName::Mideleg => self.value(CsrKind::of(Csr::Mideleg), lines),
+            CsrName::Mie => self.value(CsrKind::of(Csr::Mie), lines),
+            CsrName::Mtvec => self.value(CsrKind::of(Csr::Mtvec), lines),
+            CsrName::Mscratch => self.value(CsrKind::of(Csr::Mscratch), lines),
+            CsrName::Mepc => self.value(CsrKind::of(Csr::Mepc), lines),
+            CsrName::Mcause => self.value(CsrKind::of(Csr::Mcause), lines),
+            CsrName::Mtval => self.value(CsrKind::of(Csr::Mtval), lines),
+            CsrName::Mip => self.value(CsrKind::of(Csr::Mip), lines),
+            CsrName::Satp => self.get(StoredCsr::Satp),
+            CsrName::Sstatus => self.value(CsrKind::of(Csr::Sstatus), lines),
+            CsrName::Sie => self.value(CsrKind::of(Csr::Sie), lines),
+            CsrName::Sip => self.value(CsrKind::of(Csr::Sip), lines),
+            CsrName::Stvec => self.value(CsrKind::of(Csr::Stvec), lines),
+            CsrName::Sscratch => self.value(CsrKind::of(Csr::Sscratch), lines),
+            CsrName::Sepc => self.value(CsrKind::of(Csr::Sepc), lines),
+            CsrName::Scause => self.value(CsrKind::of(Csr::Scause), lines),
+            CsrName::Stval => self.value(CsrKind::of(Csr::Stval), lines),
+            CsrName::Pmpcfg0 => self.packed_pmpcfg(0),
+            CsrName::Pmpcfg2 => self.packed_pmpcfg(8),
+        }
+    }
+
+    /// The interrupts that are pending, by their bits in mip: those stored, and the lines.
+    #[tactic(auto, unfolding(crate::specs::Values::pending_interrupts_of))]
+    pub fn pending_interrupts(&self, lines: u64) -> u64
+        ensures { result ≡ pending_interrupts_of self.now lines }
+    {
+        self.get(StoredCsr::Mip) | lines & LINES
+    }
+
+    #[tactic(auto, unfolding(crate::specs::Access::may_read))]
+    fn may_read(&self, mode: Mode, row: CsrRow) -> bool
+        ensures { result ≡ may_read self.now mode row }
+    {
+        row.least_mode <= mode.number() && self.is_enabled(mode, CsrKind::of(row.csr))
+    }
+
+    #[tactic(auto, unfolding(crate::specs::Access::may_write))]
+    fn may_write(&self, mode: Mode, row: CsrRow) -> bool
+        ensures { result ≡ may_write self.now mode row }
+    {
+        self.may_read(mode, row) && !row.read_only
+    }
+
+    /// Whether the enables of counters let a mode read a register.
+    #[tactic(auto, unfolding(crate::specs::Access::is_enabled))]
+    fn is_enabled(&self, mode: Mode, kind: CsrKind) -> bool
+        ensures { result ≡ is_enabled self.now mode kind }
+    {
+        match kind {
+            CsrKind::Counter(bit) => self.counter_is_enabled(mode, bit),
+            CsrKind::ClosedCounter => matches!(mode, Mode::Machine),
+            CsrKind::Stored(_) | CsrKind::Status | CsrKind::Pending => true,
+            CsrKind::SupervisorStatus | CsrKind::SupervisorEnables => true,
+            CsrKind::SupervisorPending | CsrKind::Constant(_) | CsrKind::OfCore => true,
+        }
+    }
+
+    /// Whether a mode may read the counter of this bit of mcounteren and scounteren.
+    fn counter_is_enabled(&self, mode: Mode, bit: u8) -> bool
+        ensures { result ≡ counter_is_enabled self.now mode bit }
+    {
+        match mode {
+            Mode::Machine => true,
+            Mode::Supervisor => has_bit(self.get(StoredCsr::Mcounteren), bit),
+            Mode::User => {
+                has_bit(self.get(StoredCsr::Mcounteren), bit)
+                    && has_bit(self.get(StoredCsr::Scounteren), bit)
+            }
+        }
+    }
+
+    #[tactic(auto, unfolding(crate::specs::Values::csr_read_of))]
+    fn read_csr(&self, kind: CsrKind, lines: u64) -> CsrRead
+        ensures { result ≡ csr_read_of self.now kind lines }
+    {
+        CsrRead {
+            value: self.value(kind, lines),
+            free: self.free_bits(kind),
+            base: self.base(kind, lines),
+        }
+    }
+
+    /// The value of a register, with these interrupt lines; 0 where the core decides it.
+    #[tactic(auto, unfolding(crate::specs::Values::csr_value_of))]
+    fn value(&self, kind: CsrKind, lines: u64) -> u64
+        ensures { result ≡ csr_value_of self.now kind lines }
+    {
+        match kind {
+            CsrKind::Stored(stored) => self.get(stored),
+            CsrKind::Status => self.get(StoredCsr::Mstatus),
+            CsrKind::Pending => self.pending_interrupts(lines),
+            CsrKind::SupervisorStatus => self.get(StoredCsr::Mstatus) & SSTATUS_SHOWN,
+            CsrKind::SupervisorEnables => {
+                self.get(StoredCsr::Mie) & self.get(StoredCsr::Mideleg)
+            }
+            CsrKind::SupervisorPending => {
+                self.pending_interrupts(lines) & self.get(StoredCsr::Mideleg)
+            }
+            CsrKind::Constant(number) => number,
+            CsrKind::OfCore | CsrKind::Counter(_) | CsrKind::ClosedCounter => 0,
+        }
+    }
+
+    /// What the set and clear forms start from: lines never become stored bits of mip.
+    #[tactic(auto, unfolding(crate::specs::Values::csr_base_of))]
+    fn base(&self, kind: CsrKind, lines: u64) -> u64
+        ensures { result ≡ csr_base_of self.now kind lines }
+    {
+        match kind {
+            CsrKind::Pending => self.get(StoredCsr::Mip),
+            CsrKind::Stored(_) | CsrKind::Status => self.value(kind, lines),
+            CsrKind::SupervisorStatus | CsrKind::SupervisorEnables => self.value(kind, lines),
+            CsrKind::SupervisorPending | CsrKind::Constant(_) => self.value(kind, lines),
+            CsrKind::OfCore | CsrKind::Counter(_) => self.value(kind, lines),
+            CsrKind::ClosedCounter => self.value(kind, lines),
+        }
+    }
+
+    /// The bits of a register's value that the core decides, or that may be lines.
+    #[tactic(auto, unfolding(crate::specs::Values::free_bits_of))]
+    fn free_bits(&self, kind: CsrKind) -> u64
+        ensures { result ≡ free_bits_of self.now kind }
+    {
+        match kind {
+            CsrKind::Pending => !self.get(StoredCsr::Mip) & LINES,
+            CsrKind::SupervisorPending => {
+                !self.get(StoredCsr::Mip) & LINES & self.get(StoredCsr::Mideleg)
+            }
+            CsrKind::OfCore | CsrKind::Counter(_) | CsrKind::ClosedCounter => u64::MAX,
+            CsrKind::Stored(_) | CsrKind::Status | CsrKind::SupervisorStatus => 0,
+            CsrKind::SupervisorEnables | CsrKind::Constant(_) => 0,
+        }
+    }
+
+    /// A legal write: of each register its writable bits.
+    #[tactic(auto, unfolding(crate::specs::Values::csr_write_of))]
+    fn write_csr(&mut self, kind: CsrKind, value: u64)
+        ensures { self.new ≡ csr_write_of self.old kind value }
+    {
+        match kind {
+            CsrKind::Stored(stored) => self.set(stored, value & stored.writable()),
+            CsrKind::Status => self.write_status(value),
+            CsrKind::Pending => self.set(StoredCsr::Mip, value & StoredCsr::Mip.writable()),
+            CsrKind::SupervisorStatus => {
+                self.write_bits(StoredCsr::Mstatus, SSTATUS_WRITABLE, value);
+            }
+            CsrKind::SupervisorEnables => {
+                self.write_bits(StoredCsr::Mie, self.get(StoredCsr::Mideleg), value);
+            }
+            CsrKind::SupervisorPending => {
+                let mask = self.get(StoredCsr::Mideleg) & SIP_WRITABLE;
+                self.write_bits(StoredCsr::Mip, mask, value);
+            }
+            CsrKind::Constant(_) | CsrKind::OfCore => {}
+            CsrKind::Counter(_) | CsrKind::ClosedCounter => {}
+        }
+    }
+
+    /// A write of mstatus: MPP keeps its value where it would become 2, which is no mode.
+    #[tactic(auto, unfolding(crate::specs::Values::status_write_of))]
+    fn write_status(&mut self, value: u64)
+        ensures { self.new ≡ status_write_of self.old value }
+    {
+        let mask = if (value >> MPP) % 4 == 2 {
+            WRITABLE_WITHOUT_MPP
+        } else {
+            StoredCsr::Mstatus.writable()
+        };
+        self.write_bits(StoredCsr::Mstatus, mask, value);
+    }
+
+    /// Writes the bits of a mask.
+    fn write_bits(&mut self, stored: StoredCsr, mask: u64, value: u64)
+        ensures { self.new ≡ with_at self.old stored (merged mask (at self.old stored) value) }
+    {
+        self.set(stored, merge(mask, self.get(stored), value));
+    }
+
+    /// Eight configuration bytes of physical memory protection as one number, the lowest first.
+    fn packed_pmpcfg(&self, first: usize) -> u64
+        requires { first ≤ 8 }
+        ensures { result ≡ packed_pmpcfg_of self.now first }
+    {
+        let mut bytes = [0; 8];
+        bytes.copy_from_slice(&self.pmpcfg[first..first + 8]);
+        u64::from_le_bytes(bytes)
     }
 }

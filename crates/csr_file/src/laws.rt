@@ -5,14 +5,14 @@ ghost use Rattle.csr_table.specs.declared.registers.Csr.{Csr};
 ghost use Rattle.csr_file.specs.declared.csrs.Csrs.{Csrs};
 ghost use Rattle.csr_file.specs.Laws.{LeavesOtherRegisters, LeavesProtection, MergesByBits};
 
-/// A write of a register leaves every register but the one behind it as it was.
+/// A write of a register leaves every stored register but the one that it writes as it was.
 #[tactic(auto, using(crate::proofs::Writes::leaves_registers, crate::proofs::Writes::leaves_protection))]
 pub fn writes_leave_the_rest()
-    ensures registers { (csrs : Csrs) (csr : Csr) (value : ℕ) → LeavesOtherRegisters csrs csr value }
+    ensures rest { (csrs : Csrs) (csr : Csr) (value : ℕ) → LeavesOtherRegisters csrs csr value }
     ensures protection { (csrs : Csrs) (csr : Csr) (value : ℕ) → LeavesProtection csrs csr value }
 {}
 
-/// What is written under a mask has the mask's bits of the new value, and all others of the old one.
+/// What is written under a mask has its bits of the new value, and all others of the old one.
 #[tactic(auto, using(crate::proofs::Bits::merges))]
 pub fn merges_by_bits()
     ensures { (mask old value : ℕ) → mask < 2 ^ 64 → MergesByBits mask old value }

@@ -1,12 +1,22 @@
-//! The control and status registers: what is held, what each address reads and writes.
+//! The control and status registers of the reference hart. An address, a mode, a value and the
+//! interrupt lines come in; out go what a read gives, the registers after a write, what a trace
+//! shows of a register, and the entries of physical memory protection. What each register is and
+//! which of its bits can be written is `specs/Table.antt`, what reads and writes do
+//! `specs/Access.antt`, from the Privileged Architecture's chapters "Machine-Level ISA" and
+//! "Supervisor-Level ISA".
 #![tactic(auto)]
 
 mod access;
+mod csr_kind;
 mod csrs;
+pub mod fields;
 pub mod laws;
+mod stored_csr;
 
-pub use access::{CsrRead, Illegal, has_bit, merge};
-pub use csrs::{Csrs, HELD, Held};
+pub use access::{CsrRead, Illegal};
+pub use csrs::Csrs;
+pub use fields::{has_bit, merge};
+pub use stored_csr::{STORED_CSRS, StoredCsr};
 
 #[cfg(test)]
 mod tests;

@@ -1,4 +1,5 @@
 use super::*;
+use csr_table::Csr;
 use hart_words::{CsrName, Mode};
 use std::test::Fail;
 
@@ -95,19 +96,35 @@ fn asks_for_the_enables_of_counters(rt: HostRuntime) -> Result<(), Fail> {
     Ok(())
 }
 
+/// Without mcounteren, scounteren alone lets neither U nor S read a counter.
+#[test]
+fn asks_for_both_enables_in_u(rt: HostRuntime) -> Result<(), Fail> {
+    let mut csrs = Csrs::reset();
+    csrs.write(0x106, Mode::Supervisor, 7)?;
+    for address in [0xC00, 0xC01, 0xC02] {
+        assert!(rt; csrs.read(address, Mode::User, 0).is_err(), "{address}");
+        assert!(rt;
+            csrs.read(address, Mode::Supervisor, 0).is_err(),
+            "{address}"
+        );
+        assert!(rt; csrs.read(address, Mode::Machine, 0).is_ok(), "{address}");
+    }
+    Ok(())
+}
+
 #[test]
 fn keeps_mpp_from_2(rt: HostRuntime) -> Result<(), Fail> {
     let mut csrs = Csrs::reset();
     csrs.write(0x300, Mode::Machine, 0x1800)?;
-    assert_eq!(rt; csrs.get(Held::Mstatus), 0xA_0000_1800);
+    assert_eq!(rt; csrs.get(StoredCsr::Mstatus), 0xA_0000_1800);
     csrs.write(0x300, Mode::Machine, 0x1008)?;
-    assert_eq!(rt; csrs.get(Held::Mstatus), 0xA_0000_1808);
+    assert_eq!(rt; csrs.get(StoredCsr::Mstatus), 0xA_0000_1808);
     csrs.write(0x300, Mode::Machine, 0x800)?;
-    assert_eq!(rt; csrs.get(Held::Mstatus), 0xA_0000_0800);
+    assert_eq!(rt; csrs.get(StoredCsr::Mstatus), 0xA_0000_0800);
     Ok(())
 }
 
-/// The supervisor's views follow the delegation, and lines stand beside what is held.
+/// The supervisor's views follow the delegation, and lines stand beside what is stored.
 #[test]
 fn shows_interrupts(rt: HostRuntime) -> Result<(), Fail> {
     let mut csrs = Csrs::reset();
@@ -122,7 +139,7 @@ fn shows_interrupts(rt: HostRuntime) -> Result<(), Fail> {
     csrs.write(0x144, Mode::Supervisor, ALL)?;
     assert_eq!(rt; csrs.shown(CsrName::Mie, 0), 0x802);
     assert_eq!(rt; csrs.shown(CsrName::Sie, 0), 2);
-    assert_eq!(rt; csrs.get(Held::Mip), 2);
+    assert_eq!(rt; csrs.get(StoredCsr::Mip), 2);
     assert_eq!(rt; csrs.pending_interrupts(lines), 0xA8A);
     assert_eq!(rt; csrs.shown(CsrName::Sip, lines), 0x202);
 
@@ -135,14 +152,61 @@ fn shows_interrupts(rt: HostRuntime) -> Result<(), Fail> {
     Ok(())
 }
 
+/// Of sip only SSIP can be written, whatever is delegated; STIP and SEIP stay as M left them.
 #[test]
-fn holds_physical_memory_protection(rt: HostRuntime) -> Result<(), Fail> {
+fn writes_sip(rt: HostRuntime) -> Result<(), Fail> {
+    let mut csrs = Csrs::reset();
+    csrs.write(0x303, Mode::Machine, 0x222)?;
+    csrs.write(0x144, Mode::Supervisor, ALL)?;
+    assert_eq!(rt; csrs.get(StoredCsr::Mip), 2);
+    csrs.write(0x344, Mode::Machine, 0x222)?;
+    csrs.write(0x144, Mode::Supervisor, 0)?;
+    assert_eq!(rt; csrs.get(StoredCsr::Mip), 0x220);
+    assert_eq!(rt; csrs.read(0x144, Mode::Supervisor, 0)?.value, 0x220);
+    Ok(())
+}
+
+/// Lines that a row shows are taken from no other column; what the core decides always is.
+#[test]
+fn takes_from_the_row(rt: HostRuntime) -> Result<(), Fail> {
+    let mut csrs = Csrs::reset();
+    csrs.write(0x303, Mode::Machine, 0x222)?;
+    let cases = [
+        (Csr::Cycle, 0x888, ALL),
+        (Csr::Time, ALL, ALL),
+        (Csr::Mcycle, 0x888, ALL),
+        (Csr::Mhpmcounter(3), 0x888, ALL),
+        (Csr::Hpmcounter(31), 0x888, ALL),
+        (Csr::Mhartid, 0x888, ALL),
+        (Csr::Mip, 0, 0xA88),
+        (Csr::Mip, 0x888, 0x200),
+        (Csr::Mip, ALL, 0),
+        (Csr::Sip, 0x888, 0x200),
+        (Csr::Sip, 0x200, 0),
+        (Csr::Mie, 0, 0),
+        (Csr::Sie, 0, 0),
+        (Csr::Mstatus, 0, 0),
+        (Csr::Sstatus, 0, 0),
+        (Csr::Misa, 0, 0),
+        (Csr::Mhpmevent(3), 0, 0),
+    ];
+    for (csr, shown, wanted) in cases {
+        assert_eq!(rt; csrs.taken_bits(csr, shown), wanted, "{shown}");
+    }
+    csrs.write(0x344, Mode::Machine, 0x200)?;
+    assert_eq!(rt; csrs.taken_bits(Csr::Mip, 0x888), 0);
+    assert_eq!(rt; csrs.taken_bits(Csr::Mip, 0), 0x888);
+    Ok(())
+}
+
+#[test]
+fn stores_physical_memory_protection(rt: HostRuntime) -> Result<(), Fail> {
     let mut csrs = Csrs::reset();
     assert_eq!(rt; csrs.pmp_entries()[15].cfg, 0);
     csrs.pmpcfg[1] = 0x1F;
     csrs.pmpcfg[15] = 0x18;
     csrs.pmpaddr[15] = 5;
-    csrs.set(Held::Satp, 7);
+    csrs.set(StoredCsr::Satp, 7);
     assert_eq!(rt; csrs.shown(CsrName::Pmpcfg0, 0), 0x1F00);
     assert_eq!(rt; csrs.shown(CsrName::Pmpcfg2, 0), 0x18 << 56);
     assert_eq!(rt; csrs.shown(CsrName::Satp, 0), 7);

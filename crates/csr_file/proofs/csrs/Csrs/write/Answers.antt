@@ -1,7 +1,10 @@
 use Rattle.std.proofs.Common.{subst, sym}
-use Rattle.csr_file.specs.Sound.{IsSound}
-use Rattle.csr_file.proofs.Sound.{written_sound}
+use Rattle.csr_file.specs.Legal.{IsLegal}
+use Rattle.csr_file.specs.Values.{csr_write_of}
+use Rattle.csr_file.proofs.Legal.{write_legal}
 use Rattle.csr_file.proofs.csrs.Csrs.write.Goals as goal
 
-pub returns-then-is_writable-clause-sound : goal.returns-then-is_writable-clause-sound
-returns-then-is_writable-clause-sound c = λ sound. subst IsSound (sym c.put.ensures) (written_sound _ _ _ sound)
+pub returns-then-may_write-clause-legal : goal.returns-then-may_write-clause-legal
+returns-then-may_write-clause-legal c = λ legal.
+    subst IsLegal (sym c.write_csr.ensures)
+    (subst (λ kind. IsLegal (csr_write_of c.args.self.now kind c.args.value)) (sym c.of.ensures) (write_legal _ _ _ legal))

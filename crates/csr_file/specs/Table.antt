@@ -1,0 +1,132 @@
+-- What each register is and which of its bits can be written, from the Privileged Architecture's chapters
+-- "Control and Status Registers (CSRs)", "Machine-Level ISA" and "Supervisor-Level ISA".
+use Rattle.std.specs.Prelude.{ℕ, ◌+◌, ◌-◌, ◌*◌, ◌^◌, ◌==◌, if◌then◌else◌, [], ◌∷◌, map}
+use Rattle.hart_words.specs.declared.privilege.Cause.TheVariants.{InstructionAccessFault, IllegalInstruction, Breakpoint, LoadAddressMisaligned, LoadAccessFault, StoreAddressMisaligned, StoreAccessFault, EnvironmentCallFromUser, EnvironmentCallFromSupervisor, InstructionPageFault, LoadPageFault, StorePageFault}
+use Rattle.hart_words.specs.Privilege.{cause_code}
+use Rattle.csr_table.specs.declared.registers.Csr.{Csr}
+use Rattle.csr_table.specs.declared.registers.Csr.TheVariants as csr
+use Rattle.csr_file.specs.declared.stored_csr.StoredCsr.{StoredCsr}
+use Rattle.csr_file.specs.declared.stored_csr.StoredCsr.TheVariants.{Mstatus, Medeleg, Mideleg, Mie, Mtvec, Mcounteren, Menvcfg, Mcountinhibit, Mscratch, Mepc, Mcause, Mtval, Mip, Stvec, Scounteren, Senvcfg, Sscratch, Sepc, Scause, Stval, Satp}
+use Rattle.csr_file.specs.declared.csr_kind.CsrKind.{CsrKind}
+use Rattle.csr_file.specs.declared.csr_kind.CsrKind.TheVariants.{Stored, Status, Pending, SupervisorStatus, SupervisorEnables, SupervisorPending, Constant, OfCore, Counter, ClosedCounter}
+use Rattle.csr_file.specs.declared.fields.TheConstants.{SIE, MIE, SPIE, MPIE, SPP, MPP, MPRV, SUM, MXR, TVM, TW, TSR, UXL, SXL, SSIP, MSIP, STIP, MTIP, SEIP, MEIP, CY, TM, IR, FIOM}
+use Rattle.csr_file.specs.Fields.{bits, field_bits, all_bits, mpp_of}
+
+-- the bits of mstatus that a write can set, MPP's aside
+abbrev pub writable_without_mpp : ℕ
+writable_without_mpp =
+    bits (SIE ∷ MIE ∷ SPIE ∷ MPIE ∷ SPP ∷ MPRV ∷ SUM ∷ MXR ∷ TVM ∷ TW ∷ TSR ∷ [])
+
+-- the exceptions that can be delegated: all but a call from M. 0 is the code of a misaligned instruction
+-- address
+abbrev pub delegable_exceptions : ℕ
+delegable_exceptions =
+    bits (0 ∷ map cause_code (InstructionAccessFault ∷ IllegalInstruction ∷ Breakpoint ∷ LoadAddressMisaligned
+    ∷ LoadAccessFault ∷ StoreAddressMisaligned ∷ StoreAccessFault ∷ EnvironmentCallFromUser
+    ∷ EnvironmentCallFromSupervisor ∷ InstructionPageFault ∷ LoadPageFault ∷ StorePageFault ∷ []))
+
+-- the interrupts of S, which can be delegated and stored; and with those of M all that can be enabled
+abbrev pub supervisor_interrupts : ℕ
+supervisor_interrupts = bits (SSIP ∷ STIP ∷ SEIP ∷ [])
+
+abbrev pub all_interrupts : ℕ
+all_interrupts = supervisor_interrupts + bits (MSIP ∷ MTIP ∷ MEIP ∷ [])
+
+-- the bits of mip that may be lines from outside
+abbrev pub line_bits : ℕ
+line_bits = bits (MSIP ∷ MTIP ∷ SEIP ∷ MEIP ∷ [])
+
+-- a vector: its base, and mode 0 or 1 in bits 1:0
+abbrev pub vector_bits : ℕ
+vector_bits = all_bits - bits (1 ∷ [])
+
+-- an address of an instruction is even
+abbrev pub pc_bits : ℕ
+pc_bits = all_bits - bits (0 ∷ [])
+
+-- the bits of each stored register that a write can set; no write reaches satp yet
+abbrev pub writable_bits : StoredCsr → ℕ
+writable_bits Mstatus = writable_without_mpp + field_bits MPP 2
+writable_bits Medeleg = delegable_exceptions
+writable_bits Mideleg = supervisor_interrupts
+writable_bits Mie = all_interrupts
+writable_bits Mtvec = vector_bits
+writable_bits Mcounteren = bits (CY ∷ TM ∷ IR ∷ [])
+writable_bits Menvcfg = bits (FIOM ∷ [])
+writable_bits Mcountinhibit = bits (CY ∷ IR ∷ [])
+writable_bits Mscratch = all_bits
+writable_bits Mepc = pc_bits
+writable_bits Mcause = all_bits
+writable_bits Mtval = all_bits
+writable_bits Mip = supervisor_interrupts
+writable_bits Stvec = vector_bits
+writable_bits Scounteren = bits (CY ∷ TM ∷ IR ∷ [])
+writable_bits Senvcfg = bits (FIOM ∷ [])
+writable_bits Sscratch = all_bits
+writable_bits Sepc = pc_bits
+writable_bits Scause = all_bits
+writable_bits Stval = all_bits
+writable_bits Satp = 0
+
+-- the constants of mstatus: UXL and SXL are 2, for 64 bits
+abbrev pub status_constant : ℕ
+status_constant = 2 * 2 ^ UXL + 2 * 2 ^ SXL
+
+-- what a write of mstatus writes: MPP keeps its old value where it would become 2, which is no mode
+abbrev pub status_written_bits : ℕ → ℕ
+status_written_bits value = if mpp_of value == 2 then writable_without_mpp else writable_bits Mstatus
+
+-- of mstatus sstatus writes these, and shows these and UXL
+abbrev pub sstatus_writable : ℕ
+sstatus_writable = bits (SIE ∷ SPIE ∷ SPP ∷ SUM ∷ MXR ∷ [])
+
+abbrev pub sstatus_shown : ℕ
+sstatus_shown = sstatus_writable + field_bits UXL 2
+
+-- of mip sip writes this, under mideleg
+abbrev pub sip_writable : ℕ
+sip_writable = bits (SSIP ∷ [])
+
+-- misa: MXL is 2, and the extensions A, C, I, M, S and U by their letters' places in the alphabet
+abbrev pub misa_value : ℕ
+misa_value = 2 * 2 ^ 62 + bits (0 ∷ 2 ∷ 8 ∷ 12 ∷ 18 ∷ 20 ∷ [])
+
+-- what each register is
+unfoldable pub csr_kind_of : Csr → CsrKind
+csr_kind_of csr.Mstatus = Status
+csr_kind_of csr.Misa = Constant misa_value
+csr_kind_of csr.Medeleg = Stored Medeleg
+csr_kind_of csr.Mideleg = Stored Mideleg
+csr_kind_of csr.Mie = Stored Mie
+csr_kind_of csr.Mtvec = Stored Mtvec
+csr_kind_of csr.Mcounteren = Stored Mcounteren
+csr_kind_of csr.Menvcfg = Stored Menvcfg
+csr_kind_of csr.Mcountinhibit = Stored Mcountinhibit
+csr_kind_of (csr.Mhpmevent number) = Constant 0
+csr_kind_of csr.Mscratch = Stored Mscratch
+csr_kind_of csr.Mepc = Stored Mepc
+csr_kind_of csr.Mcause = Stored Mcause
+csr_kind_of csr.Mtval = Stored Mtval
+csr_kind_of csr.Mip = Pending
+csr_kind_of csr.Sstatus = SupervisorStatus
+csr_kind_of csr.Sie = SupervisorEnables
+csr_kind_of csr.Stvec = Stored Stvec
+csr_kind_of csr.Scounteren = Stored Scounteren
+csr_kind_of csr.Senvcfg = Stored Senvcfg
+csr_kind_of csr.Sscratch = Stored Sscratch
+csr_kind_of csr.Sepc = Stored Sepc
+csr_kind_of csr.Scause = Stored Scause
+csr_kind_of csr.Stval = Stored Stval
+csr_kind_of csr.Sip = SupervisorPending
+csr_kind_of csr.Mcycle = OfCore
+csr_kind_of csr.Minstret = OfCore
+csr_kind_of (csr.Mhpmcounter number) = OfCore
+csr_kind_of csr.Cycle = Counter CY
+csr_kind_of csr.Time = Counter TM
+csr_kind_of csr.Instret = Counter IR
+csr_kind_of (csr.Hpmcounter number) = ClosedCounter
+csr_kind_of csr.Mvendorid = OfCore
+csr_kind_of csr.Marchid = OfCore
+csr_kind_of csr.Mimpid = OfCore
+csr_kind_of csr.Mhartid = OfCore
+csr_kind_of csr.Mconfigptr = OfCore
