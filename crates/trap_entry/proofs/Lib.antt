@@ -1,4 +1,4 @@
 pub mod Stacks
-pub mod Sound
+pub mod Legal
 pub mod Undone
 pub mod Rest

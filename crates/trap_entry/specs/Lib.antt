@@ -1,3 +1,3 @@
-pub mod Traps
+pub mod Entries
 pub mod Returns
 pub mod Laws

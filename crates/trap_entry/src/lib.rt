@@ -1,12 +1,16 @@
-//! Entry of traps and return from them.
+//! Entry of traps and return from them. The registers, the mode and what the trap is come in; out
+//! go the registers after the entry or the return, the new mode and the next pc. Entry is
+//! `enter_of`, `mode_by_enter` and `pc_by_enter` in `specs/Entries.antt`, return the like in
+//! `specs/Returns.antt`, from the Privileged Architecture's chapters "Machine-Level ISA" and
+//! "Supervisor-Level ISA".
 #![tactic(auto)]
 
-mod entering;
+mod entry;
 pub mod laws;
-mod returning;
+mod returns;
 
-pub use entering::enter;
-pub use returning::{mret, sret};
+pub use entry::enter;
+pub use returns::{mret, sret};
 
 #[cfg(test)]
 mod tests;
