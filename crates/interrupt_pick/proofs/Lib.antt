@@ -1,2 +1,3 @@
 pub mod Bits
 pub mod Taken
+pub mod Entered

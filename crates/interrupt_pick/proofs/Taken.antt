@@ -6,20 +6,20 @@ use Rattle.hart_words.specs.declared.privilege.Mode.{Mode}
 use Rattle.hart_words.specs.declared.privilege.Mode.TheVariants.{User, Supervisor, Machine}
 use Rattle.hart_words.specs.Privilege.{mode_number}
 use Rattle.csr_file.specs.declared.csrs.Csrs.{Csrs}
-use Rattle.csr_file.specs.declared.csrs.Held.TheVariants.{Mideleg}
+use Rattle.csr_file.specs.declared.stored_csr.StoredCsr.TheVariants.{Mideleg}
 use Rattle.csr_file.specs.Registers.{at as value_at}
 use Rattle.csr_file.specs.Fields.{bit_is_set}
-use Rattle.interrupt_pick.specs.Interrupts.{order, is_asked, machine_takes, supervisor_takes, is_for_machine, is_for_supervisor, picked}
+use Rattle.interrupt_pick.specs.Interrupts.{order, is_pending_and_enabled, machine_takes, supervisor_takes, is_for_machine, is_for_supervisor, pick_of}
 use Rattle.interrupt_pick.specs.Laws.{IsTaken, PicksTaken}
 
-wrong : (P : Type 0) → false ≡ true → P
+pub wrong : (P : Type 0) → false ≡ true → P
 wrong P h = cc
 
-both : (a b : Bool) → (a && b) ≡ true → (a ≡ true) × (b ≡ true)
+pub both : (a b : Bool) → (a && b) ≡ true → (a ≡ true) × (b ≡ true)
 both true b h = (refl, h)
 both false b h = wrong _ h
 
-off : (a : Bool) → not a ≡ true → a ≡ false
+pub off : (a : Bool) → not a ≡ true → a ≡ false
 off true h = wrong _ h
 off false h = refl
 
@@ -28,7 +28,7 @@ step : (p : ℕ → Bool) (x : ℕ) (rest : Option ℕ) (code : ℕ) (b : Bool) 
 step p x rest code true passes later is = let same : x ≡ code = cc in ap p (sym same) ∙ passes
 step p x rest code false fails later is = later is
 
-found : (p : ℕ → Bool) (xs : List ℕ) (code : ℕ) → find p xs ≡ Some code → p code ≡ true
+pub found : (p : ℕ → Bool) (xs : List ℕ) (code : ℕ) → find p xs ≡ Some code → p code ≡ true
 found p [] code is = cc
 found p (x ∷ xs) code is = step p x (find p xs) code (p x) refl (found p xs code) is
 
@@ -38,7 +38,7 @@ parts one other h =
     (ap (λ (t : ℕ × Mode). t.0) same, ap (λ (t : ℕ × Mode). t.1) same)
 
 -- where it came from
-from : (here there : Option ℕ) (code : ℕ) (taker : Mode) → option_or {T = ℕ × Mode} (option_map (λ c. (c, Machine)) here) (option_map (λ c. (c, Supervisor)) there) ≡ Some (code, taker) → ((here ≡ Some code) × (taker ≡ Machine)) ⊎ ((there ≡ Some code) × (taker ≡ Supervisor))
+pub from : (here there : Option ℕ) (code : ℕ) (taker : Mode) → option_or {T = ℕ × Mode} (option_map (λ c. (c, Machine)) here) (option_map (λ c. (c, Supervisor)) there) ≡ Some (code, taker) → ((here ≡ Some code) × (taker ≡ Machine)) ⊎ ((there ≡ Some code) × (taker ≡ Supervisor))
 from (Some c) there code taker is = let same = parts (c, Machine) (code, taker) is in inl (ap Some same.0, sym same.1)
 from None (Some c) code taker is = let same = parts (c, Supervisor) (code, taker) is in inr (ap Some same.0, sym same.1)
 from None None code taker is = cc
@@ -56,19 +56,19 @@ below_supervisor csrs Machine h = wrong _ h
 for_machine : (csrs : Csrs) (mode : Mode) (lines code : ℕ) → is_for_machine csrs mode lines code ≡ true → IsTaken csrs mode lines code Machine
 unfolding is_for_machine
 for_machine csrs mode lines code h =
-    let outer = both (machine_takes csrs mode && is_asked csrs lines code) (not (bit_is_set (value_at csrs Mideleg) code)) h in
-    let inner = both (machine_takes csrs mode) (is_asked csrs lines code) outer.0 in
-    record { asked = inner.1; by = ap (λ b. if b then Supervisor else Machine) (sym (off _ outer.1)); above = below_machine mode }
+    let outer = both (machine_takes csrs mode && is_pending_and_enabled csrs lines code) (not (bit_is_set (value_at csrs Mideleg) code)) h in
+    let inner = both (machine_takes csrs mode) (is_pending_and_enabled csrs lines code) outer.0 in
+    record { pending = inner.1; by = ap (λ b. if b then Supervisor else Machine) (sym (off _ outer.1)); above = below_machine mode }
 
 for_supervisor : (csrs : Csrs) (mode : Mode) (lines code : ℕ) → is_for_supervisor csrs mode lines code ≡ true → IsTaken csrs mode lines code Supervisor
 unfolding is_for_supervisor
 for_supervisor csrs mode lines code h =
-    let outer = both (supervisor_takes csrs mode && is_asked csrs lines code) (bit_is_set (value_at csrs Mideleg) code) h in
-    let inner = both (supervisor_takes csrs mode) (is_asked csrs lines code) outer.0 in
-    record { asked = inner.1; by = ap (λ b. if b then Supervisor else Machine) (sym outer.1); above = below_supervisor csrs mode inner.0 }
+    let outer = both (supervisor_takes csrs mode && is_pending_and_enabled csrs lines code) (bit_is_set (value_at csrs Mideleg) code) h in
+    let inner = both (supervisor_takes csrs mode) (is_pending_and_enabled csrs lines code) outer.0 in
+    record { pending = inner.1; by = ap (λ b. if b then Supervisor else Machine) (sym outer.1); above = below_supervisor csrs mode inner.0 }
 
 pub picks_taken : (csrs : Csrs) (mode : Mode) (lines : ℕ) → PicksTaken csrs mode lines
-unfolding picked
+unfolding pick_of
 picks_taken csrs mode lines code taker is =
     elim (from (find (is_for_machine csrs mode lines) order) (find (is_for_supervisor csrs mode lines) order) code taker is) [
       | inl here ↦ subst (IsTaken csrs mode lines code) (sym here.1) (for_machine csrs mode lines code (found (is_for_machine csrs mode lines) order code here.0))

@@ -3,11 +3,17 @@
 ghost use Rattle.std.specs.Prelude.{ℕ};
 ghost use Rattle.hart_words.specs.declared.privilege.Mode.{Mode};
 ghost use Rattle.csr_file.specs.declared.csrs.Csrs.{Csrs};
-ghost use Rattle.interrupt_pick.specs.Laws.{PicksTaken};
+ghost use Rattle.interrupt_pick.specs.Laws.{PicksTaken, PicksWhereEntered};
 
 /// What is picked is pending and enabled, is taken in S where it is delegated and else in M, and
 /// never in a mode below the one that it comes in.
 #[tactic(auto, using(crate::proofs::Taken::picks_taken))]
 pub fn picks_are_taken()
     ensures { (csrs : Csrs) (mode : Mode) (lines : ℕ) → PicksTaken csrs mode lines }
+{}
+
+/// The mode that is picked is the one that `trap_entry::enter` enters for that interrupt.
+#[tactic(auto, using(crate::proofs::Entered::picks_where_entered))]
+pub fn picks_are_where_entered()
+    ensures { (csrs : Csrs) (mode : Mode) (lines : ℕ) → PicksWhereEntered csrs mode lines }
 {}

@@ -1,10 +1,13 @@
-//! The choice of the interrupt that is taken.
+//! The choice of the interrupt that is taken. The registers, the mode and the lines from outside
+//! come in; out go the code of the interrupt and the mode that takes it, or nothing. The choice is
+//! `pick_of` in `specs/Interrupts.antt`, from the Privileged Architecture's chapters "Machine-Level
+//! ISA" and "Supervisor-Level ISA".
 #![tactic(auto)]
 
+mod choice;
 pub mod laws;
-mod picking;
 
-pub use picking::pick;
+pub use choice::pick;
 
 #[cfg(test)]
 mod tests;

@@ -1,5 +1,5 @@
 use super::*;
-use csr_file::{Csrs, Held};
+use csr_file::{Csrs, StoredCsr};
 use hart_words::Mode;
 use std::test::Fail;
 
@@ -27,23 +27,24 @@ fn picks_by_priority(rt: HostRuntime) -> Result<(), Fail> {
     ];
     for (mode, status, enabled, delegated, lines, wanted) in cases {
         let mut csrs = Csrs::reset();
-        csrs.set(Held::Mstatus, 0xA_0000_0000 | status);
-        csrs.set(Held::Mie, enabled);
-        csrs.set(Held::Mideleg, delegated);
+        csrs.set(StoredCsr::Mstatus, 0xA_0000_0000 | status);
+        csrs.set(StoredCsr::Mie, enabled);
+        csrs.set(StoredCsr::Mideleg, delegated);
         assert_eq!(rt; pick(&csrs, mode, lines), wanted, "{enabled} {lines}");
     }
     Ok(())
 }
 
-/// Interrupts that are held in mip: SEI, then SSI, then STI.
+/// Interrupts that are stored in mip: SEI, then SSI, then STI.
 #[test]
-fn picks_what_is_held(rt: HostRuntime) -> Result<(), Fail> {
-    for (held, code) in [(0x222, 9), (0x022, 1), (0x020, 5)] {
+fn picks_what_is_stored(rt: HostRuntime) -> Result<(), Fail> {
+    for (stored, code) in [(0x222, 9), (0x022, 1), (0x020, 5)] {
         let mut csrs = Csrs::reset();
-        csrs.set(Held::Mie, 0x222);
-        csrs.set(Held::Mip, held);
+        csrs.set(StoredCsr::Mie, 0x222);
+        csrs.set(StoredCsr::Mip, stored);
         assert_eq!(rt; pick(&csrs, Mode::User, 0), Some((code, Mode::Machine)));
     }
     laws::picks_are_taken();
+    laws::picks_are_where_entered();
     Ok(())
 }
