@@ -11,7 +11,7 @@ use Rattle.pmp_check.specs.declared.region.Matching.TheVariants.{Off, TopOfRange
 use Rattle.pmp_check.specs.declared.region.Region.{Region}
 use Rattle.pmp_check.specs.Protection.{matching_of, power_region, covered, region_of, covers_some, covers_all}
 use Rattle.pmp_check.specs.Covering.{CoversAs, Covers, IsIn, IsRegister, SomeByte, EachByte}
-use Rattle.pmp_check.proofs.Ones.{Ends, Ends-field, Ends_from_field, trailing_ones-Ends, trailing_ones_from_Ends}
+use Rattle.pmp_check.proofs.Ones.{EndsInOnes, EndsInOnes-field, Ends_from_field, trailing_ones-EndsInOnes, trailing_ones_from_Ends}
 
 -- the numbers of one block of so many
 block : (size first q a : ℕ) → 0 < size → first ≡ q * size → ((first ≤ a) × (a < first + size)) ↔ (a / size ≡ q)
@@ -21,9 +21,9 @@ block size first q a h start = (
 )
 
 -- the region by trailing ones is a naturally aligned block
-in_block : (addr ones a : ℕ) → Ends addr ones → IsIn (power_region addr ones) a ↔ (a / 2 ^ (ones + 3) ≡ addr / 2 ^ (ones + 1))
+in_block : (addr ones a : ℕ) → EndsInOnes addr ones → IsIn (power_region addr ones) a ↔ (a / 2 ^ (ones + 3) ≡ addr / 2 ^ (ones + 1))
 in_block addr ones a ends =
-    let field : addr % 2 ^ (ones + 1) ≡ 2 ^ ones - 1 = Ends-field addr ones ends in
+    let field : addr % 2 ^ (ones + 1) ≡ 2 ^ ones - 1 = EndsInOnes-field addr ones ends in
     let sum : ones + 3 ≡ ones + 1 + 2 = omega arith in
     let size : 2 ^ (ones + 3) ≡ 2 ^ (ones + 1) * 2 ^ 2 = ap (λ k. 2 ^ k) sum ∙ pow-add 2 (ones + 1) 2 in
     let split : addr / 2 ^ (ones + 1) * 2 ^ (ones + 1) + addr % 2 ^ (ones + 1) ≡ addr = div-add-mod' addr (2 ^ (ones + 1)) in
@@ -35,10 +35,10 @@ covered-CoversAs Off before addr a h = (λ within. omega (arith, within), λ non
 covered-CoversAs TopOfRange before addr a h = (λ within. within, λ within. within)
 covered-CoversAs FourBytes before addr a h = (λ within. omega (arith, within), λ same. omega arith)
 covered-CoversAs PowerOfTwo before addr a h =
-    let ends : Ends addr (trailing_ones w64 addr) = trailing_ones-Ends addr h in (
-      λ within. record { ones = trailing_ones w64 addr; ends = Ends-field addr (trailing_ones w64 addr) ends; block = (in_block addr (trailing_ones w64 addr) a ends).0 within },
+    let ends : EndsInOnes addr (trailing_ones w64 addr) = trailing_ones-EndsInOnes addr h in (
+      λ within. record { ones = trailing_ones w64 addr; ends = EndsInOnes-field addr (trailing_ones w64 addr) ends; block = (in_block addr (trailing_ones w64 addr) a ends).0 within },
       λ found.
-          let found_ends : Ends addr found.ones = Ends_from_field addr found.ones found.ends in
+          let found_ends : EndsInOnes addr found.ones = Ends_from_field addr found.ones found.ends in
           subst (λ (n : ℕ). IsIn (power_region addr n) a) (sym (trailing_ones_from_Ends addr found.ones h found_ends)) ((in_block addr found.ones a found_ends).1 found.block),
     )
 

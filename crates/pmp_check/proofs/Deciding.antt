@@ -6,7 +6,7 @@ use Rattle.hart_words.specs.declared.privilege.Mode.{Mode}
 use Rattle.hart_words.specs.declared.privilege.Access.{Access}
 use Rattle.hart_words.specs.declared.privilege.PmpEntry.{PmpEntry}
 use Rattle.pmp_check.specs.declared.region.Region.{Region}
-use Rattle.pmp_check.specs.Protection.{region_of, covers_some, covers_all, is_granted, is_machine, is_allowed_after, is_allowed}
+use Rattle.pmp_check.specs.Protection.{region_of, covers_some, covers_all, is_permitted, is_machine, is_allowed_after, is_allowed}
 use Rattle.pmp_check.specs.Covering.{Covers, CoversAt, Decides, IsRegister, SomeByte, EachByte, entry_at, register_before}
 use Rattle.pmp_check.proofs.Covering.{region_of-Covers, some_byte, each_byte}
 
@@ -54,23 +54,23 @@ pub after_none : (first : ℕ) (entries : List PmpEntry) (mode : Mode) (pa len :
 unfolding is_allowed_after
 after_none first [] mode pa len access h none = refl
 after_none first (entry ∷ entries) mode pa len access h none =
-    cond-false (covers_some (region_of first entry) pa len) (covers_all (region_of first entry) pa len && is_granted entry.cfg mode access) (is_allowed_after entry.addr entries mode pa len access) (untouched first entry pa len (head entry entries h) (none 0 (omega arith)))
+    cond-false (covers_some (region_of first entry) pa len) (covers_all (region_of first entry) pa len && is_permitted entry.cfg mode access) (is_allowed_after entry.addr entries mode pa len access) (untouched first entry pa len (head entry entries h) (none 0 (omega arith)))
     ∙ after_none entry.addr entries mode pa len access (tail entry entries h) (λ i below byte. none (suc i) (omega arith) (shift first entry entries i pa len byte))
 
 -- the answer of the entry at a place
 answer : ℕ → List PmpEntry → ℕ → Mode → ℕ → ℕ → Access → Bool
 answer first entries i mode pa len access =
-    covers_all (region_of (register_before first entries i) (entry_at entries i)) pa len && is_granted (entry_at entries i).cfg mode access
+    covers_all (region_of (register_before first entries i) (entry_at entries i)) pa len && is_permitted (entry_at entries i).cfg mode access
 
 after_least : (first : ℕ) (entries : List PmpEntry) (i : ℕ) (mode : Mode) (pa len : ℕ) (access : Access) → All IsRegister entries → i < length entries → Touches first entries i pa len → ((j : ℕ) → j < i → Touches first entries j pa len → ⊥) → is_allowed_after first entries mode pa len access ≡ answer first entries i mode pa len access
 unfolding is_allowed_after answer
 after_least first [] i mode pa len access h below some least = absurd (omega arith)
 after_least first (entry ∷ entries) zero mode pa len access h below some least =
-    cond-true (covers_some (region_of first entry) pa len) (covers_all (region_of first entry) pa len && is_granted entry.cfg mode access) (is_allowed_after entry.addr entries mode pa len access) (touched first entry pa len (head entry entries h) some)
+    cond-true (covers_some (region_of first entry) pa len) (covers_all (region_of first entry) pa len && is_permitted entry.cfg mode access) (is_allowed_after entry.addr entries mode pa len access) (touched first entry pa len (head entry entries h) some)
 after_least first (entry ∷ entries) (suc i) mode pa len access h below some least =
-    cond-false (covers_some (region_of first entry) pa len) (covers_all (region_of first entry) pa len && is_granted entry.cfg mode access) (is_allowed_after entry.addr entries mode pa len access) (untouched first entry pa len (head entry entries h) (least 0 (omega arith)))
+    cond-false (covers_some (region_of first entry) pa len) (covers_all (region_of first entry) pa len && is_permitted entry.cfg mode access) (is_allowed_after entry.addr entries mode pa len access) (untouched first entry pa len (head entry entries h) (least 0 (omega arith)))
     ∙ after_least entry.addr entries i mode pa len access (tail entry entries h) (omega arith) (unshift first entry entries i pa len some) (λ j lower byte. least (suc j) (omega arith) (shift first entry entries j pa len byte))
-    ∙ ap (λ b. covers_all (region_of b (entry_at entries i)) pa len && is_granted (entry_at entries i).cfg mode access) (before_shift first entry entries i)
+    ∙ ap (λ b. covers_all (region_of b (entry_at entries i)) pa len && is_permitted (entry_at entries i).cfg mode access) (before_shift first entry entries i)
 
 pub none_decides : (entries : List PmpEntry) (mode : Mode) (pa len : ℕ) (access : Access) → All IsRegister entries → ((i : ℕ) → i < length entries → SomeByte pa len (CoversAt entries i) → ⊥) → is_allowed entries mode pa len access ≡ is_machine mode
 unfolding is_allowed
@@ -79,14 +79,14 @@ none_decides entries mode pa len access h none = after_none 0 entries mode pa le
 some_is : (pa len : ℕ) {P : ℕ → Type 0} → SomeByte pa len P → 1 ≤ len
 some_is pa len byte = omega (arith, byte.low, byte.high)
 
-pub whole_decides : (entries : List PmpEntry) (i : ℕ) (mode : Mode) (pa len : ℕ) (access : Access) → All IsRegister entries → i < length entries → Decides entries i pa len → EachByte pa len (CoversAt entries i) → is_allowed entries mode pa len access ≡ is_granted (entry_at entries i).cfg mode access
+pub whole_decides : (entries : List PmpEntry) (i : ℕ) (mode : Mode) (pa len : ℕ) (access : Access) → All IsRegister entries → i < length entries → Decides entries i pa len → EachByte pa len (CoversAt entries i) → is_allowed entries mode pa len access ≡ is_permitted (entry_at entries i).cfg mode access
 unfolding is_allowed answer
 whole_decides entries i mode pa len access h below decides each =
     let region : Region = region_of (register_before 0 entries i) (entry_at entries i) in
     let all : covers_all region pa len ≡ true =
     (each_byte region pa len (some_is pa len decides.some)).1 (λ a low high. (region_of-Covers (register_before 0 entries i) (entry_at entries i) a (register_at entries i h below)).1 (each a low high)) in
     after_least 0 entries i mode pa len access h below decides.some decides.least
-    ∙ ap (λ b. b && is_granted (entry_at entries i).cfg mode access) all
+    ∙ ap (λ b. b && is_permitted (entry_at entries i).cfg mode access) all
 
 pub part_decides : (entries : List PmpEntry) (i : ℕ) (mode : Mode) (pa len : ℕ) (access : Access) → All IsRegister entries → i < length entries → Decides entries i pa len → SomeByte pa len (λ a. CoversAt entries i a → ⊥) → is_allowed entries mode pa len access ≡ false
 unfolding is_allowed answer
@@ -96,4 +96,4 @@ part_decides entries i mode pa len access h below decides outside =
     false_from_ne_true (covers_all region pa len)
     (λ e. outside.holds ((region_of-Covers (register_before 0 entries i) (entry_at entries i) outside.a (register_at entries i h below)).0 ((each_byte region pa len (some_is pa len decides.some)).0 e outside.a outside.low outside.high))) in
     after_least 0 entries i mode pa len access h below decides.some decides.least
-    ∙ ap (λ b. b && is_granted (entry_at entries i).cfg mode access) not_all
+    ∙ ap (λ b. b && is_permitted (entry_at entries i).cfg mode access) not_all

@@ -1,4 +1,5 @@
--- Which bytes the entries cover, one byte at a time, as the Privileged Architecture's chapter "Machine-Level ISA" has it.
+-- Which bytes the entries cover, one byte at a time, as the Privileged Architecture's chapter "Machine-Level ISA"
+-- has it.
 use Rattle.std.specs.Prelude.{◌≡◌, ℕ, zero, suc, ◌+◌, ◌-◌, ◌*◌, ◌/◌, ◌%◌, ◌^◌, ◌<◌, ◌≤◌, List, slice_index_or}
 use Rattle.hart_words.specs.declared.privilege.PmpEntry.{PmpEntry}
 use Rattle.pmp_check.specs.declared.region.Matching.{Matching}
@@ -6,7 +7,8 @@ use Rattle.pmp_check.specs.declared.region.Matching.TheVariants.{Off, TopOfRange
 use Rattle.pmp_check.specs.declared.region.Region.{Region}
 use Rattle.pmp_check.specs.Protection.{matching_of}
 
--- NAPOT: an address register yy..y01..1 with so many ones covers the naturally aligned bytes whose higher bits are yy..y
+-- NAPOT: an address register yy..y01..1 with so many ones covers the naturally aligned bytes whose higher bits are
+-- yy..y
 pub record IsInBlock (addr a : ℕ) : Type 0 where
   pub ones : ℕ
   pub ends : addr % 2 ^ (ones + 1) ≡ 2 ^ ones - 1

@@ -1,2 +1,3 @@
 pub mod Protection
 pub mod Covering
+pub mod Laws

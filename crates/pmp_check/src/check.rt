@@ -1,15 +1,24 @@
-//! The check of one access against all entries.
+//! The check of one access against all entries. From the Privileged Architecture's chapter
+//! "Machine-Level ISA".
 
 ghost use Rattle.std.specs.Prelude.{◌≡◌};
-ghost use Rattle.pmp_check.specs.Protection.{has_right, is_allowed, is_granted};
+ghost use Rattle.pmp_check.specs.Protection.{is_allowed, is_permitted, permits};
 
 use crate::region::Region;
 use hart_words::{Access, Mode, PmpEntry};
 
+// The bits of a configuration byte.
+pub const R: u8 = 0;
+
+pub const W: u8 = 1;
+
+pub const X: u8 = 2;
+
+pub const L: u8 = 7;
+
 /// Whether the entries allow an access of `len` bytes from the physical address `pa` on, made in
-/// `mode`. The lowest-numbered entry that covers any byte of it decides, and has to cover all of them;
-/// where there is none, M alone has access. From the Privileged Architecture's chapter
-/// "Machine-Level ISA".
+/// `mode`. The lowest-numbered entry that covers any byte of it decides, and has to cover all of
+/// them; where there is none, M alone has access.
 #[tactic(auto, unfolding(crate::specs::Protection::is_allowed, crate::specs::Protection::is_allowed_after))]
 pub fn allows(entries: &[PmpEntry; 16], mode: Mode, pa: u64, len: u8, access: Access) -> bool
     ensures { result ≡ is_allowed entries.now mode pa len access }
@@ -17,33 +26,33 @@ pub fn allows(entries: &[PmpEntry; 16], mode: Mode, pa: u64, len: u8, access: Ac
     let mut before = 0;
     for entry in entries {
         let region = Region::of(*entry, before);
-        if region.overlaps(pa, len) {
-            return region.contains(pa, len) && grants(entry.cfg, mode, access);
+        if region.covers_some(pa, len) {
+            return region.covers_all(pa, len) && is_permitted(entry.cfg, mode, access);
         }
         before = entry.addr;
     }
     matches!(mode, Mode::Machine)
 }
 
-/// What the configuration byte of the entry that decides says.
-#[tactic(auto, unfolding(crate::specs::Protection::is_granted))]
-fn grants(cfg: u8, mode: Mode, access: Access) -> bool
-    ensures { result ≡ is_granted cfg mode access }
+/// Whether the entry that decides, by its configuration byte, lets the access pass.
+#[tactic(auto, unfolding(crate::specs::Protection::is_permitted))]
+fn is_permitted(cfg: u8, mode: Mode, access: Access) -> bool
+    ensures { result ≡ is_permitted cfg mode access }
 {
-    let is_locked = cfg / 128 % 2 != 0;
+    let is_locked = (cfg >> L) % 2 != 0;
     match mode {
         Mode::Machine if !is_locked => true,
-        Mode::Machine | Mode::Supervisor | Mode::User => right(cfg, access),
+        Mode::Machine | Mode::Supervisor | Mode::User => permits(cfg, access),
     }
 }
 
-/// The bit R, W or X that the access needs.
-fn right(cfg: u8, access: Access) -> bool
-    ensures { result ≡ has_right cfg access }
+/// Whether the configuration byte has the bit R, W or X that the access needs.
+fn permits(cfg: u8, access: Access) -> bool
+    ensures { result ≡ permits cfg access }
 {
     match access {
-        Access::Load => cfg % 2 == 1,
-        Access::Store => cfg / 2 % 2 == 1,
-        Access::Fetch => cfg / 4 % 2 == 1,
+        Access::Load => (cfg >> R) % 2 == 1,
+        Access::Store => (cfg >> W) % 2 == 1,
+        Access::Fetch => (cfg >> X) % 2 == 1,
     }
 }

@@ -6,6 +6,9 @@ ghost use Rattle.pmp_check.specs.Protection.{covers_all, covers_some, matching_o
 
 use hart_words::PmpEntry;
 
+/// The lower bit of the field A of a configuration byte, which has two.
+pub const A: u8 = 3;
+
 /// How an entry matches addresses, the field A of its configuration byte: OFF, TOR, NA4 and NAPOT.
 #[derive(Clone, Copy, Debug)]
 pub enum Matching {
@@ -15,8 +18,8 @@ pub enum Matching {
     PowerOfTwo,
 }
 
-/// The bytes from `first` up to but not including `past`. Wider than an address, so that a region may
-/// end past the last one.
+/// The bytes from `first` up to but not including `past`. Wider than an address, so that a region
+/// may end past the last one.
 #[derive(Clone, Copy, Debug)]
 pub struct Region {
     pub first: u128,
@@ -30,7 +33,7 @@ impl Region {
         ensures { result ≡ region_of before entry }
     {
         let addr = u128::from(entry.addr);
-        match field_a(entry.cfg) {
+        match matching_of(entry.cfg) {
             Matching::Off => Region { first: 0, past: 0 },
             Matching::TopOfRange => {
                 Region {
@@ -44,12 +47,12 @@ impl Region {
                     past: 4 * addr + 4,
                 }
             }
-            Matching::PowerOfTwo => power_of_two(entry.addr),
+            Matching::PowerOfTwo => power_region(entry.addr),
         }
     }
 
     /// Whether some byte of the access lies in the region.
-    pub fn overlaps(&self, pa: u64, len: u8) -> bool
+    pub fn covers_some(&self, pa: u64, len: u8) -> bool
         ensures { result ≡ covers_some self.now pa len }
     {
         let pa = u128::from(pa);
@@ -57,7 +60,7 @@ impl Region {
     }
 
     /// Whether every byte of the access lies in the region.
-    pub fn contains(&self, pa: u64, len: u8) -> bool
+    pub fn covers_all(&self, pa: u64, len: u8) -> bool
         ensures { result ≡ covers_all self.now pa len }
     {
         let pa = u128::from(pa);
@@ -65,11 +68,11 @@ impl Region {
     }
 }
 
-/// The field A, bits 4:3.
-fn field_a(cfg: u8) -> Matching
+/// How an entry with this configuration byte matches.
+fn matching_of(cfg: u8) -> Matching
     ensures { result ≡ matching_of cfg }
 {
-    match cfg / 8 % 4 {
+    match (cfg >> A) % 4 {
         0 => Matching::Off,
         1 => Matching::TopOfRange,
         2 => Matching::FourBytes,
@@ -79,7 +82,7 @@ fn field_a(cfg: u8) -> Matching
 
 /// The naturally aligned power of two that an address register gives by its trailing ones.
 #[tactic(auto, using(crate::proofs::Ones::ones_fit, crate::proofs::Ones::ones_few))]
-fn power_of_two(addr: u64) -> Region
+fn power_region(addr: u64) -> Region
     ensures { result ≡ power_region addr (trailing_ones w64 addr) }
 {
     let ones = addr.trailing_ones();
