@@ -1,13 +1,13 @@
 -- The chain is the walk from entry to entry, and the only one.
-use Rattle.std.proofs.Common.{◌≡◌, ℕ, zero, suc, ◌%◌, ◌^◌, ◌<◌, ◌≤◌, inl, inr, Bool, true, false, ◌&&◌, List, [], ◌∷◌, length, refl, sym, ◌∙◌, ap, subst, arith}
+use Rattle.std.proofs.Common.{◌≡◌, ℕ, zero, suc, ◌<◌, ◌≤◌, inl, inr, Bool, true, false, ◌&&◌, List, [], ◌∷◌, length, refl, sym, ◌∙◌, ap, subst, arith}
 use Rattle.std.proofs.lemmas.Bool.{cond-true, cond-false, cases_Bool, and_left, and_right, and_from}
 use Rattle.hart_words.specs.Memory.{Bytes, number_at}
 use Rattle.sv39_walk.specs.Entries.{page_number, is_link, entry_address, is_canonical}
-use Rattle.sv39_walk.specs.Walk.{Visit, chain_from, chain, visit_at, LeadsTo, Ends, IsWalk}
+use Rattle.sv39_walk.specs.Walk.{root_of, Visit, chain_from, chain, visit_at, LeadsTo, LeadsNoFurther, IsWalk}
 use Rattle.sv39_walk.proofs.Walks.{chain_from-stops, chain_from-goes_on, chain_from-last}
 
 -- a walk of one visit
-single : (readable : ℕ → Bool) (bytes : Bytes) (va level pa : ℕ) → Ends readable bytes (record { level = level; pa = pa }) → IsWalk readable bytes va level pa (record { level = level; pa = pa } ∷ [])
+single : (readable : ℕ → Bool) (bytes : Bytes) (va level pa : ℕ) → LeadsNoFurther readable bytes (record { level = level; pa = pa }) → IsWalk readable bytes va level pa (record { level = level; pa = pa } ∷ [])
 single readable bytes va level pa ends = record {
   some = omega arith;
   few = omega arith;
@@ -16,7 +16,7 @@ single readable bytes va level pa ends = record {
   last = last_of_one;
 }
   where
-    last_of_one : (i : ℕ) → suc i ≡ 1 → Ends readable bytes (visit_at (record { level = level; pa = pa } ∷ []) i)
+    last_of_one : (i : ℕ) → suc i ≡ 1 → LeadsNoFurther readable bytes (visit_at (record { level = level; pa = pa } ∷ []) i)
     last_of_one zero e = ends
     last_of_one (suc i) e = absurd (omega arith)
 
@@ -42,7 +42,7 @@ longer readable bytes va level pa visits can link walk = record {
     next_of_more zero below = leads readable bytes va level pa (visit_at visits 0) can link walk.first
     next_of_more (suc i) below = walk.next i (omega arith)
 
-    last_of_more : (i : ℕ) → suc i ≡ suc (length visits) → Ends readable bytes (visit_at (record { level = suc level; pa = pa } ∷ visits) i)
+    last_of_more : (i : ℕ) → suc i ≡ suc (length visits) → LeadsNoFurther readable bytes (visit_at (record { level = suc level; pa = pa } ∷ visits) i)
     last_of_more zero e = absurd (omega (arith, walk.some))
     last_of_more (suc i) e = walk.last i (omega arith)
 
@@ -63,15 +63,15 @@ walk-chain_from readable bytes va (suc level) table =
       ]
     ]
 
-pub chain-IsWalk : (readable : ℕ → Bool) (bytes : Bytes) (satp va : ℕ) → is_canonical va ≡ true → IsWalk readable bytes va 2 (entry_address 2 (satp % 2 ^ 44) va) (chain readable bytes satp va)
+pub chain-IsWalk : (readable : ℕ → Bool) (bytes : Bytes) (satp va : ℕ) → is_canonical va ≡ true → IsWalk readable bytes va 2 (entry_address 2 (root_of satp) va) (chain readable bytes satp va)
 unfolding chain
 chain-IsWalk readable bytes satp va e =
-    let P : List Visit → Type 0 = λ visits. IsWalk readable bytes va 2 (entry_address 2 (satp % 2 ^ 44) va) visits in
-    subst P (sym (cond-true (is_canonical va) (chain_from readable bytes va 2 (satp % 2 ^ 44)) [] e)) (walk-chain_from readable bytes va 2 (satp % 2 ^ 44))
+    let P : List Visit → Type 0 = λ visits. IsWalk readable bytes va 2 (entry_address 2 (root_of satp) va) visits in
+    subst P (sym (cond-true (is_canonical va) (chain_from readable bytes va 2 (root_of satp)) [] e)) (walk-chain_from readable bytes va 2 (root_of satp))
 
 pub chain-none : (readable : ℕ → Bool) (bytes : Bytes) (satp va : ℕ) → is_canonical va ≡ false → chain readable bytes satp va ≡ []
 unfolding chain
-chain-none readable bytes satp va e = cond-false (is_canonical va) (chain_from readable bytes va 2 (satp % 2 ^ 44)) [] e
+chain-none readable bytes satp va e = cond-false (is_canonical va) (chain_from readable bytes va 2 (root_of satp)) [] e
 
 -- what follows the first visit of a walk is a walk
 shorter : (readable : ℕ → Bool) (bytes : Bytes) (va level pa : ℕ) (next : Visit) (more : List Visit) → IsWalk readable bytes va (suc level) pa (record { level = suc level; pa = pa } ∷ next ∷ more) → IsWalk readable bytes va level (entry_address level (page_number (number_at bytes pa 8)) va) (next ∷ more)
@@ -91,7 +91,7 @@ no_more [] h = refl
 no_more (visit ∷ visits) h = absurd (omega arith)
 
 -- one visit at a level above 0 that leads no further
-stops : (readable : ℕ → Bool) (bytes : Bytes) (level pa : ℕ) → Ends readable bytes (record { level = suc level; pa = pa }) → (readable pa && is_link (number_at bytes pa 8)) ≡ false
+stops : (readable : ℕ → Bool) (bytes : Bytes) (level pa : ℕ) → LeadsNoFurther readable bytes (record { level = suc level; pa = pa }) → (readable pa && is_link (number_at bytes pa 8)) ≡ false
 stops readable bytes level pa (inl e) = absurd (omega (arith, e))
 stops readable bytes level pa (inr (inl cannot)) = and_left (readable pa) (is_link (number_at bytes pa 8)) cannot
 stops readable bytes level pa (inr (inr none)) = and_right (readable pa) (is_link (number_at bytes pa 8)) none
@@ -118,8 +118,8 @@ walk_from readable bytes va level table (visit ∷ rest) walk =
     subst (λ (v : Visit). IsWalk readable bytes va level (entry_address level table va) (v ∷ rest) → v ∷ rest ≡ chain_from readable bytes va level table) (sym walk.first)
     (walk_is_chain readable bytes va level table rest) walk
 
-pub walk-unique : (readable : ℕ → Bool) (bytes : Bytes) (satp va : ℕ) (visits : List Visit) → is_canonical va ≡ true → IsWalk readable bytes va 2 (entry_address 2 (satp % 2 ^ 44) va) visits → visits ≡ chain readable bytes satp va
+pub walk-unique : (readable : ℕ → Bool) (bytes : Bytes) (satp va : ℕ) (visits : List Visit) → is_canonical va ≡ true → IsWalk readable bytes va 2 (entry_address 2 (root_of satp) va) visits → visits ≡ chain readable bytes satp va
 unfolding chain
 walk-unique readable bytes satp va visits e walk =
-    walk_from readable bytes va 2 (satp % 2 ^ 44) visits walk
-    ∙ sym (cond-true (is_canonical va) (chain_from readable bytes va 2 (satp % 2 ^ 44)) [] e)
+    walk_from readable bytes va 2 (root_of satp) visits walk
+    ∙ sym (cond-true (is_canonical va) (chain_from readable bytes va 2 (root_of satp)) [] e)

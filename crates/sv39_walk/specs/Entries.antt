@@ -1,14 +1,17 @@
--- The entries of Sv39 page tables and what they allow, from the Privileged Architecture's chapter "Supervisor-Level ISA". A virtual address has 9 bits for each of the levels 2, 1 and 0 above the 12 of a page's offset.
+-- The entries of Sv39 page tables and what they allow, from the Privileged Architecture's chapter "Supervisor-Level
+-- ISA". A virtual address has 9 bits for each of the levels 2, 1 and 0 above the 12 of a page's offset.
 use Rattle.std.specs.Prelude.{ℕ, ◌+◌, ◌-◌, ◌*◌, ◌/◌, ◌%◌, ◌^◌, Bool, not, ◌&&◌, ◌||◌, ◌==◌, if◌then◌else◌, Result, Ok, Err}
 use Rattle.hart_words.specs.declared.privilege.Mode.{Mode}
 use Rattle.hart_words.specs.declared.privilege.Mode.TheVariants.{User, Supervisor, Machine}
 use Rattle.hart_words.specs.declared.privilege.Access.{Access}
 use Rattle.hart_words.specs.declared.privilege.Access.TheVariants.{Fetch, Load, Store}
 use Rattle.hart_words.specs.declared.privilege.Cause.{Cause}
-use Rattle.hart_words.specs.declared.privilege.Cause.TheVariants.{InstructionAccessFault, LoadAccessFault, StoreAccessFault, InstructionPageFault, LoadPageFault, StorePageFault}
 use Rattle.hart_words.specs.declared.privilege.WalkFlags.{WalkFlags}
+use Rattle.hart_words.specs.declared.span.TheConstants.{PAGE_SIZE}
+use Rattle.hart_words.specs.Privilege.{page_fault_of}
 use Rattle.sv39_walk.specs.declared.entry.Flag.{Flag}
 use Rattle.sv39_walk.specs.declared.entry.Flag.TheVariants.{Valid, Readable, Writable, Executable, ForUser, Accessed, Dirty}
+use Rattle.sv39_walk.specs.declared.entry.TheConstants.{OFFSET_BITS, INDEX_BITS, ENTRY_SIZE, ENTRIES, NUMBER_BIT, NUMBER_BITS, RESERVED_BIT, ADDRESS_BITS}
 
 -- the bits V, R, W, X, U, A and D of an entry
 abbrev pub bit_of : Flag → ℕ
@@ -26,11 +29,13 @@ is_set entry flag = entry / 2 ^ bit_of flag % 2 == 1
 
 -- the physical page number, bits 53:10
 abbrev pub page_number : ℕ → ℕ
-page_number entry = entry / 2 ^ 10 % 2 ^ 44
+page_number entry = entry / 2 ^ NUMBER_BIT % 2 ^ NUMBER_BITS
 
--- not valid, writable but not readable, or with one of the reserved bits 63:54
+-- not valid, writable but not readable, or with one of the reserved bits from 54 on
 unfoldable pub is_meaningless : ℕ → Bool
-is_meaningless entry = not (is_set entry Valid) || (is_set entry Writable && not (is_set entry Readable)) || not (entry / 2 ^ 54 == 0)
+is_meaningless entry =
+    not (is_set entry Valid) || (is_set entry Writable && not (is_set entry Readable))
+    || not (entry / 2 ^ RESERVED_BIT == 0)
 
 -- neither readable nor executable: names a table and not a page
 unfoldable pub is_pointer : ℕ → Bool
@@ -38,17 +43,19 @@ is_pointer entry = not (is_set entry Readable) && not (is_set entry Executable)
 
 -- a pointer to the table of the next level; A, D and U are reserved in it
 unfoldable pub is_link : ℕ → Bool
-is_link entry = not (is_meaningless entry) && is_pointer entry && not (is_set entry Accessed) && not (is_set entry Dirty) && not (is_set entry ForUser)
+is_link entry =
+    not (is_meaningless entry) && is_pointer entry && not (is_set entry Accessed) && not (is_set entry Dirty)
+    && not (is_set entry ForUser)
 
 -- a page
 unfoldable pub is_leaf : ℕ → Bool
 is_leaf entry = not (is_meaningless entry) && not (is_pointer entry)
 
--- the page's right that the access needs; under MXR what can be executed can be loaded
-abbrev pub has_right : Bool → Access → ℕ → Bool
-has_right mxr Fetch entry = is_set entry Executable
-has_right mxr Load entry = is_set entry Readable || (mxr && is_set entry Executable)
-has_right mxr Store entry = is_set entry Writable
+-- the page has the right that the access needs; under MXR what can be executed can be loaded
+abbrev pub leaf_permits : Bool → Access → ℕ → Bool
+leaf_permits mxr Fetch entry = is_set entry Executable
+leaf_permits mxr Load entry = is_set entry Readable || (mxr && is_set entry Executable)
+leaf_permits mxr Store entry = is_set entry Writable
 
 -- S never fetches from a page of U, and its loads and stores there need SUM
 abbrev pub is_open_to_supervisor : Bool → Access → ℕ → Bool
@@ -70,39 +77,35 @@ is_marked Store entry = is_set entry Accessed && is_set entry Dirty
 
 -- the bytes of a page at a level: 4 KiB, 2 MiB, 1 GiB
 unfoldable pub page_size : ℕ → ℕ
-page_size level = 2 ^ (12 + 9 * level)
+page_size level = 2 ^ (OFFSET_BITS + INDEX_BITS * level)
 
 -- a page lies at a multiple of its size
 abbrev pub is_aligned : ℕ → ℕ → Bool
-is_aligned level entry = 4096 * page_number entry % page_size level == 0
+is_aligned level entry = PAGE_SIZE * page_number entry % page_size level == 0
 
 -- a page at a level lets the access pass
-unfoldable pub is_granted : ℕ → WalkFlags → Access → ℕ → Bool
-is_granted level flags access entry = has_right flags.mxr access entry && is_open_to flags.mode flags.sum access entry && is_aligned level entry && is_marked access entry
-
-abbrev pub page_fault_of : Access → Cause
-page_fault_of Fetch = InstructionPageFault
-page_fault_of Load = LoadPageFault
-page_fault_of Store = StorePageFault
-
-abbrev pub access_fault_of : Access → Cause
-access_fault_of Fetch = InstructionAccessFault
-access_fault_of Load = LoadAccessFault
-access_fault_of Store = StoreAccessFault
+unfoldable pub leaf_admits : ℕ → WalkFlags → Access → ℕ → Bool
+leaf_admits level flags access entry =
+    leaf_permits flags.mxr access entry && is_open_to flags.mode flags.sum access entry && is_aligned level entry
+    && is_marked access entry
 
 -- the address in an aligned page
 abbrev pub address_in : ℕ → ℕ → ℕ → ℕ
-address_in level entry va = 4096 * page_number entry + va % page_size level
+address_in level entry va = PAGE_SIZE * page_number entry + va % page_size level
 
--- what the last entry gives, read at a level: a page that lets the access pass gives the address in it, all else a page fault
-unfoldable pub ended : ℕ → WalkFlags → ℕ → Access → ℕ → Result ℕ Cause
-ended level flags va access entry =
-    if is_leaf entry && is_granted level flags access entry then Ok (address_in level entry va) else Err (page_fault_of access)
+-- what the last entry gives, read at a level: a page that lets the access pass gives the address in it, all else
+-- a page fault
+unfoldable pub final_result : ℕ → WalkFlags → ℕ → Access → ℕ → Result ℕ Cause
+final_result level flags va access entry =
+    if is_leaf entry && leaf_admits level flags access entry
+    then Ok (address_in level entry va)
+    else Err (page_fault_of access)
 
 -- where the entry for a virtual address stands in a table, by level and the table's page number
 unfoldable pub entry_address : ℕ → ℕ → ℕ → ℕ
-entry_address level table va = 4096 * table + 8 * (va / 2 ^ (12 + 9 * level) % 512)
+entry_address level table va =
+    PAGE_SIZE * table + ENTRY_SIZE * (va / 2 ^ (OFFSET_BITS + INDEX_BITS * level) % ENTRIES)
 
--- bits 63:39 equal bit 38
+-- bits 63:39 equal bit 38, the last of those that are translated
 unfoldable pub is_canonical : ℕ → Bool
-is_canonical va = va / 2 ^ 39 == (2 ^ 25 - 1) * (va / 2 ^ 38 % 2)
+is_canonical va = va / 2 ^ ADDRESS_BITS == (2 ^ (64 - ADDRESS_BITS) - 1) * (va / 2 ^ (ADDRESS_BITS - 1) % 2)

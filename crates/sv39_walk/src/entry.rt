@@ -1,9 +1,40 @@
-//! What one entry of a page table says.
+//! What one entry of a page table says. From the Privileged Architecture's chapter
+//! "Supervisor-Level ISA".
 
-ghost use Rattle.std.specs.Prelude.{IfOk, ◌≡◌, ◌+◌, ◌<◌, ◌≤◌, ◌^◌, ◌&&◌};
-ghost use Rattle.sv39_walk.specs.Entries.{access_fault_of, bit_of, ended, entry_address, has_right, is_canonical, is_granted, is_leaf, is_link, is_marked, is_meaningless, is_open_to, is_pointer, is_set, page_fault_of, page_number, page_size};
+ghost use Rattle.std.specs.Prelude.{IfOk, ◌≡◌, ◌+◌, ◌%◌, ◌<◌, ◌≤◌, ◌^◌, ◌&&◌};
+ghost use Rattle.hart_words.specs.declared.span.TheConstants.{PAGE_SIZE};
+ghost use Rattle.sv39_walk.specs.Entries.{bit_of, entry_address, final_result, is_canonical, is_leaf, is_link, is_marked, is_meaningless, is_open_to, is_pointer, is_set, leaf_admits, leaf_permits, page_number, page_size};
 
-use hart_words::{Access, Cause, Mode, WalkFlags};
+use hart_words::{Access, Cause, Mode, PAGE_SIZE, WalkFlags};
+
+/// The bits of an offset in a page of the lowest level.
+pub const OFFSET_BITS: u32 = 12;
+
+/// The bits of a virtual address for each level.
+pub const INDEX_BITS: u32 = 9;
+
+/// The entries of a table, and the bytes of one.
+pub const ENTRIES: u64 = 512;
+
+pub const ENTRY_SIZE: u8 = 8;
+
+/// The level of the table that satp names.
+pub const TOP_LEVEL: u32 = 2;
+
+/// The lowest bit of an entry's page number, and how many bits it has.
+pub const NUMBER_BIT: u32 = 10;
+
+pub const NUMBER_BITS: u32 = 44;
+
+/// The lowest of the reserved bits at the top of an entry.
+pub const RESERVED_BIT: u32 = 54;
+
+/// The bits of a virtual address that are translated; those above equal the last of them.
+pub const ADDRESS_BITS: u32 = 39;
+
+const SIGN_BIT: u32 = ADDRESS_BITS - 1;
+
+const SIGN: u64 = (1 << (64 - ADDRESS_BITS)) - 1;
 
 /// The bits V, R, W, X, U, A and D of an entry.
 #[derive(Clone, Copy, Debug)]
@@ -18,7 +49,7 @@ pub enum Flag {
 }
 
 /// The place of a bit.
-fn place(flag: Flag) -> u32
+fn bit_of(flag: Flag) -> u32
     ensures value { result ≡ bit_of flag }
     ensures bound { result < 8 }
 {
@@ -41,158 +72,145 @@ impl Entry {
 
     /// Whether a bit is 1.
     #[tactic(auto, unfolding(crate::specs::Entries::is_set))]
-    fn has(self, flag: Flag) -> bool
+    fn is_set(self, flag: Flag) -> bool
         ensures { result ≡ is_set self.bits flag }
     {
-        (self.bits >> place(flag)) % 2 == 1
+        (self.bits >> bit_of(flag)) % 2 == 1
     }
 
     /// The physical page number.
-    pub fn number(self) -> u64
+    pub fn page_number(self) -> u64
         ensures value { result ≡ page_number self.bits }
-        ensures bound { result < 2 ^ 44 }
+        ensures bound { result < 2 ^ NUMBER_BITS }
     {
-        (self.bits >> 10) % (1 << 44)
+        (self.bits >> NUMBER_BIT) % (1 << NUMBER_BITS)
     }
 
     /// Whether the entry means nothing: a page fault at every level.
     #[tactic(auto, unfolding(crate::specs::Entries::is_meaningless))]
-    fn is_invalid(self) -> bool
+    fn is_meaningless(self) -> bool
         ensures { result ≡ is_meaningless self.bits }
     {
-        !self.has(Flag::Valid)
-            || (self.has(Flag::Writable) && !self.has(Flag::Readable))
-            || self.bits >> 54 != 0
+        !self.is_set(Flag::Valid)
+            || (self.is_set(Flag::Writable) && !self.is_set(Flag::Readable))
+            || self.bits >> RESERVED_BIT != 0
     }
 
     /// Whether the entry names a table and not a page.
     #[tactic(auto, unfolding(crate::specs::Entries::is_pointer))]
-    fn names_table(self) -> bool
+    fn is_pointer(self) -> bool
         ensures { result ≡ is_pointer self.bits }
     {
-        !self.has(Flag::Readable) && !self.has(Flag::Executable)
+        !self.is_set(Flag::Readable) && !self.is_set(Flag::Executable)
     }
 
     /// Whether the entry leads to the table of the next level.
     #[tactic(auto, unfolding(crate::specs::Entries::is_link))]
-    pub fn leads_on(self) -> bool
+    pub fn is_link(self) -> bool
         ensures { result ≡ is_link self.bits }
     {
-        !self.is_invalid()
-            && self.names_table()
-            && !self.has(Flag::Accessed)
-            && !self.has(Flag::Dirty)
-            && !self.has(Flag::ForUser)
+        !self.is_meaningless()
+            && self.is_pointer()
+            && !self.is_set(Flag::Accessed)
+            && !self.is_set(Flag::Dirty)
+            && !self.is_set(Flag::ForUser)
     }
 
     /// Whether the page has the right that the access needs.
-    fn permits(self, mxr: bool, access: Access) -> bool
-        ensures { result ≡ has_right mxr access self.bits }
+    fn leaf_permits(self, mxr: bool, access: Access) -> bool
+        ensures { result ≡ leaf_permits mxr access self.bits }
     {
         match access {
-            Access::Fetch => self.has(Flag::Executable),
-            Access::Load => self.has(Flag::Readable) || (mxr && self.has(Flag::Executable)),
-            Access::Store => self.has(Flag::Writable),
+            Access::Fetch => self.is_set(Flag::Executable),
+            Access::Load => self.is_set(Flag::Readable) || (mxr && self.is_set(Flag::Executable)),
+            Access::Store => self.is_set(Flag::Writable),
         }
     }
 
     /// Whether the page is open to the mode.
-    fn admits(self, mode: Mode, sum: bool, access: Access) -> bool
+    fn is_open_to(self, mode: Mode, sum: bool, access: Access) -> bool
         ensures { result ≡ is_open_to mode sum access self.bits }
     {
         match (mode, access) {
-            (Mode::User, _) => self.has(Flag::ForUser),
-            (_, Access::Fetch) => !self.has(Flag::ForUser),
-            (_, Access::Load | Access::Store) => !self.has(Flag::ForUser) || sum,
+            (Mode::User, _) => self.is_set(Flag::ForUser),
+            (_, Access::Fetch) => !self.is_set(Flag::ForUser),
+            (_, Access::Load | Access::Store) => !self.is_set(Flag::ForUser) || sum,
         }
     }
 
     /// Whether A is set, and D for a store.
-    fn is_used(self, access: Access) -> bool
+    fn is_marked(self, access: Access) -> bool
         ensures { result ≡ is_marked access self.bits }
     {
         match access {
-            Access::Fetch | Access::Load => self.has(Flag::Accessed),
-            Access::Store => self.has(Flag::Accessed) && self.has(Flag::Dirty),
+            Access::Fetch | Access::Load => self.is_set(Flag::Accessed),
+            Access::Store => self.is_set(Flag::Accessed) && self.is_set(Flag::Dirty),
         }
     }
 
     /// Whether the entry is a page of this level that lets the access pass.
-    #[tactic(auto, unfolding(crate::specs::Entries::is_granted, crate::specs::Entries::is_leaf))]
-    fn passes(self, level: u32, flags: WalkFlags, access: Access) -> bool
-        requires { level ≤ 2 }
-        ensures { result ≡ (is_leaf self.bits && is_granted level flags access self.bits) }
+    #[tactic(auto, unfolding(crate::specs::Entries::leaf_admits, crate::specs::Entries::is_leaf))]
+    fn leaf_admits(self, level: u32, flags: WalkFlags, access: Access) -> bool
+        requires { level ≤ TOP_LEVEL }
+        ensures { result ≡ (is_leaf self.bits && leaf_admits level flags access self.bits) }
     {
-        !self.is_invalid()
-            && !self.names_table()
-            && self.permits(flags.mxr, access)
-            && self.admits(flags.mode, flags.sum, access)
-            && 4096 * self.number() % size_at(level) == 0
-            && self.is_used(access)
+        !self.is_meaningless()
+            && !self.is_pointer()
+            && self.leaf_permits(flags.mxr, access)
+            && self.is_open_to(flags.mode, flags.sum, access)
+            && PAGE_SIZE * self.page_number() % page_size(level) == 0
+            && self.is_marked(access)
     }
 
     /// The physical address that the last entry, read at `level`, gives for `va`, or a page fault.
-    #[tactic(auto, using(crate::proofs::Sizes::passed_fits), unfolding(crate::specs::Entries::ended))]
-    pub fn finish(self, level: u32, flags: WalkFlags, va: u64, access: Access) -> Result<u64, Cause>
-        requires { level ≤ 2 }
-        ensures value { result ≡ ended level flags va access self.bits }
+    #[tactic(auto, using(crate::proofs::Sizes::passed_fits, crate::proofs::Sizes::passed_offset), unfolding(crate::specs::Entries::final_result))]
+    pub fn final_result(
+        self,
+        level: u32,
+        flags: WalkFlags,
+        va: u64,
+        access: Access,
+    ) -> Result<u64, Cause>
+        requires { level ≤ TOP_LEVEL }
+        ensures value { result ≡ final_result level flags va access self.bits }
         ensures bound { IfOk result (λ pa. pa < 2 ^ 56) }
+        ensures offset { IfOk result (λ pa. pa % PAGE_SIZE ≡ va % PAGE_SIZE) }
     {
-        if self.passes(level, flags, access) {
-            Ok(4096 * self.number() + va % size_at(level))
+        if self.leaf_admits(level, flags, access) {
+            Ok(PAGE_SIZE * self.page_number() + va % page_size(level))
         } else {
-            Err(page_fault(access))
+            Err(access.page_fault())
         }
     }
 }
 
 /// The bytes of a page at a level.
 #[tactic(auto, using(std::proofs::lemmas::Nat::one_shl, std::proofs::lemmas::Nat::pow_pos, crate::proofs::Sizes::at_most_giga), unfolding(crate::specs::Entries::page_size))]
-fn size_at(level: u32) -> u64
-    requires { level ≤ 2 }
+fn page_size(level: u32) -> u64
+    requires { level ≤ TOP_LEVEL }
     ensures value { result ≡ page_size level }
     ensures some { 0 < result }
     ensures bound { result ≤ 2 ^ 30 }
 {
-    1 << (12 + 9 * level)
+    1 << (OFFSET_BITS + INDEX_BITS * level)
 }
 
 /// Where the entry for `va` stands in the table of a level, by the table's page number.
 #[tactic(auto, unfolding(crate::specs::Entries::entry_address))]
-pub fn address_of(level: u32, table: u64, va: u64) -> u64
-    requires levels { level ≤ 2 }
-    requires bound { table < 2 ^ 44 }
-    ensures { result ≡ entry_address level table va }
+pub fn entry_address(level: u32, table: u64, va: u64) -> u64
+    requires levels { level ≤ TOP_LEVEL }
+    requires bound { table < 2 ^ NUMBER_BITS }
+    ensures value { result ≡ entry_address level table va }
+    ensures aligned { result % ENTRY_SIZE ≡ 0 }
 {
-    4096 * table + 8 * ((va >> (12 + 9 * level)) % 512)
+    let index = (va >> (OFFSET_BITS + INDEX_BITS * level)) % ENTRIES;
+    PAGE_SIZE * table + u64::from(ENTRY_SIZE) * index
 }
 
-/// Whether bits 63:39 equal bit 38.
+/// Whether the bits above those that are translated equal the last of them.
 #[tactic(auto, unfolding(crate::specs::Entries::is_canonical))]
-pub fn is_extended(va: u64) -> bool
+pub fn is_canonical(va: u64) -> bool
     ensures { result ≡ is_canonical va }
 {
-    va >> 39 == ((1 << 25) - 1) * ((va >> 38) % 2)
-}
-
-/// The page fault of an access.
-pub fn page_fault(access: Access) -> Cause
-    ensures { result ≡ page_fault_of access }
-{
-    match access {
-        Access::Fetch => Cause::InstructionPageFault,
-        Access::Load => Cause::LoadPageFault,
-        Access::Store => Cause::StorePageFault,
-    }
-}
-
-/// The access fault of an access.
-pub fn access_fault(access: Access) -> Cause
-    ensures { result ≡ access_fault_of access }
-{
-    match access {
-        Access::Fetch => Cause::InstructionAccessFault,
-        Access::Load => Cause::LoadAccessFault,
-        Access::Store => Cause::StoreAccessFault,
-    }
+    va >> ADDRESS_BITS == SIGN * ((va >> SIGN_BIT) % 2)
 }

@@ -110,6 +110,30 @@ fn leaves(rt: HostRuntime) -> Result<(), Fail> {
     Ok(())
 }
 
+/// Pointers and leaves whose G bit and RSW bits, 5 and 9:8, are set mean what they mean without.
+#[test]
+fn bits_without_a_meaning_here(rt: HostRuntime) -> Result<(), Fail> {
+    for extra in [0x20, 0x100, 0x200, 0x300, 0x320] {
+        let cases = [
+            (TO_MIDDLE | extra, TO_LAST, PAGE, 0x1234_5456, 3),
+            (TO_MIDDLE, TO_LAST | extra, PAGE, 0x1234_5456, 3),
+            (TO_MIDDLE, TO_LAST, PAGE | extra, 0x1234_5456, 3),
+            (TO_MIDDLE, LARGE | extra, 0, 0x1220_3456, 2),
+            (HUGE | extra, 0, 0, 0x8040_3456, 1),
+        ];
+        for (root, middle, last, pa, reads) in cases {
+            let tables = Tables {
+                root: root,
+                middle: middle,
+                last: last,
+                hidden: 0,
+            };
+            assert_eq!(rt; loaded(tables, VA), (Ok(pa), reads));
+        }
+    }
+    Ok(())
+}
+
 /// The reads are the three entries, in order.
 #[test]
 fn reads(rt: HostRuntime) -> Result<(), Fail> {
