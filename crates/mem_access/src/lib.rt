@@ -1,12 +1,17 @@
 //! The accesses of a hart to memory: fetches, loads, and the places of stores.
+//!
+//! In come a memory, the registers and the mode that govern accesses, and an address. Out comes the
+//! value or the place, or the exception, a cause and a trap value; what is read is noted. Each call
+//! does what its action in `specs/Accesses.antt` does. From the Privileged Architecture's chapter
+//! "Machine-Level ISA".
 #![tactic(auto)]
 
 mod data_access;
-mod fetching;
+mod instruction_fetch;
 mod place;
 
-pub use data_access::{load, store_place};
-pub use fetching::fetch;
+pub use data_access::{ACCESS_READS, load, store_place};
+pub use instruction_fetch::{FETCH_READS, fetch};
 pub use place::Place;
 
 #[cfg(test)]

@@ -1,9 +1,9 @@
 //! Where an access goes.
 
-ghost use Rattle.std.specs.Prelude.{◌≡◌, ◌≤◌, ◌%◌, IfOk, IfSome, false};
-ghost use Rattle.hart_words.specs.Map.{IsMap, IsSpan};
+ghost use Rattle.std.specs.Prelude.{◌≡◌, ◌≤◌, ◌%◌, IfOk, false};
+ghost use Rattle.hart_words.specs.AccessSizes.{IsLength};
 ghost use Rattle.hart_words.specs.Memory.{IsPlace};
-ghost use Rattle.mem_access.specs.Places.{IsLength, access_fault, admitted, is_device, place_in};
+ghost use Rattle.mem_access.specs.Places.{is_device, place_in, place_of};
 
 use csr_file::Csrs;
 use hart_words::{Access, Cause, Map, Mode, Span};
@@ -17,7 +17,7 @@ pub struct Place {
 }
 
 /// The place of an access, unless protection refuses it or nothing is there.
-#[tactic(auto, unfolding(crate::specs::Places::admitted))]
+#[tactic(auto, unfolding(crate::specs::Places::place_of))]
 pub fn place_of(
     csrs: &Csrs,
     map: &Map,
@@ -27,15 +27,14 @@ pub fn place_of(
     pa: u64,
     len: u8,
 ) -> Result<Place, Cause>
-    requires map { IsMap map.now }
     requires length { IsLength len }
     requires aligned { pa % len ≡ 0 }
-    ensures meant { result ≡ admitted csrs.now map.now mode access devices pa len }
+    ensures meant { result ≡ place_of csrs.now map.now mode access devices pa len }
     ensures memory { devices ≡ false → IfOk result (λ place. place.io ≡ false) }
     ensures placed { IfOk result (λ place. place.io ≡ false → IsPlace map.now.ram place.pa len) }
 {
     if !allows(&csrs.pmp_entries(), mode, pa, len, access) {
-        return Err(fault_of(access));
+        return Err(access.access_fault());
     }
     if map.ram.holds(pa, len) {
         return Ok(Place { pa, io: false });
@@ -43,22 +42,10 @@ pub fn place_of(
     if devices && is_device(&map.io, pa, len) {
         return Ok(Place { pa, io: true });
     }
-    Err(fault_of(access))
-}
-
-/// The access fault of a kind of access.
-fn fault_of(access: Access) -> Cause
-    ensures { result ≡ access_fault access }
-{
-    match access {
-        Access::Fetch => Cause::InstructionAccessFault,
-        Access::Load => Cause::LoadAccessFault,
-        Access::Store => Cause::StoreAccessFault,
-    }
+    Err(access.access_fault())
 }
 
 fn is_device(io: &Option<Span>, pa: u64, len: u8) -> bool
-    requires { IfSome io.now IsSpan }
     ensures { result ≡ is_device io.now pa len }
 {
     match io {

@@ -3,20 +3,12 @@ use csr_file::Csrs;
 use hart_words::{Cause, Map, Mode, NoMemory, PhysMem, Seen, Span};
 use std::test::Fail;
 
-const RAM: Span = Span {
-    base: 0x8000_0000,
-    size: 0x1000,
-};
-
-const IO: Span = Span {
-    base: 0x1000_0000,
-    size: 0x1000,
-};
-
-const MAP: Map = Map {
-    ram: RAM,
-    io: Some(IO),
-};
+/// A page of RAM, and a page of devices.
+fn ram_and_devices() -> Result<Map, Fail> {
+    let ram = Span::new(0x8000_0000, 0x1000).ok_or("no range")?;
+    let io = Span::new(0x1000_0000, 0x1000).ok_or("no range")?;
+    Ok(Map::new(ram, Some(io)).ok_or("no map")?)
+}
 
 /// A memory of zeros that refuses every write.
 #[derive(Drop)]
@@ -53,7 +45,8 @@ impl PhysMem for Zeros {
 /// whether a device has it.
 #[test]
 fn loads(rt: HostRuntime) -> Result<(), Fail> {
-    let mem = Zeros { ram: RAM };
+    let map = ram_and_devices()?;
+    let mem = Zeros { ram: map.ram };
     let misaligned = Cause::LoadAddressMisaligned;
     let fault = Cause::LoadAccessFault;
     let cases = [
@@ -72,7 +65,7 @@ fn loads(rt: HostRuntime) -> Result<(), Fail> {
         let found = load(
             &mem,
             &Csrs::reset(),
-            &MAP,
+            &map,
             Mode::Machine,
             va,
             8,
@@ -81,7 +74,7 @@ fn loads(rt: HostRuntime) -> Result<(), Fail> {
         );
         let told = match found {
             Ok((place, _)) => Ok(place.io),
-            Err(refusal) => Err(refusal),
+            Err(exception) => Err(exception),
         };
         assert_eq!(rt; told, want);
         assert_eq!(rt; seen.as_slice().len() == 1, want == Ok(false));
@@ -92,7 +85,8 @@ fn loads(rt: HostRuntime) -> Result<(), Fail> {
 /// Places of stores, for SC and the AMOs without devices.
 #[test]
 fn places_of_stores(rt: HostRuntime) -> Result<(), Fail> {
-    let mem = Zeros { ram: RAM };
+    let map = ram_and_devices()?;
+    let mem = Zeros { ram: map.ram };
     let misaligned = Cause::StoreAddressMisaligned;
     let fault = Cause::StoreAccessFault;
     let cases = [
@@ -108,7 +102,7 @@ fn places_of_stores(rt: HostRuntime) -> Result<(), Fail> {
         let found = store_place(
             &mem,
             &Csrs::reset(),
-            &MAP,
+            &map,
             Mode::Machine,
             va,
             4,
@@ -117,18 +111,19 @@ fn places_of_stores(rt: HostRuntime) -> Result<(), Fail> {
         );
         let told = match found {
             Ok(place) => Ok(place.io),
-            Err(refusal) => Err(refusal),
+            Err(exception) => Err(exception),
         };
         assert_eq!(rt; told, want);
     }
     Ok(())
 }
 
-/// Fetches of the half 0x0000, which is an instruction of two bytes. Without an entry of physical
+/// Fetches of the parcel 0x0000, which is an instruction of two bytes. Without an entry of physical
 /// memory protection that matches, a supervisor may reach nothing.
 #[test]
 fn fetches(rt: HostRuntime) -> Result<(), Fail> {
-    let mem = Zeros { ram: RAM };
+    let map = ram_and_devices()?;
+    let mem = Zeros { ram: map.ram };
     let fault = Cause::InstructionAccessFault;
     let cases = [
         (0x8000_0ffe, Mode::Machine, Ok((0, 2))),
@@ -137,11 +132,10 @@ fn fetches(rt: HostRuntime) -> Result<(), Fail> {
         (0x1000_0000, Mode::Machine, Err((fault, 0x1000_0000))),
     ];
     for (pc, mode, want) in cases {
-        if pc % 2 == 0 {
-            let mut seen = Seen::empty();
-            let found = fetch(&mem, &Csrs::reset(), &MAP, mode, pc, &mut seen);
-            assert_eq!(rt; found, want);
-        }
+        assert!(rt; pc % 2 == 0);
+        let mut seen = Seen::empty();
+        let found = fetch(&mem, &Csrs::reset(), &map, mode, pc, &mut seen);
+        assert_eq!(rt; found, want);
     }
     Ok(())
 }

@@ -1,18 +1,20 @@
 //! Fetches of instructions.
 
 ghost use Rattle.std.specs.Prelude.{◌≡◌, ◌≤◌, ◌<◌, ◌+◌, ◌%◌, ◌*◌, ◌^◌, ◌⊎◌, length, IfOk};
-ghost use Rattle.hart_words.specs.Map.{IsMap};
-ghost use Rattle.hart_words.specs.Actions.{Looked};
-ghost use Rattle.mem_access.specs.Accesses.{half_at, fetched};
+ghost use Rattle.hart_words.specs.Actions.{Observes};
+ghost use Rattle.mem_access.specs.Accesses.{parcel_at, fetched};
 
 use crate::place::place_of;
 use csr_file::Csrs;
-use hart_words::{Access, Cause, Map, Mode, PhysMem, Seen};
+use hart_words::{Access, Cause, MOST_READS, Map, Mode, PhysMem, Seen};
+
+/// The most reads of a fetch: for each of two parcels three entries of page tables, and the parcel.
+pub const FETCH_READS: usize = 8;
 
 /// The instruction at `pc` and its length in bytes, 2 or 4: a word of 4 where the low two bits of
-/// the first half are 3. Each half is fetched by itself, with its own check. A refusal gives the
-/// cause and the address of the half that is refused. What is read is noted in `seen`, which has
-/// room for 8 more reads.
+/// the first parcel are 3. Each parcel is fetched by itself, with its own check. An exception gives
+/// the cause and the address of the parcel that is refused. What is read is noted in `seen`, which
+/// has room for `FETCH_READS` more.
 ///
 /// From the Unprivileged ISA's chapter "Introduction" (instruction length encoding) and the
 /// Privileged Architecture's chapter "Machine-Level ISA".
@@ -25,30 +27,30 @@ pub fn fetch<M: PhysMem>(
     pc: u64,
     seen: &mut Seen,
 ) -> Result<(u32, u8), (Cause, u64)>
-    requires map { IsMap map.now }
     requires ram { M.ram mem.now ≡ map.now.ram }
     requires even { pc % 2 ≡ 0 }
-    requires room { length seen.old + 8 ≤ 16 }
-    ensures looked { Looked (fetched csrs.now map.now mode pc) result seen.old seen.new (M.bytes mem.now) }
+    requires room { length seen.old + FETCH_READS ≤ MOST_READS }
+    ensures looked { Observes (fetched csrs.now map.now mode pc) result seen.old seen.new
+        (M.bytes mem.now) }
     ensures noted { length seen.new ≤ length seen.old + 2 }
     ensures lengths { IfOk result (λ word. (word.1 ≡ 2) ⊎ (word.1 ≡ 4)) }
     ensures short { IfOk result (λ word. word.1 ≡ 2 → word.0 < 2 ^ 16) }
 {
-    let first = match half(mem, csrs, map, mode, pc, seen) {
+    let first = match parcel(mem, csrs, map, mode, pc, seen) {
         Ok(first) => first,
-        Err(refusal) => return Err(refusal),
+        Err(exception) => return Err(exception),
     };
     if first % 4 != 3 {
         return Ok((u32::from(first), 2));
     }
-    match half(mem, csrs, map, mode, pc.wrapping_add(2), seen) {
+    match parcel(mem, csrs, map, mode, pc.wrapping_add(2), seen) {
         Ok(second) => Ok((u32::from(first) + 0x1_0000 * u32::from(second), 4)),
-        Err(refusal) => Err(refusal),
+        Err(exception) => Err(exception),
     }
 }
 
 /// Two bytes of an instruction.
-fn half<M: PhysMem>(
+fn parcel<M: PhysMem>(
     mem: &M,
     csrs: &Csrs,
     map: &Map,
@@ -56,11 +58,11 @@ fn half<M: PhysMem>(
     at: u64,
     seen: &mut Seen,
 ) -> Result<u16, (Cause, u64)>
-    requires map { IsMap map.now }
     requires ram { M.ram mem.now ≡ map.now.ram }
     requires even { at % 2 ≡ 0 }
-    requires room { length seen.old + 1 ≤ 16 }
-    ensures looked { Looked (half_at csrs.now map.now mode at) result seen.old seen.new (M.bytes mem.now) }
+    requires room { length seen.old + 1 ≤ MOST_READS }
+    ensures looked { Observes (parcel_at csrs.now map.now mode at) result seen.old seen.new
+        (M.bytes mem.now) }
     ensures noted { length seen.new ≤ length seen.old + 1 }
 {
     match place_of(csrs, map, mode, Access::Fetch, false, at, 2) {

@@ -1,8 +1,0 @@
-use Rattle.mem_access.proofs.Looks.{half_refused, half_read}
-use Rattle.mem_access.proofs.fetching.half.Goals as goal
-
-pub returns-in-Err-clause-looked : goal.returns-in-Err-clause-looked
-returns-in-Err-clause-looked g c = half_refused c.args.csrs.now c.args.map.now c.args.mode c.args.at c.in-Err.cause c.args.seen.now (g.M.PhysMem.bytes c.args.mem.now) c.in-Err.ensures.meant
-
-pub returns-in-Ok-clause-looked : goal.returns-in-Ok-clause-looked
-returns-in-Ok-clause-looked g c = half_read c.args.csrs.now c.args.map.now c.args.mode c.args.at c.in-Ok.place c.read.result c.args.seen.now c.put.new.self (g.M.PhysMem.bytes c.args.mem.now) c.in-Ok.ensures.meant c.read.ensures.value c.put.ensures
