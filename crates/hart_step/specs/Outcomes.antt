@@ -10,12 +10,13 @@ use Rattle.rv_atomic.specs.declared.reservation.Reservation.{Reservation}
 use Rattle.rv_atomic.specs.Blocks.{block_of}
 use Rattle.rvfi_rows.specs.declared.expected.Accessed.{Accessed}
 use Rattle.mem_access.specs.declared.place.Place.{Place}
-use Rattle.mem_access.specs.Accesses.{Refusal}
+use Rattle.mem_access.specs.Accesses.{Exception}
 use Rattle.hart_step.specs.declared.state.Core.{Core}
 use Rattle.hart_step.specs.declared.outcome.Instruction.{Instruction}
 use Rattle.hart_step.specs.declared.outcome.Outcome.{Outcome}
 use Rattle.hart_step.specs.declared.outcome.Outcome.TheVariants.{Trap, Retire}
-use Rattle.hart_step.specs.Rows.{Shown, device_value}
+use Rattle.hart_step.specs.Rows.{device_value}
+use Rattle.hart_words.specs.Signals.{Shown}
 
 -- the address behind an instruction
 abbrev pub behind : Core → Instruction → ℕ
@@ -34,7 +35,7 @@ retires instruction value next_pc access reservation = Retire (record {
   reservation = reservation;
 })
 
-abbrev pub refuses : Instruction → Refusal → Outcome
+abbrev pub refuses : Instruction → Exception → Outcome
 refuses instruction refusal = Trap (Some instruction.bits) refusal.0 refusal.1
 
 -- an environment call's cause tells the mode that calls
@@ -57,13 +58,13 @@ loads core instruction va len signed place value =
     retires instruction (extended signed len value) (behind core instruction)
     (Some (record { va = va; pa = place.pa; len = len; read = Some value; written = None })) core.reservation
 
-unfoldable pub after_load : Core → Shown → Instruction → ℕ → ℕ → Bool → Result (Place × ℕ) Refusal → Outcome
+unfoldable pub after_load : Core → Shown → Instruction → ℕ → ℕ → Bool → Result (Place × ℕ) Exception → Outcome
 after_load core shown instruction va len signed (Err refusal) = refuses instruction refusal
 after_load core shown instruction va len signed (Ok found) =
     loads core instruction va len signed found.0 (found_by shown va len found.0 found.1)
 
 -- LR reserves the block of its bytes
-unfoldable pub after_reserve : Core → Instruction → ℕ → ℕ → Result (Place × ℕ) Refusal → Outcome
+unfoldable pub after_reserve : Core → Instruction → ℕ → ℕ → Result (Place × ℕ) Exception → Outcome
 after_reserve core instruction va len (Err refusal) = refuses instruction refusal
 after_reserve core instruction va len (Ok found) =
     retires instruction (sign_extended (8 * len) found.1) (behind core instruction)

@@ -1,12 +1,9 @@
 -- What a step takes from the row that it is stepped by.
-use Rattle.std.specs.Prelude.{ℕ, ◌+◌, ◌-◌, ◌/◌, ◌%◌, ◌^◌, Bool, true, false, not, ◌&&◌, ◌==◌, nat_le, if◌then◌else◌, Option, Some, None, option_map, unwrap_or}
-use Rattle.hart_words.specs.declared.signal.Signal.{Signal}
+use Rattle.std.specs.Prelude.{ℕ, ◌+◌, ◌/◌, ◌%◌, ◌^◌, Bool, true, false, not, ◌&&◌, ◌==◌, if◌then◌else◌, Option, Some, None, option_map, unwrap_or}
 use Rattle.hart_words.specs.declared.signal.Signal.TheVariants.{Intr, PcRdata, RdWdata, MemAddr, MemRdata, MemWmask}
+use Rattle.hart_words.specs.Signals.{Shown}
+use Rattle.rvfi_rows.specs.Window.{distance_of}
 use Rattle.hart_step.specs.declared.state.Core.{Core}
-
--- what a row shows: a value for each signal that it has one for
-abbrev pub Shown : Type 0
-Shown = Signal → Option ℕ
 
 -- a signal is shown with this value
 abbrev pub shows : Option ℕ → ℕ → Bool
@@ -25,19 +22,14 @@ order_after known shown = option_map (λ order. (order + 1) % 2 ^ 64) (known_or_
 abbrev pub asks_interrupt : Core → Shown → Bool
 asks_interrupt core shown = shows (shown Intr) 1 && not (core.trapped_last && shows (shown PcRdata) core.pc)
 
--- how far an address lies above the one that is shown
-abbrev pub above : ℕ → ℕ → ℕ
-above va address = (va + (2 ^ 64 - address)) % 2 ^ 64
-
 -- the bytes of an access among eight shown ones
-abbrev pub bytes_among : ℕ → ℕ → ℕ → ℕ → Option ℕ
-bytes_among va len address shown =
-    if nat_le (above va address + len) 8 then Some (shown / 256 ^ above va address % 256 ^ len) else None
+abbrev pub bytes_at : ℕ → ℕ → Option ℕ → Option ℕ
+bytes_at len shown distance = option_map (λ away. shown / 256 ^ away % 256 ^ len) distance
 
 abbrev pub bytes_shown : ℕ → ℕ → Option ℕ → Option ℕ → Option ℕ
 bytes_shown va len None read = None
 bytes_shown va len (Some address) None = None
-bytes_shown va len (Some address) (Some read) = bytes_among va len address read
+bytes_shown va len (Some address) (Some read) = bytes_at len read (distance_of va len address)
 
 -- what a device gave: the access's bytes of `mem_rdata`, where the row shows them; else the low bytes of `rd_wdata`; else 0
 unfoldable pub device_value : Shown → ℕ → ℕ → ℕ

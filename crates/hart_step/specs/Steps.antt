@@ -3,7 +3,8 @@ use Rattle.std.specs.Prelude.{ℕ, Bool, true, false, if◌then◌else◌, Optio
 use Rattle.hart_words.specs.declared.privilege.Cause.{Cause}
 use Rattle.hart_words.specs.declared.privilege.Cause.TheVariants as causes
 use Rattle.hart_words.specs.declared.signal.Signal.TheVariants.{Order, Halt}
-use Rattle.hart_words.specs.Actions.{Action, give, made_of}
+use Rattle.hart_words.specs.Signals.{Shown}
+use Rattle.hart_words.specs.Actions.{Action, pure, mapped}
 use Rattle.rvfi_rows.specs.declared.expected.Expected.{Expected}
 use Rattle.rvfi_rows.specs.declared.expected.Expected.TheVariants.{Halted, Retired}
 use Rattle.rvfi_rows.specs.declared.expected.Effects.{Effects}
@@ -11,8 +12,8 @@ use Rattle.hart_step.specs.declared.state.Core.{Core}
 use Rattle.hart_step.specs.declared.outcome.Outcome.{Outcome}
 use Rattle.hart_step.specs.declared.outcome.Outcome.TheVariants.{Trap, Retire}
 use Rattle.hart_step.specs.declared.outcome.Done.{Done}
-use Rattle.hart_step.specs.Cores.{with_register}
-use Rattle.hart_step.specs.Rows.{Shown, shows, order_after, asks_interrupt}
+use Rattle.hart_words.specs.Registers.{with_register}
+use Rattle.hart_step.specs.Rows.{shows, order_after, asks_interrupt}
 use Rattle.hart_step.specs.Runs.{core_run}
 
 -- the state after a row, and what the row must show
@@ -84,4 +85,4 @@ gave_of core shown outcome = record { next = core_after core shown outcome; expe
 -- a halted hart stays as it is, and no row should be valid any more
 unfoldable pub stepped : Core → Shown → Action Gave
 stepped core shown =
-    if core.halted then give (record { next = core; expected = Halted }) else made_of (gave_of core shown) (core_run core shown)
+    if core.halted then pure (record { next = core; expected = Halted }) else mapped (gave_of core shown) (core_run core shown)

@@ -1,10 +1,10 @@
 //! SC and the atomic memory operations.
 
 ghost use Rattle.std.specs.Prelude.{◌≡◌, ◌≤◌, ◌<◌, ◌+◌, ◌*◌, ◌^◌, ◌%◌, false, ℕ, length, IfOk, OnErr};
-ghost use Rattle.hart_words.specs.Actions.{Ran};
-ghost use Rattle.mem_access.specs.Places.{IsLength};
-ghost use Rattle.rvfi_rows.specs.Rows.{shown_in};
-ghost use Rattle.rv_atomic.specs.Operations.{written};
+ghost use Rattle.hart_words.specs.Actions.{Performs};
+ghost use Rattle.hart_words.specs.AccessSizes.{IsLength};
+ghost use Rattle.rvfi_rows.specs.Cells.{shown_in};
+ghost use Rattle.rv_atomic.specs.Operations.{amo_of};
 ghost use Rattle.hart_step.specs.Cores.{IsSound};
 ghost use Rattle.hart_step.specs.Outcomes.{stores_reserved, stores_nothing, exchanges};
 ghost use Rattle.hart_step.specs.Even.{HasEvenPc};
@@ -39,7 +39,9 @@ impl Core {
         requires length { IsLength len }
         requires room { length seen.old ≤ 2 }
         requires blank { length wrote.old ≤ 1 }
-        ensures ran { IfOk result (λ done. Ran (conditional_run self.now (shown_in row.now) instruction.now va len value) done seen.old seen.new wrote.old wrote.new (M.bytes mem.old) (M.bytes mem.new)) }
+        ensures ran { IfOk result (λ done. Performs
+            (conditional_run self.now (shown_in row.now) instruction.now va len value) done
+            seen.old seen.new wrote.old wrote.new (M.bytes mem.old) (M.bytes mem.new)) }
         ensures next { instruction.now.len % 2 ≡ 0 → IfOk result HasEvenPc }
         ensures err { OnErr result (M.bytes mem.new ≡ M.bytes mem.old) }
         ensures ram_stays { M.ram mem.new ≡ M.ram mem.old }
@@ -122,7 +124,9 @@ impl Core {
         requires length { IsLength len }
         requires room { length seen.old ≤ 2 }
         requires blank { length wrote.old ≤ 1 }
-        ensures ran { IfOk result (λ done. Ran (exchange_run self.now instruction.now va len (λ old. written op width old b)) done seen.old seen.new wrote.old wrote.new (M.bytes mem.old) (M.bytes mem.new)) }
+        ensures ran { IfOk result (λ done. Performs
+            (exchange_run self.now instruction.now va len (λ old. amo_of op width old b)) done
+            seen.old seen.new wrote.old wrote.new (M.bytes mem.old) (M.bytes mem.new)) }
         ensures next { instruction.now.len % 2 ≡ 0 → IfOk result HasEvenPc }
         ensures err { OnErr result (M.bytes mem.new ≡ M.bytes mem.old) }
         ensures ram_stays { M.ram mem.new ≡ M.ram mem.old }

@@ -1,9 +1,8 @@
 //! A hart with its memory.
 
 ghost use Rattle.std.specs.Prelude.{◌≡◌, ◌%◌, [], IfOk, OnErr};
-ghost use Rattle.hart_words.specs.Map.{IsMap};
-ghost use Rattle.hart_words.specs.Actions.{Ran};
-ghost use Rattle.rvfi_rows.specs.Rows.{shown_in};
+ghost use Rattle.hart_words.specs.Actions.{Performs};
+ghost use Rattle.rvfi_rows.specs.Cells.{shown_in};
 
 use crate::state::Core;
 use hart_words::{Map, NoMemory, PhysMem, Seen, Wrote};
@@ -31,7 +30,6 @@ impl<M: PhysMem + Drop> Hart<M> {
     /// A hart at reset over a memory: in M, at `pc`, with all registers 0.
     pub fn reset(mem: M, pc: u64, map: Map) -> Hart<M>
         requires even { pc % 2 ≡ 0 }
-        requires map { IsMap map }
         requires ram { M.ram mem ≡ map.ram }
         ensures core { result.core ≡ core_at_reset pc map }
         ensures mem { result.mem ≡ mem }
@@ -44,16 +42,20 @@ impl<M: PhysMem + Drop> Hart<M> {
         }
     }
 
-    /// Steps the hart by a valid row: what the row must show, and what was read and written. Without
-    /// memory neither the state nor a byte changes.
+    /// Steps the hart by a valid row: what the row must show, and what was read and written.
+    /// Without memory neither the state nor a byte changes.
     ///
     /// From the Unprivileged ISA and the Privileged Architecture, as far as the instruction table
-    /// goes; what they leave open is taken from the row, as riscv-formal's description of RVFI has it.
+    /// goes; what they leave open is taken from the row, as riscv-formal's description of RVFI has
+    /// it.
     pub fn step(&mut self, row: &Row) -> Result<Stepped, NoMemory>
         requires sound { IsSound self.old.core }
         requires ram { M.ram self.old.mem ≡ self.old.core.map.ram }
-        ensures stepped { IfOk result (λ now. Ran (stepped self.old.core (shown_in row.now)) (record { next = self.new.core; expected = now.expected }) [] now.seen [] now.wrote (M.bytes self.old.mem) (M.bytes self.new.mem)) }
-        ensures err { OnErr result ((self.new.core ≡ self.old.core) × (M.bytes self.new.mem ≡ M.bytes self.old.mem)) }
+        ensures stepped { IfOk result (λ now. Performs (stepped self.old.core (shown_in row.now))
+            (record { next = self.new.core; expected = now.expected }) [] now.seen [] now.wrote
+            (M.bytes self.old.mem) (M.bytes self.new.mem)) }
+        ensures err { OnErr result ((self.new.core ≡ self.old.core)
+            × (M.bytes self.new.mem ≡ M.bytes self.old.mem)) }
         ensures sound { IsSound self.new.core }
         ensures map { self.new.core.map ≡ self.old.core.map }
         ensures ram { M.ram self.new.mem ≡ M.ram self.old.mem }

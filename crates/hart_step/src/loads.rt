@@ -1,9 +1,9 @@
 //! Loads, and what every instruction has in common.
 
 ghost use Rattle.std.specs.Prelude.{◌≡◌, ◌≤◌, ◌<◌, ◌+◌, ◌*◌, ◌%◌, ◌^◌, length, IfOk};
-ghost use Rattle.hart_words.specs.Actions.{Looked};
-ghost use Rattle.mem_access.specs.Places.{IsLength};
-ghost use Rattle.rvfi_rows.specs.Rows.{shown_in};
+ghost use Rattle.hart_words.specs.Actions.{Observes};
+ghost use Rattle.hart_words.specs.AccessSizes.{IsLength};
+ghost use Rattle.rvfi_rows.specs.Cells.{shown_in};
 ghost use Rattle.hart_step.specs.Cores.{IsSound};
 ghost use Rattle.hart_step.specs.Outcomes.{behind, retires, refuses, extended, found_by, after_load, after_reserve};
 ghost use Rattle.hart_step.specs.Even.{HasEvenPc};
@@ -101,7 +101,9 @@ impl Core {
         requires ram { M.ram mem.now ≡ self.now.map.ram }
         requires length { IsLength len }
         requires room { length seen.old ≤ 2 }
-        ensures looked { Looked (load_run self.now (shown_in row.now) instruction.now va len signed) result seen.old seen.new (M.bytes mem.now) }
+        ensures looked { Observes
+            (load_run self.now (shown_in row.now) instruction.now va len signed) result
+            seen.old seen.new (M.bytes mem.now) }
         ensures noted { length seen.new ≤ length seen.old + 1 }
         ensures next { instruction.now.len % 2 ≡ 0 → HasEvenPc result }
     {
@@ -120,7 +122,8 @@ impl Core {
         row: &Row,
     ) -> Outcome
         requires { IsLength len }
-        ensures outcome { result ≡ after_load self.now (shown_in row.now) instruction.now va len signed found }
+        ensures outcome { result ≡
+            after_load self.now (shown_in row.now) instruction.now va len signed found }
         ensures next { self.now.pc % 2 ≡ 0 → instruction.now.len % 2 ≡ 0 → HasEvenPc result }
     {
         let (place, memory) = match found {
@@ -158,7 +161,8 @@ impl Core {
         requires ram { M.ram mem.now ≡ self.now.map.ram }
         requires length { IsLength len }
         requires room { length seen.old ≤ 2 }
-        ensures looked { Looked (reserve_run self.now instruction.now va len) result seen.old seen.new (M.bytes mem.now) }
+        ensures looked { Observes (reserve_run self.now instruction.now va len) result
+            seen.old seen.new (M.bytes mem.now) }
         ensures noted { length seen.new ≤ length seen.old + 1 }
         ensures next { instruction.now.len % 2 ≡ 0 → HasEvenPc result }
     {

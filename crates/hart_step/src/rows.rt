@@ -1,11 +1,11 @@
 //! What a step takes from the row that it is stepped by.
 
-ghost use Rattle.std.specs.Prelude.{◌≡◌, ◌≤◌, ◌<◌, ◌+◌, ◌*◌, ◌/◌, ◌%◌, ◌^◌};
-ghost use Rattle.rvfi_rows.specs.Rows.{shown_in};
-ghost use Rattle.hart_step.specs.Rows.{shows, order_after, bytes_among, bytes_shown, device_value, told_by_mask, told_by_register, says_stored};
+ghost use Rattle.std.specs.Prelude.{◌≡◌, ◌≤◌, ◌<◌, ◌+◌, ◌*◌, ◌/◌, ◌%◌, ◌^◌, IfSome};
+ghost use Rattle.rvfi_rows.specs.Cells.{shown_in};
+ghost use Rattle.hart_step.specs.Rows.{shows, order_after, bytes_at, bytes_shown, device_value, told_by_mask, told_by_register, says_stored};
 
 use hart_words::Signal;
-use rvfi_rows::Row;
+use rvfi_rows::{Row, distance_in_window};
 
 /// Whether the row shows this value of the signal.
 pub fn row_shows(row: &Row, signal: Signal, value: u64) -> bool
@@ -56,21 +56,20 @@ fn bytes_shown(va: u64, len: u8, address: Option<u64>, read: Option<u64>) -> Opt
         None => None,
         Some(address) => match read {
             None => None,
-            Some(read) => bytes_among(va, len, address, read),
+            Some(read) => bytes_at(len, read, distance_in_window(va, len, address)),
         },
     }
 }
 
-/// The bytes of an access among the eight that stand at an address.
-fn bytes_among(va: u64, len: u8, address: u64, read: u64) -> Option<u64>
-    requires { len ≤ 8 }
-    ensures { result ≡ bytes_among va len address read }
+/// The bytes of an access that begins so far above the eight that are shown.
+fn bytes_at(len: u8, read: u64, distance: Option<u64>) -> Option<u64>
+    requires few { len ≤ 8 }
+    requires near { IfSome distance (λ away. away ≤ 8) }
+    ensures { result ≡ bytes_at len read distance }
 {
-    let above = va.wrapping_sub(address);
-    if above <= 8 && above + u64::from(len) <= 8 {
-        Some(low_bytes(moved_down(read, above), len))
-    } else {
-        None
+    match distance {
+        None => None,
+        Some(away) => Some(low_bytes(moved_down(read, away), len)),
     }
 }
 

@@ -1,9 +1,9 @@
 //! The run of the instruction at pc.
 
 ghost use Rattle.std.specs.Prelude.{◌≡◌, ◌≤◌, ◌<◌, ◌+◌, ◌*◌, ◌^◌, ◌%◌, ◌⊎◌, ℕ, List, [], length, IfOk, IfSome, OnErr};
-ghost use Rattle.hart_words.specs.Actions.{Ran};
-ghost use Rattle.mem_access.specs.Places.{IsLength};
-ghost use Rattle.rvfi_rows.specs.Rows.{shown_in};
+ghost use Rattle.hart_words.specs.Actions.{Performs};
+ghost use Rattle.hart_words.specs.AccessSizes.{IsLength};
+ghost use Rattle.rvfi_rows.specs.Cells.{shown_in};
 ghost use Rattle.rv_decode.specs.Operands.{HasEvenOffset};
 ghost use Rattle.hart_step.specs.Cores.{IsSound};
 ghost use Rattle.hart_step.specs.Outcomes.{call_from};
@@ -33,7 +33,9 @@ impl Core {
         requires ram { M.ram mem.old ≡ self.now.map.ram }
         requires room { length seen.old ≤ 0 }
         requires blank { length wrote.old ≤ 1 }
-        ensures ran { IfOk result (λ done. Ran (core_run self.now (shown_in row.now)) done seen.old seen.new wrote.old wrote.new (M.bytes mem.old) (M.bytes mem.new)) }
+        ensures ran { IfOk result (λ done. Performs
+            (core_run self.now (shown_in row.now)) done seen.old seen.new wrote.old wrote.new
+            (M.bytes mem.old) (M.bytes mem.new)) }
         ensures even { IfOk result HasEvenPc }
         ensures err { OnErr result (M.bytes mem.new ≡ M.bytes mem.old) }
         ensures ram_stays { M.ram mem.new ≡ M.ram mem.old }
@@ -79,13 +81,15 @@ impl Core {
         requires blank { length wrote.old ≤ 1 }
         requires even { instruction.now.len % 2 ≡ 0 }
         requires offset { HasEvenOffset instruction.now.op }
-        ensures ran { IfOk result (λ done. Ran (instruction_run self.now (shown_in row.now) instruction.now) done seen.old seen.new wrote.old wrote.new (M.bytes mem.old) (M.bytes mem.new)) }
+        ensures ran { IfOk result (λ done. Performs
+            (instruction_run self.now (shown_in row.now) instruction.now) done
+            seen.old seen.new wrote.old wrote.new (M.bytes mem.old) (M.bytes mem.new)) }
         ensures even { IfOk result HasEvenPc }
         ensures err { OnErr result (M.bytes mem.new ≡ M.bytes mem.old) }
         ensures ram_stays { M.ram mem.new ≡ M.ram mem.old }
     {
-        let a = self.register(instruction.op.first_source());
-        let b = self.register(instruction.op.second_source());
+        let a = self.registers.get(instruction.op.first_source());
+        let b = self.registers.get(instruction.op.second_source());
         match compute(instruction.op, a, b, self.pc, instruction.len) {
             IntResult::Value(value) => {
                 let next_pc = self.behind(instruction);
@@ -99,29 +103,34 @@ impl Core {
             }
             IntResult::Load {
                 address,
-                len,
+                size,
                 signed,
-            } => Ok(self.run_load(instruction, address, len, signed, mem, row, seen)),
+            } => Ok(self.run_load(instruction, address, size.bytes(), signed, mem, row, seen)),
             IntResult::Store {
                 address,
-                len,
+                size,
                 value,
-            } => self.run_store(instruction, address, len, value, mem, seen, wrote),
-            IntResult::LoadReserved { address, len } => {
-                Ok(self.run_reserve(instruction, address, len, mem, seen))
+            } => self.run_store(instruction, address, size.bytes(), value, mem, seen, wrote),
+            IntResult::LoadReserved { address, size } => {
+                Ok(self.run_reserve(instruction, address, size.bytes(), mem, seen))
             }
             IntResult::StoreConditional {
                 address,
-                len,
+                size,
                 value,
-            } => self.run_conditional(instruction, address, len, value, mem, row, seen, wrote),
-            IntResult::Exchange {
+            } => {
+                let len = size.bytes();
+                self.run_conditional(instruction, address, len, value, mem, row, seen, wrote)
+            }
+            IntResult::Amo {
                 op,
                 width,
                 address,
-                len,
                 b,
-            } => self.run_exchange(instruction, address, len, op, width, b, mem, seen, wrote),
+            } => {
+                let len = width.size().bytes();
+                self.run_exchange(instruction, address, len, op, width, b, mem, seen, wrote)
+            }
             IntResult::EnvironmentCall => Ok(refuses(instruction, (call_from(self.mode), 0))),
             IntResult::Breakpoint => Ok(refuses(instruction, (Cause::Breakpoint, self.pc))),
         }

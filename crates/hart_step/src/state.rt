@@ -1,17 +1,16 @@
 //! The state of a hart but for its memory.
 
 ghost use Rattle.std.specs.Prelude.{◌≡◌, ◌%◌};
-ghost use Rattle.hart_words.specs.Map.{IsMap};
 
 use csr_file::Csrs;
-use hart_words::{Map, Mode};
+use hart_words::{Map, Mode, Registers};
 use rv_atomic::Reservation;
 
 /// All of a hart but its memory.
 #[derive(Clone, Copy, Debug)]
 pub struct Core {
-    /// The integer registers by number; x0 is not looked at.
-    pub registers: [u64; 32],
+    /// The integer registers.
+    pub registers: Registers,
     /// The address of the next instruction.
     pub pc: u64,
     pub mode: Mode,
@@ -29,19 +28,18 @@ pub struct Core {
 }
 
 impl Core {
-    ghost use Rattle.hart_step.specs.Cores.{core_at_reset, register_of, IsSound};
+    ghost use Rattle.hart_step.specs.Cores.{core_at_reset, IsSound};
 
     /// A hart at reset: in M, at `pc`, with all registers 0.
     #[tactic(auto, unfolding(crate::specs::Cores::core_at_reset))]
     pub fn reset(pc: u64, map: Map) -> Core
         requires even { pc % 2 ≡ 0 }
-        requires map { IsMap map }
         ensures state { result ≡ core_at_reset pc map }
         ensures map { result.map ≡ map }
         ensures sound { IsSound result }
     {
         Core {
-            registers: [0; 32],
+            registers: Registers::zeros(),
             pc,
             mode: Mode::Machine,
             csrs: Csrs::reset(),
@@ -50,16 +48,6 @@ impl Core {
             trapped_last: false,
             halted: false,
             map,
-        }
-    }
-
-    /// The value of a register; 0 for x0.
-    pub(crate) fn register(&self, number: u8) -> u64
-        ensures { result ≡ register_of self.now number }
-    {
-        match self.registers.get(number as usize) {
-            Some(value) if number != 0 => *value,
-            _ => 0,
         }
     }
 }

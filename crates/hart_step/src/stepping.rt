@@ -1,8 +1,8 @@
 //! The step by one row.
 
 ghost use Rattle.std.specs.Prelude.{◌≡◌, [], IfOk, OnErr};
-ghost use Rattle.hart_words.specs.Actions.{Ran};
-ghost use Rattle.rvfi_rows.specs.Rows.{shown_in};
+ghost use Rattle.hart_words.specs.Actions.{Performs};
+ghost use Rattle.rvfi_rows.specs.Cells.{shown_in};
 ghost use Rattle.hart_step.specs.Cores.{IsSound};
 ghost use Rattle.hart_step.specs.Rows.{asks_interrupt};
 ghost use Rattle.hart_step.specs.Even.{HasEvenPc};
@@ -22,7 +22,9 @@ impl Core {
     pub fn step<M: PhysMem>(&mut self, mem: &mut M, row: &Row) -> Result<Stepped, NoMemory>
         requires sound { IsSound self.old }
         requires ram { M.ram mem.old ≡ self.old.map.ram }
-        ensures stepped { IfOk result (λ now. Ran (stepped self.old (shown_in row.now)) (record { next = self.new; expected = now.expected }) [] now.seen [] now.wrote (M.bytes mem.old) (M.bytes mem.new)) }
+        ensures stepped { IfOk result (λ now. Performs (stepped self.old (shown_in row.now))
+            (record { next = self.new; expected = now.expected }) [] now.seen [] now.wrote
+            (M.bytes mem.old) (M.bytes mem.new)) }
         ensures err { OnErr result ((self.new ≡ self.old) × (M.bytes mem.new ≡ M.bytes mem.old)) }
         ensures sound { IsSound self.new }
         ensures map { self.new.map ≡ self.old.map }
@@ -106,9 +108,7 @@ impl Core {
                 self.trapped_last = true;
             }
             Outcome::Retire(done) => {
-                if done.rd != 0 && (done.rd as usize) < self.registers.len() {
-                    self.registers[done.rd as usize] = done.rd_value;
-                }
+                self.registers.set(done.rd, done.rd_value);
                 self.pc = done.next_pc;
                 self.reservation = done.reservation;
                 self.trapped_last = false;

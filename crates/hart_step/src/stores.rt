@@ -1,10 +1,10 @@
 //! Stores.
 
 ghost use Rattle.std.specs.Prelude.{◌≡◌, ◌≤◌, ◌<◌, ◌+◌, ◌*◌, ◌%◌, ◌^◌, false, List, length, IfOk, OnErr};
-ghost use Rattle.hart_words.specs.declared.traces.Read.{Read};
+ghost use Rattle.hart_words.specs.declared.accesses.Read.{Read};
 ghost use Rattle.hart_words.specs.Memory.{IsPlace};
-ghost use Rattle.hart_words.specs.Actions.{Ran};
-ghost use Rattle.mem_access.specs.Places.{IsLength};
+ghost use Rattle.hart_words.specs.Actions.{Performs};
+ghost use Rattle.hart_words.specs.AccessSizes.{IsLength};
 ghost use Rattle.hart_step.specs.Cores.{IsSound};
 ghost use Rattle.hart_step.specs.Outcomes.{stores};
 ghost use Rattle.hart_step.specs.Even.{HasEvenPc};
@@ -29,7 +29,9 @@ pub fn put_at<M: PhysMem>(
 ) -> Result<Outcome, NoMemory>
     requires place { place.io ≡ false → IsPlace (M.ram mem.old) place.pa len }
     requires room { length wrote.old ≤ 1 }
-    ensures ran { IfOk result (λ done. (seen : List Read) → Ran (put_at place len value outcome place.io) done seen seen wrote.old wrote.new (M.bytes mem.old) (M.bytes mem.new)) }
+    ensures ran { IfOk result (λ done. (seen : List Read)
+        → Performs (put_at place len value outcome place.io) done seen seen wrote.old wrote.new
+        (M.bytes mem.old) (M.bytes mem.new)) }
     ensures same { IfOk result (λ done. done ≡ outcome) }
     ensures err { OnErr result (M.bytes mem.new ≡ M.bytes mem.old) }
     ensures ram { M.ram mem.new ≡ M.ram mem.old }
@@ -59,7 +61,9 @@ impl Core {
         requires length { IsLength len }
         requires room { length seen.old ≤ 2 }
         requires blank { length wrote.old ≤ 1 }
-        ensures ran { IfOk result (λ done. Ran (store_run self.now instruction.now va len value) done seen.old seen.new wrote.old wrote.new (M.bytes mem.old) (M.bytes mem.new)) }
+        ensures ran { IfOk result (λ done. Performs
+            (store_run self.now instruction.now va len value) done
+            seen.old seen.new wrote.old wrote.new (M.bytes mem.old) (M.bytes mem.new)) }
         ensures next { instruction.now.len % 2 ≡ 0 → IfOk result HasEvenPc }
         ensures err { OnErr result (M.bytes mem.new ≡ M.bytes mem.old) }
         ensures ram_stays { M.ram mem.new ≡ M.ram mem.old }

@@ -1,7 +1,7 @@
 use Rattle.std.proofs.Common.{ap, Some, None}
 use Rattle.std.proofs.lemmas.Result.{IfOk-weaker}
 use Rattle.hart_words.specs.declared.privilege.Cause.TheVariants.{IllegalInstruction}
-use Rattle.rvfi_rows.specs.Rows.{shown_in}
+use Rattle.rvfi_rows.specs.Cells.{shown_in}
 use Rattle.hart_step.specs.declared.outcome.Outcome.TheVariants.{Trap}
 use Rattle.hart_step.proofs.Ways.{fetch_refused, fetch_done, given}
 use Rattle.hart_step.proofs.state.Core.run.Goals as goal

@@ -1,4 +1,4 @@
-use Rattle.rvfi_rows.specs.Rows.{shown_in}
+use Rattle.rvfi_rows.specs.Cells.{shown_in}
 use Rattle.std.proofs.Common.{sym, refl, ◌∙◌}
 use Rattle.std.proofs.lemmas.Result.{IfOk-weaker}
 use Rattle.hart_step.proofs.Ways.{conditional_refused, conditional_failed, conditional_done}

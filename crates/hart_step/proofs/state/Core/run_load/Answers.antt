@@ -1,4 +1,4 @@
-use Rattle.rvfi_rows.specs.Rows.{shown_in}
+use Rattle.rvfi_rows.specs.Cells.{shown_in}
 use Rattle.hart_step.proofs.Ways.{load_done}
 use Rattle.hart_step.proofs.state.Core.run_load.Goals as goal
 

@@ -1,4 +1,4 @@
-use Rattle.rvfi_rows.specs.Rows.{shown_in}
+use Rattle.rvfi_rows.specs.Cells.{shown_in}
 use Rattle.hart_step.proofs.Ways.{step_halted, step_done, gave_parts}
 use Rattle.hart_step.proofs.state.Core.step.Goals as goal
 
