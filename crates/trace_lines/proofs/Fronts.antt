@@ -1,12 +1,11 @@
 -- The lines that were taken and those that are left.
-use Rattle.std.proofs.Common.{◌≡◌, ℕ, ◌+◌, ◌<◌, ◌≤◌, Bool, true, false, ◌==◌, if◌then◌else◌, List, [], ◌∷◌, ◌++◌, length, take, drop, refl, sym, ap, ◌∙◌, arith, length-append, append-nil, nat_le}
+use Rattle.std.proofs.Common.{◌≡◌, ℕ, ◌<◌, true, false, List, [], ◌++◌, length, drop, refl, sym, ap, ◌∙◌, arith, length-append, append-nil, nat_le}
 use Rattle.std.proofs.lemmas.List.{take_at, drop_at, drop_all}
 use Rattle.std.proofs.lemmas.Bool.{le-leb, lt-leb}
 use Rattle.trace_lines.specs.declared.piece.Ending.{Ending}
 use Rattle.trace_lines.specs.declared.piece.Ending.TheVariants.{More, End, TooLong, TooLarge}
-use Rattle.trace_lines.specs.Lines.{Left, with_line}
-use Rattle.trace_lines.specs.Pieces.{with_lines, front_of, back_of, CountsBy}
-use Rattle.trace_lines.specs.Taking.{IsLast}
+use Rattle.trace_lines.specs.Lines.{Left}
+use Rattle.trace_lines.specs.Pieces.{with_lines, front_of, back_of, FitsEnding, IsLast}
 
 -- as many lines as were asked for
 pub front_full : (asked : ℕ) (lines : List (List ℕ)) (rest all : Left) → length lines ≡ asked → with_lines lines rest ≡ all → record { lines = lines; ending = More } ≡ front_of asked all
@@ -35,7 +34,7 @@ back_short asked lines ending rest all short none is =
     none ∙ rw (← whole) (rw gone refl)
 
 -- an ending that nothing follows comes with fewer lines than were asked for
-pub counts_short : (asked count : ℕ) (ending : Ending) → IsLast ending → count < asked → CountsBy ending asked count
+pub counts_short : (asked count : ℕ) (ending : Ending) → IsLast ending → count < asked → FitsEnding ending asked count
 counts_short asked count More last h = absurd last
 counts_short asked count End last h = h
 counts_short asked count (TooLong number) last h = h

@@ -1,3 +1,4 @@
 pub mod Parts
 pub mod Fronts
-pub mod Texts
+pub mod CursorLemmas
+pub mod CallLemmas

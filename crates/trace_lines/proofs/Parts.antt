@@ -1,11 +1,12 @@
 -- The first part of a text.
 use Rattle.std.proofs.Common.{◌≡◌, ℕ, suc, ◌+◌, ◌<◌, ◌≤◌, ◌==◌, if◌then◌else◌, Bool, true, false, List, [], ◌∷◌, length, take, drop, refl, sym, ap, ◌∙◌, inl, inr, arith, add-one}
-use Rattle.std.specs.Prelude.{cond, position, Option, Some, None, nat_lt}
+use Rattle.std.specs.Prelude.{cond, position, Some, None, nat_lt}
 use Rattle.std.proofs.lemmas.Bool.{ltb-false}
 use Rattle.std.proofs.lemmas.List.Recursion.{is_position_or_len}
-use Rattle.trace_lines.specs.Taking.{feed_place}
+use Rattle.trace_lines.specs.Nexts.{feed_place}
 use Rattle.std.proofs.lemmas.Bool.{lt-ltb, le-ltb, cases_lt}
 use Rattle.std.proofs.lemmas.List.{length-take-le, drop_all, drop-drop}
+use Rattle.trace_lines.specs.declared.next.TheConstants.{LONGEST}
 use Rattle.trace_lines.specs.declared.piece.Ending.TheVariants.{End, TooLong, TooLarge}
 use Rattle.trace_lines.specs.Lines.{Part, parts_of, with_first, lines_from, with_line, line_in}
 
@@ -72,24 +73,24 @@ pub left_none : (more : Bool) (number : ℕ) → lines_from more number (parts_o
 unfolding parts_of lines_from
 left_none more number = refl
 
-long_part : (more : Bool) (number : ℕ) (part : Part) (parts : List Part) → 65536 < length part.bytes → lines_from more number (part ∷ parts) ≡ record { lines = []; ending = TooLong number }
+long_part : (more : Bool) (number : ℕ) (part : Part) (parts : List Part) → LONGEST < length part.bytes → lines_from more number (part ∷ parts) ≡ record { lines = []; ending = TooLong number }
 unfolding lines_from
-long_part more number part parts long = let e : nat_lt 65536 (length part.bytes) ≡ true = lt-ltb 65536 (length part.bytes) long in rw e refl
+long_part more number part parts long = let e : nat_lt LONGEST (length part.bytes) ≡ true = lt-ltb LONGEST (length part.bytes) long in rw e refl
 
-ended_part : (more : Bool) (number : ℕ) (bytes : List ℕ) (parts : List Part) → length bytes ≤ 65536 → lines_from more number (record { bytes = bytes; ended = true } ∷ parts) ≡ with_line (line_in bytes) (lines_from more (number + 1) parts)
+ended_part : (more : Bool) (number : ℕ) (bytes : List ℕ) (parts : List Part) → length bytes ≤ LONGEST → lines_from more number (record { bytes = bytes; ended = true } ∷ parts) ≡ with_line (line_in bytes) (lines_from more (number + 1) parts)
 unfolding lines_from
-ended_part true number bytes parts short = let e : nat_lt 65536 (length bytes) ≡ false = le-ltb 65536 (length bytes) short in rw e refl
-ended_part false number bytes parts short = let e : nat_lt 65536 (length bytes) ≡ false = le-ltb 65536 (length bytes) short in rw e refl
+ended_part true number bytes parts short = let e : nat_lt LONGEST (length bytes) ≡ false = le-ltb LONGEST (length bytes) short in rw e refl
+ended_part false number bytes parts short = let e : nat_lt LONGEST (length bytes) ≡ false = le-ltb LONGEST (length bytes) short in rw e refl
 
-open_part : (number : ℕ) (bytes : List ℕ) → length bytes ≤ 65536 → lines_from true number (record { bytes = bytes; ended = false } ∷ []) ≡ record { lines = []; ending = TooLarge }
+open_part : (number : ℕ) (bytes : List ℕ) → length bytes ≤ LONGEST → lines_from true number (record { bytes = bytes; ended = false } ∷ []) ≡ record { lines = []; ending = TooLarge }
 unfolding lines_from
-open_part number bytes short = let e : nat_lt 65536 (length bytes) ≡ false = le-ltb 65536 (length bytes) short in rw e refl
+open_part number bytes short = let e : nat_lt LONGEST (length bytes) ≡ false = le-ltb LONGEST (length bytes) short in rw e refl
 
-last_part : (number : ℕ) (bytes : List ℕ) → length bytes ≤ 65536 → lines_from false number (record { bytes = bytes; ended = false } ∷ []) ≡ with_line (line_in bytes) (lines_from false (number + 1) [])
+last_part : (number : ℕ) (bytes : List ℕ) → length bytes ≤ LONGEST → lines_from false number (record { bytes = bytes; ended = false } ∷ []) ≡ with_line (line_in bytes) (lines_from false (number + 1) [])
 unfolding lines_from
-last_part number bytes short = let e : nat_lt 65536 (length bytes) ≡ false = le-ltb 65536 (length bytes) short in rw e refl
+last_part number bytes short = let e : nat_lt LONGEST (length bytes) ≡ false = le-ltb LONGEST (length bytes) short in rw e refl
 
-pub left_long : (more : Bool) (number : ℕ) (bytes : List ℕ) → 65536 < reach bytes → lines_from more number (parts_of bytes) ≡ record { lines = []; ending = TooLong number }
+pub left_long : (more : Bool) (number : ℕ) (bytes : List ℕ) → LONGEST < reach bytes → lines_from more number (parts_of bytes) ≡ record { lines = []; ending = TooLong number }
 left_long more number [] long = absurd (omega arith)
 left_long more number (byte ∷ bytes) long = elim (cases_lt (reach (byte ∷ bytes)) (length (byte ∷ bytes))) [
   | inl ended ↦
@@ -101,18 +102,18 @@ left_long more number (byte ∷ bytes) long = elim (cases_lt (reach (byte ∷ by
       ∙ long_part more number (record { bytes = byte ∷ bytes; ended = false }) [] (omega (arith, long, reach-le (byte ∷ bytes)))
 ]
 
-pub left_line : (more : Bool) (number : ℕ) (bytes : List ℕ) → reach bytes < length bytes → reach bytes ≤ 65536 → lines_from more number (parts_of bytes) ≡ with_line (line_in (take (reach bytes) bytes)) (lines_from more (number + 1) (parts_of (drop (suc (reach bytes)) bytes)))
+pub left_line : (more : Bool) (number : ℕ) (bytes : List ℕ) → reach bytes < length bytes → reach bytes ≤ LONGEST → lines_from more number (parts_of bytes) ≡ with_line (line_in (take (reach bytes) bytes)) (lines_from more (number + 1) (parts_of (drop (suc (reach bytes)) bytes)))
 left_line more number bytes ended short =
     let len = length-take-le (reach bytes) bytes (reach-le bytes) in
     ap (λ parts. lines_from more number parts) (part_ended bytes ended)
     ∙ ended_part more number (take (reach bytes) bytes) (parts_of (drop (suc (reach bytes)) bytes)) (rw len short)
 
-pub left_past : (number : ℕ) (bytes : List ℕ) → 0 < length bytes → length bytes ≤ reach bytes → reach bytes ≤ 65536 → lines_from true number (parts_of bytes) ≡ record { lines = []; ending = TooLarge }
+pub left_past : (number : ℕ) (bytes : List ℕ) → 0 < length bytes → length bytes ≤ reach bytes → reach bytes ≤ LONGEST → lines_from true number (parts_of bytes) ≡ record { lines = []; ending = TooLarge }
 left_past number [] some last short = absurd (omega arith)
 left_past number (byte ∷ bytes) some last short =
     ap (λ parts. lines_from true number parts) (part_last byte bytes last) ∙ open_part number (byte ∷ bytes) (omega (arith, last, short))
 
-pub left_last : (number : ℕ) (bytes : List ℕ) → 0 < length bytes → length bytes ≤ reach bytes → reach bytes ≤ 65536 → lines_from false number (parts_of bytes) ≡ with_line (line_in bytes) (lines_from false (number + 1) [])
+pub left_last : (number : ℕ) (bytes : List ℕ) → 0 < length bytes → length bytes ≤ reach bytes → reach bytes ≤ LONGEST → lines_from false number (parts_of bytes) ≡ with_line (line_in bytes) (lines_from false (number + 1) [])
 left_last number [] some last short = absurd (omega arith)
 left_last number (byte ∷ bytes) some last short =
     ap (λ parts. lines_from false number parts) (part_last byte bytes last) ∙ last_part number (byte ∷ bytes) (omega (arith, last, short))
@@ -121,20 +122,20 @@ left_last number (byte ∷ bytes) some last short =
 at_feed : (bytes : List ℕ) (place : ℕ) → place ≡ feed_place bytes → place ≡ reach bytes
 at_feed bytes place is = is ∙ sym (reach-feed_place bytes)
 
-pub follow_long : (more : Bool) (number : ℕ) (bytes : List ℕ) (place : ℕ) → place ≡ feed_place bytes → 65536 < place → lines_from more number (parts_of bytes) ≡ record { lines = []; ending = TooLong number }
+pub follow_long : (more : Bool) (number : ℕ) (bytes : List ℕ) (place : ℕ) → place ≡ feed_place bytes → LONGEST < place → lines_from more number (parts_of bytes) ≡ record { lines = []; ending = TooLong number }
 follow_long more number bytes place is long = left_long more number bytes (omega (arith, at_feed bytes place is, long))
 
-pub follow_past : (number : ℕ) (bytes : List ℕ) (place : ℕ) → place ≡ feed_place bytes → 0 < length bytes → length bytes ≤ place → place ≤ 65536 → lines_from true number (parts_of bytes) ≡ record { lines = []; ending = TooLarge }
+pub follow_past : (number : ℕ) (bytes : List ℕ) (place : ℕ) → place ≡ feed_place bytes → 0 < length bytes → length bytes ≤ place → place ≤ LONGEST → lines_from true number (parts_of bytes) ≡ record { lines = []; ending = TooLarge }
 follow_past number bytes place is some last short = left_past number bytes some (omega (arith, at_feed bytes place is, last)) (omega (arith, at_feed bytes place is, short))
 
-pub follow_line : (more : Bool) (number : ℕ) (bytes : List ℕ) (place : ℕ) → place ≡ feed_place bytes → place < length bytes → place ≤ 65536 → lines_from more number (parts_of bytes) ≡ with_line (line_in (take place bytes)) (lines_from more (number + 1) (parts_of (drop (place + 1) bytes)))
+pub follow_line : (more : Bool) (number : ℕ) (bytes : List ℕ) (place : ℕ) → place ≡ feed_place bytes → place < length bytes → place ≤ LONGEST → lines_from more number (parts_of bytes) ≡ with_line (line_in (take place bytes)) (lines_from more (number + 1) (parts_of (drop (place + 1) bytes)))
 follow_line more number bytes place is ended short =
     let e = at_feed bytes place is in
     left_line more number bytes (omega (arith, e, ended)) (omega (arith, e, short))
     ∙ ap (λ n. with_line (line_in (take n bytes)) (lines_from more (number + 1) (parts_of (drop (suc n) bytes)))) (sym e)
     ∙ ap (λ n. with_line (line_in (take place bytes)) (lines_from more (number + 1) (parts_of (drop n bytes)))) (sym (add-one place))
 
-pub follow_last : (number : ℕ) (bytes : List ℕ) (place used : ℕ) → place ≡ feed_place bytes → used ≡ length bytes → 0 < length bytes → length bytes ≤ place → place ≤ 65536 → lines_from false number (parts_of bytes) ≡ with_line (line_in bytes) (lines_from false (number + 1) (parts_of (drop used bytes)))
+pub follow_last : (number : ℕ) (bytes : List ℕ) (place used : ℕ) → place ≡ feed_place bytes → used ≡ length bytes → 0 < length bytes → length bytes ≤ place → place ≤ LONGEST → lines_from false number (parts_of bytes) ≡ with_line (line_in bytes) (lines_from false (number + 1) (parts_of (drop used bytes)))
 unfolding parts_of
 follow_last number bytes place used is all some last short =
     let e = at_feed bytes place is in

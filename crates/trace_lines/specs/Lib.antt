@@ -1,4 +1,7 @@
 pub mod Lines
 pub mod Pieces
-pub mod Taking
+pub mod Calls
+pub mod Nexts
+pub mod Cursors
 pub mod Takers
+pub mod Errors

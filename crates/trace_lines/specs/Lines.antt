@@ -1,13 +1,21 @@
 -- The lines of a file of which at most so many bytes are read.
 use Rattle.std.specs.Prelude.{ℕ, ◌+◌, ◌-◌, Bool, true, false, not, ◌&&◌, ◌==◌, nat_lt, if◌then◌else◌, List, [], ◌∷◌, length, take, drop, slice_index}
 use Rattle.trace_lines.specs.declared.piece.Ending.{Ending}
+use Rattle.trace_lines.specs.declared.next.TheConstants.{LONGEST}
 use Rattle.trace_lines.specs.declared.piece.Ending.TheVariants.{End, TooLong, TooLarge}
+
+abbrev pub line_feed : ℕ
+line_feed = 10
+
+abbrev pub carriage_return : ℕ
+carriage_return = 13
 
 -- what stands between two line feeds, and whether a line feed follows
 pub record Part : Type 0 where
   pub bytes : List ℕ
   pub ended : Bool
 
+-- a byte goes before the first part
 abbrev pub with_first : ℕ → List Part → List Part
 with_first byte [] = record { bytes = byte ∷ []; ended = false } ∷ []
 with_first byte (part ∷ parts) = record { bytes = byte ∷ part.bytes; ended = part.ended } ∷ parts
@@ -15,7 +23,9 @@ with_first byte (part ∷ parts) = record { bytes = byte ∷ part.bytes; ended =
 -- what the line feeds of a text separate; nothing follows a last line feed
 unfoldable pub parts_of : List ℕ → List Part
 parts_of [] = []
-parts_of (byte ∷ bytes) = if byte == 10 then record { bytes = []; ended = true } ∷ parts_of bytes else with_first byte (parts_of bytes)
+parts_of (byte ∷ bytes) =
+    if byte == line_feed then record { bytes = []; ended = true } ∷ parts_of bytes
+    else with_first byte (parts_of bytes)
 
 -- lines, and how they end
 pub record Left : Type 0 where
@@ -24,23 +34,30 @@ pub record Left : Type 0 where
 
 -- a carriage return at the end is dropped
 abbrev pub line_in : List ℕ → List ℕ
-line_in bytes = if slice_index bytes (length bytes - 1) == 13 then take (length bytes - 1) bytes else bytes
+line_in bytes =
+    let front = length bytes - 1 in
+    if slice_index bytes front == carriage_return then take front bytes else bytes
 
 -- a line goes before others, unless it is blank
 abbrev pub with_line : List ℕ → Left → Left
-with_line line left = record { lines = if length line == 0 then left.lines else line ∷ left.lines; ending = left.ending }
+with_line line left = record {
+  lines = if length line == 0 then left.lines else line ∷ left.lines;
+  ending = left.ending;
+}
 
--- the lines of parts that begin with the line of this number; `more` says that the file has bytes past these
+-- the lines of parts that begin with the line of this number; `more` says that the file has bytes
+-- past these
 unfoldable pub lines_from : Bool → ℕ → List Part → Left
 lines_from more number [] = record { lines = []; ending = if more then TooLarge else End }
 lines_from more number (part ∷ parts) =
-    if nat_lt 65536 (length part.bytes) then record { lines = []; ending = TooLong number }
+    if nat_lt LONGEST (length part.bytes) then record { lines = []; ending = TooLong number }
     else if more && not part.ended then record { lines = []; ending = TooLarge }
     else with_line (line_in part.bytes) (lines_from more (number + 1) parts)
 
 -- the byte order mark EF BB BF at the very front is dropped
 abbrev pub has_mark : List ℕ → Bool
-has_mark text = (slice_index text 0 == 239) && (slice_index text 1 == 187) && (slice_index text 2 == 191)
+has_mark text =
+    (slice_index text 0 == 239) && (slice_index text 1 == 187) && (slice_index text 2 == 191)
 
 unfoldable pub without_mark : List ℕ → List ℕ
 without_mark text = if has_mark text then drop 3 text else text

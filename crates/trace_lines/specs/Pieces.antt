@@ -6,6 +6,7 @@ use Rattle.trace_lines.specs.declared.piece.Ending.{Ending}
 use Rattle.trace_lines.specs.declared.piece.Ending.TheVariants.{More}
 use Rattle.trace_lines.specs.Lines.{Left}
 
+-- the bytes of each line
 abbrev pub lines_in : Lines → List (List ℕ)
 lines_in lines = map (λ line. line.items) lines.lines.items
 
@@ -15,7 +16,9 @@ piece_view piece = record { lines = lines_in piece.lines; ending = piece.ending 
 
 -- so many lines of those that are left, where there are as many; else all, and their ending
 unfoldable pub front_of : ℕ → Left → Left
-front_of count left = if nat_le count (length left.lines) then record { lines = take count left.lines; ending = More } else left
+front_of count left =
+    if nat_le count (length left.lines) then record { lines = take count left.lines; ending = More }
+    else left
 
 -- the lines behind these
 unfoldable pub back_of : ℕ → Left → Left
@@ -25,10 +28,16 @@ back_of count left = record { lines = drop count left.lines; ending = left.endin
 abbrev pub with_lines : List (List ℕ) → Left → Left
 with_lines lines left = record { lines = lines ++ left.lines; ending = left.ending }
 
--- so many lines were asked for: as many are there where more may follow, else fewer
-abbrev pub CountsBy : Ending → ℕ → ℕ → Type 0
-CountsBy More asked count = count ≡ asked
-CountsBy _ asked count = count < asked
+-- nothing comes after this ending
+abbrev pub IsLast : Ending → Type 0
+IsLast More = ⊥
+IsLast _ = Unit {0}
 
-abbrev pub Counts : ℕ → Piece → Type 0
-Counts asked piece = CountsBy piece.ending asked (length (lines_in piece.lines))
+-- so many lines were asked for: as many are there where more may follow, else fewer
+abbrev pub FitsEnding : Ending → ℕ → ℕ → Type 0
+FitsEnding More asked count = count ≡ asked
+FitsEnding _ asked count = count < asked
+
+-- the same of a piece
+abbrev pub FitsAsked : ℕ → Piece → Type 0
+FitsAsked asked piece = FitsEnding piece.ending asked (length (lines_in piece.lines))

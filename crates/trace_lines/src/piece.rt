@@ -35,6 +35,7 @@ pub enum LineError {
     /// The shelf failed and counted it.
     #[error("a read failed")]
     ReadFault,
+    /// Memory was refused; the shelf counts nothing.
     #[error("out of memory")]
     NoMemory,
 }

@@ -43,6 +43,23 @@ fn takes_lines(rt: HostRuntime) -> Result<(), Fail> {
 }
 
 #[test]
+fn bounds_a_line(rt: HostRuntime) -> Result<(), Fail> {
+    let cases = [
+        (65_536, 1, 65_536, Ending::End),
+        (65_537, 0, 0, Ending::TooLong(3)),
+    ];
+    for (length, lines, last, ending) in cases {
+        let mut text = Vec::from_slice(rt.alloc(), b"\n\n")?;
+        for _ in 0..length {
+            text.push(b'a')?;
+        }
+        let found = taken(rt.alloc(), text.as_slice(), 100_000)?;
+        assert_eq!(rt; found, (lines, last, ending));
+    }
+    Ok(())
+}
+
+#[test]
 fn hands_out_pieces(rt: HostRuntime) -> Result<(), Fail> {
     let alloc = rt.alloc();
     let mut shelf = shelf(alloc, b"a\n\nbc\nd")?;

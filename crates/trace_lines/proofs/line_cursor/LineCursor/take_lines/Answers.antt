@@ -1,8 +1,8 @@
 use Rattle.std.proofs.Common.{arith, ◌∙◌}
 use Rattle.trace_lines.specs.Pieces.{lines_in}
-use Rattle.trace_lines.specs.Taking.{left_in}
+use Rattle.trace_lines.specs.Cursors.{left_in}
 use Rattle.trace_lines.proofs.Fronts.{front_short, back_short}
-use Rattle.trace_lines.proofs.text.Text.take_lines.Goals as goal
+use Rattle.trace_lines.proofs.line_cursor.LineCursor.take_lines.Goals as goal
 
 pub returns-in-Ending-clause-piece : goal.returns-in-Ending-clause-piece
 returns-in-Ending-clause-piece c =

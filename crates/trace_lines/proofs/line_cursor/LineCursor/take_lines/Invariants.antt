@@ -1,7 +1,7 @@
 use Rattle.std.proofs.Common.{◌≡◌, ◌+◌, ◌≤◌, length}
 use Rattle.trace_lines.specs.Pieces.{lines_in, with_lines}
-use Rattle.trace_lines.specs.Taking.{left_in, room_in}
-use Rattle.trace_lines.proofs.text.Text.take_lines.Given as goal
+use Rattle.trace_lines.specs.Cursors.{left_in, room_in}
+use Rattle.trace_lines.proofs.line_cursor.LineCursor.take_lines.Given as goal
 
 abbrev pub invariant-taking : goal.invariant-taking
 invariant-taking l =
