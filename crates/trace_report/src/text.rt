@@ -5,15 +5,19 @@ ghost use Rattle.arrayvec.specs.ArrayVec.{array_vec_len};
 ghost use Rattle.hex.specs.Hex.{encode_lower};
 ghost use Rattle.std.specs.Int.{w64, to_be_bytes};
 ghost use Rattle.trace_report.specs.Numerals.{hexadecimal};
+ghost use Rattle.trace_report.specs.declared.text.TheConstants.{MOST_BYTES};
 
 use arrayvec::ArrayVec;
 use itoa::Buffer;
 use std::marker::Model;
 
+/// The most bytes of a text.
+const MOST_BYTES: usize = 192;
+
 /// A text of at most 192 bytes, which takes no memory beyond itself.
 #[derive(Drop)]
 pub struct Text {
-    bytes: ArrayVec<u8, 192>,
+    bytes: ArrayVec<u8, MOST_BYTES>,
 }
 
 impl Model for Text {
@@ -21,10 +25,11 @@ impl Model for Text {
 
     ghost view = { λ text. text.bytes.items };
 
-    ghost invariant = { λ text. length text.bytes.items ≤ 192 };
+    ghost invariant = { λ text. length text.bytes.items ≤ MOST_BYTES };
 }
 
 impl Text {
+    /// A text with no bytes.
     pub fn new() -> Self
         ensures { result ≡ [] }
     {
@@ -33,16 +38,17 @@ impl Text {
         }
     }
 
+    /// The bytes of the text, in order.
     pub fn as_slice(&self) -> &[u8]
         ensures bytes { result.now ≡ self.now }
-        ensures short { length result.now ≤ 192 }
+        ensures short { length result.now ≤ MOST_BYTES }
     {
         self.bytes.as_slice()
     }
 
     /// Appends bytes.
     pub fn put(&mut self, piece: &[u8])
-        requires { length self.old + length piece.now ≤ 192 }
+        requires { length self.old + length piece.now ≤ MOST_BYTES }
         ensures bytes { self.new ≡ self.old ++ piece.now }
         ensures len { length self.new ≡ length self.old + length piece.now }
     {
@@ -51,7 +57,7 @@ impl Text {
 
     /// Appends a number in decimal.
     pub fn put_decimal(&mut self, number: u64)
-        requires { length self.old + 20 ≤ 192 }
+        requires { length self.old + 20 ≤ MOST_BYTES }
         ensures bytes { self.new ≡ self.old ++ decimal number }
         ensures len { length self.new ≤ length self.old + 20 }
     {
@@ -62,7 +68,7 @@ impl Text {
     #[tactic(auto, unfolding(crate::specs::Numerals::hexadecimal))]
     /// Appends `0x` and the 16 hexadecimal digits of a number, in lower case.
     pub fn put_hexadecimal(&mut self, number: u64)
-        requires { length self.old + 18 ≤ 192 }
+        requires { length self.old + 18 ≤ MOST_BYTES }
         ensures bytes { self.new ≡ self.old ++ hexadecimal number }
         ensures len { length self.new ≡ length self.old + 18 }
     {

@@ -1,8 +1,8 @@
-//! The text and the status of an outcome.
+//! The wording of an outcome.
 
 ghost use Rattle.std.specs.Prelude.{◌≡◌, ◌≤◌, ◌+◌, ◌++◌, length};
-ghost use Rattle.hart_words.specs.Signals.{name_of};
-ghost use Rattle.trace_report.specs.Report.{text_of, status_of, kind_text, fault_text, header_text, row_text, named, difference_text, verdict_text};
+ghost use Rattle.hart_words.specs.SignalNames.{name_of};
+ghost use Rattle.trace_report.specs.Report.{report_of, kind_text, image_fault_text, header_fault_text, row_fault_text, column_text, difference_text, verdict_text};
 
 use crate::outcome::Outcome;
 use crate::text::Text;
@@ -10,28 +10,11 @@ use hart_words::{Difference, Signal};
 use image_text::{FaultKind, ImageFault};
 use rvfi_rows::{HeaderFault, RowFault, Verdict};
 
-/// The status of an outcome: 0 where the trace agrees, 1 where it differs, 2 for refused words, 3
-/// for a refused image, 4 for a refused trace.
-pub fn status(outcome: &Outcome) -> u8
-    ensures { result ≡ status_of outcome.now }
-{
-    match outcome {
-        Outcome::NoJob => 2,
-        Outcome::ImageTooLarge { .. } | Outcome::ImageFault(_) => 3,
-        Outcome::NoHeader
-        | Outcome::HeaderFault(_)
-        | Outcome::TooLong { .. }
-        | Outcome::TraceTooLarge { .. }
-        | Outcome::Verdict(Verdict::Refused { .. }) => 4,
-        Outcome::Verdict(Verdict::Agrees { .. }) => 0,
-        Outcome::Verdict(Verdict::Differs { .. }) => 1,
-    }
-}
-
-/// The text of an outcome, one line.
-#[tactic(auto, unfolding(crate::specs::Report::text_of))]
+/// The text of an outcome: one line that ends in a line feed, at most 192 bytes. Values are `0x`
+/// and 16 hexadecimal digits, all other numbers decimal. It takes no memory.
+#[tactic(auto, unfolding(crate::specs::Report::report_of))]
 pub fn report(outcome: &Outcome) -> Text
-    ensures { result ≡ text_of outcome.now }
+    ensures { result ≡ report_of outcome.now }
 {
     let mut text = Text::new();
     match outcome {
@@ -59,18 +42,18 @@ pub fn report(outcome: &Outcome) -> Text
     text
 }
 
-#[tactic(auto, unfolding(crate::specs::Report::fault_text))]
+#[tactic(auto, unfolding(crate::specs::Report::image_fault_text))]
 fn put_image_fault(text: &mut Text, fault: ImageFault)
     requires { length text.old ≤ 0 }
-    ensures { text.new ≡ text.old ++ fault_text fault }
+    ensures { text.new ≡ text.old ++ image_fault_text fault }
 {
     text.put(b"refused image: line ");
     text.put_decimal(fault.line);
-    text.put(kind_line(fault.kind));
+    text.put(kind_text(fault.kind));
 }
 
-/// What a fault of an image is called, up to the end of the line.
-fn kind_line(kind: FaultKind) -> &'static [u8]
+/// What a fault of an image is called, to the end of the line.
+fn kind_text(kind: FaultKind) -> &'static [u8]
     ensures bytes { result.now ≡ kind_text kind }
     ensures short { length result.now ≤ 20 }
 {
@@ -94,10 +77,10 @@ fn put_name(text: &mut Text, signal: Signal)
     text.put(signal.suffix().as_bytes());
 }
 
-#[tactic(auto, unfolding(crate::specs::Report::header_text))]
+#[tactic(auto, unfolding(crate::specs::Report::header_fault_text))]
 fn put_header_fault(text: &mut Text, fault: HeaderFault)
     requires { length text.old ≤ 0 }
-    ensures { text.new ≡ text.old ++ header_text fault }
+    ensures { text.new ≡ text.old ++ header_fault_text fault }
 {
     match fault {
         HeaderFault::StrayReturn => text.put(b"refused trace: stray return in header\n"),
@@ -114,24 +97,24 @@ fn put_header_fault(text: &mut Text, fault: HeaderFault)
     }
 }
 
-#[tactic(auto, unfolding(crate::specs::Report::row_text))]
+#[tactic(auto, unfolding(crate::specs::Report::row_fault_text))]
 fn put_row_fault(text: &mut Text, fault: RowFault)
     requires { length text.old ≤ 40 }
-    ensures { text.new ≡ text.old ++ row_text fault }
+    ensures { text.new ≡ text.old ++ row_fault_text fault }
 {
     match fault {
         RowFault::StrayReturn => text.put(b": stray return\n"),
         RowFault::FieldCount => text.put(b": wrong number of fields\n"),
-        RowFault::Empty(signal) => put_named(text, signal, b" empty\n"),
-        RowFault::NotNumber(signal) => put_named(text, signal, b" not a number\n"),
-        RowFault::TooWide(signal) => put_named(text, signal, b" too wide\n"),
+        RowFault::Empty(signal) => put_column(text, signal, b" empty\n"),
+        RowFault::NotNumber(signal) => put_column(text, signal, b" not a number\n"),
+        RowFault::TooWide(signal) => put_column(text, signal, b" too wide\n"),
     }
 }
 
-fn put_named(text: &mut Text, signal: Signal, end: &[u8])
+fn put_column(text: &mut Text, signal: Signal, end: &[u8])
     requires short { length text.old ≤ 60 }
     requires end { length end.now ≤ 20 }
-    ensures { text.new ≡ text.old ++ named signal end.now }
+    ensures { text.new ≡ text.old ++ column_text signal end.now }
 {
     text.put(b": ");
     put_name(text, signal);
