@@ -32,7 +32,8 @@ judge_rules =
 
 -- the program's command line: its name, a command, what that command takes
 unfoldable pub judge_line : App
-judge_line = with_subcommand (new_app (codes "rvjudge")) (fold with_rule (new_app (codes "judge")) judge_rules).top
+judge_line =
+    with_subcommand (new_app (codes "rvjudge")) (fold with_rule (new_app (codes "judge")) judge_rules).top
 
 -- what is found where there is no kind of error
 abbrev pub unless_refused : {X : Type 0} → Kinds → Option X → Option X

@@ -2,12 +2,12 @@
 
 ghost use Rattle.std.specs.Prelude.{◌≡◌, ◌≤◌, ◌%◌, ◌^◌, IfOk, IfSome, map, option_map, string_bytes};
 ghost use Rattle.clap.specs.Words.{found_of, rows_of};
-ghost use Rattle.judge_words.specs.Job.{Gives, IsLawful, job_from, job_of, job_view};
+ghost use Rattle.judge_words.specs.Job.{GivesJob, IsLawful, job_from, job_of, job_view};
 ghost use Rattle.judge_words.specs.Settings.{settings_view};
 ghost use Rattle.judge_words.specs.declared.job.WordError.TheVariants.{NoMemory};
 
 use crate::command_line::{given_to, judge_line, parse, text_of};
-use crate::values::{map_of, read_even, read_io, read_limit, read_span};
+use crate::values::{read_even, read_io, read_limit, read_span};
 use clap::ArgMatches;
 use hart_words::Map;
 use std::alloc::{AllocError, Global};
@@ -17,18 +17,25 @@ use thiserror::Error;
 /// instruction, the ranges of RAM and of devices, and how many bytes either file may have.
 #[derive(Debug, Drop)]
 pub struct Job {
+    /// The name of the image's file.
     pub image: String,
+    /// The name of the trace's file.
     pub trace: String,
+    /// The address of the first instruction, even.
     pub pc: u64,
     pub map: Map,
+    /// The most bytes that the image's text may have, from 1.
     pub max_image: u64,
+    /// The most bytes that the trace may have, from 1.
     pub max_trace: u64,
 }
 
+/// Why there is no job.
 #[derive(Clone, Copy, Debug, PartialEq, Eq, Error)]
 pub enum WordError {
     #[error("the words are no job")]
     NotAJob,
+    /// Memory was refused.
     #[error("out of memory")]
     NoMemory,
 }
@@ -53,7 +60,7 @@ impl From<AllocError> for WordError {
 /// there are no devices. All other words are no job, those that ask for help among them.
 #[tactic(auto, unfolding(crate::specs::Job::job_of))]
 pub fn read_words(alloc: Global, words: &Vec<String>) -> Result<Job, WordError>
-    ensures job { Gives job_view (job_of (map string_bytes words.now.items)) result }
+    ensures job { GivesJob (job_of (map string_bytes words.now.items)) result }
     ensures lawful { IfOk result (λ job. IsLawful (job_view job)) }
 {
     let matches = parse(judge_line(alloc)?, words.as_slice())?;
@@ -63,8 +70,9 @@ pub fn read_words(alloc: Global, words: &Vec<String>) -> Result<Job, WordError>
     }
 }
 
+/// The job that is given to the command `judge`.
 fn job_given(alloc: Global, given: &ArgMatches<'_>) -> Result<Job, WordError>
-    ensures job { Gives job_view (job_from (rows_of (found_of given.now))) result }
+    ensures job { GivesJob (job_from (rows_of (found_of given.now))) result }
     ensures lawful { IfOk result (λ job. IsLawful (job_view job)) }
 {
     match settings_from(given) {
@@ -91,6 +99,7 @@ struct Settings<'a> {
     max_trace: u64,
 }
 
+/// The settings that are given, where each can be read.
 #[tactic(auto, unfolding(crate::specs::Job::job_from))]
 fn settings_from<'a>(given: &ArgMatches<'a>) -> Option<Settings<'a>>
     ensures job { option_map settings_view result ≡ job_from (rows_of (found_of given.now)) }
@@ -98,7 +107,7 @@ fn settings_from<'a>(given: &ArgMatches<'a>) -> Option<Settings<'a>>
 {
     let ram = read_span(text_of(given, "ram")?)?;
     let io = read_io(text_of(given, "io"))?;
-    let map = map_of(ram, io)?;
+    let map = Map::new(ram, io)?;
     Some(Settings {
         image: text_of(given, "image")?,
         trace: text_of(given, "trace")?,
