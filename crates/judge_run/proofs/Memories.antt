@@ -3,16 +3,17 @@ use Rattle.std.proofs.Common.{◌≡◌, ℕ, true, false, List, length, nat_lt,
 use Rattle.std.proofs.lemmas.Bool.{ltb-false}
 use Rattle.std.proofs.lemmas.List.{take_all}
 use Rattle.outside_ports.specs.Ports.{Files, file_of, IsThere, IsMissing}
-use Rattle.outside_ports.specs.Reading.{HasFront, IsFront}
-use Rattle.outside_ports.specs.declared.reading.Front.{Front}
+use Rattle.outside_ports.specs.Front.{HasFront, IsFront}
+use Rattle.outside_ports.specs.declared.front.Front.{Front}
 use Rattle.judge_words.specs.Job.{JobView}
 use Rattle.image_text.specs.declared.fault.ImageFault.{ImageFault}
 use Rattle.image_text.specs.declared.fault.ImageError.{ImageError}
 use Rattle.image_text.specs.declared.fault.ImageError.TheVariants as errors
-use Rattle.image_text.specs.Gives.{FailsAs}
+use Rattle.hart_words.specs.Results.{FailsAs}
 use Rattle.image_text.specs.Image.{image_of, image_fault}
 use Rattle.trace_report.specs.declared.outcome.Outcome.TheVariants as outcomes
-use Rattle.rvfi_rows.specs.Gives.{◌>>=◌}
+use Rattle.hart_words.specs.Results.{◌>>=◌}
+use Rattle.page_image.specs.Bytes.{filled}
 use Rattle.judge_run.specs.declared.stop.Stop.{Stop}
 use Rattle.judge_run.specs.Answer.{file_memory, as_memory, memory_of, there}
 use Rattle.judge_run.specs.declared.stop.Stop.TheVariants.{Known, ReadFault, NoMemory}
@@ -29,6 +30,10 @@ whole job file front is more =
     let under : nat_lt job.max_image (length file) ≡ false = sym is.more ∙ more in
     let all : front.bytes.items ≡ file = is.bytes ∙ take_all job.max_image file (ltb-false job.max_image (length file) under) in
     rw under (ap (λ text. as_memory (image_of job.map.ram text)) (sym all))
+
+-- what the text describes is the memory
+pub pieces_read : {X : Type 0} (bytes : X → ℕ → Option ℕ) (pieces : X) (read : Result (ℕ → Option ℕ) ImageFault) → read ≡ Ok (bytes pieces) → as_memory read ≡ Ok (filled (bytes pieces))
+pieces_read bytes pieces read is = ap as_memory is
 
 pub pieces_refused : {X : Type 0} (view : X → ℕ → ℕ) (error : ImageError) (read : Result (ℕ → Option ℕ) ImageFault) → FailsAs (image_fault error) read → MeantBy view (Err (image_stop error)) (as_memory read)
 pieces_refused view (errors.Fault fault) read refused = ap as_memory refused

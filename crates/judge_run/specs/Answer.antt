@@ -10,8 +10,8 @@ use Rattle.trace_lines.specs.Lines.{Left, lines_of}
 use Rattle.rvfi_rows.specs.declared.fault.HeaderFault.{HeaderFault}
 use Rattle.rvfi_rows.specs.declared.verdict.Verdict.{Verdict}
 use Rattle.rvfi_rows.specs.declared.verdict.Verdict.TheVariants.{Agrees, Differs, Refused}
-use Rattle.rvfi_rows.specs.Columns.{ColumnList, columns_of}
-use Rattle.rvfi_rows.specs.Gives.{◌>>=◌}
+use Rattle.rvfi_rows.specs.Columns.{ColumnList, header_columns}
+use Rattle.hart_words.specs.Results.{◌>>=◌}
 use Rattle.trace_report.specs.declared.outcome.Outcome.{Outcome}
 use Rattle.trace_report.specs.declared.outcome.Outcome.TheVariants as outcomes
 use Rattle.judge_run.specs.Rows.{verdict_after, at_reset}
@@ -44,7 +44,8 @@ memory_of job files = do
   text ← there (files job.image)
   file_memory job text
 
--- a trace without a line
+-- a trace without a line; the lines of a whole file never end in `More` (trace_lines says so in
+-- `laws::pieces_are_the_file`), so its cases here and below never come
 abbrev pub without_header : JobView → Ending → Outcome
 without_header job (endings.TooLong line) = outcomes.TooLong line
 without_header job endings.TooLarge = outcomes.TraceTooLarge job.max_trace
@@ -67,7 +68,7 @@ by_header job memory ending (Ok columns) rows =
 
 abbrev pub by_lines : JobView → (ℕ → ℕ) → Ending → List (List ℕ) → Outcome
 by_lines job memory ending [] = without_header job ending
-by_lines job memory ending (header ∷ rows) = by_header job memory ending (columns_of header) rows
+by_lines job memory ending (header ∷ rows) = by_header job memory ending (header_columns header) rows
 
 -- the first line is the header, each other a row
 unfoldable pub lines_outcome : JobView → (ℕ → ℕ) → Left → Outcome

@@ -4,7 +4,7 @@ use Rattle.outside_ports.specs.Counts.{Rose}
 use Rattle.outside_ports.specs.Ports.{Files}
 use Rattle.judge_words.specs.Job.{job_of}
 use Rattle.trace_report.specs.declared.outcome.Outcome.{Outcome}
-use Rattle.trace_report.specs.Report.{text_of, status_of}
+use Rattle.trace_report.specs.Report.{report_of, status_of}
 use Rattle.judge_run.specs.Answer.{answer}
 use Rattle.judge_run.specs.Stops.{is_no_job}
 
@@ -25,7 +25,7 @@ pub record Wrote (told : Option Files) (words : List (List ℕ)) (before now : M
   pub outcome : Outcome
   pub is : IsOutcome told words outcome
   pub own : status ≡ status_of outcome
-  pub held : now.held ≡ option_map (λ bytes. bytes ++ text_of outcome) before.held
+  pub held : now.held ≡ option_map (λ bytes. bytes ++ report_of outcome) before.held
   pub faults : now.faults ≡ before.faults
   pub misses : now.misses ≡ before.misses
   pub sink_faults : now.sink_faults ≡ before.sink_faults
@@ -36,7 +36,7 @@ pub record Cut (told : Option Files) (words : List (List ℕ)) (before now : Mom
   pub count : ℕ
   pub is : IsOutcome told words outcome
   pub own : status ≡ 5
-  pub held : now.held ≡ option_map (λ bytes. bytes ++ take count (text_of outcome)) before.held
+  pub held : now.held ≡ option_map (λ bytes. bytes ++ take count (report_of outcome)) before.held
   pub faults : now.faults ≡ before.faults
   pub misses : now.misses ≡ before.misses
   pub rose : Rose before.sink_faults now.sink_faults
@@ -57,13 +57,13 @@ pub record OutOfMemory (before now : Moment) (status : ℕ) : Type 0 where
 -- the text of an outcome was written whole, or a write failed
 pub record WritesAll (outcome : Outcome) (status : ℕ) (before now : Option (List ℕ)) (faults later : ℕ) : Type 0 where
   pub own : status ≡ status_of outcome
-  pub held : now ≡ option_map (λ bytes. bytes ++ text_of outcome) before
+  pub held : now ≡ option_map (λ bytes. bytes ++ report_of outcome) before
   pub calm : later ≡ faults
 
 pub record WritesFront (outcome : Outcome) (status : ℕ) (before now : Option (List ℕ)) (faults later : ℕ) : Type 0 where
   pub count : ℕ
   pub own : status ≡ 5
-  pub held : now ≡ option_map (λ bytes. bytes ++ take count (text_of outcome)) before
+  pub held : now ≡ option_map (λ bytes. bytes ++ take count (report_of outcome)) before
   pub rose : Rose faults later
 
 abbrev pub Writes : Outcome → ℕ → Option (List ℕ) → Option (List ℕ) → ℕ → ℕ → Type 0
@@ -77,4 +77,4 @@ Ends told words before now status =
 -- the status and the bytes are those of the answer
 abbrev pub IsAnswer : Option Outcome → ℕ → Option (List ℕ) → Option (List ℕ) → Type 0
 IsAnswer None status before now = ⊥
-IsAnswer (Some outcome) status before now = (status ≡ status_of outcome) × (now ≡ option_map (λ bytes. bytes ++ text_of outcome) before)
+IsAnswer (Some outcome) status before now = (status ≡ status_of outcome) × (now ≡ option_map (λ bytes. bytes ++ report_of outcome) before)

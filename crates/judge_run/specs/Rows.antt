@@ -2,13 +2,14 @@
 use Rattle.std.specs.Prelude.{◌≡◌, ℕ, ◌+◌, List, [], ◌∷◌, Option, Some, None, Result, Ok, Err}
 use Rattle.hart_words.specs.declared.map.Map.{Map}
 use Rattle.hart_words.specs.declared.signal.Difference.{Difference}
-use Rattle.hart_words.specs.Memory.{Bytes, put}
-use Rattle.hart_words.specs.Actions.{Traced}
+use Rattle.hart_words.specs.Memory.{Bytes, after_writes}
+use Rattle.hart_words.specs.Actions.{Run}
 use Rattle.rvfi_rows.specs.declared.fault.RowFault.{RowFault}
 use Rattle.rvfi_rows.specs.declared.verdict.Verdict.{Verdict}
 use Rattle.rvfi_rows.specs.declared.verdict.Verdict.TheVariants.{Agrees, Differs, Refused}
 use Rattle.rvfi_rows.specs.Columns.{ColumnList}
-use Rattle.rvfi_rows.specs.Rows.{ShownList, row_of, shown_in}
+use Rattle.hart_words.specs.Signals.{Shown}
+use Rattle.rvfi_rows.specs.Rows.{row_of_line}
 use Rattle.hart_step.specs.declared.state.Core.{Core}
 use Rattle.hart_step.specs.Cores.{core_at_reset}
 use Rattle.hart_step.specs.Steps.{Gave, stepped}
@@ -26,27 +27,27 @@ abbrev pub at_reset : ℕ → Map → Bytes → Standing
 at_reset pc map bytes = record { core = core_at_reset pc map; bytes = bytes; rows = 0; valid = 0 }
 
 -- the hart's step by a row
-abbrev pub step_by : Standing → ShownList → Traced Gave
-step_by before row = (stepped before.core (shown_in row)).run before.bytes
+abbrev pub step_by : Standing → Shown → Run Gave
+step_by before row = (stepped before.core row).run before.bytes
 
 -- the first difference of a row
-abbrev pub row_difference : Traced Gave → ShownList → Option Difference
-row_difference step row = difference_of step.value.expected (shown_in row)
+abbrev pub row_difference : Run Gave → Shown → Option Difference
+row_difference step row = difference_of step.value.expected row
 
 -- a row that is not valid counts, and changes nothing
 abbrev pub passed : Standing → Standing
 passed before = record { core = before.core; bytes = before.bytes; rows = before.rows + 1; valid = before.valid }
 
 -- a valid row steps the hart
-abbrev pub judged_by : Standing → Traced Gave → Standing
-judged_by before step = record { core = step.value.next; bytes = put step.wrote before.bytes; rows = before.rows + 1; valid = before.valid + 1 }
+abbrev pub judged_by : Standing → Run Gave → Standing
+judged_by before step = record { core = step.value.next; bytes = after_writes step.wrote before.bytes; rows = before.rows + 1; valid = before.valid + 1 }
 
 abbrev pub by_difference : Option Difference → ℕ → Verdict → Verdict
 by_difference (Some difference) row rest = Differs row difference
 by_difference None row rest = rest
 
 -- a refused row ends the trace, and so does a valid one that differs
-abbrev pub by_row : Result (Option ShownList) RowFault → Standing → (Standing → Verdict) → Verdict
+abbrev pub by_row : Result (Option Shown) RowFault → Standing → (Standing → Verdict) → Verdict
 by_row (Err fault) before rest = Refused (before.rows + 1) fault
 by_row (Ok None) before rest = rest (passed before)
 by_row (Ok (Some row)) before rest =
@@ -55,7 +56,7 @@ by_row (Ok (Some row)) before rest =
 -- the verdict on lines, each a row, after what was judged before
 unfoldable pub verdict_after : ColumnList → Standing → List (List ℕ) → Verdict
 verdict_after columns before [] = Agrees before.rows before.valid
-verdict_after columns before (line ∷ lines) = by_row (row_of columns line) before (λ now. verdict_after columns now lines)
+verdict_after columns before (line ∷ lines) = by_row (row_of_line columns line) before (λ now. verdict_after columns now lines)
 
 -- a line either ends the trace with a verdict, or leaves the rest of it to be judged
 abbrev pub verdict_or : Option Verdict → Verdict → Verdict

@@ -1,8 +1,7 @@
 //! The memory of the hart at reset.
 
 ghost use Rattle.std.specs.Prelude.{◌≡◌, ◌^◌, ◌≤◌, ℕ, List, IfOk};
-ghost use Rattle.outside_ports.specs.Reading.{HasFront};
-ghost use Rattle.hart_words.specs.Map.{IsSpan};
+ghost use Rattle.outside_ports.specs.Front.{HasFront};
 ghost use Rattle.image_text.specs.Bytes.{byte_at};
 ghost use Rattle.image_text.specs.Image.{image_of};
 ghost use Rattle.page_image.specs.Bytes.{byte_of, filled};
@@ -23,11 +22,13 @@ use trace_report::Outcome;
 pub fn read_memory<H: Shelf>(alloc: Global, job: &Job, shelf: &mut H) -> Result<PageImage, Stop>
     requires { IsLawful (job_view job.now) }
     ensures told { H.told shelf.new ≡ H.told shelf.old }
-    ensures meant { MeantTold (H.told shelf.old) (λ image. byte_of image) result (λ files. memory_of (job_view job.now) files) }
+    ensures meant { MeantTold (H.told shelf.old) (λ image. byte_of image) result
+        (λ files. memory_of (job_view job.now) files) }
     ensures ram { IfOk result (λ image. image.ram ≡ job.now.map.ram) }
     ensures jobs { IsJobs result }
     ensures faults { CountsStop result (H.faults shelf.old) (H.faults shelf.new) }
-    ensures misses { MissesStop result (H.told shelf.old) (λ files. memory_of (job_view job.now) files) (H.misses shelf.old) (H.misses shelf.new) }
+    ensures misses { MissesStop result (H.told shelf.old)
+        (λ files. memory_of (job_view job.now) files) (H.misses shelf.old) (H.misses shelf.new) }
 {
     match read_front(alloc, shelf, job.image.as_str(), job.max_image) {
         Ok(front) => memory_in(alloc, job, &front),
@@ -39,7 +40,8 @@ pub fn read_memory<H: Shelf>(alloc: Global, job: &Job, shelf: &mut H) -> Result<
 /// The memory of an image of which the front was read.
 fn memory_in(alloc: Global, job: &Job, front: &Front) -> Result<PageImage, Stop>
     requires { IsLawful (job_view job.now) }
-    ensures meant { (file : List ℕ) → HasFront file (job_view job.now).max_image front.now → MeantBy (λ image. byte_of image) result (file_memory (job_view job.now) file) }
+    ensures meant { (file : List ℕ) → HasFront file (job_view job.now).max_image front.now
+        → MeantBy (λ image. byte_of image) result (file_memory (job_view job.now) file) }
     ensures ram { IfOk result (λ image. image.ram ≡ job.now.map.ram) }
     ensures jobs { IsJobs result }
     ensures read { WasRead result }
@@ -60,10 +62,10 @@ fn memory_in(alloc: Global, job: &Job, front: &Front) -> Result<PageImage, Stop>
 }
 
 /// The pieces of an image's text.
-#[tactic(auto, using(crate::proofs::Memories::pieces_refused))]
+#[tactic(auto, using(crate::proofs::Memories::pieces_read, crate::proofs::Memories::pieces_refused))]
 fn pieces_in(alloc: Global, text: &[u8], ram: Span) -> Result<Pieces, Stop>
-    requires { IsSpan ram }
-    ensures meant { MeantBy (λ pieces. filled (byte_at pieces)) result (as_memory (image_of ram text.now)) }
+    ensures meant { MeantBy (λ pieces. filled (byte_at pieces)) result
+        (as_memory (image_of ram text.now)) }
     ensures jobs { IsJobs result }
     ensures read { WasRead result }
 {

@@ -1,21 +1,19 @@
 //! The judge: words, an image and a trace in, one line of text and a status out.
+//!
+//! In come words, and files behind a shelf. Out come one line of text into a sink, and a status:
+//! those of the outcome that `answer` (`specs/Answer.antt`) gives for the words and the files. It
+//! joins the parts that follow the standards; none of its own does.
 #![tactic(auto)]
 
-mod finding;
 mod images;
-mod judging;
+mod judgement;
+mod outcomes;
+mod output;
 mod rows;
 mod stop;
 mod traces;
-mod writing;
 
-pub use finding::find_outcome;
-pub use images::read_memory;
-pub use judging::judge;
-pub use rows::{Progress, judge_lines};
-pub use stop::Stop;
-pub use traces::judge_trace;
-pub use writing::write_all;
+pub use judgement::judge;
 
 #[cfg(test)]
 mod program_tests;

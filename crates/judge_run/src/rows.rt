@@ -1,7 +1,6 @@
 //! Judging the rows of a trace, one after the other.
 
 ghost use Rattle.std.specs.Prelude.{◌≡◌, ◌≤◌, ◌<◌, ◌+◌, ◌^◌, IfOk, IfNone, drop, length};
-ghost use Rattle.hart_words.specs.Map.{IsMap};
 ghost use Rattle.trace_lines.specs.Pieces.{lines_in};
 ghost use Rattle.hart_step.specs.Cores.{IsSound, core_at_reset};
 ghost use Rattle.judge_run.specs.Rows.{verdict_after, LineGives, at_reset};
@@ -35,8 +34,18 @@ impl<M: PhysMem + Drop> Progress<M> {
         requires rows { self.old.rows < 2 ^ 63 }
         requires valid { self.old.valid < 2 ^ 63 }
         ensures gives { IfOk result (λ end. LineGives columns.now
-            (record { core = self.old.hart.core; bytes = M.bytes self.old.hart.mem; rows = self.old.rows; valid = self.old.valid }) line.now end
-            (record { core = self.new.hart.core; bytes = M.bytes self.new.hart.mem; rows = self.new.rows; valid = self.new.valid })) }
+            (record {
+              core = self.old.hart.core;
+              bytes = M.bytes self.old.hart.mem;
+              rows = self.old.rows;
+              valid = self.old.valid;
+            }) line.now end
+            (record {
+              core = self.new.hart.core;
+              bytes = M.bytes self.new.hart.mem;
+              rows = self.new.rows;
+              valid = self.new.valid;
+            })) }
         ensures sound_stays { IsSound self.new.hart.core }
         ensures ram_stays { M.ram self.new.hart.mem ≡ self.new.hart.core.map.ram }
         ensures rows { IfOk result (λ end. IfNone end (self.new.rows ≡ self.old.rows + 1)) }
@@ -83,7 +92,9 @@ pub fn judge_lines<M: PhysMem + Drop>(
     requires sound { IsSound hart.core }
     requires ram { M.ram hart.mem ≡ hart.core.map.ram }
     requires some { 1 ≤ length (lines_in lines.now) }
-    ensures { IfOk result (λ verdict. verdict ≡ verdict_after columns.now (record { core = hart.core; bytes = M.bytes hart.mem; rows = 0; valid = 0 }) (drop 1 (lines_in lines.now))) }
+    ensures { IfOk result (λ verdict. verdict ≡ verdict_after columns.now
+        (record { core = hart.core; bytes = M.bytes hart.mem; rows = 0; valid = 0 })
+        (drop 1 (lines_in lines.now))) }
 {
     let mut progress = Progress {
         hart,

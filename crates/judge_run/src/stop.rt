@@ -1,3 +1,5 @@
+//! Why a run of the judge goes no further.
+
 use std::alloc::AllocError;
 use trace_report::Outcome;
 

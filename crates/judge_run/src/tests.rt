@@ -87,6 +87,102 @@ fn judges_words_images_and_traces(rt: HostRuntime) -> Result<(), Fail> {
     Ok(())
 }
 
+/// What comes first decides: a difference before a bad row, a bad row before what follows it, and a
+/// limit before all that a file holds.
+#[test]
+fn judges_by_what_comes_first(rt: HostRuntime) -> Result<(), Fail> {
+    let plain: &[&str] = &["rvjudge", "judge", "i", "t"];
+    let low: &[&str] = &[
+        "rvjudge", "judge", "i", "t", "--ram", "0:0x1000", "--pc", "0x100",
+    ];
+    let image_limit: &[&str] = &["rvjudge", "judge", "i", "t", "--max-image", "5"];
+    let trace_limit: &[&str] = &["rvjudge", "judge", "i", "t", "--max-trace", "10"];
+    // ADDI x1, x0, 5; ADDI x1, x1, 1. And an image whose first instruction is illegal.
+    let two = b"@80000000 93 00 50 00 93 80 10 00".as_slice();
+    let illegal = b"@0 93 00 50 00 @100 00 00".as_slice();
+    let cases = [
+        (
+            plain,
+            two,
+            b"order,insn,pc_rdata,rd_addr,rd_wdata,pc_wdata
+0,0x00500093,0x80000000,1,5,0x80000004
+1,0x00108093,0x80000004,1,7,0x80000008
+zz
+"
+                .as_slice(),
+            1,
+            b"differs row 2: rd_wdata expected 0x0000000000000006 found 0x0000000000000007\n".as_slice(),
+        ),
+        (
+            plain,
+            two,
+            b"order,insn,pc_rdata,rd_addr,rd_wdata,pc_wdata
+0,0x00500093,0x80000000,1,5,0x80000004
+zz
+",
+            4,
+            b"refused trace: row 2: wrong number of fields\n",
+        ),
+        (
+            plain,
+            two,
+            b"order,insn,pc_rdata,rd_addr,rd_wdata,pc_wdata
+0,0x00500093,0x80000000,1,5,0x80000004
+1,0x00108093,0x10000000000000000,1,6,0x80000008
+",
+            4,
+            b"refused trace: row 2: pc_rdata too wide\n",
+        ),
+        (
+            low,
+            illegal,
+            b"insn,pc_rdata,trap,intr\n0,0x100,1,0\n0x00500093,0,0,0\n",
+            0,
+            b"agrees 2\n",
+        ),
+        (
+            low,
+            illegal,
+            b"insn,pc_rdata,trap,intr\n0,0x100,1,0\n0x00500093,0,0,1\n",
+            0,
+            b"agrees 2\n",
+        ),
+        // An order that wraps, an invalid row and a blank line, behind a mark and with returns.
+        (
+            plain,
+            two,
+            b"\xef\xbb\xbfvalid,order,insn,pc_rdata\r
+1,0xffffffffffffffff,0x00500093,0x80000000\r
+0,zz,,q\r
+\r
+1,0,0x00108093,0x80000004\r
+",
+            0,
+            b"agrees 2\n",
+        ),
+        (
+            image_limit,
+            IMAGE,
+            TRACE,
+            3,
+            b"refused image: more than 5 bytes\n",
+        ),
+        (
+            trace_limit,
+            IMAGE,
+            TRACE,
+            4,
+            b"refused trace: more than 10 bytes\n",
+        ),
+    ];
+    for (words, image, trace, status, text) in cases {
+        let (found, sink) = judged(&rt, rt.alloc(), words, image, trace)?;
+        assert_eq!(rt; sink.held.as_slice(), text);
+        assert_eq!(rt; found, status);
+    }
+    Ok(())
+}
+
 /// The example with each front of its trace alone: the text for the lengths from one to another.
 #[test]
 fn judges_each_front_of_a_trace(rt: HostRuntime) -> Result<(), Fail> {

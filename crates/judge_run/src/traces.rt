@@ -30,10 +30,13 @@ pub fn judge_trace<H: Shelf>(
     requires lawful { IsLawful (job_view job.now) }
     requires ram { image.now.ram ≡ job.now.map.ram }
     ensures told { H.told shelf.new ≡ H.told shelf.old }
-    ensures meant { MeantTold (H.told shelf.old) (λ outcome. outcome) result (λ files. trace_outcome (job_view job.now) (byte_of image.now) files) }
+    ensures meant { MeantTold (H.told shelf.old) (λ outcome. outcome) result
+        (λ files. trace_outcome (job_view job.now) (byte_of image.now) files) }
     ensures jobs { IsJobsOutcome result }
     ensures faults { CountsStop result (H.faults shelf.old) (H.faults shelf.new) }
-    ensures misses { MissesStop result (H.told shelf.old) (λ files. trace_outcome (job_view job.now) (byte_of image.now) files) (H.misses shelf.old) (H.misses shelf.new) }
+    ensures misses { MissesStop result (H.told shelf.old)
+        (λ files. trace_outcome (job_view job.now) (byte_of image.now) files) (H.misses shelf.old)
+        (H.misses shelf.new) }
 {
     let taker = LineTaker::open(alloc, job.trace.as_str(), job.max_trace)?;
     match taker.next_lines(shelf, usize::MAX) {
@@ -56,7 +59,8 @@ fn outcome_of(
 ) -> Result<Outcome, NoMemory>
     requires lawful { IsLawful (job_view job.now) }
     requires ram { image.now.ram ≡ job.now.map.ram }
-    ensures outcome { IfOk result (λ outcome. outcome ≡ lines_outcome (job_view job.now) (byte_of image.now) (piece_view piece.now)) }
+    ensures outcome { IfOk result (λ outcome. outcome
+        ≡ lines_outcome (job_view job.now) (byte_of image.now) (piece_view piece.now)) }
     ensures jobs { IfOk result (λ outcome. is_no_job outcome ≡ false) }
 {
     let header = match piece.lines.get(0) {

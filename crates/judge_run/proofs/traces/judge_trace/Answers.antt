@@ -9,9 +9,9 @@ use Rattle.judge_run.proofs.traces.judge_trace.Goals as goal
 pub returns-in-Ok-outcome_of-clause-meant : goal.returns-in-Ok-outcome_of-clause-meant
 returns-in-Ok-outcome_of-clause-meant g c =
     let opens = c.in_ok-taker.ensures in
-    let room : room_of c.in_ok-taker.taker ≡ c.args.job.now.max_trace = ap (λ text. room_after c.in_ok-taker.taker.most text) opens.text ∙ opens.most in
+    let room : room_of c.in_ok-taker.taker ≡ c.args.job.now.max_trace = ap (λ text. room_after c.in_ok-taker.taker.most text) opens.cursor ∙ opens.most in
     let few : length (lines_in c.in-Ok.taken.0.lines) < 18446744073709551615 = omega (arith, room, c.in-Ok.ensures.room, c.requires.lawful.max_trace) in
-    trace_told (g.H.Shelf.told c.args.shelf.now) c.as_str.result.now (job_view c.args.job.now) (byte_of c.args.image.now) 18446744073709551615 c.in_ok-taker.taker c.in-Ok.taken.1 c.in-Ok.taken.0 c.in-Ok-outcome_of.outcome c.as_str.ensures.value opens (c.in-Ok.ensures.there opens.text) c.in-Ok.ensures.gives few c.in-Ok-outcome_of.ensures.outcome
+    trace_told (g.H.Shelf.told c.args.shelf.now) c.as_str.result.now (job_view c.args.job.now) (byte_of c.args.image.now) 18446744073709551615 c.in_ok-taker.taker c.in-Ok.taken.1 c.in-Ok.taken.0 c.in-Ok-outcome_of.outcome c.as_str.ensures.value opens (c.in-Ok.ensures.there opens.cursor) c.in-Ok.ensures.takes few c.in-Ok-outcome_of.ensures.outcome
 
 pub returns-in-Err-ReadFault-clause-misses : goal.returns-in-Err-ReadFault-clause-misses
 returns-in-Err-ReadFault-clause-misses g c =

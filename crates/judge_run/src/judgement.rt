@@ -7,9 +7,9 @@ ghost use Rattle.judge_words.specs.Job.{job_of};
 ghost use Rattle.judge_run.specs.Answer.{answer};
 ghost use Rattle.judge_run.specs.Ends.{Ends, IsAnswer, Writes};
 
-use crate::finding::find_outcome;
+use crate::outcomes::find_outcome;
+use crate::output::write_all;
 use crate::stop::Stop;
-use crate::writing::write_all;
 use outside_ports::{Gate, Shelf, Sink};
 use std::alloc::Global;
 use std::thread::Threads;
@@ -31,26 +31,43 @@ pub fn judge<R, H: Shelf, O: Sink, G: Gate>(
 ) -> u8
 where
     R: Threads + Sync,
-    // Where the files return what they hold and no fault rises, the bytes written and the status are
-    // those of one reference hart stepped from reset over the rows in order and compared at each; or
-    // the status is 6 and nothing is written.
+    // Where the files return what they hold and no fault rises, the bytes written and the status
+    // are those of one reference hart stepped from reset over the rows in order and compared at
+    // each; or the status is 6 and nothing is written.
     ensures headline { (files : Files) → H.told shelf.old ≡ Some files
-        → ¬ Rose (H.faults shelf.old) (H.faults shelf.new) → ¬ Rose (O.faults out.old) (O.faults out.new)
-        → IsAnswer (answer (map string_bytes words.now.items) files) result (O.held out.old) (O.held out.new)
+        → ¬ Rose (H.faults shelf.old) (H.faults shelf.new)
+        → ¬ Rose (O.faults out.old) (O.faults out.new)
+        → IsAnswer (answer (map string_bytes words.now.items) files) result
+        (O.held out.old) (O.held out.new)
         ⊎ ((result ≡ 6) × (O.held out.new ≡ O.held out.old)) }
     // Whatever the outside does, the run ends in one of four ways.
     ensures ends { Ends (H.told shelf.old) (map string_bytes words.now.items)
-        (record { faults = H.faults shelf.old; misses = H.misses shelf.old; held = O.held out.old; sink_faults = O.faults out.old })
-        (record { faults = H.faults shelf.new; misses = H.misses shelf.new; held = O.held out.new; sink_faults = O.faults out.new })
+        (record {
+          faults = H.faults shelf.old;
+          misses = H.misses shelf.old;
+          held = O.held out.old;
+          sink_faults = O.faults out.old;
+        })
+        (record {
+          faults = H.faults shelf.new;
+          misses = H.misses shelf.new;
+          held = O.held out.new;
+          sink_faults = O.faults out.new;
+        })
         result }
     // A count that is greater shows in the status, and the status shows a count that rose.
-    ensures counted { (H.faults shelf.old < H.faults shelf.new) ⊎ (O.faults out.old < O.faults out.new) → result ≡ 5 }
-    ensures fault { result ≡ 5 → Rose (H.faults shelf.old) (H.faults shelf.new) ⊎ Rose (O.faults out.old) (O.faults out.new) }
+    ensures counted { (H.faults shelf.old < H.faults shelf.new)
+        ⊎ (O.faults out.old < O.faults out.new) → result ≡ 5 }
+    ensures fault { result ≡ 5 → Rose (H.faults shelf.old) (H.faults shelf.new)
+        ⊎ Rose (O.faults out.old) (O.faults out.new) }
     ensures misses { H.misses shelf.old < H.misses shelf.new
-        → (files : Files) × (H.told shelf.old ≡ Some files) × (answer (map string_bytes words.now.items) files ≡ None) }
+        → (files : Files) × (H.told shelf.old ≡ Some files)
+        × (answer (map string_bytes words.now.items) files ≡ None) }
     // For every shelf the words alone decide whether they are refused.
     ensures words { result ≤ 4 → (result ≡ 2) ↔ (job_of (map string_bytes words.now.items) ≡ None) }
     ensures out_of_memory { result ≡ 6 → O.held out.new ≡ O.held out.old }
+    // The shelf tells the same files afterwards, so that runs can follow one another.
+    ensures told { H.told shelf.new ≡ H.told shelf.old }
     ensures range { result ≤ 6 }
 {
     let _runtime = rt;
@@ -60,9 +77,20 @@ where
 
 /// Finds the outcome and writes it.
 fn run<H: Shelf, O: Sink>(alloc: Global, words: &Vec<String>, shelf: &mut H, out: &mut O) -> u8
-    ensures { Ends (H.told shelf.old) (map string_bytes words.now.items)
-        (record { faults = H.faults shelf.old; misses = H.misses shelf.old; held = O.held out.old; sink_faults = O.faults out.old })
-        (record { faults = H.faults shelf.new; misses = H.misses shelf.new; held = O.held out.new; sink_faults = O.faults out.new })
+    ensures told { H.told shelf.new ≡ H.told shelf.old }
+    ensures ends { Ends (H.told shelf.old) (map string_bytes words.now.items)
+        (record {
+          faults = H.faults shelf.old;
+          misses = H.misses shelf.old;
+          held = O.held out.old;
+          sink_faults = O.faults out.old;
+        })
+        (record {
+          faults = H.faults shelf.new;
+          misses = H.misses shelf.new;
+          held = O.held out.new;
+          sink_faults = O.faults out.new;
+        })
         result }
 {
     match find_outcome(alloc, words, shelf) {
@@ -75,7 +103,8 @@ fn run<H: Shelf, O: Sink>(alloc: Global, words: &Vec<String>, shelf: &mut H, out
 
 /// Writes the text of an outcome, and gives its status, or 5 where a write failed.
 fn write_outcome<O: Sink>(outcome: &Outcome, out: &mut O) -> u8
-    ensures { Writes outcome.now result (O.held out.old) (O.held out.new) (O.faults out.old) (O.faults out.new) }
+    ensures { Writes outcome.now result (O.held out.old) (O.held out.new)
+        (O.faults out.old) (O.faults out.new) }
 {
     let text = report(outcome);
     let text = text.as_slice();

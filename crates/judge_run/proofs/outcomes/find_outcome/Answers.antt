@@ -3,7 +3,7 @@ use Rattle.judge_words.specs.Job.{job_view}
 use Rattle.page_image.specs.Bytes.{byte_of}
 use Rattle.page_image.specs.declared.image.PageImage.{PageImage}
 use Rattle.judge_run.proofs.Steps.{judged_no_job, judged_stop, judged_trace, missed_memory, missed_trace}
-use Rattle.judge_run.proofs.finding.find_outcome.Goals as goal
+use Rattle.judge_run.proofs.outcomes.find_outcome.Goals as goal
 
 pub returns-in-Err-NotAJob-clause-meant : goal.returns-in-Err-NotAJob-clause-meant
 returns-in-Err-NotAJob-clause-meant g c =

@@ -9,7 +9,8 @@ use outside_ports::Sink;
 /// fewer where a write failed.
 pub fn write_all<O: Sink>(out: &mut O, text: &[u8]) -> usize
     ensures within { result ≤ length text.now }
-    ensures held { O.held out.new ≡ option_map (λ bytes. bytes ++ take result text.now) (O.held out.old) }
+    ensures held { O.held out.new ≡ option_map (λ bytes. bytes ++ take result text.now)
+        (O.held out.old) }
     ensures whole { result ≡ length text.now → O.faults out.new ≡ O.faults out.old }
     ensures cut { result < length text.now → Rose (O.faults out.old) (O.faults out.new) }
     ensures kept { O.faults out.old ≤ O.faults out.new }

@@ -21,10 +21,13 @@ pub fn find_outcome<H: Shelf>(
     shelf: &mut H,
 ) -> Result<Outcome, Stop>
     ensures told { H.told shelf.new ≡ H.told shelf.old }
-    ensures meant { MeantTold (H.told shelf.old) (λ outcome. outcome) result (λ files. judged (map string_bytes words.now.items) files) }
+    ensures meant { MeantTold (H.told shelf.old) (λ outcome. outcome) result
+        (λ files. judged (map string_bytes words.now.items) files) }
     ensures words { WordsTell (job_of (map string_bytes words.now.items)) result }
     ensures faults { CountsStop result (H.faults shelf.old) (H.faults shelf.new) }
-    ensures misses { MissesStop result (H.told shelf.old) (λ files. judged (map string_bytes words.now.items) files) (H.misses shelf.old) (H.misses shelf.new) }
+    ensures misses { MissesStop result (H.told shelf.old)
+        (λ files. judged (map string_bytes words.now.items) files) (H.misses shelf.old)
+        (H.misses shelf.new) }
 {
     let job = match read_words(alloc, words) {
         Ok(job) => job,

@@ -1,0 +1,24 @@
+use Rattle.std.proofs.Common.{map, string_bytes}
+use Rattle.judge_run.proofs.Runs.{headline, counted, fault, misses, words_decide, out_of_memory, range}
+use Rattle.judge_run.proofs.judgement.judge.Goals as goal
+
+pub returns-clause-headline : goal.returns-clause-headline
+returns-clause-headline g c = headline (g.H.Shelf.told c.args.shelf.now) (map string_bytes c.args.words.now.items) _ _ c.run.result c.run.ensures.ends
+
+pub returns-clause-counted : goal.returns-clause-counted
+returns-clause-counted g c = counted (g.H.Shelf.told c.args.shelf.now) (map string_bytes c.args.words.now.items) _ _ c.run.result c.run.ensures.ends
+
+pub returns-clause-fault : goal.returns-clause-fault
+returns-clause-fault g c = fault (g.H.Shelf.told c.args.shelf.now) (map string_bytes c.args.words.now.items) _ _ c.run.result c.run.ensures.ends
+
+pub returns-clause-misses : goal.returns-clause-misses
+returns-clause-misses g c = misses (g.H.Shelf.told c.args.shelf.now) (map string_bytes c.args.words.now.items) _ _ c.run.result c.run.ensures.ends
+
+pub returns-clause-words : goal.returns-clause-words
+returns-clause-words g c = words_decide (g.H.Shelf.told c.args.shelf.now) (map string_bytes c.args.words.now.items) _ _ c.run.result c.run.ensures.ends
+
+pub returns-clause-out_of_memory : goal.returns-clause-out_of_memory
+returns-clause-out_of_memory g c = out_of_memory (g.H.Shelf.told c.args.shelf.now) (map string_bytes c.args.words.now.items) _ _ c.run.result c.run.ensures.ends
+
+pub returns-clause-range : goal.returns-clause-range
+returns-clause-range g c = range (g.H.Shelf.told c.args.shelf.now) (map string_bytes c.args.words.now.items) _ _ c.run.result c.run.ensures.ends
