@@ -1,16 +1,23 @@
-//! The program: it gives the judge real files and standard output, and ends with its status.
+//! The program. The words of the command line go in; one line on standard output and the status
+//! come out. It gives the judge real files and standard output, and ends with the judge's status,
+//! which `exit_code` is held to by judge_run's specs/Ends.antt. The ports are outside_ports' own.
 #![tactic(auto)]
+
+ghost use Rattle.std.specs.Prelude.{map, string_bytes};
+ghost use Rattle.std.specs.Process.{exit_status};
+ghost use Rattle.judge_run.specs.Ends.{Ends};
 
 mod shelf;
 mod sink;
 
 use judge_run::judge;
-use outside_ports::OpenGate;
+use outside_ports::{OpenGate, Shelf, Sink};
 use shelf::FileShelf;
 use sink::OutSink;
 use std::alloc::{AllocError, Global};
 use std::process::ExitCode;
 use std::rt::Env;
+use std::thread::Threads;
 use std::{env, io};
 
 /// The status where memory is refused.
@@ -32,6 +39,35 @@ fn command_words<R: Env + AllocGlobal>(rt: &R) -> Result<Vec<String>, AllocError
     Ok(words)
 }
 
+/// Judges what the words name over these files, writes to this sink, and gives the judge's status
+/// to end with.
+fn exit_code<R, H: Shelf, O: Sink>(
+    rt: &R,
+    alloc: Global,
+    words: &Vec<String>,
+    shelf: &mut H,
+    out: &mut O,
+) -> ExitCode
+where
+    R: Threads + Sync,
+    ensures { Ends (H.told shelf.old) (map string_bytes words.now.items)
+        (record {
+          faults = H.faults shelf.old;
+          misses = H.misses shelf.old;
+          held = O.held out.old;
+          sink_faults = O.faults out.old;
+        })
+        (record {
+          faults = H.faults shelf.new;
+          misses = H.misses shelf.new;
+          held = O.held out.new;
+          sink_faults = O.faults out.new;
+        })
+        (exit_status result) }
+{
+    ExitCode::from(judge(rt, alloc, words, shelf, out, &OpenGate))
+}
+
 fn main(rt: HostRuntime) -> ExitCode {
     let alloc = rt.alloc();
     let Ok(words) = command_words(&rt) else {
@@ -39,8 +75,7 @@ fn main(rt: HostRuntime) -> ExitCode {
     };
     let mut shelf = FileShelf::new(alloc, &rt);
     let mut sink = OutSink::new(&rt);
-    let status = judge(&rt, alloc, &words, &mut shelf, &mut sink, &OpenGate);
-    ExitCode::from(status)
+    exit_code(&rt, alloc, &words, &mut shelf, &mut sink)
 }
 
 #[cfg(test)]

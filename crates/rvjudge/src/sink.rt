@@ -1,6 +1,7 @@
 //! Standard output.
 
-ghost use Rattle.std.specs.Prelude.{◌≡◌, ◌≤◌, ◌<◌, None, IfOk, OnOk, OnErr, length};
+ghost use Rattle.std.specs.Prelude.{◌≡◌, ◌≤◌, ◌<◌, None, IfOk, OnOk, OnErr, length, take};
+ghost use Rattle.std.specs.Io.KnownBytes.{Appends};
 ghost use Rattle.outside_ports.specs.Counts.{Rose, counted};
 
 use outside_ports::{Failed, Sink};
@@ -16,6 +17,7 @@ pub struct OutSink<'a, R: Print> {
 }
 
 impl<'a, R: Print> OutSink<'a, R> {
+    /// Standard output, with no fault yet.
     pub fn new(rt: &'a R) -> Self
         ensures faults { result.faults ≡ 0 }
     {
@@ -23,9 +25,12 @@ impl<'a, R: Print> OutSink<'a, R> {
     }
 }
 
-/// Writes and flushes, again where a signal broke in before a byte was taken.
+/// Writes and flushes, again where a signal broke in before a byte was taken. It says how many
+/// bytes were taken: where the writer tells what it holds, just the first so many of the piece.
 fn write_some<W: Write>(to: &mut W, piece: &[u8]) -> io::Result<usize>
     ensures within { IfOk result (λ count. count ≤ length piece.now) }
+    ensures taken { let before = W.contents to.old in let now = W.contents to.new in
+        IfOk result (λ count. Appends before now (take count piece.now)) }
 {
     for _ in 0..u64::MAX {
         match to.write(piece) {
@@ -38,6 +43,25 @@ fn write_some<W: Write>(to: &mut W, piece: &[u8]) -> io::Result<usize>
         }
     }
     Err(io::Error::from(io::ErrorKind::Interrupted))
+}
+
+/// Writes bytes from the front of a piece, at least one of a nonempty piece, and counts a failure.
+pub fn write_counted<W: Write>(to: &mut W, piece: &[u8], faults: &mut u64) -> Result<usize, Failed>
+    ensures within { IfOk result (λ count. count ≤ length piece.now) }
+    ensures some { IfOk result (λ count. 0 < length piece.now → 0 < count) }
+    ensures taken { let before = W.contents to.old in let now = W.contents to.new in
+        IfOk result (λ count. Appends before now (take count piece.now)) }
+    ensures calm { OnOk result (faults.new ≡ faults.old) }
+    ensures fault { OnErr result (faults.new ≡ counted faults.old) }
+    ensures kept { faults.old ≤ faults.new }
+{
+    match write_some(to, piece) {
+        Ok(count) if count > 0 || piece.is_empty() => Ok(count),
+        _ => {
+            *faults = faults.saturating_add(1);
+            Err(Failed)
+        }
+    }
 }
 
 impl<R: Print> Sink for OutSink<'_, R> {
@@ -53,12 +77,6 @@ impl<R: Print> Sink for OutSink<'_, R> {
         ensures rose { OnErr result (Rose self.old.faults self.new.faults) }
         ensures kept { self.old.faults ≤ self.new.faults }
     {
-        match write_some(&mut io::writer(self.rt), piece) {
-            Ok(count) if count > 0 || piece.is_empty() => Ok(count),
-            _ => {
-                self.faults = self.faults.saturating_add(1);
-                Err(Failed)
-            }
-        }
+        write_counted(&mut io::writer(self.rt), piece, &mut self.faults)
     }
 }
