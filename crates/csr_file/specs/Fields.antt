@@ -1,6 +1,8 @@
 -- Bits and fields of the registers, from the Privileged Architecture's chapter "Machine-Level ISA" (mstatus,
 -- mip).
-use Rattle.std.specs.Prelude.{ℕ, ◌+◌, ◌-◌, ◌*◌, ◌/◌, ◌%◌, ◌^◌, Bool, ◌==◌, bit_and, bit_or, List, [], ◌∷◌}
+use Rattle.std.specs.Prelude.{ℕ, ◌+◌, ◌-◌, ◌*◌, ◌/◌, ◌%◌, ◌^◌, Bool, ◌==◌, if◌then◌else◌, bit_and, bit_or, List, [], ◌∷◌}
+use Rattle.hart_words.specs.declared.privilege.Mode.{Mode}
+use Rattle.hart_words.specs.declared.privilege.Mode.TheVariants.{User, Supervisor, Machine}
 use Rattle.csr_file.specs.declared.fields.TheConstants.{MPP}
 
 -- the number that has just these bits
@@ -27,3 +29,7 @@ merged mask old value = bit_or (bit_and old (all_bits - mask)) (bit_and value ma
 -- MPP of mstatus, two bits
 abbrev pub mpp_of : ℕ → ℕ
 mpp_of status = status / 2 ^ MPP % 4
+
+-- the mode of an encoding; 2 is none, and MPP never holds it
+abbrev pub mode_numbered : ℕ → Mode
+mode_numbered number = if number == 3 then Machine else (if number == 1 then Supervisor else User)

@@ -2,7 +2,9 @@
 //! chapters "Machine-Level ISA" and "Supervisor-Level ISA".
 
 ghost use Rattle.std.specs.Prelude.{◌≡◌};
-ghost use Rattle.csr_file.specs.Fields.{bit_is_set, merged};
+ghost use Rattle.csr_file.specs.Fields.{bit_is_set, merged, mode_numbered};
+
+use hart_words::Mode;
 
 // The bits of mstatus, of which sstatus shows a part. MPP, UXL and SXL have two bits, from these
 // on.
@@ -71,4 +73,15 @@ pub fn merge(mask: u64, old: u64, value: u64) -> u64
     ensures { result ≡ merged mask old value }
 {
     old & !mask | value & mask
+}
+
+/// The mode of an encoding, as MPP and SPP hold it; 2 is none, and MPP never has it.
+pub fn mode_numbered(number: u64) -> Mode
+    ensures { result ≡ mode_numbered number }
+{
+    match number {
+        3 => Mode::Machine,
+        1 => Mode::Supervisor,
+        _ => Mode::User,
+    }
 }

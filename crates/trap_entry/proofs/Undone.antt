@@ -11,10 +11,10 @@ use Rattle.csr_file.specs.declared.stored_csr.StoredCsr.TheVariants.{Mstatus, Me
 use Rattle.csr_file.specs.declared.stored_csr.TheConstants.{STORED_CSRS}
 use Rattle.csr_file.specs.declared.fields.TheConstants.{SIE, MIE, SPP}
 use Rattle.csr_file.specs.Registers.{at as value_at, with_at, stored_index_of}
-use Rattle.csr_file.specs.Fields.{mpp_of}
+use Rattle.csr_file.specs.Fields.{mode_numbered, mpp_of}
 use Rattle.csr_file.proofs.Places.{at_same, at_other}
 use Rattle.trap_entry.specs.Entries.{is_delegated, cause_value, status_into_machine, status_into_supervisor, enter_of, enter_machine_of, enter_supervisor_of, mode_by_enter}
-use Rattle.trap_entry.specs.Returns.{mode_numbered, mode_by_mret, mode_by_sret, status_by_mret, status_by_sret, mret_of, sret_of}
+use Rattle.trap_entry.specs.Returns.{mode_by_mret, mode_by_sret, status_by_mret, status_by_sret, mret_of, sret_of}
 use Rattle.trap_entry.specs.Laws.{IsGivenBackByMret, IsGivenBackBySret, MretUndoesEntry, SretUndoesEntry, NeverLowers}
 use Rattle.trap_entry.proofs.Stacks.{stacked_for_machine, stacked_for_supervisor, unstacked_by_mret, unstacked_by_sret, differs}
 

@@ -3,17 +3,12 @@
 use Rattle.std.specs.Prelude.{ℕ, ◌+◌, ◌*◌, ◌^◌, ◌==◌, if◌then◌else◌, [], ◌∷◌}
 use Rattle.std.specs.Int.{bit_at}
 use Rattle.hart_words.specs.declared.privilege.Mode.{Mode}
-use Rattle.hart_words.specs.declared.privilege.Mode.TheVariants.{User, Supervisor, Machine}
 use Rattle.csr_file.specs.declared.csrs.Csrs.{Csrs}
 use Rattle.csr_file.specs.declared.stored_csr.StoredCsr.TheVariants.{Mstatus}
 use Rattle.csr_file.specs.declared.fields.TheConstants.{SIE, MIE, SPIE, MPIE, SPP, MPRV}
 use Rattle.csr_file.specs.Registers.{at, with_at}
-use Rattle.csr_file.specs.Fields.{bits, merged, mpp_of}
+use Rattle.csr_file.specs.Fields.{bits, merged, mode_numbered, mpp_of}
 use Rattle.trap_entry.specs.Entries.{machine_stack, supervisor_stack}
-
--- the mode of an encoding; 2 is none, and MPP never holds it
-abbrev pub mode_numbered : ℕ → Mode
-mode_numbered number = if number == 3 then Machine else (if number == 1 then Supervisor else User)
 
 -- the mode that MRET returns to: MPP
 unfoldable pub mode_by_mret : Csrs → Mode

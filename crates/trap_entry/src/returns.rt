@@ -4,10 +4,10 @@
 ghost use Rattle.std.specs.Prelude.{◌≡◌, ◌%◌};
 ghost use Rattle.csr_file.specs.Legal.{IsLegal};
 ghost use Rattle.csr_file.specs.Registers.{at};
-ghost use Rattle.trap_entry.specs.Returns.{mode_numbered, mode_by_mret, mode_by_sret, status_by_mret, status_by_sret, mret_of, sret_of};
+ghost use Rattle.trap_entry.specs.Returns.{mode_by_mret, mode_by_sret, status_by_mret, status_by_sret, mret_of, sret_of};
 
 use csr_file::fields::{MIE, MPIE, MPP, SIE, SPIE, SPP};
-use csr_file::{Csrs, StoredCsr, merge};
+use csr_file::{Csrs, StoredCsr, merge, mode_numbered};
 use hart_words::Mode;
 
 /// The fields of mstatus that MRET writes: MIE, MPIE, MPP, and MPRV on a return to S or U.
@@ -55,17 +55,6 @@ pub fn sret(csrs: &mut Csrs) -> (Mode, u64)
     let pc = csrs.get(StoredCsr::Sepc);
     csrs.set(StoredCsr::Mstatus, status_by_sret(status));
     (mode_numbered((status >> SPP) % 2), pc)
-}
-
-/// The mode of an encoding; 2 is none, and MPP never has it.
-fn mode_numbered(number: u64) -> Mode
-    ensures { result ≡ mode_numbered number }
-{
-    match number {
-        3 => Mode::Machine,
-        1 => Mode::Supervisor,
-        _ => Mode::User,
-    }
 }
 
 /// mstatus after MRET: MIE is MPIE, MPIE is 1, MPP is U, and MPRV is cleared where the new mode is
