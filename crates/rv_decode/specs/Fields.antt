@@ -1,5 +1,5 @@
 -- The fields of a 32-bit word and its immediates.
--- From the Unprivileged ISA's chapter on RV32I ("Base Instruction Formats", "Immediate Encoding Variants").
+-- From the Unprivileged ISA's chapters on RV32I ("Base Instruction Formats", "Immediate Encoding Variants") and on control and status register instructions.
 use Rattle.std.specs.Prelude.{ℕ, ◌+◌, ◌*◌, ◌^◌}
 use Rattle.hart_words.specs.Words.{bit_field, sign_extended}
 use Rattle.rv_decode.specs.declared.operation.Op.{Op}
@@ -45,6 +45,14 @@ rs1 word = bit_field 15 5 word
 abbrev pub rs2 : ℕ → ℕ
 rs2 word = bit_field 20 5 word
 
+-- the immediate of a control and status register instruction: bits 19:15, where rs1 would stand
+abbrev pub immediate_csr : ℕ → ℕ
+immediate_csr word = bit_field 15 5 word
+
+-- the address of a control and status register: bits 31:20
+abbrev pub csr : ℕ → ℕ
+csr word = bit_field 20 12 word
+
 -- the instruction of a form, with the operands that stand in the word
 abbrev pub operation_of : Form → ℕ → Op
 operation_of forms.Lui word = ops.Lui (rd word) (immediate_u word)
@@ -64,6 +72,12 @@ operation_of forms.Fence word = ops.Fence
 operation_of forms.FenceI word = ops.FenceI
 operation_of forms.Ecall word = ops.Ecall
 operation_of forms.Ebreak word = ops.Ebreak
+operation_of forms.Mret word = ops.Mret
+operation_of forms.Sret word = ops.Sret
+operation_of forms.Wfi word = ops.Wfi
+operation_of forms.SfenceVma word = ops.SfenceVma (rs1 word) (rs2 word)
+operation_of (forms.Csr op) word = ops.Csr op (rd word) (rs1 word) (csr word)
+operation_of (forms.CsrImmediate op) word = ops.CsrImmediate op (rd word) (immediate_csr word) (csr word)
 operation_of (forms.LoadReserved width) word = ops.LoadReserved width (rd word) (rs1 word)
 operation_of (forms.StoreConditional width) word = ops.StoreConditional width (rd word) (rs1 word) (rs2 word)
 operation_of (forms.Amo op width) word = ops.Amo op width (rd word) (rs1 word) (rs2 word)

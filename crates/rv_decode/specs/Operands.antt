@@ -1,8 +1,8 @@
 -- The registers that an instruction writes and reads, and where its jumps go.
--- From the Unprivileged ISA's chapters on its instructions.
-use Rattle.std.specs.Prelude.{◌≡◌, ℕ, ◌<◌, ◌%◌}
+-- From the Unprivileged ISA's chapters on its instructions, and the Privileged Architecture's on those of traps and translation.
+use Rattle.std.specs.Prelude.{◌≡◌, ℕ, ◌<◌, ◌%◌, ◌^◌}
 use Rattle.rv_decode.specs.declared.operation.Op.{Op}
-use Rattle.rv_decode.specs.declared.operation.Op.TheVariants.{Lui, Auipc, Jal, Jalr, Branch, Load, Store, Immediate, ImmediateWord, Register, RegisterWord, Fence, FenceI, Ecall, Ebreak, LoadReserved, StoreConditional, Amo}
+use Rattle.rv_decode.specs.declared.operation.Op.TheVariants.{Lui, Auipc, Jal, Jalr, Branch, Load, Store, Immediate, ImmediateWord, Register, RegisterWord, Fence, FenceI, Ecall, Ebreak, Mret, Sret, Wfi, SfenceVma, Csr, CsrImmediate, LoadReserved, StoreConditional, Amo}
 
 -- the register that is written, 0 where there is none
 abbrev pub destination_of : Op → ℕ
@@ -21,6 +21,12 @@ destination_of Fence = 0
 destination_of FenceI = 0
 destination_of Ecall = 0
 destination_of Ebreak = 0
+destination_of Mret = 0
+destination_of Sret = 0
+destination_of Wfi = 0
+destination_of (SfenceVma rs1 rs2) = 0
+destination_of (Csr op rd rs1 csr) = rd
+destination_of (CsrImmediate op rd imm csr) = rd
 destination_of (LoadReserved width rd rs1) = rd
 destination_of (StoreConditional width rd rs1 rs2) = rd
 destination_of (Amo op width rd rs1 rs2) = rd
@@ -42,6 +48,12 @@ first_source_of Fence = 0
 first_source_of FenceI = 0
 first_source_of Ecall = 0
 first_source_of Ebreak = 0
+first_source_of Mret = 0
+first_source_of Sret = 0
+first_source_of Wfi = 0
+first_source_of (SfenceVma rs1 rs2) = rs1
+first_source_of (Csr op rd rs1 csr) = rs1
+first_source_of (CsrImmediate op rd imm csr) = 0
 first_source_of (LoadReserved width rd rs1) = rs1
 first_source_of (StoreConditional width rd rs1 rs2) = rs1
 first_source_of (Amo op width rd rs1 rs2) = rs1
@@ -63,6 +75,12 @@ second_source_of Fence = 0
 second_source_of FenceI = 0
 second_source_of Ecall = 0
 second_source_of Ebreak = 0
+second_source_of Mret = 0
+second_source_of Sret = 0
+second_source_of Wfi = 0
+second_source_of (SfenceVma rs1 rs2) = rs2
+second_source_of (Csr op rd rs1 csr) = 0
+second_source_of (CsrImmediate op rd imm csr) = 0
 second_source_of (LoadReserved width rd rs1) = 0
 second_source_of (StoreConditional width rd rs1 rs2) = rs2
 second_source_of (Amo op width rd rs1 rs2) = rs2
@@ -70,6 +88,12 @@ second_source_of (Amo op width rd rs1 rs2) = rs2
 -- all registers are among the 32
 abbrev pub HasRegisters : Op → Type 0
 HasRegisters op = (destination_of op < 32) × (first_source_of op < 32) × (second_source_of op < 32)
+
+-- the address of a control and status register has 12 bits
+abbrev pub HasCsrAddress : Op → Type 0
+HasCsrAddress (Csr op rd rs1 csr) = csr < 2 ^ 12
+HasCsrAddress (CsrImmediate op rd imm csr) = csr < 2 ^ 12
+HasCsrAddress _ = Unit {0}
 
 -- jumps and branches go by multiples of 2
 abbrev pub HasEvenOffset : Op → Type 0
@@ -88,6 +112,12 @@ HasEvenOffset Fence = Unit {0}
 HasEvenOffset FenceI = Unit {0}
 HasEvenOffset Ecall = Unit {0}
 HasEvenOffset Ebreak = Unit {0}
+HasEvenOffset Mret = Unit {0}
+HasEvenOffset Sret = Unit {0}
+HasEvenOffset Wfi = Unit {0}
+HasEvenOffset (SfenceVma rs1 rs2) = Unit {0}
+HasEvenOffset (Csr op rd rs1 csr) = Unit {0}
+HasEvenOffset (CsrImmediate op rd imm csr) = Unit {0}
 HasEvenOffset (LoadReserved width rd rs1) = Unit {0}
 HasEvenOffset (StoreConditional width rd rs1 rs2) = Unit {0}
 HasEvenOffset (Amo op width rd rs1 rs2) = Unit {0}

@@ -1,5 +1,5 @@
 -- What a row of the listing fixes of a 32-bit word, by the columns that it fills.
--- From the Unprivileged ISA's chapter "RV32/64G Instruction Set Listings".
+-- From the Unprivileged ISA's chapter "RV32/64G Instruction Set Listings" and the Privileged Architecture's "RISC-V Privileged Instruction Set Listings".
 use Rattle.std.specs.Prelude.{ℕ, ◌+◌, ◌-◌, ◌*◌, ◌^◌}
 use Rattle.rv_decode.specs.declared.patterns.Form.{Form}
 use Rattle.rv_decode.specs.declared.patterns.Pattern.{Pattern}
@@ -24,6 +24,10 @@ by_funct3 opcode funct3 form = with_field 12 3 funct3 (by_opcode opcode form)
 -- bits 31:25 are funct7 too
 abbrev pub by_funct7 : ℕ → ℕ → ℕ → Form → Pattern
 by_funct7 opcode funct3 funct7 form = with_field 25 7 funct7 (by_funct3 opcode funct3 form)
+
+-- and bits 11:7, where rd would stand
+abbrev pub by_funct7_and_rd : ℕ → ℕ → ℕ → ℕ → Form → Pattern
+by_funct7_and_rd opcode funct3 funct7 rd form = with_field 7 5 rd (by_funct7 opcode funct3 funct7 form)
 
 -- bits 31:26 alone, which a shift amount of 6 bits leaves
 abbrev pub by_funct6 : ℕ → ℕ → ℕ → Form → Pattern

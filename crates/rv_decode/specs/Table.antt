@@ -1,5 +1,5 @@
 -- What a 32-bit word means: the row of the instruction table that it meets.
--- From the Unprivileged ISA's chapter "RV32/64G Instruction Set Listings": a row gives the opcode (bits 6:0), funct3 (14:12), and funct7 (31:25), funct6 (31:26) or funct5 (31:27).
+-- From the Unprivileged ISA's chapter "RV32/64G Instruction Set Listings" and the Privileged Architecture's "RISC-V Privileged Instruction Set Listings": a row gives the opcode (bits 6:0), funct3 (14:12), and funct7 (31:25), funct6 (31:26) or funct5 (31:27).
 use Rattle.std.specs.Prelude.{ℕ, Bool, List, [], ◌∷◌, ◌++◌, Option, option_map, find, bit_and, ◌==◌, if◌then◌else◌}
 use Rattle.rv_decode.specs.declared.operation.Op.{Op}
 use Rattle.rv_decode.specs.declared.operation.BranchOp.TheVariants.{Beq, Bne, Blt, Bge, Bltu, Bgeu}
@@ -9,11 +9,12 @@ use Rattle.rv_decode.specs.declared.operation.ImmediateOp.TheVariants.{Addi, Slt
 use Rattle.rv_decode.specs.declared.operation.ImmediateWordOp.TheVariants.{Addiw, Slliw, Srliw, Sraiw}
 use Rattle.rv_decode.specs.declared.operation.RegisterOp.TheVariants.{Add, Sub, Sll, Slt, Sltu, Xor, Srl, Sra, Or, And, Mul, Mulh, Mulhsu, Mulhu, Div, Divu, Rem, Remu}
 use Rattle.rv_decode.specs.declared.operation.RegisterWordOp.TheVariants.{Addw, Subw, Sllw, Srlw, Sraw, Mulw, Divw, Divuw, Remw, Remuw}
+use Rattle.rv_decode.specs.declared.operation.CsrOp.TheVariants.{Write, Set, Clear}
 use Rattle.rv_decode.specs.declared.operation.Width.TheVariants.{Word, Doubleword}
 use Rattle.rv_decode.specs.declared.operation.AmoOp.TheVariants.{Amoswap, Amoadd, Amoxor, Amoand, Amoor, Amomin, Amomax, Amominu, Amomaxu}
-use Rattle.rv_decode.specs.declared.patterns.Form.TheVariants.{Lui, Auipc, Jal, Jalr, Branch, Load, Store, Immediate, Shift, ImmediateWord, ShiftWord, Register, RegisterWord, Fence, FenceI, Ecall, Ebreak, LoadReserved, StoreConditional, Amo}
+use Rattle.rv_decode.specs.declared.patterns.Form.TheVariants.{Lui, Auipc, Jal, Jalr, Branch, Load, Store, Immediate, Shift, ImmediateWord, ShiftWord, Register, RegisterWord, Fence, FenceI, Ecall, Ebreak, Mret, Sret, Wfi, SfenceVma, Csr, CsrImmediate, LoadReserved, StoreConditional, Amo}
 use Rattle.rv_decode.specs.declared.patterns.Pattern.{Pattern}
-use Rattle.rv_decode.specs.Patterns.{by_opcode, by_funct3, by_funct5, by_funct5_and_rs2, by_funct6, by_funct7, by_word}
+use Rattle.rv_decode.specs.Patterns.{by_opcode, by_funct3, by_funct5, by_funct5_and_rs2, by_funct6, by_funct7, by_funct7_and_rd, by_word}
 use Rattle.rv_decode.specs.Fields.{operation_of}
 
 -- LUI: the opcode alone
@@ -128,7 +129,17 @@ misc_mem_rows =
 abbrev pub system_rows : List Pattern
 system_rows =
     by_word 0x00000073 Ecall ∷
-    by_word 0x00100073 Ebreak ∷ []
+    by_word 0x00100073 Ebreak ∷
+    by_word 0x10200073 Sret ∷
+    by_word 0x30200073 Mret ∷
+    by_word 0x10500073 Wfi ∷
+    by_funct7_and_rd 0x73 0 0x09 0 SfenceVma ∷
+    by_funct3 0x73 1 (Csr Write) ∷
+    by_funct3 0x73 2 (Csr Set) ∷
+    by_funct3 0x73 3 (Csr Clear) ∷
+    by_funct3 0x73 5 (CsrImmediate Write) ∷
+    by_funct3 0x73 6 (CsrImmediate Set) ∷
+    by_funct3 0x73 7 (CsrImmediate Clear) ∷ []
 
 -- AMO; aq and rl are ignored
 abbrev pub amo_rows : List Pattern

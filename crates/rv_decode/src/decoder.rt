@@ -1,7 +1,7 @@
 //! The instruction of a 32-bit word.
 
 ghost use Rattle.std.specs.Prelude.{◌≡◌, IfSome};
-ghost use Rattle.rv_decode.specs.Operands.{HasEvenOffset, HasRegisters};
+ghost use Rattle.rv_decode.specs.Operands.{HasCsrAddress, HasEvenOffset, HasRegisters};
 ghost use Rattle.rv_decode.specs.Table.{decoded, decoded_by};
 
 use crate::operands::operation;
@@ -14,6 +14,7 @@ use crate::patterns::{Pattern, rows_with};
 pub fn decode(word: u32) -> Option<Op>
     ensures meaning { result ≡ decoded word }
     ensures registers { IfSome result HasRegisters }
+    ensures csr { IfSome result HasCsrAddress }
     ensures even { IfSome result HasEvenOffset }
 {
     decode_by(rows_with(word % 128), word)
@@ -24,6 +25,7 @@ pub fn decode(word: u32) -> Option<Op>
 fn decode_by(rows: &[Pattern], word: u32) -> Option<Op>
     ensures meaning { result ≡ decoded_by rows.now word }
     ensures registers { IfSome result HasRegisters }
+    ensures csr { IfSome result HasCsrAddress }
     ensures even { IfSome result HasEvenOffset }
 {
     match rows.iter().find(|row| word & row.mask == row.bits) {

@@ -1,7 +1,7 @@
 //! What a 32-bit word means: `decode` takes the word and gives its instruction with its operands,
 //! or `None` where it is illegal. It meets `decoded` in `specs/Table.antt`, where the instructions
-//! of RV64IMA stand in the columns of the Unprivileged ISA's chapter "RV32/64G Instruction Set
-//! Listings"; `laws` says that no word meets two rows.
+//! of RV64IMA, Zicsr and Zifencei, and those that the Privileged Architecture adds, stand in the
+//! columns of the manuals' listings; `laws` says that no word meets two rows.
 #![tactic(auto)]
 
 mod decoder;
@@ -13,8 +13,8 @@ mod patterns;
 
 pub use decoder::decode;
 pub use operation::{
-    AmoOp, BranchOp, ImmediateOp, ImmediateWordOp, LoadOp, Op, RegisterOp, RegisterWordOp, StoreOp,
-    Width,
+    AmoOp, BranchOp, CsrOp, ImmediateOp, ImmediateWordOp, LoadOp, Op, RegisterOp, RegisterWordOp,
+    StoreOp, Width,
 };
 
 #[cfg(test)]

@@ -2,8 +2,8 @@
 
 ghost use Rattle.std.specs.Prelude.{◌≡◌, ◌<◌, ◌^◌, ◌%◌};
 ghost use Rattle.hart_words.specs.Words.{bit_field};
-ghost use Rattle.rv_decode.specs.Fields.{immediate_i, immediate_s, immediate_b, immediate_u, immediate_j, operation_of};
-ghost use Rattle.rv_decode.specs.Operands.{HasEvenOffset, HasRegisters};
+ghost use Rattle.rv_decode.specs.Fields.{immediate_i, immediate_s, immediate_b, immediate_u, immediate_j, csr, operation_of};
+ghost use Rattle.rv_decode.specs.Operands.{HasCsrAddress, HasEvenOffset, HasRegisters};
 
 use crate::operation::Op;
 use crate::patterns::Form;
@@ -77,10 +77,19 @@ fn j_immediate(word: u32) -> u64
     sext(u64::from(number), 21)
 }
 
+/// The address of a control and status register.
+fn csr_address(word: u32) -> u16
+    ensures number { result ≡ csr word }
+    ensures below { result < 2 ^ 12 }
+{
+    field_of(word, 20, 12) as u16
+}
+
 /// The instruction of this form with the operands that stand in the word.
 pub fn operation(form: Form, word: u32) -> Op
     ensures meaning { result ≡ operation_of form word }
     ensures registers { HasRegisters result }
+    ensures csr { HasCsrAddress result }
     ensures even { HasEvenOffset result }
 {
     let rd = register(word, 7);
@@ -152,6 +161,22 @@ pub fn operation(form: Form, word: u32) -> Op
         Form::FenceI => Op::FenceI,
         Form::Ecall => Op::Ecall,
         Form::Ebreak => Op::Ebreak,
+        Form::Mret => Op::Mret,
+        Form::Sret => Op::Sret,
+        Form::Wfi => Op::Wfi,
+        Form::SfenceVma => Op::SfenceVma { rs1, rs2 },
+        Form::Csr(op) => Op::Csr {
+            op,
+            rd,
+            rs1,
+            csr: csr_address(word),
+        },
+        Form::CsrImmediate(op) => Op::CsrImmediate {
+            op,
+            rd,
+            imm: u64::from(rs1),
+            csr: csr_address(word),
+        },
         Form::LoadReserved(width) => Op::LoadReserved { width, rd, rs1 },
         Form::StoreConditional(width) => Op::StoreConditional {
             width,

@@ -1,4 +1,5 @@
-//! Instructions with their operands, in the terms of the Unprivileged ISA.
+//! Instructions with their operands, in the terms of the Unprivileged ISA and the Privileged
+//! Architecture.
 
 use hart_words::AccessSize;
 
@@ -85,6 +86,32 @@ pub enum Op {
     Ecall,
     /// Raises a breakpoint.
     Ebreak,
+    /// Returns from a trap that was taken in M.
+    Mret,
+    /// Returns from a trap that was taken in S.
+    Sret,
+    /// Waits for an interrupt.
+    Wfi,
+    /// Orders accesses to page tables for the addresses and the address space in rs1 and rs2: no
+    /// effect here, where nothing is cached.
+    SfenceVma {
+        rs1: u8,
+        rs2: u8,
+    },
+    /// Puts what a control and status register has into rd, and writes it by rs1.
+    Csr {
+        op: CsrOp,
+        rd: u8,
+        rs1: u8,
+        csr: u16,
+    },
+    /// The same by an immediate of 5 bits.
+    CsrImmediate {
+        op: CsrOp,
+        rd: u8,
+        imm: u64,
+        csr: u16,
+    },
     /// Loads from the address in rs1 and reserves it.
     LoadReserved {
         width: Width,
@@ -126,6 +153,8 @@ impl Op {
             | Op::ImmediateWord { rd, .. }
             | Op::Register { rd, .. }
             | Op::RegisterWord { rd, .. }
+            | Op::Csr { rd, .. }
+            | Op::CsrImmediate { rd, .. }
             | Op::LoadReserved { rd, .. }
             | Op::StoreConditional { rd, .. }
             | Op::Amo { rd, .. } => rd,
@@ -134,7 +163,11 @@ impl Op {
             | Op::Fence
             | Op::FenceI
             | Op::Ecall
-            | Op::Ebreak => 0,
+            | Op::Ebreak
+            | Op::Mret
+            | Op::Sret
+            | Op::Wfi
+            | Op::SfenceVma { .. } => 0,
         }
     }
 
@@ -151,6 +184,8 @@ impl Op {
             | Op::ImmediateWord { rs1, .. }
             | Op::Register { rs1, .. }
             | Op::RegisterWord { rs1, .. }
+            | Op::SfenceVma { rs1, .. }
+            | Op::Csr { rs1, .. }
             | Op::LoadReserved { rs1, .. }
             | Op::StoreConditional { rs1, .. }
             | Op::Amo { rs1, .. } => rs1,
@@ -160,7 +195,11 @@ impl Op {
             | Op::Fence
             | Op::FenceI
             | Op::Ecall
-            | Op::Ebreak => 0,
+            | Op::Ebreak
+            | Op::Mret
+            | Op::Sret
+            | Op::Wfi
+            | Op::CsrImmediate { .. } => 0,
         }
     }
 
@@ -173,6 +212,7 @@ impl Op {
             | Op::Store { rs2, .. }
             | Op::Register { rs2, .. }
             | Op::RegisterWord { rs2, .. }
+            | Op::SfenceVma { rs2, .. }
             | Op::StoreConditional { rs2, .. }
             | Op::Amo { rs2, .. } => rs2,
             Op::Lui { .. }
@@ -186,6 +226,11 @@ impl Op {
             | Op::FenceI
             | Op::Ecall
             | Op::Ebreak
+            | Op::Mret
+            | Op::Sret
+            | Op::Wfi
+            | Op::Csr { .. }
+            | Op::CsrImmediate { .. }
             | Op::LoadReserved { .. } => 0,
         }
     }
@@ -282,6 +327,17 @@ pub enum RegisterWordOp {
     Divuw,
     Remw,
     Remuw,
+}
+
+/// What an instruction writes to a control and status register.
+#[derive(Clone, Copy, Debug, PartialEq, Eq)]
+pub enum CsrOp {
+    /// The operand (CSRRW, CSRRWI).
+    Write,
+    /// What it has, with the operand's bits set (CSRRS, CSRRSI).
+    Set,
+    /// What it has, with the operand's bits cleared (CSRRC, CSRRCI).
+    Clear,
 }
 
 /// How much memory an atomic instruction accesses: 4 bytes or 8.

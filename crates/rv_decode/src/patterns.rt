@@ -7,8 +7,8 @@ ghost use Rattle.rv_decode.specs.Table.{rows_of, opcodes};
 
 use crate::opcodes;
 use crate::operation::{
-    AmoOp, BranchOp, ImmediateOp, ImmediateWordOp, LoadOp, RegisterOp, RegisterWordOp, StoreOp,
-    Width,
+    AmoOp, BranchOp, CsrOp, ImmediateOp, ImmediateWordOp, LoadOp, RegisterOp, RegisterWordOp,
+    StoreOp, Width,
 };
 
 /// A row of the table: a word is this instruction where it equals `bits` under `mask`.
@@ -43,6 +43,14 @@ pub enum Form {
     FenceI,
     Ecall,
     Ebreak,
+    Mret,
+    Sret,
+    Wfi,
+    SfenceVma,
+    /// I-format: the address of a control and status register in place of the immediate.
+    Csr(CsrOp),
+    /// The same with a 5-bit immediate in place of rs1.
+    CsrImmediate(CsrOp),
     LoadReserved(Width),
     StoreConditional(Width),
     Amo(AmoOp, Width),
@@ -148,9 +156,19 @@ const MISC_MEM_ROWS: [Pattern; 2] = rows![
     0x0000707f 0x0000100f Form::FenceI,
 ];
 
-const SYSTEM_ROWS: [Pattern; 2] = rows![
+const SYSTEM_ROWS: [Pattern; 12] = rows![
     0xffffffff 0x00000073 Form::Ecall,
     0xffffffff 0x00100073 Form::Ebreak,
+    0xffffffff 0x10200073 Form::Sret,
+    0xffffffff 0x30200073 Form::Mret,
+    0xffffffff 0x10500073 Form::Wfi,
+    0xfe007fff 0x12000073 Form::SfenceVma,
+    0x0000707f 0x00001073 Form::Csr(CsrOp::Write),
+    0x0000707f 0x00002073 Form::Csr(CsrOp::Set),
+    0x0000707f 0x00003073 Form::Csr(CsrOp::Clear),
+    0x0000707f 0x00005073 Form::CsrImmediate(CsrOp::Write),
+    0x0000707f 0x00006073 Form::CsrImmediate(CsrOp::Set),
+    0x0000707f 0x00007073 Form::CsrImmediate(CsrOp::Clear),
 ];
 
 /// Bits 26 and 25, aq and rl, are left open.

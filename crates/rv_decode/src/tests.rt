@@ -65,6 +65,14 @@ fn store_conditional(width: Width, rd: u8, rs1: u8, rs2: u8) -> Op {
     }
 }
 
+fn csr(op: CsrOp, rd: u8, rs1: u8, csr: u16) -> Op {
+    Op::Csr { op, rd, rs1, csr }
+}
+
+fn csr_immediate(op: CsrOp, rd: u8, imm: u64, csr: u16) -> Op {
+    Op::CsrImmediate { op, rd, imm, csr }
+}
+
 fn amo(op: AmoOp, width: Width, rd: u8, rs1: u8, rs2: u8) -> Op {
     Op::Amo {
         op,
@@ -331,6 +339,50 @@ fn decodes_fences_and_traps(rt: HostRuntime) -> Result<(), Fail> {
     Ok(())
 }
 
+/// Accesses to control and status registers, returns from traps, and what orders accesses to page
+/// tables.
+#[test]
+fn decodes_control(rt: HostRuntime) -> Result<(), Fail> {
+    let rows = [
+        // csrrw x5, mstatus, x6
+        (0x3003_12f3, csr(CsrOp::Write, 5, 6, 0x300)),
+        // csrrw x0, mcause, x31
+        (0x342f_9073, csr(CsrOp::Write, 0, 31, 0x342)),
+        // csrrs x10, cycle, x0
+        (0xc000_2573, csr(CsrOp::Set, 10, 0, 0xc00)),
+        // csrrs x1, 0xfff, x15
+        (0xfff7_a0f3, csr(CsrOp::Set, 1, 15, 0xfff)),
+        // csrrc x31, fflags, x17
+        (0x0018_bff3, csr(CsrOp::Clear, 31, 17, 0x001)),
+        // csrrwi x7, mtvec, 31
+        (0x305f_d3f3, csr_immediate(CsrOp::Write, 7, 31, 0x305)),
+        // csrrsi x8, mip, 16
+        (0x3448_6473, csr_immediate(CsrOp::Set, 8, 16, 0x344)),
+        // csrrci x9, mhpmcounter3h, 5
+        (0xb832_f4f3, csr_immediate(CsrOp::Clear, 9, 5, 0xb83)),
+        // csrrci x0, 0x800, 0
+        (0x8000_7073, csr_immediate(CsrOp::Clear, 0, 0, 0x800)),
+        // mret
+        (0x3020_0073, Op::Mret),
+        // sret
+        (0x1020_0073, Op::Sret),
+        // wfi
+        (0x1050_0073, Op::Wfi),
+        // sfence.vma
+        (0x1200_0073, Op::SfenceVma { rs1: 0, rs2: 0 }),
+        // sfence.vma x5
+        (0x1202_8073, Op::SfenceVma { rs1: 5, rs2: 0 }),
+        // sfence.vma x0, x6
+        (0x1260_0073, Op::SfenceVma { rs1: 0, rs2: 6 }),
+        // sfence.vma x31, x30
+        (0x13ef_8073, Op::SfenceVma { rs1: 31, rs2: 30 }),
+    ];
+    for (word, op) in rows {
+        assert_eq!(rt; decode(word), Some(op), "at {word}");
+    }
+    Ok(())
+}
+
 /// Atomics, whose aq and rl are ignored.
 #[test]
 fn decodes_atomics(rt: HostRuntime) -> Result<(), Fail> {
@@ -501,6 +553,24 @@ fn refuses_words(rt: HostRuntime) -> Result<(), Fail> {
         0x0000_00f3,
         // ebreak with rs1 1
         0x0010_8073,
+        // mret with rd 1
+        0x3020_00f3,
+        // mret with bits 31:25 of 0111000
+        0x7020_0073,
+        // sret with rs1 1
+        0x1020_8073,
+        // a return of user mode
+        0x0020_0073,
+        // a return of the hypervisor
+        0x2020_0073,
+        // wfi with rd 1
+        0x1050_00f3,
+        // sfence.vma with rd 1
+        0x1200_00f3,
+        // a fence of the hypervisor
+        0x2200_0073,
+        // an access to a control and status register with funct3 4
+        0x3000_4073,
         // lr with rs2 1
         0x1010_202f,
         // an atomic with funct3 1
@@ -525,6 +595,9 @@ fn names_registers(rt: HostRuntime) -> Result<(), Fail> {
         (branch(BranchOp::Beq, 5, 6, 8), (0, 5, 6)),
         (jal(7, 8), (7, 0, 0)),
         (amo(AmoOp::Amoadd, Width::Word, 8, 9, 10), (8, 9, 10)),
+        (csr(CsrOp::Set, 11, 12, 0), (11, 12, 0)),
+        (csr_immediate(CsrOp::Set, 13, 14, 0), (13, 0, 0)),
+        (Op::SfenceVma { rs1: 15, rs2: 16 }, (0, 15, 16)),
         (Op::Ecall, (0, 0, 0)),
     ];
     for (op, registers) in rows {
@@ -555,7 +628,16 @@ fn place(op: Op) -> u8 {
         Op::LoadReserved { width, .. } => 0x91 + width as u8,
         Op::StoreConditional { width, .. } => 0x93 + width as u8,
         Op::Amo { op, width, .. } => 0xa1 + 2 * (op as u8) + width as u8,
-        Op::Fence | Op::FenceI | Op::Ecall | Op::Ebreak => 0xff,
+        Op::Csr { op, .. } => 0xd1 + op as u8,
+        Op::CsrImmediate { op, .. } => 0xd4 + op as u8,
+        Op::Fence
+        | Op::FenceI
+        | Op::Ecall
+        | Op::Ebreak
+        | Op::Mret
+        | Op::Sret
+        | Op::Wfi
+        | Op::SfenceVma { .. } => 0xff,
     }
 }
 
@@ -604,10 +686,9 @@ fn decodes_as_listed(rt: HostRuntime) -> Result<(), Fail> {
     Ok(())
 }
 
-/// Words of the two opcodes that the list leaves out: a fence has any other field, and a word with a
-/// destination is no call of the environment.
+/// Words of MISC-MEM, which the list leaves out: a fence has any other field.
 #[test]
-fn decodes_fences_and_system_words(rt: HostRuntime) -> Result<(), Fail> {
+fn decodes_fences(rt: HostRuntime) -> Result<(), Fail> {
     for funct3 in 0..8u32 {
         let fence = match funct3 {
             0 => Some(Op::Fence),
@@ -615,9 +696,63 @@ fn decodes_fences_and_system_words(rt: HostRuntime) -> Result<(), Fail> {
             _ => None,
         };
         for upper in 0..4096u32 {
-            let fields = upper << 20 | 6 << 15 | funct3 << 12 | 5 << 7;
-            assert_eq!(rt; decode(fields | 0x0f), fence, "at {fields}");
-            assert_eq!(rt; decode(fields | 0x73), None, "at {fields}");
+            let word = upper << 20 | 6 << 15 | funct3 << 12 | 5 << 7 | 0x0f;
+            assert_eq!(rt; decode(word), fence, "at {word}");
+        }
+    }
+    Ok(())
+}
+
+/// Words of SYSTEM, the other opcode, with rd x5 and rs1 x6: each is an access to a control and
+/// status register by its funct3, or illegal.
+#[test]
+fn decodes_every_csr(rt: HostRuntime) -> Result<(), Fail> {
+    for address in 0..4096u16 {
+        let forms = [
+            (0x0073, None),
+            (0x1073, Some(csr(CsrOp::Write, 5, 6, address))),
+            (0x2073, Some(csr(CsrOp::Set, 5, 6, address))),
+            (0x3073, Some(csr(CsrOp::Clear, 5, 6, address))),
+            (0x4073, None),
+            (0x5073, Some(csr_immediate(CsrOp::Write, 5, 6, address))),
+            (0x6073, Some(csr_immediate(CsrOp::Set, 5, 6, address))),
+            (0x7073, Some(csr_immediate(CsrOp::Clear, 5, 6, address))),
+        ];
+        for (low, form) in forms {
+            let word = u32::from(address) << 20 | 6 << 15 | 5 << 7 | low;
+            assert_eq!(rt; decode(word), form, "at {word}");
+        }
+    }
+    Ok(())
+}
+
+/// Words of SYSTEM with funct3 0 and x0 or x1 as rd and rs1: those that the disassembler of the list
+/// above names, without URET, HRET, DRET and the old SFENCE.VM, which RV64IMAC with M, S and U has
+/// not.
+#[test]
+fn decodes_control_words(rt: HostRuntime) -> Result<(), Fail> {
+    for upper in 0..4096u32 {
+        let call = match upper {
+            0x000 => Some(Op::Ecall),
+            0x001 => Some(Op::Ebreak),
+            0x102 => Some(Op::Sret),
+            0x105 => Some(Op::Wfi),
+            0x302 => Some(Op::Mret),
+            _ => None,
+        };
+        for rs1 in 0..2u8 {
+            let fence = if upper / 32 == 9 {
+                Some(Op::SfenceVma {
+                    rs1,
+                    rs2: (upper % 32) as u8,
+                })
+            } else {
+                None
+            };
+            let called = if rs1 == 0 { call } else { None };
+            let word = upper << 20 | u32::from(rs1) << 15 | 0x73;
+            assert_eq!(rt; decode(word), called.or(fence), "at {word}");
+            assert_eq!(rt; decode(word | 1 << 7), None, "at {word}");
         }
     }
     Ok(())
