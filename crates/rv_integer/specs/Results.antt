@@ -1,5 +1,5 @@
--- What each instruction computes: one equation a name, on whole numbers.
--- From the Unprivileged ISA's chapters "RV32I Base Integer Instruction Set", "RV64I Base Integer Instruction Set" and "M Extension for Integer Multiplication and Division".
+-- What each instruction computes or asks for: one equation a name, on whole numbers.
+-- From the Unprivileged ISA's chapters "RV32I Base Integer Instruction Set", "RV64I Base Integer Instruction Set", "M Extension for Integer Multiplication and Division", "A Extension for Atomic Instructions" and "Zicsr Extension for Control and Status Register (CSR) Instructions", and the Privileged Architecture's "Machine-Level ISA" and "Supervisor-Level ISA".
 use Rattle.std.specs.Prelude.{ℕ, ◌+◌, ◌-◌, ◌*◌, ◌/◌, ◌%◌, ◌^◌, Bool, true, false, not, ◌==◌, nat_lt, pos, int_lt, if◌then◌else◌, bit_and, bit_or, bit_xor}
 use Rattle.std.specs.Int.{w32, w64, cast_signed, int_div_euclid}
 use Rattle.hart_words.specs.declared.access_size.AccessSize.{AccessSize}
@@ -23,9 +23,14 @@ use Rattle.rv_decode.specs.declared.operation.RegisterOp.TheVariants as register
 use Rattle.rv_decode.specs.declared.operation.RegisterWordOp.{RegisterWordOp}
 use Rattle.rv_decode.specs.declared.operation.RegisterWordOp.TheVariants as register_words
 use Rattle.rv_decode.specs.declared.operation.Width.{Width}
+use Rattle.rv_decode.specs.declared.operation.CsrOp.{CsrOp}
+use Rattle.rv_decode.specs.declared.operation.CsrOp.TheVariants as csr_ops
 use Rattle.rv_decode.specs.Widths.{size_of}
 use Rattle.rv_integer.specs.declared.int_result.IntResult.{IntResult}
 use Rattle.rv_integer.specs.declared.int_result.IntResult.TheVariants as results
+use Rattle.rv_integer.specs.declared.int_result.SystemRequest.TheVariants as system
+use Rattle.rv_integer.specs.declared.int_result.MemoryOp.{MemoryOp}
+use Rattle.rv_integer.specs.declared.int_result.MemoryOp.TheVariants as memory_ops
 
 -- the low 32 bits
 abbrev pub low : ℕ → ℕ
@@ -134,15 +139,19 @@ computed_register_word register_words.Divuw a b = sign_extended 32 (quotient_uns
 computed_register_word register_words.Remw a b = sign_extended 32 (remainder_signed w32 (low a) (low b))
 computed_register_word register_words.Remuw a b = sign_extended 32 (remainder_unsigned (low a) (low b))
 
+-- an access to memory: an address, a size, and what is done with the bytes
+abbrev pub access_at : ℕ → AccessSize → MemoryOp → IntResult
+access_at address size op = results.Access (record { address = address; size = size; op = op })
+
 -- a load of a size, and whether it is sign-extended
 abbrev pub load_of : LoadOp → ℕ → IntResult
-load_of loads.Lb address = results.Load address Byte true
-load_of loads.Lh address = results.Load address Halfword true
-load_of loads.Lw address = results.Load address Word true
-load_of loads.Ld address = results.Load address Doubleword true
-load_of loads.Lbu address = results.Load address Byte false
-load_of loads.Lhu address = results.Load address Halfword false
-load_of loads.Lwu address = results.Load address Word false
+load_of loads.Lb address = access_at address Byte (memory_ops.Load true)
+load_of loads.Lh address = access_at address Halfword (memory_ops.Load true)
+load_of loads.Lw address = access_at address Word (memory_ops.Load true)
+load_of loads.Ld address = access_at address Doubleword (memory_ops.Load true)
+load_of loads.Lbu address = access_at address Byte (memory_ops.Load false)
+load_of loads.Lhu address = access_at address Halfword (memory_ops.Load false)
+load_of loads.Lwu address = access_at address Word (memory_ops.Load false)
 
 -- a store's size
 abbrev pub size_of_store : StoreOp → AccessSize
@@ -157,12 +166,34 @@ low_bits size x = x % 2 ^ bits_of size
 
 -- a store of the low bits
 abbrev pub store_of : StoreOp → ℕ → ℕ → IntResult
-store_of op address b = results.Store address (size_of_store op) (low_bits (size_of_store op) b)
+store_of op address b = access_at address (size_of_store op) (memory_ops.Store (low_bits (size_of_store op) b))
 
 -- a conditional store of them
 abbrev pub store_conditional_of : Width → ℕ → ℕ → IntResult
 store_conditional_of width address b =
-    results.StoreConditional address (size_of width) (low_bits (size_of width) b)
+    access_at address (size_of width) (memory_ops.StoreConditional (low_bits (size_of width) b))
+
+-- whether a form reads the register: a write form with x0 as destination does not
+abbrev pub is_csr_read : CsrOp → ℕ → Bool
+is_csr_read csr_ops.Write rd = not (rd == 0)
+is_csr_read csr_ops.Set rd = true
+is_csr_read csr_ops.Clear rd = true
+
+-- whether it writes it: a set or clear form with x0 as rs1, or 0 as immediate, does not
+abbrev pub is_csr_written : CsrOp → ℕ → Bool
+is_csr_written csr_ops.Write source = true
+is_csr_written csr_ops.Set source = not (source == 0)
+is_csr_written csr_ops.Clear source = not (source == 0)
+
+-- an access to a control and status register, with rs1's number or the immediate, and the operand
+abbrev pub csr_access_of : CsrOp → ℕ → ℕ → ℕ → ℕ → IntResult
+csr_access_of op rd source operand csr = results.System (system.Csr (record {
+  address = csr;
+  op = op;
+  operand = operand;
+  reads = is_csr_read op rd;
+  writes = is_csr_written op source;
+}))
 
 -- by instruction, its sources' values, its address and its length
 unfoldable pub computed : Op → ℕ → ℕ → ℕ → ℕ → IntResult
@@ -181,8 +212,14 @@ computed (ops.Register op rd rs1 rs2) a b pc len = results.Value (computed_regis
 computed (ops.RegisterWord op rd rs1 rs2) a b pc len = results.Value (computed_register_word op a b)
 computed ops.Fence a b pc len = results.Continue (wrapped_sum pc len)
 computed ops.FenceI a b pc len = results.Continue (wrapped_sum pc len)
-computed ops.Ecall a b pc len = results.EnvironmentCall
-computed ops.Ebreak a b pc len = results.Breakpoint
-computed (ops.LoadReserved width rd rs1) a b pc len = results.LoadReserved a (size_of width)
+computed ops.Ecall a b pc len = results.System system.EnvironmentCall
+computed ops.Ebreak a b pc len = results.System system.Breakpoint
+computed ops.Mret a b pc len = results.System system.MachineReturn
+computed ops.Sret a b pc len = results.System system.SupervisorReturn
+computed ops.Wfi a b pc len = results.System system.WaitForInterrupt
+computed (ops.SfenceVma rs1 rs2) a b pc len = results.System system.TranslationFence
+computed (ops.Csr op rd rs1 csr) a b pc len = csr_access_of op rd rs1 a csr
+computed (ops.CsrImmediate op rd imm csr) a b pc len = csr_access_of op rd imm imm csr
+computed (ops.LoadReserved width rd rs1) a b pc len = access_at a (size_of width) memory_ops.LoadReserved
 computed (ops.StoreConditional width rd rs1 rs2) a b pc len = store_conditional_of width a b
-computed (ops.Amo op width rd rs1 rs2) a b pc len = results.Amo op width a b
+computed (ops.Amo op width rd rs1 rs2) a b pc len = access_at a (size_of width) (memory_ops.Amo op width b)

@@ -1,8 +1,8 @@
 use super::*;
 use hart_words::AccessSize;
 use rv_decode::{
-    AmoOp, BranchOp, ImmediateOp, ImmediateWordOp, LoadOp, Op, RegisterOp, RegisterWordOp, StoreOp,
-    Width,
+    AmoOp, BranchOp, CsrOp, ImmediateOp, ImmediateWordOp, LoadOp, Op, RegisterOp, RegisterWordOp,
+    StoreOp, Width,
 };
 use std::test::Fail;
 
@@ -199,6 +199,10 @@ fn computes_upper_immediates_and_jumps(rt: HostRuntime) -> Result<(), Fail> {
     Ok(())
 }
 
+fn access(address: u64, size: AccessSize, op: MemoryOp) -> IntResult {
+    IntResult::Access(MemoryRequest { address, size, op })
+}
+
 fn jump(link: u64, target: u64) -> IntResult {
     IntResult::Jump { link, target }
 }
@@ -223,11 +227,7 @@ fn asks_for_accesses(rt: HostRuntime) -> Result<(), Fail> {
         };
         assert_eq!(rt;
             compute(op, 0, 0, 0, 4),
-            IntResult::Load {
-                address: MINUS_ONE,
-                size,
-                signed
-            }
+            access(MINUS_ONE, size, MemoryOp::Load { signed })
         );
     }
     let stores = [
@@ -245,11 +245,7 @@ fn asks_for_accesses(rt: HostRuntime) -> Result<(), Fail> {
         };
         assert_eq!(rt;
             compute(op, 0x1000, 0x0123_4567_89ab_cdef, 0, 4),
-            IntResult::Store {
-                address: 0x1008,
-                size,
-                value
-            }
+            access(0x1008, size, MemoryOp::Store { value })
         );
     }
     Ok(())
@@ -257,21 +253,26 @@ fn asks_for_accesses(rt: HostRuntime) -> Result<(), Fail> {
 
 #[test]
 fn asks_for_the_rest(rt: HostRuntime) -> Result<(), Fail> {
+    let value = 0xffff_ffff_0000_0007;
     let cases = [
         (Op::Fence, IntResult::Continue { next_pc: 6 }),
         (Op::FenceI, IntResult::Continue { next_pc: 6 }),
-        (Op::Ecall, IntResult::EnvironmentCall),
-        (Op::Ebreak, IntResult::Breakpoint),
+        (Op::Ecall, IntResult::System(SystemRequest::EnvironmentCall)),
+        (Op::Ebreak, IntResult::System(SystemRequest::Breakpoint)),
+        (Op::Mret, IntResult::System(SystemRequest::MachineReturn)),
+        (Op::Sret, IntResult::System(SystemRequest::SupervisorReturn)),
+        (Op::Wfi, IntResult::System(SystemRequest::WaitForInterrupt)),
+        (
+            Op::SfenceVma { rs1: 2, rs2: 3 },
+            IntResult::System(SystemRequest::TranslationFence),
+        ),
         (
             Op::LoadReserved {
                 width: Width::Word,
                 rd: 1,
                 rs1: 2,
             },
-            IntResult::LoadReserved {
-                address: 0x1000,
-                size: AccessSize::Word,
-            },
+            access(0x1000, AccessSize::Word, MemoryOp::LoadReserved),
         ),
         (
             Op::StoreConditional {
@@ -280,11 +281,24 @@ fn asks_for_the_rest(rt: HostRuntime) -> Result<(), Fail> {
                 rs1: 2,
                 rs2: 3,
             },
-            IntResult::StoreConditional {
-                address: 0x1000,
-                size: AccessSize::Doubleword,
-                value: 7,
+            access(
+                0x1000,
+                AccessSize::Doubleword,
+                MemoryOp::StoreConditional { value },
+            ),
+        ),
+        (
+            Op::StoreConditional {
+                width: Width::Word,
+                rd: 1,
+                rs1: 2,
+                rs2: 3,
             },
+            access(
+                0x1000,
+                AccessSize::Word,
+                MemoryOp::StoreConditional { value: 7 },
+            ),
         ),
         (
             Op::Amo {
@@ -294,16 +308,68 @@ fn asks_for_the_rest(rt: HostRuntime) -> Result<(), Fail> {
                 rs1: 2,
                 rs2: 3,
             },
-            IntResult::Amo {
-                op: AmoOp::Amoadd,
-                width: Width::Word,
-                address: 0x1000,
-                b: 7,
-            },
+            access(
+                0x1000,
+                AccessSize::Word,
+                MemoryOp::Amo {
+                    op: AmoOp::Amoadd,
+                    width: Width::Word,
+                    b: value,
+                },
+            ),
         ),
     ];
     for (op, wanted) in cases {
-        assert_eq!(rt; compute(op, 0x1000, 7, 2, 4), wanted);
+        assert_eq!(rt; compute(op, 0x1000, value, 2, 4), wanted);
+    }
+    Ok(())
+}
+
+/// Accesses to control and status registers: the form, rd, rs1, and whether the register is read
+/// and written. The number of rs1 decides that, and not its value, which is 0 here; the same with
+/// an immediate.
+#[test]
+fn asks_for_csr_accesses(rt: HostRuntime) -> Result<(), Fail> {
+    let cases = [
+        (CsrOp::Write, 0, 0, false, true),
+        (CsrOp::Write, 0, 3, false, true),
+        (CsrOp::Write, 1, 0, true, true),
+        (CsrOp::Set, 0, 0, true, false),
+        (CsrOp::Set, 0, 31, true, true),
+        (CsrOp::Clear, 31, 0, true, false),
+        (CsrOp::Clear, 1, 1, true, true),
+    ];
+    for (op, rd, source, reads, writes) in cases {
+        let request = CsrRequest {
+            address: 0x305,
+            op,
+            operand: 0,
+            reads,
+            writes,
+        };
+        let by_register = Op::Csr {
+            op,
+            rd,
+            rs1: source,
+            csr: 0x305,
+        };
+        assert_eq!(rt;
+            compute(by_register, 0, 9, 8, 4),
+            IntResult::System(SystemRequest::Csr(request))
+        );
+        let by_immediate = Op::CsrImmediate {
+            op,
+            rd,
+            imm: u64::from(source),
+            csr: 0x305,
+        };
+        assert_eq!(rt;
+            compute(by_immediate, 8, 9, 8, 4),
+            IntResult::System(SystemRequest::Csr(CsrRequest {
+                operand: u64::from(source),
+                ..request
+            }))
+        );
     }
     Ok(())
 }
