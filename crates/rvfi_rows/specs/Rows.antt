@@ -1,12 +1,14 @@
 -- The rows of a trace, as its lines show them.
-use Rattle.std.specs.Prelude.{◌≡◌, ℕ, Bool, true, false, ◌==◌, not, List, [], ◌∷◌, length, Option, Some, None, Result, Ok, Err, if◌then◌else◌}
-use Rattle.std.specs.Option.{option_or}
+use Rattle.std.specs.Prelude.{◌≡◌, ℕ, Bool, true, false, ◌==◌, ◌&&◌, not, List, [], ◌∷◌, length, Option, Some, None, Result, Ok, Err, if◌then◌else◌}
+use Rattle.std.specs.List.{list_any}
+use Rattle.std.specs.Option.{is_some, option_or}
 use Rattle.hart_words.specs.Numbers.{number_within}
 use Rattle.hart_words.specs.Signals.{Shown, index_of, width_of}
 use Rattle.hart_words.specs.declared.numbers.NumberFault.{NumberFault}
 use Rattle.hart_words.specs.declared.numbers.NumberFault.TheVariants as number
 use Rattle.hart_words.specs.declared.signal.Signal.{Signal}
-use Rattle.hart_words.specs.declared.signal.Signal.TheVariants.{Valid, Insn, PcRdata}
+use Rattle.hart_words.specs.declared.signal.Signal.TheVariants.{Valid, Insn, PcRdata, Csr}
+use Rattle.hart_words.specs.declared.signal.TheConstants.{SIGNALS}
 use Rattle.csv_line.specs.Fields.{fields_of_line}
 use Rattle.hart_words.specs.Results.{◌>>=◌, ◌>>◌, refuse_if}
 use Rattle.rvfi_rows.specs.Columns.{ColumnList, is_of, has_return}
@@ -47,6 +49,15 @@ shown_then first later signal = option_or (later signal) (first signal)
 -- the same with one value more
 abbrev pub with_shown : Shown → Signal → ℕ → Shown
 with_shown before signal value other = if index_of other == index_of signal then Some value else before other
+
+-- the signal is a column of a control and status register
+abbrev pub is_csr : Signal → Bool
+is_csr (Csr csr side) = true
+is_csr _ = false
+
+-- some such column is shown
+unfoldable pub shows_csr : Shown → Bool
+shows_csr shown = list_any (λ entry. is_csr entry.signal && is_some (shown entry.signal)) SIGNALS
 
 -- what a field shows: nothing under an unknown name, else its column's signal, where it has a value
 unfoldable pub field_shown : Option Signal → List ℕ → Result Shown RowFault

@@ -1,34 +1,39 @@
-//! What a valid row of a trace must show of one step of the reference hart.
+//! What the reference hart did at a valid row of a trace.
 
-use hart_words::{Mode, Registers};
+use csr_file::Csrs;
+use hart_words::{Cause, Mode, Registers};
 
-/// What the reference hart did at a row. It decides, with the row's own addresses, which signals
-/// the row must show and which are free.
+/// What the reference hart did at a row: facts alone. Which signals they hold the row to, and under
+/// which masks, is the comparison's to say.
 #[derive(Clone, Copy, Debug)]
 pub enum Expected {
-    /// The hart had halted before: no valid row should come, and nothing else is compared.
+    /// Nothing: the hart had halted before.
     Halted,
-    /// One instruction was retired, or trapped.
+    /// One instruction was retired, or took a synchronous trap.
     Retired(Retired),
 }
 
-/// One retired instruction, or one that trapped.
+/// One instruction that was retired, or took a synchronous trap.
 #[derive(Clone, Copy, Debug)]
 pub struct Retired {
-    /// The order index, where one is known.
+    /// The order index, where one was known.
     pub order: Option<u64>,
-    /// What `intr` must show: 0 where the row asks for an interrupt that the hart cannot take.
-    pub intr: Option<u64>,
-    /// The instruction's address.
+    /// Whether the row asked for an interrupt, and none could be taken.
+    pub lacks_interrupt: bool,
+    /// The instruction's address, after an interrupt's entry.
     pub pc: u64,
-    /// The mode of the instruction.
+    /// The mode of the instruction, after an interrupt's entry.
     pub mode: Mode,
-    /// Whether it trapped; none where that is not compared.
-    pub trap: Option<u64>,
-    /// The instruction's bits; none where that is not compared.
+    /// The instruction's bits, where it could be fetched.
     pub insn: Option<u64>,
-    /// What the instruction did, where it did not trap.
-    pub effects: Option<Effects>,
+    /// What the instruction did, or the cause of its trap.
+    pub effects: Result<Effects, Cause>,
+    /// The control and status registers before the instruction, after an interrupt's entry.
+    pub csrs_before: Csrs,
+    /// The same after the row, a trap's entry included.
+    pub csrs_after: Csrs,
+    /// The interrupt lines at the row, by their bits in mip.
+    pub lines: u64,
 }
 
 /// What an instruction that does not trap did.

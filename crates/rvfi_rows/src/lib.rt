@@ -1,8 +1,8 @@
 //! The header and the rows of a trace, after riscv-formal's description of RVFI.
 //!
 //! In comes a line of bytes. Out goes what the header names (`specs/Columns.antt`) or what the row
-//! shows (`specs/Rows.antt`), or the first fault; and for the crates above what a row must show of
-//! one step of the hart (`Expected`), and the verdict on rows (`Verdict`).
+//! shows (`specs/Rows.antt`), or the first fault; and for the crates above what the reference hart
+//! did at a row (`Expected`), and the verdict on rows (`Verdict`).
 #![tactic(auto)]
 
 mod cells;
@@ -17,7 +17,7 @@ pub use cells::read_row;
 pub use columns::{Columns, read_header};
 pub use expected::{Accessed, Effects, Expected, Retired};
 pub use fault::{HeaderError, HeaderFault, RowError, RowFault};
-pub use row::Row;
+pub use row::{FIRST_CSR, Row};
 pub use verdict::Verdict;
 pub use window::distance_in_window;
 

@@ -1,10 +1,13 @@
 //! What a row of a trace shows.
 
-ghost use Rattle.std.specs.Prelude.{◌≡◌, length};
+ghost use Rattle.std.specs.Prelude.{◌≡◌, ◌<◌, ◌^◌, length};
 
 use crate::cells::cell;
 use crate::fault::RowFault;
 use hart_words::Signal;
+
+/// The index of the first signal that is a column of a control and status register.
+pub const FIRST_CSR: usize = 22;
 
 /// What a valid row shows: a value for each signal that it shows. It takes no memory beyond itself.
 #[derive(Debug, Drop)]
@@ -14,11 +17,12 @@ pub struct Row {
     /// The values of the signals that are shown, each at its index.
     values: [u64; 110],
     ghost full: { length values ≡ 110 },
+    ghost within: { shown < 2 ^ 110 },
 }
 
 impl Row {
     ghost use Rattle.rvfi_rows.specs.Cells.{shown_in};
-    ghost use Rattle.rvfi_rows.specs.Rows.{Adds, field_shown, nothing, with_shown};
+    ghost use Rattle.rvfi_rows.specs.Rows.{Adds, field_shown, nothing, shows_csr, with_shown};
 
     /// A row that shows nothing.
     pub(crate) fn empty() -> Row
@@ -40,6 +44,14 @@ impl Row {
         } else {
             None
         }
+    }
+
+    /// Whether the row shows any column of a control and status register.
+    #[tactic(auto, using(crate::proofs::CsrBits::shows_some), unfolding(crate::specs::Rows::shows_csr))]
+    pub fn shows_csr(&self) -> bool
+        ensures { result ≡ shows_csr (shown_in self.now) }
+    {
+        self.shown >> FIRST_CSR != 0
     }
 
     /// Shows a value of the signal, in place of the one shown before, if any.

@@ -1,5 +1,5 @@
 use super::*;
-use hart_words::Signal;
+use hart_words::{CsrName, CsrSide, Signal};
 use std::alloc::Global;
 use std::test::Fail;
 
@@ -66,6 +66,36 @@ fn reads_registers_and_masks(rt: HostRuntime) -> Result<(), Fail> {
     }
     let again = HeaderFault::Twice(Signal::Rs1Addr);
     assert_eq!(rt; header_fault(alloc, b"rs1_addr,rvfi_rs1_addr"), Some(again));
+    Ok(())
+}
+
+/// The columns of control and status registers have 64 bits; those of satp and of physical memory
+/// protection are passed over.
+#[test]
+fn reads_registers_of_control(rt: HostRuntime) -> Result<(), Fail> {
+    let alloc = rt.alloc();
+    let columns = read_header(
+        alloc,
+        b"insn,rvfi_csr_mepc_rdata,csr_satp_wdata,pc_rdata,csr_sip_wmask,csr_pmpcfg2_rdata",
+    )?;
+    let mepc = Signal::Csr(CsrName::Mepc, CsrSide::Rdata);
+    let row = read_row(alloc, &columns, b"1,0xffffffffffffffff,x,2,,x")?.ok_or("it is valid")?;
+    assert_eq!(rt; row.shown(mepc), Some(u64::MAX));
+    assert!(rt; row.shows_csr());
+    assert_eq!(rt; row.shown(Signal::Csr(CsrName::Sip, CsrSide::Wmask)), None);
+    let row = read_row(alloc, &columns, b"1,,x,2,0,x")?.ok_or("it is valid")?;
+    assert_eq!(rt;
+        row.shown(Signal::Csr(CsrName::Sip, CsrSide::Wmask)),
+        Some(0)
+    );
+    let row = read_row(alloc, &columns, b"1,,0,2,,0")?.ok_or("it is valid")?;
+    assert!(rt; !row.shows_csr());
+    assert_eq!(rt; row.shown(Signal::Csr(CsrName::Satp, CsrSide::Wdata)), None);
+    let again = HeaderFault::Twice(mepc);
+    assert_eq!(rt;
+        header_fault(alloc, b"csr_mepc_rdata,rvfi_csr_mepc_rdata"),
+        Some(again)
+    );
     Ok(())
 }
 

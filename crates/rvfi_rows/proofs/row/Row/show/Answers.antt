@@ -1,6 +1,13 @@
-use Rattle.std.proofs.Common.{refl}
+use Rattle.std.proofs.Common.{refl, ◌∙◌, length-set}
 use Rattle.rvfi_rows.proofs.ShownBits.{shows_more}
+use Rattle.rvfi_rows.proofs.CsrBits.{stays_within}
 use Rattle.rvfi_rows.proofs.row.Row.show.Goals as goal
+
+pub invariant_of-self : goal.invariant_of-self
+invariant_of-self c = record {
+  full = length-set _ _ _ ∙ c.args.self.now.full;
+  within = stays_within _ _ c.args.self.now.within c.index-index.ensures.below;
+}
 
 pub returns : goal.returns
 returns c = shows_more c.args.self.now _ c.args.signal c.index-index.result c.from.result c.args.value c.index-index.ensures.value c.from.ensures c.index-index.ensures.below refl refl
