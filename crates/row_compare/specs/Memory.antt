@@ -1,17 +1,16 @@
 -- The memory access of an instruction, as riscv-formal's description of RVFI has a row show it: an
--- address, at which eight bytes begin, masks that say which of them are read and written, and their data.
-use Rattle.std.specs.Prelude.{ℕ, ◌+◌, ◌-◌, ◌*◌, ◌%◌, ◌^◌, Option, Some, None}
-use Rattle.hart_words.specs.declared.signal.Signal.TheVariants.{MemAddr, MemRmask, MemRdata, MemWmask, MemWdata, MemPaddr}
-use Rattle.hart_words.specs.Signals.{Shown}
-use Rattle.hart_words.specs.declared.signal.Difference.{Difference}
+-- address, at which eight bytes begin, masks that say which of them are read and written, and their
+-- data. `named` is the address that the row shows.
+use Rattle.std.specs.Prelude.{ℕ, ◌+◌, ◌-◌, ◌*◌, ◌%◌, ◌^◌, Option, Some, None, option_map}
 use Rattle.rvfi_rows.specs.Window.{distance_of}
 use Rattle.rvfi_rows.specs.declared.expected.Accessed.{Accessed}
-use Rattle.row_compare.specs.Signals.{difference_at, difference_under, ◌<|>◌}
+use Rattle.row_compare.specs.declared.wanted.Wanted.{Wanted}
+use Rattle.row_compare.specs.Wanted.{whole, where_known}
 
 -- how far the access begins above the address that is shown, where all its bytes are among the eight from there on
 abbrev pub distance_shown : Accessed → Option ℕ → Option ℕ
 distance_shown access None = None
-distance_shown access (Some address) = distance_of access.va access.len address
+distance_shown access (Some named) = distance_of access.va access.len named
 
 -- so many ones from a bit on
 abbrev pub ones : ℕ → ℕ → ℕ
@@ -21,44 +20,54 @@ ones from count = 2 ^ (from + count) - 2 ^ from
 abbrev pub byte_ones : ℕ → ℕ → ℕ
 byte_ones from count = 256 ^ (from + count) - 256 ^ from
 
+-- a number whose lowest byte is moved up to a byte
+abbrev pub moved_up : ℕ → ℕ → ℕ
+moved_up value away = value * 256 ^ away % 2 ^ 64
+
 -- the address is right where the access lies in its eight bytes
-abbrev pub expected_address : Accessed → Option ℕ → Option ℕ
-expected_address access (Some away) = None
-expected_address access None = Some access.va
+abbrev pub address_at : ℕ → Option ℕ → Option Wanted
+address_at va None = whole va
+address_at va (Some away) = None
+
+abbrev pub wanted_address : Accessed → Option ℕ → Option Wanted
+wanted_address access named = address_at access.va (distance_shown access named)
 
 -- the physical address moves with the address that is shown
-abbrev pub moved_back : ℕ → Option ℕ → Option ℕ
-moved_back pa None = None
-moved_back pa (Some away) = Some ((pa + (2 ^ 64 - away)) % 2 ^ 64)
+abbrev pub moved_back : ℕ → ℕ → ℕ
+moved_back pa away = (pa + (2 ^ 64 - away)) % 2 ^ 64
 
-abbrev pub expected_physical : Accessed → Option ℕ → Option ℕ
-expected_physical access None = Some access.pa
-expected_physical access (Some address) = moved_back access.pa (distance_of access.va access.len address)
+abbrev pub wanted_physical : Accessed → Option ℕ → Option Wanted
+wanted_physical access None = whole access.pa
+wanted_physical access (Some named) = where_known (option_map (moved_back access.pa) (distance_of access.va access.len named))
 
--- what was read is compared under the mask of its bytes; further bits of the shown mask are accepted
-abbrev pub read_difference : ℕ → Option ℕ → Option ℕ → Shown → Option Difference
-read_difference len None value shown = None
-read_difference len (Some away) None shown = None
-read_difference len (Some away) (Some value) shown =
-    difference_under MemRmask (ones away len) (ones away len) (shown MemRmask)
-    <|> difference_under MemRdata (byte_ones away len) (value * 256 ^ away % 2 ^ 64) (shown MemRdata)
+-- the bytes that are read are in their mask, and further ones may be
+abbrev pub read_mask_at : ℕ → Option ℕ → Option ℕ → Option Wanted
+read_mask_at len None read = None
+read_mask_at len (Some away) None = None
+read_mask_at len (Some away) (Some value) = Some (record { value = ones away len; mask = ones away len })
 
--- what was written has just its own bytes in the mask; where nothing is written the mask is 0
-abbrev pub written_difference : ℕ → Option ℕ → Option ℕ → Shown → Option Difference
-written_difference len away None shown = difference_at MemWmask (Some 0) (shown MemWmask)
-written_difference len None (Some value) shown = None
-written_difference len (Some away) (Some value) shown =
-    difference_at MemWmask (Some (ones away len)) (shown MemWmask)
-    <|> difference_under MemWdata (byte_ones away len) (value * 256 ^ away % 2 ^ 64) (shown MemWdata)
+abbrev pub wanted_read_mask : Accessed → Option ℕ → Option Wanted
+wanted_read_mask access named = read_mask_at access.len (distance_shown access named) access.read
 
-abbrev pub access_difference_at : Accessed → Option ℕ → Shown → Option Difference
-access_difference_at access away shown =
-    difference_at MemAddr (expected_address access away) (shown MemAddr)
-    <|> read_difference access.len away access.read shown
-    <|> written_difference access.len away access.written shown
-    <|> difference_at MemPaddr (expected_physical access (shown MemAddr)) (shown MemPaddr)
+-- data are wanted in the bits of the access's bytes
+abbrev pub data_at : ℕ → Option ℕ → Option ℕ → Option Wanted
+data_at len None number = None
+data_at len (Some away) None = None
+data_at len (Some away) (Some value) = Some (record { value = moved_up value away; mask = byte_ones away len })
 
--- an instruction without an access only must not show that it writes
-unfoldable pub memory_difference : Option Accessed → Shown → Option Difference
-memory_difference None shown = difference_at MemWmask (Some 0) (shown MemWmask)
-memory_difference (Some access) shown = access_difference_at access (distance_shown access (shown MemAddr)) shown
+abbrev pub wanted_read : Accessed → Option ℕ → Option Wanted
+wanted_read access named = data_at access.len (distance_shown access named) access.read
+
+abbrev pub wanted_written : Accessed → Option ℕ → Option Wanted
+wanted_written access named = data_at access.len (distance_shown access named) access.written
+
+-- just the bytes that are written are in their mask
+abbrev pub write_mask_at : ℕ → Option ℕ → Option ℕ → Option Wanted
+write_mask_at len away None = whole 0
+write_mask_at len None (Some value) = None
+write_mask_at len (Some away) (Some value) = whole (ones away len)
+
+-- where there is no access, nothing is written either
+abbrev pub wanted_write_mask : Option Accessed → Option ℕ → Option Wanted
+wanted_write_mask None named = whole 0
+wanted_write_mask (Some access) named = write_mask_at access.len (distance_shown access named) access.written

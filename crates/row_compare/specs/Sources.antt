@@ -2,9 +2,6 @@
 use Rattle.std.specs.Prelude.{ℕ, ◌==◌, if◌then◌else◌, Option, Some, None, option_map}
 use Rattle.hart_words.specs.declared.registers.Registers.{Registers}
 use Rattle.hart_words.specs.Registers.{register_of}
-use Rattle.hart_words.specs.declared.signal.Signal.{Signal}
-use Rattle.hart_words.specs.declared.signal.Difference.{Difference}
-use Rattle.row_compare.specs.Signals.{difference_at, ◌<|>◌}
 
 -- a register that is read, unless it is x0
 abbrev pub source_read : ℕ → Option ℕ
@@ -15,8 +12,6 @@ abbrev pub source_shown : ℕ → Option ℕ → Option ℕ
 source_shown source None = source_read source
 source_shown source (Some named) = Some named
 
--- a register's number and value, from the registers before, the register that is read, and what the row shows of both
-unfoldable pub source_difference : Signal → Signal → Registers → ℕ → Option ℕ → Option ℕ → Option Difference
-source_difference address contents registers source named value =
-    difference_at address (source_read source) named
-    <|> difference_at contents (option_map (register_of registers) (source_shown source named)) value
+-- its value before the instruction
+abbrev pub source_value : Registers → ℕ → Option ℕ → Option ℕ
+source_value registers source named = option_map (register_of registers) (source_shown source named)

@@ -1,19 +1,19 @@
 //! The first signal in which a row differs from what the hart did.
 
-ghost use Rattle.std.specs.Prelude.{◌≡◌};
+ghost use Rattle.std.specs.Prelude.{◌≡◌, Some, take};
 ghost use Rattle.rvfi_rows.specs.Cells.{shown_in};
-ghost use Rattle.row_compare.specs.Signals.{differs, difference_at};
-ghost use Rattle.row_compare.specs.Difference.{retired_difference, effects_difference, difference_in, difference_of};
+ghost use Rattle.hart_words.specs.declared.signal.TheConstants.{SIGNALS};
+ghost use Rattle.rvfi_rows.specs.declared.row.TheConstants.{FIRST_CSR};
+ghost use Rattle.row_compare.specs.Difference.{difference_between, difference_of, first_among, signal_difference};
 
-use crate::memory::memory_difference;
-use crate::sources::source_difference;
-use hart_words::{Difference, Signal};
-use rvfi_rows::{Effects, Expected, Retired, Row};
+use crate::signals::wanted;
+use crate::wanted::Wanted;
+use hart_words::{Difference, SIGNALS, Signal, SignalEntry};
+use rvfi_rows::{Expected, FIRST_CSR, Retired, Row};
 
-/// The first difference in the order of comparison, if there is one: `order`, `intr`, `pc_rdata`,
-/// `mode`, `ixl`, `trap`, `insn`, the sources, the destination, `pc_wdata`, and memory. Only
-/// signals that the row shows are compared, and only those that are not free. Of a row that traps,
-/// nothing behind `insn` is compared; of one that comes after the hart halted, only `valid`.
+/// The first difference, in the order of the table of signals, if there is one. Only signals that
+/// the row shows are compared, and only those that are not free, under their masks. Of a row that
+/// comes after the hart halted `valid` alone differs.
 #[tactic(auto, unfolding(crate::specs::Difference::difference_of))]
 pub fn first_difference(expected: &Expected, row: &Row) -> Option<Difference>
     ensures { result ≡ difference_of expected.now (shown_in row.now) }
@@ -24,87 +24,91 @@ pub fn first_difference(expected: &Expected, row: &Row) -> Option<Difference>
             expected: 0,
             found: 1,
         }),
-        Expected::Retired(retired) => {
-            retired_difference(retired, row).or(effects_of(&retired.effects, row))
-        }
+        Expected::Retired(retired) => retired_difference(retired, row),
     }
 }
 
-/// The signals that every row is compared in.
-#[tactic(auto, unfolding(crate::specs::Difference::retired_difference))]
+/// Most rows show no control and status register, so that those are passed over at once.
 fn retired_difference(retired: &Retired, row: &Row) -> Option<Difference>
-    ensures { result ≡ retired_difference retired.now (shown_in row.now) }
+    ensures { result ≡ first_among retired.now (shown_in row.now) SIGNALS }
 {
-    compared(Signal::Order, retired.order, row)
-        .or(compared(Signal::Intr, retired.intr, row))
-        .or(compared(Signal::PcRdata, Some(retired.pc), row))
-        .or(compared(Signal::Mode, Some(u64::from(retired.mode.number())), row))
-        .or(compared(Signal::Ixl, Some(2), row))
-        .or(compared(Signal::Trap, retired.trap, row))
-        .or(compared(Signal::Insn, retired.insn, row))
-}
-
-fn effects_of(effects: &Option<Effects>, row: &Row) -> Option<Difference>
-    ensures { result ≡ difference_in effects.now (shown_in row.now) }
-{
-    match effects {
-        None => None,
-        Some(effects) => effects_difference(effects, row),
+    let plain = plain_difference(retired, row);
+    if row.shows_csr() {
+        plain.or(first_among(retired, row, &SIGNALS[FIRST_CSR..]))
+    } else {
+        plain
     }
 }
 
-/// The signals of what an instruction did.
-#[tactic(auto, unfolding(crate::specs::Difference::effects_difference))]
-fn effects_difference(effects: &Effects, row: &Row) -> Option<Difference>
-    ensures { result ≡ effects_difference effects.now (shown_in row.now) }
+/// The signals before those of registers, in the table's order. Each is written out, so that the
+/// compiler sees which one it is.
+fn plain_difference(retired: &Retired, row: &Row) -> Option<Difference>
+    ensures { result ≡ first_among retired.now (shown_in row.now) (take FIRST_CSR SIGNALS) }
 {
-    let registers = &effects.registers;
-    source_difference(
-        Signal::Rs1Addr,
-        Signal::Rs1Rdata,
-        registers,
-        effects.rs1,
-        row,
-    )
-    .or(source_difference(
-        Signal::Rs2Addr,
-        Signal::Rs2Rdata,
-        registers,
-        effects.rs2,
-        row,
-    ))
-    .or(compared(Signal::RdAddr, Some(u64::from(effects.rd)), row))
-    .or(compared(Signal::RdWdata, Some(effects.rd_value), row))
-    .or(compared(Signal::PcWdata, Some(effects.next_pc), row))
-    .or(memory_difference(&effects.access, row))
+    signal_difference(retired, row, Signal::Valid)
+        .or(signal_difference(retired, row, Signal::Order))
+        .or(signal_difference(retired, row, Signal::Intr))
+        .or(signal_difference(retired, row, Signal::PcRdata))
+        .or(signal_difference(retired, row, Signal::Mode))
+        .or(signal_difference(retired, row, Signal::Ixl))
+        .or(signal_difference(retired, row, Signal::Trap))
+        .or(signal_difference(retired, row, Signal::Insn))
+        .or(signal_difference(retired, row, Signal::Rs1Addr))
+        .or(signal_difference(retired, row, Signal::Rs1Rdata))
+        .or(signal_difference(retired, row, Signal::Rs2Addr))
+        .or(signal_difference(retired, row, Signal::Rs2Rdata))
+        .or(signal_difference(retired, row, Signal::RdAddr))
+        .or(signal_difference(retired, row, Signal::RdWdata))
+        .or(signal_difference(retired, row, Signal::PcWdata))
+        .or(signal_difference(retired, row, Signal::MemAddr))
+        .or(signal_difference(retired, row, Signal::MemRmask))
+        .or(signal_difference(retired, row, Signal::MemRdata))
+        .or(signal_difference(retired, row, Signal::MemWmask))
+        .or(signal_difference(retired, row, Signal::MemWdata))
+        .or(signal_difference(retired, row, Signal::MemPaddr))
+        .or(signal_difference(retired, row, Signal::Halt))
 }
 
-/// The difference of a signal, where a value is expected of it.
-pub fn compared(signal: Signal, expected: Option<u64>, row: &Row) -> Option<Difference>
-    ensures { result ≡ difference_at signal expected (shown_in row.now signal) }
+/// The first of the entries whose signal differs.
+fn first_among(retired: &Retired, row: &Row, entries: &[SignalEntry]) -> Option<Difference>
+    ensures { result ≡ first_among retired.now (shown_in row.now) entries.now }
 {
-    match expected {
-        None => None,
-        Some(expected) => difference_between(signal, expected, row.shown(signal)),
-    }
-}
-
-/// The difference of a signal that is shown.
-pub fn difference_between(signal: Signal, expected: u64, shown: Option<u64>) -> Option<Difference>
-    ensures { result ≡ differs signal expected shown }
-{
-    match shown {
-        None => None,
-        Some(found) => {
-            if expected == found {
-                None
-            } else {
-                Some(Difference {
-                    signal,
-                    expected,
-                    found,
-                })
-            }
+    for index in 0..entries.len() {
+        if let Some(difference) = signal_difference(retired, row, entries[index].signal) {
+            return Some(difference);
         }
+    }
+    None
+}
+
+/// The difference of a signal that is shown, where something is wanted of it.
+#[inline(always)]
+#[tactic(auto, unfolding(crate::specs::Difference::signal_difference))]
+fn signal_difference(retired: &Retired, row: &Row, signal: Signal) -> Option<Difference>
+    ensures { result ≡ signal_difference retired.now (shown_in row.now) signal }
+{
+    match row.shown(signal) {
+        None => None,
+        Some(found) => match wanted(retired, row, signal) {
+            None => None,
+            Some(want) => difference_between(signal, found, want),
+        },
+    }
+}
+
+/// The difference in the bits of the mask.
+fn difference_between(signal: Signal, found: u64, want: Wanted) -> Option<Difference>
+    ensures { result ≡ difference_between signal (Some found) (Some want) }
+{
+    let expected = want.value & want.mask;
+    let found = found & want.mask;
+    if expected == found {
+        None
+    } else {
+        Some(Difference {
+            signal,
+            expected,
+            found,
+        })
     }
 }

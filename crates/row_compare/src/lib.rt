@@ -1,14 +1,19 @@
 //! The comparison of a row with what the reference hart did.
 //!
-//! In come what a row must show (`Expected`) and the row. Out comes the first signal, in the order
-//! of comparison, that is shown, not free, and not as it should be, with both values: what
-//! `difference_of` (`specs/Difference.antt`) gives. After riscv-formal's description of RVFI.
+//! In come what the hart did (`Expected`) and the row. Out comes the first signal, in the order of
+//! comparison, that is shown and not as it should be, with both values: what `difference_of`
+//! (`specs/Difference.antt`) gives. What is wanted of each signal is one table, `wanted`
+//! (`specs/Signals.antt`). After riscv-formal's description of RVFI.
 #![tactic(auto)]
 
 mod comparison;
+mod csrs;
+pub mod laws;
 mod masks;
 mod memory;
+mod signals;
 mod sources;
+mod wanted;
 
 pub use comparison::first_difference;
 

@@ -1,106 +1,109 @@
-//! The memory access of an instruction.
+//! The memory access of an instruction. The row's address may lie below the access, as far as the
+//! access still lies in the eight bytes from there on; masks, data and the physical address are
+//! moved with it. `named` is the row's address.
 
-ghost use Rattle.std.specs.Prelude.{◌≡◌, ◌≤◌, ◌+◌, ◌*◌, ◌%◌, ◌^◌, IfSome};
-ghost use Rattle.rvfi_rows.specs.Cells.{shown_in};
-ghost use Rattle.row_compare.specs.Memory.{distance_shown, expected_address, expected_physical, moved_back, read_difference, written_difference, access_difference_at, memory_difference};
+ghost use Rattle.std.specs.Prelude.{◌≡◌, ◌≤◌, ◌+◌, IfSome};
+ghost use Rattle.row_compare.specs.Memory.{distance_shown, moved_up, moved_back, address_at, wanted_address, wanted_physical, read_mask_at, wanted_read_mask, data_at, wanted_read, wanted_written, write_mask_at, wanted_write_mask};
 
-use crate::comparison::compared;
-use crate::masks::{byte_ones, difference_under, ones};
-use hart_words::{Difference, Signal};
-use rvfi_rows::{Accessed, Row, distance_in_window};
+use crate::masks::{byte_ones, ones};
+use crate::wanted::{Wanted, whole};
+use rvfi_rows::{Accessed, distance_in_window};
 
-/// The signals of memory. The row's address may lie below the access, as far as the access still
-/// lies in the eight bytes from there on; masks, data and the physical address are moved with it.
-#[tactic(auto, unfolding(crate::specs::Memory::memory_difference))]
-pub fn memory_difference(access: &Option<Accessed>, row: &Row) -> Option<Difference>
-    ensures { result ≡ memory_difference access.now (shown_in row.now) }
+/// The access's own address, unless the row's is right too.
+pub fn wanted_address(access: &Accessed, named: Option<u64>) -> Option<Wanted>
+    ensures { result ≡ wanted_address access.now named }
 {
-    match access {
-        None => compared(Signal::MemWmask, Some(0), row),
-        Some(access) => access_difference(access, row),
-    }
-}
-
-fn access_difference(access: &Accessed, row: &Row) -> Option<Difference>
-    ensures { let away = distance_shown access.now (shown_in row.now Signal.MemAddr) in
-        result ≡ access_difference_at access.now away (shown_in row.now) }
-{
-    let address = row.shown(Signal::MemAddr);
-    let away = match address {
-        None => None,
-        Some(address) => distance_in_window(access.va, access.len, address),
-    };
-    let expected = match away {
+    match distance_shown(access, named) {
+        None => whole(access.va),
         Some(_) => None,
-        None => Some(access.va),
-    };
-    let physical = match address {
-        None => Some(access.pa),
-        Some(_) => moved_back(access.pa, away),
-    };
-    compared(Signal::MemAddr, expected, row)
-        .or(read_difference(access, away, row))
-        .or(written_difference(access, away, row))
-        .or(compared(Signal::MemPaddr, physical, row))
-}
-
-fn moved_back(pa: u64, away: Option<u64>) -> Option<u64>
-    ensures { result ≡ moved_back pa away }
-{
-    match away {
-        None => None,
-        Some(away) => Some(pa.wrapping_sub(away)),
     }
 }
 
-fn read_difference(access: &Accessed, away: Option<u64>, row: &Row) -> Option<Difference>
-    requires { IfSome away (λ away. away + access.now.len ≤ 8) }
-    ensures { result ≡ read_difference access.now.len away access.now.read (shown_in row.now) }
+/// The physical address, as far before the access as the row's address is.
+pub fn wanted_physical(access: &Accessed, named: Option<u64>) -> Option<Wanted>
+    ensures { result ≡ wanted_physical access.now named }
 {
-    match (away, access.read) {
-        (Some(away), Some(value)) => {
+    match named {
+        None => whole(access.pa),
+        Some(named) => match distance_in_window(access.va, access.len, named) {
+            None => None,
+            Some(away) => whole(access.pa.wrapping_sub(away)),
+        },
+    }
+}
+
+/// The bytes that are read, in their own bits: the mask may have further ones.
+pub fn wanted_read_mask(access: &Accessed, named: Option<u64>) -> Option<Wanted>
+    ensures { result ≡ wanted_read_mask access.now named }
+{
+    match (distance_shown(access, named), access.read) {
+        (Some(away), Some(_)) => {
             let mask = ones(away, access.len);
-            let data = byte_ones(away, access.len);
-            difference_under(Signal::MemRmask, mask, mask, row.shown(Signal::MemRmask)).or(
-                difference_under(
-                    Signal::MemRdata,
-                    data,
-                    moved_up(value, away),
-                    row.shown(Signal::MemRdata),
-                ),
-            )
+            Some(Wanted { value: mask, mask })
         }
         _ => None,
     }
 }
 
-fn written_difference(access: &Accessed, away: Option<u64>, row: &Row) -> Option<Difference>
-    requires { IfSome away (λ away. away + access.now.len ≤ 8) }
-    ensures { result ≡ written_difference access.now.len away access.now.written
-        (shown_in row.now) }
+/// What was read, in the bits of its bytes.
+pub fn wanted_read(access: &Accessed, named: Option<u64>) -> Option<Wanted>
+    ensures { result ≡ wanted_read access.now named }
 {
-    match access.written {
-        None => compared(Signal::MemWmask, Some(0), row),
-        Some(value) => match away {
-            None => None,
-            Some(away) => {
-                let mask = ones(away, access.len);
-                let data = byte_ones(away, access.len);
-                compared(Signal::MemWmask, Some(mask), row).or(difference_under(
-                    Signal::MemWdata,
-                    data,
-                    moved_up(value, away),
-                    row.shown(Signal::MemWdata),
-                ))
-            }
+    data_at(access.len, distance_shown(access, named), access.read)
+}
+
+/// What was written, in the bits of its bytes.
+pub fn wanted_written(access: &Accessed, named: Option<u64>) -> Option<Wanted>
+    ensures { result ≡ wanted_written access.now named }
+{
+    data_at(access.len, distance_shown(access, named), access.written)
+}
+
+/// Just the bytes that are written. Nothing is known of them where the row shows no address.
+pub fn wanted_write_mask(access: &Option<Accessed>, named: Option<u64>) -> Option<Wanted>
+    ensures { result ≡ wanted_write_mask access.now named }
+{
+    match access {
+        None => whole(0),
+        Some(access) => match access.written {
+            None => whole(0),
+            Some(_) => match distance_shown(access, named) {
+                None => None,
+                Some(away) => whole(ones(away, access.len)),
+            },
         },
+    }
+}
+
+/// How far the access begins above the row's address, where it lies in the eight bytes from there.
+fn distance_shown(access: &Accessed, named: Option<u64>) -> Option<u64>
+    ensures value { result ≡ distance_shown access.now named }
+    ensures near { IfSome result (λ away. away + access.now.len ≤ 8) }
+{
+    match named {
+        None => None,
+        Some(named) => distance_in_window(access.va, access.len, named),
+    }
+}
+
+/// A number in the bits of its bytes, which begin at byte `away`.
+fn data_at(len: u8, away: Option<u64>, number: Option<u64>) -> Option<Wanted>
+    requires { IfSome away (λ away. away + len ≤ 8) }
+    ensures { result ≡ data_at len away number }
+{
+    match (away, number) {
+        (Some(away), Some(value)) => Some(Wanted {
+            value: moved_up(value, away),
+            mask: byte_ones(away, len),
+        }),
+        _ => None,
     }
 }
 
 /// A number whose lowest byte is moved up to byte `away`.
 fn moved_up(value: u64, away: u64) -> u64
     requires { away ≤ 8 }
-    ensures { result ≡ value * 256 ^ away % 2 ^ 64 }
+    ensures { result ≡ moved_up value away }
 {
     if away == 8 {
         return 0;

@@ -1,5 +1,6 @@
 use super::*;
-use hart_words::{Difference, Mode, Registers, Signal};
+use csr_file::{Csrs, StoredCsr};
+use hart_words::{Cause, CsrName, CsrSide, Difference, Mode, Registers, Signal};
 use rvfi_rows::{Accessed, Effects, Expected, Retired, read_header, read_row};
 use std::alloc::Global;
 use std::process::Abort;
@@ -42,15 +43,17 @@ fn differs(
 }
 
 /// An instruction in S-mode that reads x1 and writes x3, or one that traps.
-fn retired(effects: Option<Effects>) -> Retired {
+fn retired(effects: Result<Effects, Cause>) -> Retired {
     Retired {
         order: Some(5),
-        intr: Some(0),
+        lacks_interrupt: true,
         pc: 0x8000_0000,
         mode: Mode::Supervisor,
-        trap: Some(u64::from(effects.is_none())),
         insn: Some(0x13),
         effects,
+        csrs_before: Csrs::reset(),
+        csrs_after: Csrs::reset(),
+        lines: 0,
     }
 }
 
@@ -70,7 +73,7 @@ fn effects(access: Option<Accessed>) -> Effects {
 }
 
 fn with_access(access: Option<Accessed>) -> Expected {
-    Expected::Retired(retired(Some(effects(access))))
+    Expected::Retired(retired(Ok(effects(access))))
 }
 
 #[test]
@@ -243,44 +246,87 @@ fn registers(rt: HostRuntime) -> Result<(), Fail> {
     differs(&rt, rt.alloc(), &with_access(None), &cases)
 }
 
+/// Of a trap only what comes before `rs1_addr` is compared, and `trap` itself but for calls of the
+/// environment and breakpoints.
 #[test]
-fn traps_and_ends(rt: HostRuntime) -> Result<(), Fail> {
+fn traps(rt: HostRuntime) -> Result<(), Fail> {
     let alloc = rt.alloc();
-    let trap = Expected::Retired(retired(None));
-    let cases: [Case; 3] = [
-        (
-            "trap,rs1_addr,rs1_rdata,rd_addr,rd_wdata,pc_wdata",
-            "1,9,9,9,9,9",
-            None,
-        ),
-        (
-            "trap,mem_addr,mem_wmask,mem_wdata,mem_paddr",
-            "1,9,9,9,9",
-            None,
-        ),
-        ("trap", "0", Some((Signal::Trap, 1, 0))),
-    ];
-    differs(&rt, alloc, &trap, &cases)?;
-    let free = Expected::Retired(Retired {
+    let not_one = Some((Signal::Trap, 1, 0));
+    for (cause, difference) in [
+        (Cause::InstructionAccessFault, not_one),
+        (Cause::IllegalInstruction, not_one),
+        (Cause::Breakpoint, None),
+        (Cause::LoadAddressMisaligned, not_one),
+        (Cause::StoreAccessFault, not_one),
+        (Cause::EnvironmentCallFromUser, None),
+        (Cause::EnvironmentCallFromSupervisor, None),
+        (Cause::EnvironmentCallFromMachine, None),
+        (Cause::StorePageFault, not_one),
+    ] {
+        let trap = Expected::Retired(retired(Err(cause)));
+        let cases: [Case; 4] = [
+            ("rs1_addr,rs1_rdata,rs2_addr,rs2_rdata", "9,9,9,9", None),
+            (
+                "trap,rd_addr,rd_wdata,pc_wdata,mem_rmask",
+                "1,9,9,9,9",
+                None,
+            ),
+            (
+                "mem_addr,mem_wmask,mem_wdata,mem_rdata,mem_paddr",
+                "9,9,9,9,9",
+                None,
+            ),
+            ("trap", "0", difference),
+        ];
+        differs(&rt, alloc, &trap, &cases)?;
+    }
+    let unfetched = Expected::Retired(Retired {
         order: None,
-        intr: None,
-        trap: None,
+        lacks_interrupt: false,
         insn: None,
-        ..retired(None)
+        pc: 0x8000_0002,
+        ..retired(Err(Cause::InstructionPageFault))
     });
-    differs(&rt, alloc, &free, &[("order,intr,trap", "9,1,0", None)])?;
+    let pc = Some((Signal::PcRdata, 0x8000_0002, 0x8000_0000));
+    differs(&rt, alloc, &unfetched, &[("order,intr,trap", "9,1,1", pc)])?;
+    let fetched = Expected::Retired(Retired {
+        order: None,
+        lacks_interrupt: false,
+        insn: None,
+        ..retired(Err(Cause::InstructionPageFault))
+    });
+    differs(&rt, alloc, &fetched, &[("order,intr,trap", "9,1,1", None)])?;
+    let bits = Expected::Retired(Retired {
+        insn: Some(0x1_0013),
+        ..retired(Ok(effects(None)))
+    });
+    let cases: [Case; 2] = [
+        ("trap", "0", Some((Signal::Insn, 0x1_0013, 0x13))),
+        ("trap", "1", Some((Signal::Trap, 0, 1))),
+    ];
+    differs(&rt, alloc, &bits, &cases)?;
     let valid = Some((Signal::Valid, 0, 1));
-    differs(&rt, alloc, &Expected::Halted, &[("order", "9", valid)])
+    let ended: [Case; 2] = [
+        ("order,csr_mepc_rdata", "9,1", valid),
+        ("valid", "1", valid),
+    ];
+    differs(&rt, alloc, &Expected::Halted, &ended)
 }
 
 #[test]
 fn modes(rt: HostRuntime) -> Result<(), Fail> {
-    for (mode, number) in [(Mode::User, 0), (Mode::Supervisor, 1), (Mode::Machine, 3)] {
+    for (mode, number, other) in [
+        (Mode::User, 0, "1"),
+        (Mode::Supervisor, 1, "3"),
+        (Mode::Machine, 3, "0"),
+    ] {
         let expected = Expected::Retired(Retired {
             mode,
-            ..retired(None)
+            ..retired(Ok(effects(None)))
         });
-        let cases: [Case; 5] = [
+        let shown = format!(in rt.alloc(); "{number}")?;
+        let cases: [Case; 6] = [
+            ("mode", shown.as_str(), None),
             ("mode,ixl", ",2", None),
             ("mode", "2", Some((Signal::Mode, number, 2))),
             ("ixl", "1", Some((Signal::Ixl, 2, 1))),
@@ -288,19 +334,152 @@ fn modes(rt: HostRuntime) -> Result<(), Fail> {
             ("ixl,mode", "3,2", Some((Signal::Mode, number, 2))),
         ];
         differs(&rt, rt.alloc(), &expected, &cases)?;
-        let shown = format!(in rt.alloc(); "{number}")?;
-        differs(
-            &rt,
-            rt.alloc(),
-            &expected,
-            &[("mode", shown.as_str(), None)],
-        )?;
+        let difference = difference_in(rt.alloc(), &expected, "mode", other)?;
+        assert!(rt; difference.is_some());
     }
     Ok(())
 }
 
+const fn before(name: CsrName) -> Signal {
+    Signal::Csr(name, CsrSide::Rdata)
+}
+
+const fn after(name: CsrName) -> Signal {
+    Signal::Csr(name, CsrSide::Wdata)
+}
+
+/// Registers before and after the row, under the masks that are shown, on a trap's row too.
+#[test]
+fn registers_under_masks(rt: HostRuntime) -> Result<(), Fail> {
+    let mut csrs_before = Csrs::reset();
+    csrs_before.set(StoredCsr::Mepc, 0x1234);
+    let mut csrs_after = csrs_before;
+    csrs_after.set(StoredCsr::Mepc, 0x8000_0000);
+    csrs_after.set(StoredCsr::Mcause, 2);
+    let row = Retired {
+        csrs_before,
+        csrs_after,
+        ..retired(Err(Cause::IllegalInstruction))
+    };
+    let cases: [Case; 12] = [
+        ("csr_mepc_rdata,csr_mepc_wdata", "0x1234,0x80000000", None),
+        (
+            "csr_mepc_rdata",
+            "0x80000000",
+            Some((before(CsrName::Mepc), 0x1234, 0x8000_0000)),
+        ),
+        (
+            "csr_mepc_wdata",
+            "0x1234",
+            Some((after(CsrName::Mepc), 0x8000_0000, 0x1234)),
+        ),
+        ("csr_mepc_rdata,csr_mepc_rmask", "0x5634,0xff", None),
+        (
+            "csr_mepc_rdata,csr_mepc_rmask",
+            "0x5634,0xf00f",
+            Some((before(CsrName::Mepc), 0x1004, 0x5004)),
+        ),
+        ("csr_mepc_rdata,csr_mepc_rmask", "0x5634,0", None),
+        // Each data column has its own mask; one that is empty or missing is all ones.
+        (
+            "csr_mepc_rdata,csr_mepc_rmask,csr_mepc_wmask",
+            "0x5634,,0",
+            Some((before(CsrName::Mepc), 0x1234, 0x5634)),
+        ),
+        (
+            "csr_mepc_wdata,csr_mepc_rmask",
+            "0,0",
+            Some((after(CsrName::Mepc), 0x8000_0000, 0)),
+        ),
+        // A mask without its data compares nothing.
+        (
+            "csr_mepc_rdata,csr_mepc_rmask,csr_mcause_wmask",
+            ",9,9",
+            None,
+        ),
+        ("csr_mcause_rdata,csr_mcause_wdata", "0,2", None),
+        (
+            "csr_mcause_wdata",
+            "0",
+            Some((after(CsrName::Mcause), 2, 0)),
+        ),
+        // MXL of misa is 2; UXL and SXL of mstatus are 2, of which sstatus shows UXL.
+        (
+            "csr_misa_rdata,csr_misa_rmask,csr_mstatus_rdata,csr_sstatus_wdata",
+            "0x8000000000000000,0xc000000000000000,0xa00000000,0x200000001",
+            Some((after(CsrName::Sstatus), 0x2_0000_0000, 0x2_0000_0001)),
+        ),
+    ];
+    differs(&rt, rt.alloc(), &Expected::Retired(row), &cases)
+}
+
+/// Lines that may be held are not compared after the instruction (3, 7, 9 and 11 of mip, 9 of sip),
+/// and before it bit 9 of sip only where mip shows that bit.
+#[test]
+fn interrupt_lines(rt: HostRuntime) -> Result<(), Fail> {
+    let mut csrs = Csrs::reset();
+    csrs.set(StoredCsr::Mideleg, 0x222);
+    csrs.set(StoredCsr::Mip, 0x2);
+    let row = Expected::Retired(Retired {
+        csrs_before: csrs,
+        csrs_after: csrs,
+        lines: 0x200,
+        ..retired(Ok(effects(None)))
+    });
+    let (mip, sip) = (before(CsrName::Mip), before(CsrName::Sip));
+    let cases: [Case; 15] = [
+        ("csr_mip_rdata", "0x202", None),
+        ("csr_mip_rdata", "2", Some((mip, 0x202, 2))),
+        ("csr_mip_rdata", "0xa8a", Some((mip, 0x202, 0xa8a))),
+        ("csr_mip_rdata,csr_mip_rmask", "0xa8a,0x202", None),
+        ("csr_mip_wdata", "2", None),
+        ("csr_mip_wdata", "0xa8a", None),
+        ("csr_mip_wdata", "0xa88", Some((after(CsrName::Mip), 2, 0))),
+        (
+            "csr_mip_wdata,csr_mip_wmask",
+            "0x22,0x2a0",
+            Some((after(CsrName::Mip), 0, 0x20)),
+        ),
+        ("csr_sip_wdata", "2", None),
+        ("csr_sip_wdata", "0x200", Some((after(CsrName::Sip), 2, 0))),
+        ("csr_sip_wdata", "0xa", Some((after(CsrName::Sip), 2, 0xa))),
+        ("csr_sip_rdata", "2", None),
+        ("csr_sip_rdata", "0x222", Some((sip, 2, 0x22))),
+        (
+            "csr_sip_rdata,csr_mip_rdata",
+            "2,0x202",
+            Some((sip, 0x202, 2)),
+        ),
+        (
+            "csr_sip_rdata,csr_mip_rdata,csr_mip_rmask",
+            "2,2,0xfff",
+            Some((mip, 0x202, 2)),
+        ),
+    ];
+    differs(&rt, rt.alloc(), &row, &cases)?;
+    let masked: [Case; 4] = [
+        (
+            "csr_sip_rdata,csr_mip_rdata,csr_mip_rmask",
+            "2,2,0xdff",
+            None,
+        ),
+        (
+            "csr_sip_rdata,csr_mip_rdata,csr_mip_rmask",
+            "2,0x200,0x200",
+            Some((sip, 0x202, 2)),
+        ),
+        ("csr_sip_rdata,csr_mip_rmask", "2,0x200", None),
+        (
+            "csr_sip_rdata,csr_sip_rmask,csr_mip_rdata",
+            "0,0x2,0x202",
+            Some((sip, 2, 0)),
+        ),
+    ];
+    differs(&rt, rt.alloc(), &row, &masked)
+}
+
 /// The signals in the order of comparison, with the value expected and another.
-const ORDERED: [(Signal, u64, u64); 20] = [
+const ORDERED: [(Signal, u64, u64); 24] = [
     (Signal::Order, 5, 6),
     (Signal::Intr, 0, 1),
     (Signal::PcRdata, 0x8000_0000, 0x8000_0002),
@@ -321,6 +500,10 @@ const ORDERED: [(Signal, u64, u64); 20] = [
     (Signal::MemWmask, 0xff, 0x7f),
     (Signal::MemWdata, 2, 4),
     (Signal::MemPaddr, 0x9000_0208, 0x8000_0208),
+    (Signal::Csr(CsrName::Mtvec, CsrSide::Rdata), 0, 4),
+    (Signal::Csr(CsrName::Mtvec, CsrSide::Wdata), 8, 0),
+    (Signal::Csr(CsrName::Stval, CsrSide::Rdata), 0, 1),
+    (Signal::Csr(CsrName::Stval, CsrSide::Wdata), 0, 1),
 ];
 
 /// Of rows in which ever more signals from the left of that order are right, the first that is wrong
@@ -335,17 +518,23 @@ fn order_of_signals(rt: HostRuntime) -> Result<(), Fail> {
         read: Some(1),
         written: Some(2),
     };
-    let expected = Expected::Retired(retired(Some(Effects {
-        rs2: 2,
-        ..effects(Some(access))
-    })));
+    let mut csrs_after = Csrs::reset();
+    csrs_after.set(StoredCsr::Mtvec, 8);
+    let expected = Expected::Retired(Retired {
+        csrs_after,
+        ..retired(Ok(Effects {
+            rs2: 2,
+            ..effects(Some(access))
+        }))
+    });
     for first in 0..ORDERED.len() {
         let mut header = String::new(alloc);
         let mut line = String::new(alloc);
         for index in (0..ORDERED.len()).rev() {
             let (signal, right, wrong) = ORDERED[index];
             let value = if index < first { right } else { wrong };
-            header = format!(in alloc; "{header}{},", signal.stem())?;
+            let (prefix, stem, suffix) = (signal.prefix(), signal.stem(), signal.suffix());
+            header = format!(in alloc; "{header}{prefix}{stem}{suffix},")?;
             line = format!(in alloc; "{line}{value},")?;
         }
         let columns = read_header(alloc, header.as_bytes())?;

@@ -1,0 +1,120 @@
+//! What is wanted of each signal.
+
+ghost use Rattle.std.specs.Prelude.{◌≡◌, option_copied};
+ghost use Rattle.hart_words.specs.declared.signal.Signal.TheVariants.{Csr};
+ghost use Rattle.rvfi_rows.specs.Cells.{shown_in};
+ghost use Rattle.row_compare.specs.Signals.{access_in, effects_in, is_call_or_breakpoint, wanted, wanted_trap};
+
+use crate::csrs::{bits_after, bits_before};
+use crate::memory::{
+    wanted_address, wanted_physical, wanted_read, wanted_read_mask, wanted_write_mask,
+    wanted_written,
+};
+use crate::sources::{source_read, source_value};
+use crate::wanted::{Wanted, where_known, whole};
+use hart_words::{Cause, CsrName, CsrSide, Signal};
+use rvfi_rows::{Accessed, Effects, Retired, Row};
+
+/// What is wanted of a signal of the row; it is `None` where the signal is free. Of an instruction
+/// that traps all that it would have done is free.
+#[inline(always)]
+#[tactic(auto, unfolding(crate::specs::Signals::wanted))]
+pub fn wanted(retired: &Retired, row: &Row, signal: Signal) -> Option<Wanted>
+    ensures { result ≡ wanted retired.now (shown_in row.now) signal }
+{
+    let effects = effects_in(&retired.effects);
+    let access = access_in(&retired.effects);
+    let address = row.shown(Signal::MemAddr);
+    match signal {
+        Signal::Valid | Signal::Halt => None,
+        Signal::Order => where_known(retired.order),
+        Signal::Intr if retired.lacks_interrupt => whole(0),
+        Signal::Intr => None,
+        Signal::PcRdata => whole(retired.pc),
+        Signal::Mode => whole(u64::from(retired.mode.number())),
+        Signal::Ixl => whole(2),
+        Signal::Trap => wanted_trap(&retired.effects),
+        Signal::Insn => where_known(retired.insn),
+        Signal::Rs1Addr => where_known(source_read(effects?.rs1)),
+        Signal::Rs1Rdata => {
+            let effects = effects?;
+            where_known(source_value(&effects.registers, effects.rs1, row.shown(Signal::Rs1Addr)))
+        }
+        Signal::Rs2Addr => where_known(source_read(effects?.rs2)),
+        Signal::Rs2Rdata => {
+            let effects = effects?;
+            where_known(source_value(&effects.registers, effects.rs2, row.shown(Signal::Rs2Addr)))
+        }
+        Signal::RdAddr => whole(u64::from(effects?.rd)),
+        Signal::RdWdata => whole(effects?.rd_value),
+        Signal::PcWdata => whole(effects?.next_pc),
+        Signal::MemAddr => wanted_address(access?, address),
+        Signal::MemRmask => wanted_read_mask(access?, address),
+        Signal::MemRdata => wanted_read(access?, address),
+        Signal::MemWmask => wanted_write_mask(&effects?.access, address),
+        Signal::MemWdata => wanted_written(access?, address),
+        Signal::MemPaddr => wanted_physical(access?, address),
+        Signal::Csr(name, side) => wanted_csr(retired, row, name, side),
+    }
+}
+
+/// Of a register the value before the instruction and the one after the row, as traces show it.
+#[tactic(auto, unfolding(crate::specs::Signals::wanted))]
+fn wanted_csr(retired: &Retired, row: &Row, name: CsrName, side: CsrSide) -> Option<Wanted>
+    ensures { result ≡ wanted retired.now (shown_in row.now) (Csr name side) }
+{
+    match side {
+        CsrSide::Rmask | CsrSide::Wmask => None,
+        CsrSide::Rdata => Some(Wanted {
+            value: retired.csrs_before.shown(name, retired.lines),
+            mask: bits_before(name, row),
+        }),
+        CsrSide::Wdata => Some(Wanted {
+            value: retired.csrs_after.shown(name, retired.lines),
+            mask: bits_after(name, row),
+        }),
+    }
+}
+
+/// A trap shows 1, unless cores differ in whether it is one.
+fn wanted_trap(effects: &Result<Effects, Cause>) -> Option<Wanted>
+    ensures { result ≡ wanted_trap effects.now }
+{
+    match effects {
+        Ok(_) => whole(0),
+        Err(cause) => {
+            if is_call_or_breakpoint(*cause) {
+                None
+            } else {
+                whole(1)
+            }
+        }
+    }
+}
+
+fn is_call_or_breakpoint(cause: Cause) -> bool
+    ensures { result ≡ is_call_or_breakpoint cause }
+{
+    matches!(
+        cause,
+        Cause::Breakpoint
+            | Cause::EnvironmentCallFromUser
+            | Cause::EnvironmentCallFromSupervisor
+            | Cause::EnvironmentCallFromMachine
+    )
+}
+
+fn effects_in(effects: &Result<Effects, Cause>) -> Option<&Effects>
+    ensures { option_copied result ≡ effects_in effects.now }
+{
+    match effects {
+        Ok(effects) => Some(effects),
+        Err(_) => None,
+    }
+}
+
+fn access_in(effects: &Result<Effects, Cause>) -> Option<&Accessed>
+    ensures { option_copied result ≡ access_in effects.now }
+{
+    effects_in(effects)?.access.as_ref()
+}
