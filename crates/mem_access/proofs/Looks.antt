@@ -13,7 +13,7 @@ use Rattle.hart_words.specs.Actions.{Observes, pure, read_memory}
 use Rattle.hart_words.proofs.Runs.{Observes-pure, Observes-read_memory, Observes-mapped, Observes-then}
 use Rattle.csr_file.specs.declared.csrs.Csrs.{Csrs}
 use Rattle.mem_access.specs.declared.place.Place.{Place}
-use Rattle.mem_access.specs.Places.{place_of}
+use Rattle.mem_access.specs.Places.{data_mode_of, place_of}
 use Rattle.mem_access.specs.Accesses.{Exception, parcel_from, parcel_at, after_first, with_second, fetched, value_at, load_from, loaded, with_address, store_place_of}
 
 pub parcel_refused : (csrs : Csrs) (map : Map) (mode : Mode) (at : ℕ) (cause : Cause) (seen : List Read) (bytes : Bytes) → Err cause ≡ place_of csrs map mode Fetch false at 2 → Observes (parcel_at csrs map mode at) (Err (cause, at)) seen seen bytes
@@ -59,20 +59,20 @@ pub load_misaligned : (csrs : Csrs) (map : Map) (mode : Mode) (va len : ℕ) (at
 unfolding loaded
 load_misaligned csrs map mode va len atomic seen bytes is = rw (no_multiple va len is) (Observes-pure (Err (LoadAddressMisaligned, va)) seen bytes)
 
-pub load_refused : (csrs : Csrs) (map : Map) (mode : Mode) (va len : ℕ) (atomic : Bool) (cause : Cause) (seen : List Read) (bytes : Bytes) → va % len ≡ 0 → Err cause ≡ place_of csrs map mode Load (not atomic) va len → Observes (loaded csrs map mode va len atomic) (Err (cause, va)) seen seen bytes
+pub load_refused : (csrs : Csrs) (map : Map) (mode : Mode) (va len : ℕ) (atomic : Bool) (cause : Cause) (seen : List Read) (bytes : Bytes) → va % len ≡ 0 → Err cause ≡ place_of csrs map (data_mode_of csrs mode) Load (not atomic) va len → Observes (loaded csrs map mode va len atomic) (Err (cause, va)) seen seen bytes
 unfolding loaded
 load_refused csrs map mode va len atomic cause seen bytes aligned is =
     let P : Result Place Cause → Type 0 = λ r. Observes (load_from va len r) (Err (cause, va)) seen seen bytes in
     rw (multiple va len aligned) (subst P is (Observes-pure (Err (cause, va)) seen bytes))
 
-pub load_device : (csrs : Csrs) (map : Map) (mode : Mode) (va len : ℕ) (atomic : Bool) (place : Place) (seen : List Read) (bytes : Bytes) → va % len ≡ 0 → Ok place ≡ place_of csrs map mode Load (not atomic) va len → place.io ≡ true → Observes (loaded csrs map mode va len atomic) (Ok (place, 0)) seen seen bytes
+pub load_device : (csrs : Csrs) (map : Map) (mode : Mode) (va len : ℕ) (atomic : Bool) (place : Place) (seen : List Read) (bytes : Bytes) → va % len ≡ 0 → Ok place ≡ place_of csrs map (data_mode_of csrs mode) Load (not atomic) va len → place.io ≡ true → Observes (loaded csrs map mode va len atomic) (Ok (place, 0)) seen seen bytes
 unfolding loaded
 load_device csrs map mode va len atomic place seen bytes aligned is io =
     let P : Result Place Cause → Type 0 = λ r. Observes (load_from va len r) (Ok (place, 0)) seen seen bytes in
     let Q : Bool → Type 0 = λ b. Observes (value_at place len b) (Ok (place, 0)) seen seen bytes in
     rw (multiple va len aligned) (subst P is (subst Q (sym io) (Observes-pure (Ok (place, 0)) seen bytes)))
 
-pub load_memory : (csrs : Csrs) (map : Map) (mode : Mode) (va len : ℕ) (atomic : Bool) (place : Place) (value : ℕ) (seen seen' : List Read) (bytes : Bytes) → va % len ≡ 0 → Ok place ≡ place_of csrs map mode Load (not atomic) va len → place.io ≡ false → value ≡ number_at bytes place.pa len → seen' ≡ seen ++ record { pa = place.pa; len = len } ∷ [] → Observes (loaded csrs map mode va len atomic) (Ok (place, value)) seen seen' bytes
+pub load_memory : (csrs : Csrs) (map : Map) (mode : Mode) (va len : ℕ) (atomic : Bool) (place : Place) (value : ℕ) (seen seen' : List Read) (bytes : Bytes) → va % len ≡ 0 → Ok place ≡ place_of csrs map (data_mode_of csrs mode) Load (not atomic) va len → place.io ≡ false → value ≡ number_at bytes place.pa len → seen' ≡ seen ++ record { pa = place.pa; len = len } ∷ [] → Observes (loaded csrs map mode va len atomic) (Ok (place, value)) seen seen' bytes
 unfolding loaded
 load_memory csrs map mode va len atomic place value seen seen' bytes aligned is io read noted =
     let P : Result Place Cause → Type 0 = λ r. Observes (load_from va len r) (Ok (place, value)) seen seen' bytes in
@@ -83,7 +83,7 @@ pub store_misaligned : (csrs : Csrs) (map : Map) (mode : Mode) (va len : ℕ) (a
 unfolding store_place_of
 store_misaligned csrs map mode va len atomic seen bytes is = rw (no_multiple va len is) (Observes-pure (Err (StoreAddressMisaligned, va)) seen bytes)
 
-pub store_at : (csrs : Csrs) (map : Map) (mode : Mode) (va len : ℕ) (atomic : Bool) (placed : Result Place Cause) (seen : List Read) (bytes : Bytes) → va % len ≡ 0 → placed ≡ place_of csrs map mode Store (not atomic) va len → Observes (store_place_of csrs map mode va len atomic) (with_address va placed) seen seen bytes
+pub store_at : (csrs : Csrs) (map : Map) (mode : Mode) (va len : ℕ) (atomic : Bool) (placed : Result Place Cause) (seen : List Read) (bytes : Bytes) → va % len ≡ 0 → placed ≡ place_of csrs map (data_mode_of csrs mode) Store (not atomic) va len → Observes (store_place_of csrs map mode va len atomic) (with_address va placed) seen seen bytes
 unfolding store_place_of
 store_at csrs map mode va len atomic placed seen bytes aligned is =
     let P : Result Place Cause → Type 0 = λ r. Observes (pure (with_address va r)) (with_address va placed) seen seen bytes in

@@ -8,7 +8,7 @@ use Rattle.hart_words.specs.declared.map.Map.{Map}
 use Rattle.hart_words.specs.Actions.{Action, pure, read_memory, mapped, ◌>>=◌}
 use Rattle.csr_file.specs.declared.csrs.Csrs.{Csrs}
 use Rattle.mem_access.specs.declared.place.Place.{Place}
-use Rattle.mem_access.specs.Places.{place_of}
+use Rattle.mem_access.specs.Places.{data_mode_of, place_of}
 
 abbrev pub Exception : Type 0
 Exception = Cause × ℕ
@@ -48,7 +48,8 @@ load_from va len (Ok place) = value_at place len place.io
 -- a load: the address is a multiple of the length, and the access is allowed
 unfoldable pub loaded : Csrs → Map → Mode → ℕ → ℕ → Bool → Action (Result (Place × ℕ) Exception)
 loaded csrs map mode va len atomic =
-    if va % len == 0 then load_from va len (place_of csrs map mode Load (not atomic) va len) else pure (Err (LoadAddressMisaligned, va))
+    if va % len == 0 then load_from va len (place_of csrs map (data_mode_of csrs mode) Load (not atomic) va len)
+    else pure (Err (LoadAddressMisaligned, va))
 
 abbrev pub with_address : ℕ → Result Place Cause → Result Place Exception
 with_address va (Err cause) = Err (cause, va)
@@ -57,4 +58,5 @@ with_address va (Ok place) = Ok place
 -- the place of a store
 unfoldable pub store_place_of : Csrs → Map → Mode → ℕ → ℕ → Bool → Action (Result Place Exception)
 store_place_of csrs map mode va len atomic =
-    pure (if va % len == 0 then with_address va (place_of csrs map mode Store (not atomic) va len) else Err (StoreAddressMisaligned, va))
+    pure (if va % len == 0 then with_address va (place_of csrs map (data_mode_of csrs mode) Store (not atomic) va len)
+    else Err (StoreAddressMisaligned, va))

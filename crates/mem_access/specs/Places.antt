@@ -1,6 +1,7 @@
 -- Where an access goes, and why it may not go there. From the Privileged Architecture's chapter "Machine-Level ISA" (physical memory attributes and protection, exception codes).
 use Rattle.std.specs.Prelude.{ℕ, Bool, true, false, ◌&&◌, if◌then◌else◌, Option, Some, None, Result, Ok, Err}
 use Rattle.hart_words.specs.declared.privilege.Mode.{Mode}
+use Rattle.hart_words.specs.declared.privilege.Mode.TheVariants.{User, Supervisor, Machine}
 use Rattle.hart_words.specs.declared.privilege.Access.{Access}
 use Rattle.hart_words.specs.declared.privilege.Cause.{Cause}
 use Rattle.hart_words.specs.declared.span.Span.{Span}
@@ -8,9 +9,19 @@ use Rattle.hart_words.specs.declared.map.Map.{Map}
 use Rattle.hart_words.specs.Spans.{holds_all}
 use Rattle.hart_words.specs.Privilege.{access_fault_of}
 use Rattle.csr_file.specs.declared.csrs.Csrs.{Csrs}
-use Rattle.csr_file.specs.Registers.{pmp_entries_of}
+use Rattle.csr_file.specs.declared.stored_csr.StoredCsr.TheVariants.{Mstatus}
+use Rattle.csr_file.specs.declared.fields.TheConstants.{MPRV}
+use Rattle.csr_file.specs.Registers.{at, pmp_entries_of}
+use Rattle.csr_file.specs.Fields.{bit_is_set, mode_numbered, mpp_of}
 use Rattle.pmp_check.specs.Protection.{is_allowed}
 use Rattle.mem_access.specs.declared.place.Place.{Place}
+
+-- the mode of a load or a store: MPP in M where MPRV is set, else the mode itself; a fetch has the mode itself
+unfoldable pub data_mode_of : Csrs → Mode → Mode
+data_mode_of csrs Machine =
+    if bit_is_set (at csrs Mstatus) MPRV then mode_numbered (mpp_of (at csrs Mstatus)) else Machine
+data_mode_of csrs Supervisor = Supervisor
+data_mode_of csrs User = User
 
 -- the bytes are all of the range of devices, where there is one
 abbrev pub is_device : Option Span → ℕ → ℕ → Bool

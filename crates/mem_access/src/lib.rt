@@ -8,6 +8,7 @@
 
 mod data_access;
 mod instruction_fetch;
+pub mod laws;
 mod place;
 
 pub use data_access::{ACCESS_READS, load, store_place};

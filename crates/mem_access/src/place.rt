@@ -3,9 +3,10 @@
 ghost use Rattle.std.specs.Prelude.{◌≡◌, ◌≤◌, ◌%◌, IfOk, false};
 ghost use Rattle.hart_words.specs.AccessSizes.{IsLength};
 ghost use Rattle.hart_words.specs.Memory.{IsPlace};
-ghost use Rattle.mem_access.specs.Places.{is_device, place_in, place_of};
+ghost use Rattle.mem_access.specs.Places.{data_mode_of, is_device, place_in, place_of};
 
-use csr_file::Csrs;
+use csr_file::fields::{MPP, MPRV};
+use csr_file::{Csrs, StoredCsr, has_bit, mode_numbered};
 use hart_words::{Access, Cause, Map, Mode, Span};
 use pmp_check::allows;
 
@@ -14,6 +15,24 @@ use pmp_check::allows;
 pub struct Place {
     pub pa: u64,
     pub io: bool,
+}
+
+/// The mode of a load or a store: MPP in M where MPRV is set, else the mode of the instruction.
+#[tactic(auto, unfolding(crate::specs::Places::data_mode_of))]
+pub fn data_mode(csrs: &Csrs, mode: Mode) -> Mode
+    ensures { result ≡ data_mode_of csrs.now mode }
+{
+    let status = csrs.get(StoredCsr::Mstatus);
+    match mode {
+        Mode::Machine => {
+            if has_bit(status, MPRV) {
+                mode_numbered((status >> MPP) % 4)
+            } else {
+                Mode::Machine
+            }
+        }
+        Mode::Supervisor | Mode::User => mode,
+    }
 }
 
 /// The place of an access, unless protection refuses it or nothing is there.

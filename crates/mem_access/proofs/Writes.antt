@@ -1,0 +1,73 @@
+-- Looking for a place, fetching and loading write nothing.
+use Rattle.std.proofs.Common.{◌≡◌, ℕ, ◌+◌, ◌%◌, ◌^◌, Bool, true, false, not, [], ◌++◌, refl, ap, ◌∙◌, Ok, Err, Result, if◌then◌else◌}
+use Rattle.std.specs.Prelude.{◌==◌}
+use Rattle.hart_words.specs.declared.privilege.Mode.{Mode}
+use Rattle.hart_words.specs.declared.privilege.Access.TheVariants.{Fetch, Load}
+use Rattle.hart_words.specs.declared.privilege.Cause.{Cause}
+use Rattle.hart_words.specs.declared.privilege.Cause.TheVariants.{LoadAddressMisaligned}
+use Rattle.hart_words.specs.declared.map.Map.{Map}
+use Rattle.hart_words.specs.Memory.{Bytes, after_writes}
+use Rattle.hart_words.specs.Actions.{Action, pure, read_memory, mapped, ◌>>=◌}
+use Rattle.hart_words.proofs.Runs.{run_then-is}
+use Rattle.csr_file.specs.declared.csrs.Csrs.{Csrs}
+use Rattle.mem_access.specs.declared.place.Place.{Place}
+use Rattle.mem_access.specs.Places.{data_mode_of, place_of}
+use Rattle.mem_access.specs.Accesses.{Exception, parcel_from, parcel_at, after_first, with_second, fetched, value_at, load_from, loaded, store_place_of}
+
+pub then_writes_nothing : {A B : Type 0} (first : Action A) (next : A → Action B) (bytes : Bytes)
+    → (first.run bytes).wrote ≡ [] → ((x : A) (now : Bytes) → ((next x).run now).wrote ≡ []) → ((first >>= next).run bytes).wrote ≡ []
+then_writes_nothing first next bytes one more =
+    let before = first.run bytes in
+    let now = after_writes before.wrote bytes in
+    let both : ((first >>= next).run bytes).wrote ≡ before.wrote ++ ((next before.value).run now).wrote = ap (λ t. t.wrote) (run_then-is first next bytes) in
+    both ∙ ap (λ w. w ++ ((next before.value).run now).wrote) one ∙ more before.value now
+
+parcel_from_writes : (at : ℕ) (place : Result Place Cause) (bytes : Bytes) → ((parcel_from at place).run bytes).wrote ≡ []
+unfolding pure mapped read_memory
+parcel_from_writes at (Err cause) bytes = refl
+parcel_from_writes at (Ok place) bytes = refl
+
+parcel_writes : (csrs : Csrs) (map : Map) (mode : Mode) (at : ℕ) (bytes : Bytes) → ((parcel_at csrs map mode at).run bytes).wrote ≡ []
+unfolding parcel_at
+parcel_writes csrs map mode at bytes = parcel_from_writes at (place_of csrs map mode Fetch false at 2) bytes
+
+second_writes : (csrs : Csrs) (map : Map) (mode : Mode) (pc first : ℕ) (long : Bool) (bytes : Bytes)
+    → ((if long then mapped (with_second first) (parcel_at csrs map mode ((pc + 2) % 2 ^ 64)) else pure (Ok (first, 2))).run bytes).wrote ≡ []
+unfolding pure mapped
+second_writes csrs map mode pc first true bytes = parcel_writes csrs map mode ((pc + 2) % 2 ^ 64) bytes
+second_writes csrs map mode pc first false bytes = refl
+
+rest_writes : (csrs : Csrs) (map : Map) (mode : Mode) (pc : ℕ) (first : Result ℕ Exception) (bytes : Bytes) → ((after_first csrs map mode pc first).run bytes).wrote ≡ []
+unfolding pure
+rest_writes csrs map mode pc (Err exception) bytes = refl
+rest_writes csrs map mode pc (Ok first) bytes = second_writes csrs map mode pc first (first % 4 == 3) bytes
+
+pub fetch_writes_nothing : (csrs : Csrs) (map : Map) (mode : Mode) (pc : ℕ) (bytes : Bytes) → ((fetched csrs map mode pc).run bytes).wrote ≡ []
+unfolding fetched
+fetch_writes_nothing csrs map mode pc bytes =
+    then_writes_nothing (parcel_at csrs map mode pc) (after_first csrs map mode pc) bytes (parcel_writes csrs map mode pc bytes) (rest_writes csrs map mode pc)
+
+value_writes : (place : Place) (len : ℕ) (io : Bool) (bytes : Bytes) → ((value_at place len io).run bytes).wrote ≡ []
+unfolding pure mapped read_memory
+value_writes place len true bytes = refl
+value_writes place len false bytes = refl
+
+load_from_writes : (va len : ℕ) (place : Result Place Cause) (bytes : Bytes) → ((load_from va len place).run bytes).wrote ≡ []
+unfolding pure
+load_from_writes va len (Err cause) bytes = refl
+load_from_writes va len (Ok place) bytes = value_writes place len place.io bytes
+
+aligned_writes : (va len : ℕ) (place : Result Place Cause) (aligned : Bool) (bytes : Bytes)
+    → ((if aligned then load_from va len place else pure (Err (LoadAddressMisaligned, va))).run bytes).wrote ≡ []
+unfolding pure
+aligned_writes va len place true bytes = load_from_writes va len place bytes
+aligned_writes va len place false bytes = refl
+
+pub load_writes_nothing : (csrs : Csrs) (map : Map) (mode : Mode) (va len : ℕ) (atomic : Bool) (bytes : Bytes) → ((loaded csrs map mode va len atomic).run bytes).wrote ≡ []
+unfolding loaded
+load_writes_nothing csrs map mode va len atomic bytes =
+    aligned_writes va len (place_of csrs map (data_mode_of csrs mode) Load (not atomic) va len) (va % len == 0) bytes
+
+pub store_place_writes_nothing : (csrs : Csrs) (map : Map) (mode : Mode) (va len : ℕ) (atomic : Bool) (bytes : Bytes) → ((store_place_of csrs map mode va len atomic).run bytes).wrote ≡ []
+unfolding store_place_of pure
+store_place_writes_nothing csrs map mode va len atomic bytes = refl
