@@ -1,2 +1,6 @@
 pub mod Ways
-pub mod Kept
+pub mod Phases
+pub mod Traps
+pub mod Modes
+pub mod Decisions
+pub mod Reserved

@@ -1,6 +1,8 @@
 pub mod Cores
-pub mod Rows
-pub mod Outcomes
-pub mod Even
-pub mod Runs
+pub mod Choices
+pub mod MemoryAccess
+pub mod CsrAccess
+pub mod Returns
+pub mod Instructions
 pub mod Steps
+pub mod Laws

@@ -8,7 +8,7 @@ use crate::state::Core;
 use hart_words::{Map, NoMemory, PhysMem, Seen, Wrote};
 use rvfi_rows::{Expected, Row};
 
-/// What a step gave: what the row must show, and what was read from memory and written to it.
+/// What a step gave: what the reference hart did, and what was read from memory and written to it.
 #[derive(Debug, Drop)]
 pub struct Stepped {
     pub expected: Expected,
@@ -42,12 +42,11 @@ impl<M: PhysMem + Drop> Hart<M> {
         }
     }
 
-    /// Steps the hart by a valid row: what the row must show, and what was read and written.
+    /// Steps the hart by a valid row: what it did, and what was read and written.
     /// Without memory neither the state nor a byte changes.
     ///
-    /// From the Unprivileged ISA and the Privileged Architecture, as far as the instruction table
-    /// goes; what they leave open is taken from the row, as riscv-formal's description of RVFI has
-    /// it.
+    /// From the Unprivileged ISA and the Privileged Architecture; what they leave open is taken from
+    /// the row, as riscv-formal's description of RVFI has it.
     pub fn step(&mut self, row: &Row) -> Result<Stepped, NoMemory>
         requires sound { IsSound self.old.core }
         requires ram { M.ram self.old.mem ≡ self.old.core.map.ram }

@@ -1,22 +1,24 @@
 //! The reference hart: what one row of a trace does to it.
 //!
-//! In come a hart over a memory, and a valid row. Out come the hart after it, what the row must show,
-//! and what was read and written: what `stepped` (`specs/Steps.antt`) gives. From the Unprivileged
-//! ISA and the Privileged Architecture's chapter "Machine-Level ISA"; what both leave open is taken
-//! from the row, after riscv-formal's description of RVFI.
+//! In come a hart over a memory, and a valid row. Out come the hart after it, what the reference
+//! hart did, and what was read and written: what `stepped` (`specs/Steps.antt`) gives. A step goes
+//! by phases: the order index, the interrupt lines, an interrupt's entry, fetch, decode,
+//! execution, a trap's entry. From the Unprivileged ISA and the Privileged Architecture's chapters
+//! "Machine-Level ISA" and "Supervisor-Level ISA"; what both leave open is taken from the row, after
+//! riscv-formal's description of RVFI.
 #![tactic(auto)]
 
-mod atomics;
+mod choices;
+mod csr_access;
+mod execution;
 mod hart;
+mod instruction;
 pub mod laws;
-mod loads;
-mod outcome;
-mod rows;
-mod running;
+mod memory;
+mod returns;
 mod state;
-mod stepping;
-mod stores;
+mod step;
+mod touched;
 
 pub use hart::{Hart, Stepped};
-pub use outcome::{Done, Instruction, Outcome};
 pub use state::Core;

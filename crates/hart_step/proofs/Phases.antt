@@ -1,0 +1,170 @@
+-- What a step is, by its phases, and what an interrupt's entry leaves.
+use Rattle.std.proofs.Common.{◌≡◌, ◌≢◌, ◌≤◌, ℕ, Bool, true, false, not, ◌&&◌, [], refl, sym, ap, ◌∙◌, subst, arith, Option, Some, None, if◌then◌else◌}
+use Rattle.std.specs.Option.{is_some}
+use Rattle.std.proofs.lemmas.Bool.Decides.{nat_tests}
+use Rattle.hart_words.specs.declared.privilege.Mode.{Mode}
+use Rattle.hart_words.specs.Privilege.{mode_number}
+use Rattle.hart_words.specs.declared.signal.Signal.TheVariants.{Intr, PcRdata}
+use Rattle.hart_words.specs.Signals.{Shown}
+use Rattle.hart_words.specs.Memory.{Bytes}
+use Rattle.hart_words.specs.Actions.{pure, mapped}
+use Rattle.csr_file.specs.declared.csrs.Csrs.{Csrs}
+use Rattle.trap_entry.specs.Entries.{enter_of, pc_by_enter}
+use Rattle.trap_entry.proofs.Undone.{never_lowers}
+use Rattle.interrupt_pick.proofs.Taken.{picks_taken}
+use Rattle.interrupt_pick.proofs.Entered.{picks_where_entered}
+use Rattle.rvfi_rows.specs.declared.expected.Expected.{Expected}
+use Rattle.rvfi_rows.specs.declared.expected.Expected.TheVariants.{Halted}
+use Rattle.hart_step.specs.declared.state.Core.{Core}
+use Rattle.hart_step.specs.Choices.{shows, asks_interrupt, lines_of}
+use Rattle.hart_step.specs.Instructions.{ran}
+use Rattle.hart_step.specs.Steps.{Gave, counted, entered, interrupt_of, interrupted_by, interrupted, begun, finished, expected_of, gave_of, stepped}
+use Rattle.hart_step.specs.Laws.{next_of, enters_interrupt, IsAsked, IsFetched, EntersInterrupt}
+
+-- a running hart runs what it finds behind the entry of an interrupt
+pub running : (core : Core) (shown : Shown) (bytes : Bytes) → core.halted ≡ false
+    → (stepped core shown).run bytes ≡ (mapped (gave_of core shown) (ran (begun core shown) shown)).run bytes
+unfolding stepped
+running core shown bytes is =
+    let halts : Gave = record { next = core; expected = Halted } in
+    let whole = mapped (gave_of core shown) (ran (begun core shown) shown) in
+    let P : Bool → Type 0 = λ b. (if b then pure halts else whole).run bytes ≡ whole.run bytes in
+    subst P (sym is) refl
+
+pub halting : (core : Core) (shown : Shown) (bytes : Bytes) → core.halted ≡ true → (stepped core shown).run bytes ≡ record { value = record { next = core; expected = Halted }; reads = []; wrote = [] }
+unfolding stepped pure
+halting core shown bytes is =
+    let halts : Gave = record { next = core; expected = Halted } in
+    let whole = mapped (gave_of core shown) (ran (begun core shown) shown) in
+    let P : Bool → Type 0 = λ b. (if b then pure halts else whole).run bytes ≡ (pure halts).run bytes in
+    subst P (sym is) refl
+
+pub next_running : (core : Core) (shown : Shown) (bytes : Bytes) → core.halted ≡ false → next_of core shown bytes ≡ finished ((ran (begun core shown) shown).run bytes).value shown
+unfolding mapped gave_of
+next_running core shown bytes is = ap (λ r. r.value.next) (running core shown bytes is)
+
+pub wrote_running : (core : Core) (shown : Shown) (bytes : Bytes) → core.halted ≡ false → ((stepped core shown).run bytes).wrote ≡ ((ran (begun core shown) shown).run bytes).wrote
+unfolding mapped
+wrote_running core shown bytes is = ap (λ r. r.wrote) (running core shown bytes is)
+
+pub expected_running : (core : Core) (shown : Shown) (bytes : Bytes) → core.halted ≡ false
+    → ((stepped core shown).run bytes).value.expected ≡ expected_of core shown ((ran (begun core shown) shown).run bytes).value
+unfolding mapped gave_of
+expected_running core shown bytes is = ap (λ r. r.value.expected) (running core shown bytes is)
+
+pub next_halted : (core : Core) (shown : Shown) (bytes : Bytes) → core.halted ≡ true → next_of core shown bytes ≡ core
+next_halted core shown bytes is = ap (λ r. r.value.next) (halting core shown bytes is)
+
+pub wrote_halted : (core : Core) (shown : Shown) (bytes : Bytes) → core.halted ≡ true → ((stepped core shown).run bytes).wrote ≡ []
+wrote_halted core shown bytes is = ap (λ r. r.wrote) (halting core shown bytes is)
+
+-- an entry leaves the registers and what is reserved, and never lowers the mode
+registers_by : (core : Core) (asks : Bool) (pick : Option (ℕ × Mode)) → (if asks then interrupted_by core pick else core).registers ≡ core.registers
+unfolding entered
+registers_by core false pick = refl
+registers_by core true None = refl
+registers_by core true (Some x) = refl
+
+pub begun_registers : (core : Core) (shown : Shown) → (begun core shown).registers ≡ core.registers
+unfolding begun interrupted counted
+begun_registers core shown = registers_by (counted core shown) (asks_interrupt (counted core shown) shown) (interrupt_of (counted core shown) shown)
+
+reservation_by : (core : Core) (asks : Bool) (pick : Option (ℕ × Mode)) → (if asks then interrupted_by core pick else core).reservation ≡ core.reservation
+unfolding entered
+reservation_by core false pick = refl
+reservation_by core true None = refl
+reservation_by core true (Some x) = refl
+
+pub begun_reservation : (core : Core) (shown : Shown) → (begun core shown).reservation ≡ core.reservation
+unfolding begun interrupted counted
+begun_reservation core shown = reservation_by (counted core shown) (asks_interrupt (counted core shown) shown) (interrupt_of (counted core shown) shown)
+
+pub same_mode : (one other : Mode) → one ≡ other → mode_number one ≤ mode_number other
+same_mode one other is =
+    let P : Mode → Type 0 = λ m. mode_number one ≤ mode_number m in
+    let here : mode_number one ≤ mode_number one = omega arith in
+    subst P is here
+
+mode_by : (core : Core) (asks : Bool) (pick : Option (ℕ × Mode)) → mode_number core.mode ≤ mode_number (if asks then interrupted_by core pick else core).mode
+unfolding entered
+mode_by core false pick = same_mode core.mode core.mode refl
+mode_by core true None = same_mode core.mode core.mode refl
+mode_by core true (Some x) = never_lowers core.csrs core.mode true x.0
+
+pub begun_mode : (core : Core) (shown : Shown) → mode_number core.mode ≤ mode_number (begun core shown).mode
+unfolding begun interrupted counted
+begun_mode core shown = mode_by (counted core shown) (asks_interrupt (counted core shown) shown) (interrupt_of (counted core shown) shown)
+
+-- where one is entered, and where none is
+entered_by : (core : Core) (asks : Bool) (pick : Option (ℕ × Mode)) (code : ℕ) (taker : Mode) → asks ≡ true → pick ≡ Some (code, taker) → (if asks then interrupted_by core pick else core) ≡ entered core true code 0
+entered_by core false pick code taker asked picked = cc
+entered_by core true pick code taker asked picked = ap (interrupted_by core) picked
+
+pub begun_entered : (core : Core) (shown : Shown) (code : ℕ) (taker : Mode) → asks_interrupt core shown ≡ true → interrupt_of core shown ≡ Some (code, taker) → begun core shown ≡ entered (counted core shown) true code 0
+unfolding begun interrupted counted asks_interrupt
+begun_entered core shown code taker asked picked = entered_by (counted core shown) (asks_interrupt (counted core shown) shown) (interrupt_of (counted core shown) shown) code taker asked picked
+
+kept_by : (core : Core) (asks : Bool) (pick : Option (ℕ × Mode)) → (asks && is_some pick) ≡ false → (if asks then interrupted_by core pick else core) ≡ core
+kept_by core false pick none = refl
+kept_by core true None none = refl
+kept_by core true (Some x) none = cc
+
+pub begun_kept : (core : Core) (shown : Shown) → enters_interrupt core shown ≡ false → begun core shown ≡ counted core shown
+unfolding begun interrupted counted asks_interrupt
+begun_kept core shown none = kept_by (counted core shown) (asks_interrupt (counted core shown) shown) (interrupt_of (counted core shown) shown) none
+
+-- what a row must ask
+asks_by : (intr : Option ℕ) (trapped : Bool) (shown : Option ℕ) (pc : ℕ) → intr ≡ Some 1 → (trapped ≡ true → shown ≢ Some pc) → (shows intr 1 && not (trapped && shows shown pc)) ≡ true
+asks_by None trapped shown pc one other = cc
+asks_by (Some x) false shown pc one other = grind (arith, nat_tests)
+asks_by (Some x) true None pc one other = grind (arith, nat_tests)
+asks_by (Some x) true (Some y) pc one other = elsewhere
+  where
+    differs : y ≢ pc
+    differs e = other refl (ap (λ v. Some v) e)
+
+    elsewhere : (shows (Some x) 1 && not (shows (Some y) pc)) ≡ true
+    elsewhere = grind (arith, nat_tests, differs)
+
+pub asked_asks : (core : Core) (shown : Shown) → IsAsked core shown → asks_interrupt core shown ≡ true
+unfolding asks_interrupt
+asked_asks core shown is = asks_by (shown Intr) core.trapped_last (shown PcRdata) core.pc is.intr is.entry
+
+asked_by : (intr : Option ℕ) (trapped : Bool) (shown : Option ℕ) (pc : ℕ) → (shows intr 1 && not (trapped && shows shown pc)) ≡ true → (intr ≡ Some 1) × (trapped ≡ true → shown ≢ Some pc)
+asked_by None trapped shown pc asks = cc
+asked_by (Some x) false shown pc asks = (ap (λ v. Some v) (grind (arith, nat_tests)), λ t. cc)
+asked_by (Some x) true None pc asks = (ap (λ v. Some v) (grind (arith, nat_tests)), λ t e. cc)
+asked_by (Some x) true (Some y) pc asks = (ap (λ v. Some v) (grind (arith, nat_tests)), λ t e. grind (arith, nat_tests))
+
+pub asks_asked : (core : Core) (shown : Shown) → asks_interrupt core shown ≡ true → IsAsked core shown
+unfolding asks_interrupt
+asks_asked core shown asks =
+    let both = asked_by (shown Intr) core.trapped_last (shown PcRdata) core.pc asks in
+    record { intr = both.0; entry = both.1 }
+
+-- what the facts about a step say of it
+pub fetched_at : (core : Core) (shown : Shown) (bytes : Bytes) (pc : ℕ) (mode : Mode) (csrs : Csrs) → core.halted ≡ false
+    → (begun core shown).pc ≡ pc → (begun core shown).mode ≡ mode → (begun core shown).csrs ≡ csrs → IsFetched ((stepped core shown).run bytes).value.expected pc mode csrs
+unfolding expected_of
+fetched_at core shown bytes pc mode csrs runs at in_mode with =
+    let P : Expected → Type 0 = λ e. IsFetched e pc mode csrs in
+    subst P (sym (expected_running core shown bytes runs)) (at, (in_mode, with))
+
+pub enters : (core : Core) (shown : Shown) (bytes : Bytes) (code : ℕ) (taker : Mode) → core.halted ≡ false → asks_interrupt core shown ≡ true → interrupt_of core shown ≡ Some (code, taker)
+    → EntersInterrupt core shown ((stepped core shown).run bytes).value.expected code taker
+unfolding entered counted
+enters core shown bytes code taker runs asked picked =
+    let is = begun_entered core shown code taker asked picked in
+    let there = picks_where_entered core.csrs core.mode (lines_of shown).up code taker picked in
+    record {
+      taken = picks_taken core.csrs core.mode (lines_of shown).up code taker picked;
+      mode = there;
+      fetched = fetched_at core shown bytes (pc_by_enter core.csrs core.mode true code) taker (enter_of core.csrs core.mode true code 0 core.pc) runs (ap (λ k. k.pc) is) (ap (λ k. k.mode) is ∙ sym there) (ap (λ k. k.csrs) is);
+    }
+
+pub stays : (core : Core) (shown : Shown) (bytes : Bytes) → core.halted ≡ false → enters_interrupt core shown ≡ false
+    → IsFetched ((stepped core shown).run bytes).value.expected core.pc core.mode core.csrs
+unfolding counted
+stays core shown bytes runs none =
+    let is = begun_kept core shown none in
+    fetched_at core shown bytes core.pc core.mode core.csrs runs (ap (λ k. k.pc) is) (ap (λ k. k.mode) is) (ap (λ k. k.csrs) is)
