@@ -3,15 +3,15 @@ ghost use Rattle.hart_step.specs.Cores.{IsSound};
 ghost use Rattle.hart_words.specs.Memory.{IsPlace};
 
 use hart_step::{Hart, Stepped};
-use hart_words::{Map, Mode, PAGE_SIZE, PhysMem, Span};
+use hart_words::{Cause, Map, Mode, PAGE_SIZE, PhysMem, Span};
 use image_text::read_image;
 use page_image::PageImage;
 use page_layers::{Layered, MapMem};
-use rvfi_rows::{Expected, Retired, Row, read_header, read_row};
+use rvfi_rows::{Effects, Expected, Retired, Row, read_header, read_row};
 use std::alloc::Global;
 use std::test::Fail;
 
-const CODE: u64 = 0x8000_0000;
+pub(crate) const CODE: u64 = 0x8000_0000;
 
 const DATA: u64 = 0x8000_1000;
 
@@ -29,7 +29,7 @@ const HEADER: &[u8] = b"insn,pc_rdata,order,intr,halt,mem_addr,mem_rdata,mem_wma
 const BLANK: &[u8] = b"0,0,,,,,,,";
 
 /// Two pages of RAM, and a page of devices.
-fn ram_and_devices() -> Result<Map, Fail> {
+pub(crate) fn ram_and_devices() -> Result<Map, Fail> {
     let ram = Span::new(CODE, 0x2000).ok_or("no range")?;
     let io = Span::new(0x1000_0000, 0x1000).ok_or("no range")?;
     Ok(Map::new(ram, Some(io)).ok_or("no map")?)
@@ -71,7 +71,7 @@ fn is_place(ram: &Span, pa: u64, len: u8) -> bool
 }
 
 /// Writes to memory, where so many bytes lie in one page of RAM.
-fn put(mem: &mut MapMem, ram: &Span, pa: u64, len: u8, value: u64) -> Result<(), Fail>
+pub(crate) fn put(mem: &mut MapMem, ram: &Span, pa: u64, len: u8, value: u64) -> Result<(), Fail>
     requires ram { mem.old.ram ≡ ram.now }
     ensures ram { mem.new.ram ≡ mem.old.ram }
 {
@@ -93,7 +93,7 @@ fn held(mem: &MapMem, ram: &Span) -> Result<u64, Fail>
 }
 
 /// A memory with the instruction at `CODE`, and `HELD` at `DATA` and at the end of RAM.
-fn memory_with(alloc: Global, ram: Span, instruction: u64) -> Result<MapMem, Fail>
+pub(crate) fn memory_with(alloc: Global, ram: Span, instruction: u64) -> Result<MapMem, Fail>
     ensures { IfOk result (λ mem. mem.ram ≡ ram) }
 {
     let mut mem = MapMem::zeros(alloc, ram);
@@ -103,7 +103,7 @@ fn memory_with(alloc: Global, ram: Span, instruction: u64) -> Result<MapMem, Fai
     Ok(mem)
 }
 
-/// What a row must show, where the hart has not halted.
+/// What the hart did, where it has not halted.
 fn retired(step: &Stepped) -> Option<Retired> {
     match step.expected {
         Expected::Halted => None,
@@ -113,8 +113,16 @@ fn retired(step: &Stepped) -> Option<Retired> {
 
 /// What a step wrote to rd, and the next pc; none where it trapped.
 fn effects(step: &Stepped) -> Option<(u64, u64)> {
-    let effects = retired(step)?.effects?;
+    let effects = retired(step)?.effects.ok()?;
     Some((effects.rd_value, effects.next_pc))
+}
+
+/// The address of the next instruction, or the cause of the trap.
+fn after(effects: &Result<Effects, Cause>) -> Result<u64, Cause> {
+    match effects {
+        Ok(effects) => Ok(effects.next_pc),
+        Err(cause) => Err(*cause),
+    }
 }
 
 /// What an instruction writes to rd with values in x10 and x11 and nothing reserved, none where it
@@ -418,19 +426,29 @@ fn orders_and_halts(rt: HostRuntime) -> Result<(), Fail> {
     assert!(rt; hart.core.halted && hart.core.trapped_last);
     assert_eq!(rt; hart.core.next_order, Some(3));
     let wanted = [
-        (None, None, CODE, Some(0), Some(0x13)),
-        (None, Some(0), CODE + 4, Some(0), Some(0x13)),
-        (Some(0), None, CODE + 8, None, Some(0x10_0073)),
+        (None, false, CODE, Ok(CODE + 4), Some(0x13)),
+        (None, true, CODE + 4, Ok(CODE + 8), Some(0x13)),
+        (
+            Some(0),
+            false,
+            CODE + 8,
+            Err(Cause::Breakpoint),
+            Some(0x10_0073),
+        ),
         // The first row of the trap's handler, and one at another address than that. At address 0
         // stands nothing.
-        (Some(1), None, 0, Some(1), None),
-        (Some(2), Some(0), 0, Some(1), None),
+        (Some(1), false, 0, Err(Cause::InstructionAccessFault), None),
+        (Some(2), true, 0, Err(Cause::InstructionAccessFault), None),
     ];
-    for (step, (order, intr, pc, trap, insn)) in steps.iter().zip(wanted) {
+    for (step, (order, lacks, pc, next, insn)) in steps.iter().zip(wanted) {
         let found = retired(step).ok_or("the hart has not halted")?;
         assert_eq!(rt; found.mode, Mode::Machine);
-        assert_eq!(rt; (found.order, found.intr, found.pc), (order, intr, pc));
-        assert_eq!(rt; (found.trap, found.insn), (trap, insn));
+        assert_eq!(rt;
+            (found.order, found.lacks_interrupt, found.pc),
+            (order, lacks, pc)
+        );
+        assert_eq!(rt; found.insn, insn);
+        assert_eq!(rt; after(&found.effects), next);
     }
     assert_eq!(rt; steps.len(), 6);
     assert!(rt; steps.get(5).is_some_and(|step| retired(step).is_none()));
