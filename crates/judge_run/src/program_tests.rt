@@ -45,6 +45,40 @@ const SHORT_TRACE: &[u8] = b"insn,pc_rdata,rd_addr,rd_wdata,pc_wdata,mem_addr,me
 0xc348,0x80000026,0,0,0x80000028,0x8000002c,0x0f,0xffffffff
 ";
 
+/// A call to a handler that returns behind the call, as the manual has each instruction: ECALL in
+/// M stacks MIE and the mode, and MRET takes them off.
+const CALL_IMAGE: &[u8] = b"@80000000
+    97 02 00 00 93 82 82 01 73 90 52 30 73 00 00 00 13 03 10 00 13 00 00 00
+    f3 23 10 34 93 83 43 00 73 90 13 34 73 00 20 30
+";
+
+const CALL_TRACE: &[u8] =
+    b"insn,pc_rdata,mode,trap,rd_wdata,pc_wdata,csr_mcause_wdata,csr_mepc_wdata,csr_mstatus_wdata
+0x00000297,0x80000000,3,0,0x80000000,0x80000004,0,0,0xa00000000
+0x01828293,0x80000004,3,0,0x80000018,0x80000008,0,0,0xa00000000
+0x30529073,0x80000008,3,0,0,0x8000000c,0,0,0xa00000000
+0x00000073,0x8000000c,3,1,,,11,0x8000000c,0xa00001800
+0x341023f3,0x80000018,3,0,0x8000000c,0x8000001c,11,0x8000000c,0xa00001800
+0x00438393,0x8000001c,3,0,0x80000010,0x80000020,11,0x8000000c,0xa00001800
+0x34139073,0x80000020,3,0,0,0x80000024,11,0x80000010,0xa00001800
+0x30200073,0x80000024,3,0,0,0x80000010,11,0x80000010,0xa00000080
+0x00100313,0x80000010,3,0,1,0x80000014,11,0x80000010,0xa00000080
+";
+
+/// The same, but that MRET leaves MPP.
+const UNSTACKED_TRACE: &[u8] =
+    b"insn,pc_rdata,mode,trap,rd_wdata,pc_wdata,csr_mcause_wdata,csr_mepc_wdata,csr_mstatus_wdata
+0x00000297,0x80000000,3,0,0x80000000,0x80000004,0,0,0xa00000000
+0x01828293,0x80000004,3,0,0x80000018,0x80000008,0,0,0xa00000000
+0x30529073,0x80000008,3,0,0,0x8000000c,0,0,0xa00000000
+0x00000073,0x8000000c,3,1,,,11,0x8000000c,0xa00001800
+0x341023f3,0x80000018,3,0,0x8000000c,0x8000001c,11,0x8000000c,0xa00001800
+0x00438393,0x8000001c,3,0,0x80000010,0x80000020,11,0x8000000c,0xa00001800
+0x34139073,0x80000020,3,0,0,0x80000024,11,0x80000010,0xa00001800
+0x30200073,0x80000024,3,0,0,0x80000010,11,0x80000010,0xa00001880
+0x00100313,0x80000010,3,0,1,0x80000014,11,0x80000010,0xa00000080
+";
+
 const COMPUTES: [Case; 3] = [
     Case {
         options: &[],
@@ -147,6 +181,51 @@ const EXPANDS_AND_EXCHANGES: [Case; 5] = [
     },
 ];
 
+const CONTROLS: [Case; 7] = [
+    Case {
+        options: &[],
+        image: b"@80000000 93 00 50 00 73 91 00 34",
+        trace: b"insn,pc_rdata,rd_wdata,csr_mscratch_rdata,csr_mscratch_wdata\n0x00500093,0x80000000,5,,\n0x34009173,0x80000004,0,0,6\n",
+        text: b"differs row 2: csr_mscratch_wdata expected 0x0000000000000005 found 0x0000000000000006\n",
+    },
+    Case {
+        options: &[],
+        image: b"@80000000 93 00 50 00 73 91 00 34",
+        trace: b"insn,pc_rdata,rd_wdata,csr_mscratch_rdata,csr_mscratch_wdata\n0x00500093,0x80000000,5,,\n0x34009173,0x80000004,0,0,5\n",
+        text: b"agrees 2\n",
+    },
+    Case {
+        options: &[],
+        image: b"@80000000 73 00 00 00",
+        trace: b"insn,pc_rdata,csr_mcause_wdata,csr_mepc_wdata\n0x73,0x80000000,11,0x80000000\n",
+        text: b"agrees 1\n",
+    },
+    Case {
+        options: &["--ram", "0:0x1000", "--pc", "0x100"],
+        image: b"@0 93 00 50 00 @100 93 00 00 08 73 90 40 30 73 60 04 30",
+        trace: b"insn,pc_rdata,intr,csr_mip_rdata,csr_mcause_rdata,csr_mepc_rdata\n0x08000093,0x100,0,0,,\n0x30409073,0x104,0,0,,\n0x30046073,0x108,0,0x80,,\n0x00500093,0,1,0x80,0x8000000000000007,0x10c\n",
+        text: b"agrees 4\n",
+    },
+    Case {
+        options: &["--ram", "0:0x1000", "--pc", "0x100"],
+        image: b"@0 93 00 50 00 @100 93 00 00 08 73 90 40 30 73 60 04 30",
+        trace: b"insn,pc_rdata,intr,csr_mip_rdata,csr_mcause_rdata,csr_mepc_rdata\n0x08000093,0x100,0,0,,\n0x30409073,0x104,0,0,,\n0x30046073,0x108,0,0x80,,\n0x00500093,0,1,0,0x8000000000000007,0x10c\n",
+        text: b"differs row 4: intr expected 0x0000000000000000 found 0x0000000000000001\n",
+    },
+    Case {
+        options: &[],
+        image: CALL_IMAGE,
+        trace: CALL_TRACE,
+        text: b"agrees 9\n",
+    },
+    Case {
+        options: &[],
+        image: CALL_IMAGE,
+        trace: UNSTACKED_TRACE,
+        text: b"differs row 8: csr_mstatus_wdata expected 0x0000000a00000080 found 0x0000000a00001880\n",
+    },
+];
+
 fn says<R: Threads + Sync + Abort>(rt: &R, alloc: Global, case: &Case) -> Result<(), Fail> {
     let mut words = Vec::from_slice(alloc, &["rvjudge", "judge", "i", "t"])?;
     for option in case.options {
@@ -184,6 +263,14 @@ fn asks_devices(rt: HostRuntime) -> Result<(), Fail> {
 #[test]
 fn expands_and_exchanges(rt: HostRuntime) -> Result<(), Fail> {
     for case in &EXPANDS_AND_EXCHANGES {
+        says(&rt, rt.alloc(), case)?;
+    }
+    Ok(())
+}
+
+#[test]
+fn controls(rt: HostRuntime) -> Result<(), Fail> {
+    for case in &CONTROLS {
         says(&rt, rt.alloc(), case)?;
     }
     Ok(())
