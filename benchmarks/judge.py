@@ -1,0 +1,255 @@
+#!/usr/bin/env python3
+"""Judges a trace by the hart of reference_hart.py: judge.py IMAGE TRACE [--io BASE:SIZE].
+
+Prints `agrees N` or `differs row R: SIGNAL expected E found F`. The rules of comparison are those that
+docs/REFERENCE.md describes, written here a second time after riscv-formal's description of RVFI. Traces are
+taken to be well formed: commas, no quotes, numbers that fit their columns.
+"""
+import argparse
+import sys
+from typing import NamedTuple
+
+from reference_hart import BREAKPOINT, CALL_FROM_U, LINES, M, MASK, Core, Hart, Memory, read_image
+
+# the columns with their bits, in the order of comparison; halt is never compared
+PLAIN = {
+    "valid": 1, "order": 64, "intr": 1, "pc_rdata": 64, "mode": 2, "ixl": 2, "trap": 1, "insn": 32,
+    "rs1_addr": 5, "rs1_rdata": 64, "rs2_addr": 5, "rs2_rdata": 64, "rd_addr": 5, "rd_wdata": 64,
+    "pc_wdata": 64, "mem_addr": 64, "mem_rmask": 8, "mem_rdata": 64, "mem_wmask": 8, "mem_wdata": 64,
+    "mem_paddr": 64, "halt": 1,
+}
+CSRS = (
+    "mstatus", "misa", "medeleg", "mideleg", "mie", "mtvec", "mscratch", "mepc", "mcause", "mtval", "mip",
+    "sstatus", "sie", "sip", "stvec", "sscratch", "sepc", "scause", "stval",
+)
+WIDTHS = PLAIN | {
+    f"csr_{name}_{part}": 64 for name in CSRS for part in ("rmask", "wmask", "rdata", "wdata")
+}
+
+# what a row does not tell of a register after the row: bits of lines, which may have moved
+UNTOLD_AFTER = {"mip": LINES, "sip": 1 << 9}
+CALLS = range(CALL_FROM_U, CALL_FROM_U + M + 1)
+
+
+class Difference(NamedTuple):
+    """A signal that is not as expected, with both values under the mask of what is compared."""
+
+    signal: str
+    expected: int
+    found: int
+
+
+class Expected(NamedTuple):
+    """What a signal must show in the bits of the mask."""
+
+    signal: str
+    value: int
+    mask: int = MASK
+
+
+def number(text):
+    return int(text, 16) if text[:2] in ("0x", "0X") else int(text)
+
+
+def read_row(columns, line):
+    """The signals that a line shows."""
+    return {
+        column: number(field) for column, field in zip(columns, line.rstrip("\n").split(","), strict=True) if field
+    }
+
+
+def read_trace(text):
+    """The rows of an open trace."""
+    columns = [name.removeprefix("rvfi_") for name in text.readline().rstrip("\n").split(",")]
+    for line in text:
+        yield read_row(columns, line)
+
+
+def csr_shown(row, name, part):
+    """The bits of a register's value that a row shows, as a mask."""
+    if f"csr_{name}_{part}data" not in row:
+        return 0
+    return row.get(f"csr_{name}_{part}mask", MASK)
+
+
+def distance(row, access):
+    """How far behind mem_addr the access begins; None where mem_addr is not shown."""
+    return access.address - row["mem_addr"] & MASK if "mem_addr" in row else None
+
+
+class RowCore(Core):
+    """A core that chose what a row shows."""
+
+    def __init__(self, row):
+        self.row = row
+        self.shown_lines = csr_shown(row, "mip", "r") & LINES
+        self.up = row.get("csr_mip_rdata", 0) & self.shown_lines
+
+    def stores(self, instruction):
+        if instruction.rd and "rd_wdata" in self.row:
+            return self.row["rd_wdata"] == 0
+        return self.row.get("mem_wmask", 1) != 0
+
+    def decided(self, name, instruction):
+        return self.row.get("rd_wdata", 0)
+
+    def lines(self, instruction):
+        return self.up | self.row.get("rd_wdata", 0) & LINES & ~self.shown_lines
+
+    def refuses(self, instruction):
+        return self.row.get("trap", 0) == 1
+
+    def device_load(self, address, length):
+        bits, behind = (1 << 8 * length) - 1, address - self.row.get("mem_addr", 0) & MASK
+        if "mem_addr" in self.row and "mem_rdata" in self.row and behind <= 8 - length:
+            return self.row["mem_rdata"] >> 8 * behind & bits
+        return self.row.get("rd_wdata", 0) & bits
+
+
+class Judge:
+    """A hart that is stepped along the rows, and what is known of the trace besides."""
+
+    def __init__(self, hart):
+        self.hart = hart
+        self.next_order = None
+        self.trapped_last = False
+        self.halted = False
+
+    def copy(self):
+        judge = Judge(self.hart.copy())
+        judge.next_order, judge.trapped_last, judge.halted = self.next_order, self.trapped_last, self.halted
+        return judge
+
+    def judge(self, row):
+        """The first difference of a valid row, None where there is none."""
+        for signal, value, mask in self.expect(row):
+            found = row.get(signal, 1 if signal == "valid" else None)
+            if found is not None and (found ^ value) & mask:
+                return Difference(signal, value & mask, found & mask)
+        return None
+
+    def expect(self, row):
+        """What the signals of a row must show, in the order of comparison; steps the hart on the way."""
+        if self.halted:
+            yield Expected("valid", 0)
+            return
+        if self.next_order is not None:
+            yield Expected("order", self.next_order)
+        known = self.next_order if self.next_order is not None else row.get("order")
+        self.next_order = known if known is None else known + 1 & MASK
+        hart, hart.core = self.hart, RowCore(row)
+        if row.get("intr") == 1 and not (self.trapped_last and row["pc_rdata"] == hart.pc):
+            code = hart.csrs.pending(hart.mode, hart.core.up)
+            if code is None:
+                yield Expected("intr", 0)
+                return  # that differs
+            hart.take_interrupt(code)
+        mode, registers = hart.mode, list(hart.registers)
+        before = self.csr_values()
+        retired = hart.step()
+        after = self.csr_values()
+        self.trapped_last, self.halted = retired.trap is not None, row.get("halt") == 1
+        yield from expect_head(retired, mode)
+        if not retired.trap:
+            yield from expect_registers(retired, row, registers)
+            yield from expect_memory(retired.access, row)
+        yield from expect_csrs(row, before, after)
+
+    def csr_values(self):
+        return {name: self.hart.csrs.read(name, self.hart.core.up) for name in CSRS}
+
+
+def expect_head(retired, mode):
+    """From pc_rdata to insn."""
+    yield Expected("pc_rdata", retired.pc)
+    yield Expected("mode", mode)
+    yield Expected("ixl", 2)
+    trap = retired.trap
+    if not (trap and (trap.cause == BREAKPOINT or trap.cause in CALLS)):
+        yield Expected("trap", 1 if trap else 0)
+    if retired.bits is not None:
+        yield Expected("insn", retired.bits)
+
+
+def expect_registers(retired, row, registers):
+    """From rs1_addr to pc_wdata, of an instruction that did not trap."""
+    instruction = retired.instruction
+    for source, read in (("rs1", instruction.rs1), ("rs2", instruction.rs2)):
+        if read:
+            yield Expected(f"{source}_addr", read)
+        named = row.get(f"{source}_addr", read or None)
+        if named is not None:
+            yield Expected(f"{source}_rdata", registers[named])
+    yield Expected("rd_addr", instruction.rd)
+    yield Expected("rd_wdata", retired.value)
+    yield Expected("pc_wdata", retired.next_pc)
+
+
+def expect_memory(access, row):
+    """The signals of memory, of an instruction that did not trap."""
+    if access is None:
+        yield Expected("mem_wmask", 0)
+        return
+    behind = distance(row, access)
+    shown = behind is not None
+    if shown and behind > 8 - access.length:
+        yield Expected("mem_addr", access.address)
+        return  # that differs
+    behind = behind or 0
+    touched = (1 << access.length) - 1 << behind
+    places = (1 << 8 * access.length) - 1 << 8 * behind
+    if shown and access.read is not None:
+        yield Expected("mem_rmask", touched, touched)
+        yield Expected("mem_rdata", access.read << 8 * behind, places)
+    if access.written is None:
+        yield Expected("mem_wmask", 0)
+    elif shown:
+        yield Expected("mem_wmask", touched)
+        yield Expected("mem_wdata", access.written << 8 * behind, places)
+    yield Expected("mem_paddr", access.address - behind & MASK)
+
+
+def expect_csrs(row, before, after):
+    """The registers before the instruction and after it, under the row's masks."""
+    for name in CSRS:
+        told = MASK
+        if name == "sip" and not csr_shown(row, "mip", "r") & 1 << 9:
+            told ^= 1 << 9  # whether the line is up is not known
+        yield Expected(f"csr_{name}_rdata", before[name], csr_shown(row, name, "r") & told)
+        yield Expected(f"csr_{name}_wdata", after[name], csr_shown(row, name, "w") & ~UNTOLD_AFTER.get(name, 0))
+
+
+def answer(judge, rows, seen=0, valid=0):
+    """The line for these rows, where so many rows and valid rows stood before them."""
+    for row in rows:
+        seen += 1
+        if row.get("valid") == 0:
+            continue
+        valid += 1
+        difference = judge.judge(row)
+        if difference:
+            signal, expected, found = difference
+            return f"differs row {seen}: {signal} expected 0x{expected:016x} found 0x{found:016x}"
+    return f"agrees {valid}"
+
+
+def span(text):
+    base, size = text.split(":")
+    return range(number(base), number(base) + number(size))
+
+
+def main():
+    parser = argparse.ArgumentParser(description=__doc__)
+    parser.add_argument("image")
+    parser.add_argument("trace")
+    parser.add_argument("--io", type=span, default=range(0))
+    options = parser.parse_args()
+    judge = Judge(Hart(Memory(read_image(options.image)), devices=options.io))
+    with open(options.trace, encoding="ascii") as text:
+        said = answer(judge, read_trace(text))
+    print(said)
+    return 0 if said.startswith("agrees") else 1
+
+
+if __name__ == "__main__":
+    sys.exit(main())
