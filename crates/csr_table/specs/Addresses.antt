@@ -2,7 +2,7 @@
 -- and Status Registers (CSRs)".
 use Rattle.std.specs.Prelude.{ℕ, ◌/◌, ◌%◌, ◌^◌, Bool, ◌&&◌, nat_le, ◌==◌, List, [], ◌∷◌, ◌++◌, Option, option_map, find}
 use Rattle.csr_table.specs.declared.registers.Csr.{Csr}
-use Rattle.csr_table.specs.declared.registers.Csr.TheVariants.{Mstatus, Misa, Medeleg, Mideleg, Mie, Mtvec, Mcounteren, Menvcfg, Mcountinhibit, Mhpmevent, Mscratch, Mepc, Mcause, Mtval, Mip, Sstatus, Sie, Stvec, Scounteren, Senvcfg, Sscratch, Sepc, Scause, Stval, Sip, Mcycle, Minstret, Mhpmcounter, Cycle, Time, Instret, Hpmcounter, Mvendorid, Marchid, Mimpid, Mhartid, Mconfigptr}
+use Rattle.csr_table.specs.declared.registers.Csr.TheVariants.{Mstatus, Misa, Medeleg, Mideleg, Mie, Mtvec, Mcounteren, Menvcfg, Mcountinhibit, Mhpmevent, Mscratch, Mepc, Mcause, Mtval, Mip, Pmpcfg0, Pmpcfg2, Pmpaddr, Sstatus, Sie, Stvec, Scounteren, Senvcfg, Sscratch, Sepc, Scause, Stval, Sip, Mcycle, Minstret, Mhpmcounter, Cycle, Time, Instret, Hpmcounter, Mvendorid, Marchid, Mimpid, Mhartid, Mconfigptr}
 use Rattle.csr_table.specs.declared.registers.CsrRow.{CsrRow}
 
 -- an entry of the table: the addresses from one to another, and what each of them names
@@ -19,6 +19,11 @@ one address csr = record { first = address; last = address; names = λ _. csr }
 abbrev pub range : ℕ → ℕ → (ℕ → Csr) → CsrRange
 range first last numbered =
     record { first = first; last = last; names = λ address. numbered (address % 32) }
+
+-- a range whose registers are numbered by the low four bits of the address
+abbrev pub range_of_16 : ℕ → ℕ → (ℕ → Csr) → CsrRange
+range_of_16 first last numbered =
+    record { first = first; last = last; names = λ address. numbered (address % 16) }
 
 -- the machine's registers
 abbrev pub machine_ranges : List CsrRange
@@ -55,6 +60,14 @@ supervisor_ranges =
     ∷ one 0x144 Sip
     ∷ []
 
+-- physical memory protection of 16 entries; with 64 bits the configurations have even numbers alone
+abbrev pub protection_ranges : List CsrRange
+protection_ranges =
+    one 0x3A0 Pmpcfg0
+    ∷ one 0x3A2 Pmpcfg2
+    ∷ range_of_16 0x3B0 0x3BF Pmpaddr
+    ∷ []
+
 -- the counters, and what tells which core this is
 abbrev pub counter_ranges : List CsrRange
 counter_ranges =
@@ -74,7 +87,7 @@ counter_ranges =
 
 -- the whole table
 abbrev pub csr_ranges : List CsrRange
-csr_ranges = machine_ranges ++ supervisor_ranges ++ counter_ranges
+csr_ranges = machine_ranges ++ supervisor_ranges ++ protection_ranges ++ counter_ranges
 
 -- the range has the address
 abbrev pub lists : CsrRange → ℕ → Bool

@@ -20,6 +20,12 @@ pub enum Csr {
     Mcause,
     Mtval,
     Mip,
+    /// The configurations of entries 0 to 7 of physical memory protection, a byte each.
+    Pmpcfg0,
+    /// Those of entries 8 to 15.
+    Pmpcfg2,
+    /// 0 to 15.
+    Pmpaddr(u8),
     Sstatus,
     Sie,
     Stvec,

@@ -1,7 +1,7 @@
 //! The rows of the table, by address.
 
 ghost use Rattle.std.specs.Prelude.{◌≡◌};
-ghost use Rattle.csr_table.specs.Addresses.{csr_row_of, csr_in, csr_ranges, machine_ranges, supervisor_ranges, counter_ranges};
+ghost use Rattle.csr_table.specs.Addresses.{csr_row_of, csr_in, csr_ranges, machine_ranges, supervisor_ranges, protection_ranges, counter_ranges};
 
 use crate::registers::{Csr, CsrRow};
 
@@ -24,12 +24,13 @@ pub fn row(address: u16) -> Option<CsrRow>
 }
 
 /// What an address names.
-#[tactic(auto, using(crate::proofs::Parts::in_three))]
+#[tactic(auto, using(crate::proofs::Parts::in_four))]
 fn csr_at(address: u16) -> Option<Csr>
     ensures { result ≡ csr_in csr_ranges address }
 {
     machine_csr_at(address)
         .or(supervisor_csr_at(address))
+        .or(protection_csr_at(address))
         .or(counter_csr_at(address))
 }
 
@@ -74,6 +75,19 @@ fn supervisor_csr_at(address: u16) -> Option<Csr>
         0x142 => Some(Csr::Scause),
         0x143 => Some(Csr::Stval),
         0x144 => Some(Csr::Sip),
+        _ => None,
+    }
+}
+
+/// What an address names in physical memory protection.
+#[tactic(auto, unfolding(crate::specs::Addresses::csr_in))]
+fn protection_csr_at(address: u16) -> Option<Csr>
+    ensures { result ≡ csr_in protection_ranges address }
+{
+    match address {
+        0x3A0 => Some(Csr::Pmpcfg0),
+        0x3A2 => Some(Csr::Pmpcfg2),
+        0x3B0..=0x3BF => Some(Csr::Pmpaddr((address % 16) as u8)),
         _ => None,
     }
 }

@@ -9,6 +9,10 @@ fn names_registers(rt: HostRuntime) -> Result<(), Fail> {
         (0x100, Csr::Sstatus, 1, false),
         (0x33F, Csr::Mhpmevent(31), 3, false),
         (0x344, Csr::Mip, 3, false),
+        (0x3A0, Csr::Pmpcfg0, 3, false),
+        (0x3A2, Csr::Pmpcfg2, 3, false),
+        (0x3B0, Csr::Pmpaddr(0), 3, false),
+        (0x3BF, Csr::Pmpaddr(15), 3, false),
         (0xB02, Csr::Minstret, 3, false),
         (0xB03, Csr::Mhpmcounter(3), 3, false),
         (0xC00, Csr::Cycle, 0, true),
@@ -30,7 +34,8 @@ fn names_registers(rt: HostRuntime) -> Result<(), Fail> {
 #[test]
 fn leaves_out_what_is_no_register(rt: HostRuntime) -> Result<(), Fail> {
     for address in [
-        0x000, 0x180, 0x3A0, 0x3B0, 0x321, 0x322, 0xB01, 0xC20, 0xF16, 0xFFF,
+        0x000, 0x180, 0x3A1, 0x3A3, 0x3A4, 0x3AF, 0x3C0, 0x3EF, 0x321, 0x322, 0xB01, 0xC20, 0xF16,
+        0xFFF,
     ] {
         assert_eq!(rt; row(address), None);
     }
