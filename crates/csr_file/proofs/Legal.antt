@@ -15,6 +15,7 @@ use Rattle.csr_file.specs.Table.{all_interrupts, csr_kind_of, pc_bits, sip_writa
 use Rattle.csr_file.specs.Values.{status_write_of, csr_write_of}
 use Rattle.csr_file.specs.Legal.{IsWithin, IsLegalStatus, IsLegalValue, IsLegal, IsLegalConfiguration}
 use Rattle.csr_file.proofs.Places.{at_same, at_other, same_index}
+use Rattle.csr_file.proofs.Protection.{configurations_legal, address_legal}
 use Rattle.csr_file.proofs.Bits.{within_mask, within_first, within_second, within_larger, within_or, merged_keeps, bit_kept, bit_taken, mpp_bits, out_of}
 
 -- a value that a register can have keeps all registers legal
@@ -109,6 +110,9 @@ write_legal csrs csr.Sepc value legal = written csrs Sepc value legal (even valu
 write_legal csrs csr.Scause value legal = written csrs Scause value legal tt
 write_legal csrs csr.Stval value legal = written csrs Stval value legal tt
 write_legal csrs csr.Sip value legal = legal_with csrs Mip _ legal (stored_interrupts (at csrs Mideleg) (at csrs Mip) value (legal.values Mideleg) (legal.values Mip))
+write_legal csrs csr.Pmpcfg0 value legal = configurations_legal csrs 0 value legal
+write_legal csrs csr.Pmpcfg2 value legal = configurations_legal csrs 8 value legal
+write_legal csrs (csr.Pmpaddr number) value legal = address_legal csrs number value legal
 write_legal csrs csr.Mcycle value legal = legal
 write_legal csrs csr.Minstret value legal = legal
 write_legal csrs (csr.Mhpmcounter number) value legal = legal

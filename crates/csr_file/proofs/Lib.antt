@@ -2,3 +2,4 @@ pub mod Bits
 pub mod Places
 pub mod Legal
 pub mod Writes
+pub mod Protection

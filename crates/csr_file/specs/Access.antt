@@ -9,7 +9,7 @@ use Rattle.csr_table.specs.Addresses.{csr_row_of}
 use Rattle.csr_file.specs.declared.csrs.Csrs.{Csrs}
 use Rattle.csr_file.specs.declared.stored_csr.StoredCsr.TheVariants.{Mcounteren, Scounteren}
 use Rattle.csr_file.specs.declared.csr_kind.CsrKind.{CsrKind}
-use Rattle.csr_file.specs.declared.csr_kind.CsrKind.TheVariants.{Stored, Status, Pending, SupervisorStatus, SupervisorEnables, SupervisorPending, Constant, OfCore, Counter, ClosedCounter}
+use Rattle.csr_file.specs.declared.csr_kind.CsrKind.TheVariants.{Stored, Status, Pending, SupervisorStatus, SupervisorEnables, SupervisorPending, LowConfigurations, HighConfigurations, EntryAddress, Constant, OfCore, Counter, ClosedCounter}
 use Rattle.csr_file.specs.declared.access.CsrRead.{CsrRead}
 use Rattle.csr_file.specs.declared.access.Illegal.{Illegal}
 use Rattle.csr_file.specs.Registers.{at}
@@ -33,6 +33,9 @@ is_enabled csrs mode Pending = true
 is_enabled csrs mode SupervisorStatus = true
 is_enabled csrs mode SupervisorEnables = true
 is_enabled csrs mode SupervisorPending = true
+is_enabled csrs mode LowConfigurations = true
+is_enabled csrs mode HighConfigurations = true
+is_enabled csrs mode (EntryAddress number) = true
 is_enabled csrs mode (Constant number) = true
 is_enabled csrs mode OfCore = true
 is_enabled csrs mode (Counter bit) = counter_is_enabled csrs mode bit

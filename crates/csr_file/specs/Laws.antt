@@ -1,16 +1,17 @@
 -- What a write leaves as it was.
-use Rattle.std.specs.Prelude.{◌≡◌, ◌≢◌, ℕ, ◌<◌, Option, Some, None, if◌then◌else◌}
+use Rattle.std.specs.Prelude.{◌≡◌, ◌≢◌, ℕ, ◌-◌, ◌<◌, Bool, true, false, Option, Some, None, slice_index, if◌then◌else◌}
 use Rattle.std.specs.Int.{bit_at}
 use Rattle.csr_table.specs.declared.registers.Csr.{Csr}
 use Rattle.csr_file.specs.declared.csrs.Csrs.{Csrs}
 use Rattle.csr_file.specs.declared.stored_csr.StoredCsr.{StoredCsr}
 use Rattle.csr_file.specs.declared.stored_csr.StoredCsr.TheVariants.{Mstatus, Mie, Mip}
 use Rattle.csr_file.specs.declared.csr_kind.CsrKind.{CsrKind}
-use Rattle.csr_file.specs.declared.csr_kind.CsrKind.TheVariants.{Stored, Status, Pending, SupervisorStatus, SupervisorEnables, SupervisorPending, Constant, OfCore, Counter, ClosedCounter}
+use Rattle.csr_file.specs.declared.csr_kind.CsrKind.TheVariants.{Stored, Status, Pending, SupervisorStatus, SupervisorEnables, SupervisorPending, LowConfigurations, HighConfigurations, EntryAddress, Constant, OfCore, Counter, ClosedCounter}
+use Rattle.csr_file.specs.declared.fields.TheConstants.{PMP_LOCK}
 use Rattle.csr_file.specs.Registers.{at}
 use Rattle.csr_file.specs.Fields.{bit_is_set, merged}
 use Rattle.csr_file.specs.Table.{csr_kind_of}
-use Rattle.csr_file.specs.Values.{csr_write_of}
+use Rattle.csr_file.specs.Values.{csr_write_of, is_locked_from_below}
 
 -- the stored register that a write changes: a view's is another register
 abbrev pub written_register_of : CsrKind → Option StoredCsr
@@ -20,6 +21,9 @@ written_register_of Pending = Some Mip
 written_register_of SupervisorStatus = Some Mstatus
 written_register_of SupervisorEnables = Some Mie
 written_register_of SupervisorPending = Some Mip
+written_register_of LowConfigurations = None
+written_register_of HighConfigurations = None
+written_register_of (EntryAddress number) = None
 written_register_of (Constant number) = None
 written_register_of OfCore = None
 written_register_of (Counter bit) = None
@@ -31,11 +35,32 @@ LeavesOtherRegisters csrs csr value =
     (stored : StoredCsr) → written_register_of (csr_kind_of csr) ≢ Some stored
     → at (csr_write_of csrs (csr_kind_of csr) value) stored ≡ at csrs stored
 
--- nor does it change physical memory protection
+-- the register is one of physical memory protection
+abbrev pub is_protective : CsrKind → Bool
+is_protective LowConfigurations = true
+is_protective HighConfigurations = true
+is_protective (EntryAddress number) = true
+is_protective _ = false
+
+-- a write of any other leaves physical memory protection
 abbrev pub LeavesProtection : Csrs → Csr → ℕ → Type 0
 LeavesProtection csrs csr value =
-    ((csr_write_of csrs (csr_kind_of csr) value).pmpcfg ≡ csrs.pmpcfg)
+    is_protective (csr_kind_of csr) ≡ false
+    → ((csr_write_of csrs (csr_kind_of csr) value).pmpcfg ≡ csrs.pmpcfg)
     × ((csr_write_of csrs (csr_kind_of csr) value).pmpaddr ≡ csrs.pmpaddr)
+
+-- an entry that is locked keeps its configuration and its address, and where it begins at the address of the entry
+-- before it, that address too
+pub record KeepsLocked (before after : Csrs) (number : ℕ) : Type 0 where
+  pub configuration : slice_index after.pmpcfg number ≡ slice_index before.pmpcfg number
+  pub address : slice_index after.pmpaddr number ≡ slice_index before.pmpaddr number
+  pub below : is_locked_from_below (slice_index before.pmpcfg number) ≡ true
+      → slice_index after.pmpaddr (number - 1) ≡ slice_index before.pmpaddr (number - 1)
+
+abbrev pub LeavesLocked : Csrs → Csr → ℕ → Type 0
+LeavesLocked csrs csr value =
+    (number : ℕ) → number < 16 → bit_is_set (slice_index csrs.pmpcfg number) PMP_LOCK ≡ true
+    → KeepsLocked csrs (csr_write_of csrs (csr_kind_of csr) value) number
 
 -- a merged value has the bits of the mask from the new value and all others from the old one
 abbrev pub MergesByBits : ℕ → ℕ → ℕ → Type 0

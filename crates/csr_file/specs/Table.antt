@@ -8,7 +8,7 @@ use Rattle.csr_table.specs.declared.registers.Csr.TheVariants as csr
 use Rattle.csr_file.specs.declared.stored_csr.StoredCsr.{StoredCsr}
 use Rattle.csr_file.specs.declared.stored_csr.StoredCsr.TheVariants.{Mstatus, Medeleg, Mideleg, Mie, Mtvec, Mcounteren, Menvcfg, Mcountinhibit, Mscratch, Mepc, Mcause, Mtval, Mip, Stvec, Scounteren, Senvcfg, Sscratch, Sepc, Scause, Stval, Satp}
 use Rattle.csr_file.specs.declared.csr_kind.CsrKind.{CsrKind}
-use Rattle.csr_file.specs.declared.csr_kind.CsrKind.TheVariants.{Stored, Status, Pending, SupervisorStatus, SupervisorEnables, SupervisorPending, Constant, OfCore, Counter, ClosedCounter}
+use Rattle.csr_file.specs.declared.csr_kind.CsrKind.TheVariants.{Stored, Status, Pending, SupervisorStatus, SupervisorEnables, SupervisorPending, LowConfigurations, HighConfigurations, EntryAddress, Constant, OfCore, Counter, ClosedCounter}
 use Rattle.csr_file.specs.declared.fields.TheConstants.{SIE, MIE, SPIE, MPIE, SPP, MPP, MPRV, SUM, MXR, TVM, TW, TSR, UXL, SXL, SSIP, MSIP, STIP, MTIP, SEIP, MEIP, CY, TM, IR, FIOM}
 use Rattle.csr_file.specs.Fields.{bits, field_bits, all_bits, mpp_of}
 
@@ -118,6 +118,9 @@ csr_kind_of csr.Sepc = Stored Sepc
 csr_kind_of csr.Scause = Stored Scause
 csr_kind_of csr.Stval = Stored Stval
 csr_kind_of csr.Sip = SupervisorPending
+csr_kind_of csr.Pmpcfg0 = LowConfigurations
+csr_kind_of csr.Pmpcfg2 = HighConfigurations
+csr_kind_of (csr.Pmpaddr number) = EntryAddress number
 csr_kind_of csr.Mcycle = OfCore
 csr_kind_of csr.Minstret = OfCore
 csr_kind_of (csr.Mhpmcounter number) = OfCore

@@ -1,22 +1,33 @@
 -- What each register reads as, and what a write leaves, from the Privileged Architecture's chapters
 -- "Machine-Level ISA" and "Supervisor-Level ISA".
-use Rattle.std.specs.Prelude.{ℕ, ◌+◌, ◌-◌, bit_and, bit_or, slice_range}
+use Rattle.std.specs.Prelude.{ℕ, ◌+◌, ◌-◌, ◌*◌, ◌/◌, ◌%◌, ◌^◌, Bool, ◌&&◌, ◌||◌, ◌==◌, nat_le, nat_lt, if◌then◌else◌, bit_and, bit_or, map, slice_index, slice_range, slice_set}
+use Rattle.std.specs.List.{range_with_len}
 use Rattle.std.specs.Int.{w64, from_le_bytes}
+use Rattle.hart_words.specs.Words.{bit_field}
 use Rattle.hart_words.specs.declared.signal.CsrName.{CsrName}
 use Rattle.hart_words.specs.declared.signal.CsrName.TheVariants as names
 use Rattle.csr_table.specs.declared.registers.Csr.TheVariants as csr
 use Rattle.csr_file.specs.declared.csrs.Csrs.{Csrs}
 use Rattle.csr_file.specs.declared.stored_csr.StoredCsr.TheVariants.{Mstatus, Mideleg, Mie, Mip, Satp}
 use Rattle.csr_file.specs.declared.csr_kind.CsrKind.{CsrKind}
-use Rattle.csr_file.specs.declared.csr_kind.CsrKind.TheVariants.{Stored, Status, Pending, SupervisorStatus, SupervisorEnables, SupervisorPending, Constant, OfCore, Counter, ClosedCounter}
+use Rattle.csr_file.specs.declared.csr_kind.CsrKind.TheVariants.{Stored, Status, Pending, SupervisorStatus, SupervisorEnables, SupervisorPending, LowConfigurations, HighConfigurations, EntryAddress, Constant, OfCore, Counter, ClosedCounter}
 use Rattle.csr_file.specs.declared.access.CsrRead.{CsrRead}
 use Rattle.csr_file.specs.Registers.{at, with_at}
-use Rattle.csr_file.specs.Fields.{all_bits, merged}
+use Rattle.csr_file.specs.declared.fields.TheConstants.{PMP_MATCHING, PMP_LOCK}
+use Rattle.csr_file.specs.Fields.{all_bits, bit_is_set, merged}
 use Rattle.csr_file.specs.Table.{csr_kind_of, line_bits, sip_writable, sstatus_shown, sstatus_writable, status_written_bits, writable_bits}
 
 -- the interrupts that are pending: those stored in mip, and the lines from outside
 unfoldable pub pending_interrupts_of : Csrs → ℕ → ℕ
 pending_interrupts_of csrs lines = bit_or (at csrs Mip) (bit_and lines line_bits)
+
+-- eight configuration bytes of physical memory protection, the lowest first
+abbrev pub packed_pmpcfg_of : Csrs → ℕ → ℕ
+packed_pmpcfg_of csrs first = from_le_bytes w64 (slice_range csrs.pmpcfg first (first + 8))
+
+-- the address of the entry with this number, of which the low four bits count
+abbrev pub entry_address_of : Csrs → ℕ → ℕ
+entry_address_of csrs number = slice_index csrs.pmpaddr (number % 16)
 
 -- the value that a register reads as; what the core decides is 0 here
 unfoldable pub csr_value_of : Csrs → CsrKind → ℕ → ℕ
@@ -26,6 +37,9 @@ csr_value_of csrs Pending lines = pending_interrupts_of csrs lines
 csr_value_of csrs SupervisorStatus lines = bit_and (at csrs Mstatus) sstatus_shown
 csr_value_of csrs SupervisorEnables lines = bit_and (at csrs Mie) (at csrs Mideleg)
 csr_value_of csrs SupervisorPending lines = bit_and (pending_interrupts_of csrs lines) (at csrs Mideleg)
+csr_value_of csrs LowConfigurations lines = packed_pmpcfg_of csrs 0
+csr_value_of csrs HighConfigurations lines = packed_pmpcfg_of csrs 8
+csr_value_of csrs (EntryAddress number) lines = entry_address_of csrs number
 csr_value_of csrs (Constant number) lines = number
 csr_value_of csrs OfCore lines = 0
 csr_value_of csrs (Counter bit) lines = 0
@@ -39,6 +53,9 @@ csr_base_of csrs Status lines = csr_value_of csrs Status lines
 csr_base_of csrs SupervisorStatus lines = csr_value_of csrs SupervisorStatus lines
 csr_base_of csrs SupervisorEnables lines = csr_value_of csrs SupervisorEnables lines
 csr_base_of csrs SupervisorPending lines = csr_value_of csrs SupervisorPending lines
+csr_base_of csrs LowConfigurations lines = csr_value_of csrs LowConfigurations lines
+csr_base_of csrs HighConfigurations lines = csr_value_of csrs HighConfigurations lines
+csr_base_of csrs (EntryAddress number) lines = csr_value_of csrs (EntryAddress number) lines
 csr_base_of csrs (Constant number) lines = csr_value_of csrs (Constant number) lines
 csr_base_of csrs OfCore lines = csr_value_of csrs OfCore lines
 csr_base_of csrs (Counter bit) lines = csr_value_of csrs (Counter bit) lines
@@ -56,6 +73,9 @@ free_bits_of csrs Pending = open_lines_of csrs
 free_bits_of csrs SupervisorStatus = 0
 free_bits_of csrs SupervisorEnables = 0
 free_bits_of csrs SupervisorPending = bit_and (open_lines_of csrs) (at csrs Mideleg)
+free_bits_of csrs LowConfigurations = 0
+free_bits_of csrs HighConfigurations = 0
+free_bits_of csrs (EntryAddress number) = 0
 free_bits_of csrs (Constant number) = 0
 free_bits_of csrs OfCore = all_bits
 free_bits_of csrs (Counter bit) = all_bits
@@ -71,6 +91,9 @@ taken_bits_of csrs SupervisorStatus shown = free_bits_of csrs SupervisorStatus
 taken_bits_of csrs SupervisorEnables shown = free_bits_of csrs SupervisorEnables
 taken_bits_of csrs SupervisorPending shown =
     bit_and (free_bits_of csrs SupervisorPending) (all_bits - shown)
+taken_bits_of csrs LowConfigurations shown = free_bits_of csrs LowConfigurations
+taken_bits_of csrs HighConfigurations shown = free_bits_of csrs HighConfigurations
+taken_bits_of csrs (EntryAddress number) shown = free_bits_of csrs (EntryAddress number)
 taken_bits_of csrs (Constant number) shown = free_bits_of csrs (Constant number)
 taken_bits_of csrs OfCore shown = free_bits_of csrs OfCore
 taken_bits_of csrs (Counter bit) shown = free_bits_of csrs (Counter bit)
@@ -86,6 +109,38 @@ unfoldable pub status_write_of : Csrs → ℕ → Csrs
 status_write_of csrs value =
     with_at csrs Mstatus (merged (status_written_bits value) (at csrs Mstatus) value)
 
+-- a configuration byte after a write of it: it stays where its entry is locked, and where W would come without
+-- R, which is reserved; bits 6:5 are 0
+unfoldable pub configuration_after : ℕ → ℕ → ℕ
+configuration_after old byte =
+    if bit_is_set old PMP_LOCK || (byte % 4 == 2) then old else byte % 2 ^ 5 + byte / 2 ^ PMP_LOCK % 2 * 2 ^ PMP_LOCK
+
+-- the configuration of an entry after a write of the eight from one on, each byte by itself
+unfoldable pub configuration_written : Csrs → ℕ → ℕ → ℕ → ℕ
+configuration_written csrs first value number =
+    if nat_le first number && nat_lt number (first + 8)
+    then configuration_after (slice_index csrs.pmpcfg number) (bit_field (8 * (number - first)) 8 value)
+    else slice_index csrs.pmpcfg number
+
+unfoldable pub configurations_write_of : Csrs → ℕ → ℕ → Csrs
+configurations_write_of csrs first value =
+    record csrs { pmpcfg = map (configuration_written csrs first value) (range_with_len 0 16) }
+
+abbrev pub is_locked_from_below : ℕ → Bool
+is_locked_from_below configuration = bit_is_set configuration PMP_LOCK && (configuration / 2 ^ PMP_MATCHING % 4 == 1)
+
+-- an entry's address is locked with it, and where the entry after it is locked and begins there (TOR)
+unfoldable pub address_is_locked : Csrs → ℕ → Bool
+address_is_locked csrs number =
+    bit_is_set (slice_index csrs.pmpcfg number) PMP_LOCK
+    || (nat_lt number 15 && is_locked_from_below (slice_index csrs.pmpcfg (number + 1)))
+
+-- an address of an entry has 54 bits
+unfoldable pub entry_address_write_of : Csrs → ℕ → ℕ → Csrs
+entry_address_write_of csrs number value =
+    if address_is_locked csrs (number % 16) then csrs
+    else record csrs { pmpaddr = slice_set csrs.pmpaddr (number % 16) (value % 2 ^ 54) }
+
 -- the registers after a legal write of a register
 unfoldable pub csr_write_of : Csrs → CsrKind → ℕ → Csrs
 csr_write_of csrs (Stored stored) value = with_at csrs stored (bit_and value (writable_bits stored))
@@ -96,14 +151,13 @@ csr_write_of csrs SupervisorStatus value =
 csr_write_of csrs SupervisorEnables value = with_at csrs Mie (merged (at csrs Mideleg) (at csrs Mie) value)
 csr_write_of csrs SupervisorPending value =
     with_at csrs Mip (merged (bit_and (at csrs Mideleg) sip_writable) (at csrs Mip) value)
+csr_write_of csrs LowConfigurations value = configurations_write_of csrs 0 value
+csr_write_of csrs HighConfigurations value = configurations_write_of csrs 8 value
+csr_write_of csrs (EntryAddress number) value = entry_address_write_of csrs number value
 csr_write_of csrs (Constant number) value = csrs
 csr_write_of csrs OfCore value = csrs
 csr_write_of csrs (Counter bit) value = csrs
 csr_write_of csrs ClosedCounter value = csrs
-
--- eight configuration bytes of physical memory protection, the lowest first
-abbrev pub packed_pmpcfg_of : Csrs → ℕ → ℕ
-packed_pmpcfg_of csrs first = from_le_bytes w64 (slice_range csrs.pmpcfg first (first + 8))
 
 -- the value that a trace shows of a register
 unfoldable pub shown_csr : Csrs → CsrName → ℕ → ℕ

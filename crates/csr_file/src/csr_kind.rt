@@ -23,6 +23,12 @@ pub enum CsrKind {
     SupervisorEnables,
     /// sip: mip under mideleg.
     SupervisorPending,
+    /// pmpcfg0: the configurations of entries 0 to 7.
+    LowConfigurations,
+    /// pmpcfg2: the configurations of entries 8 to 15.
+    HighConfigurations,
+    /// pmpaddr: the address of an entry.
+    EntryAddress(u8),
     /// Reads as this number.
     Constant(u64),
     /// The core decides all bits, and no write changes them.
@@ -65,6 +71,9 @@ impl CsrKind {
             Csr::Scause => CsrKind::Stored(StoredCsr::Scause),
             Csr::Stval => CsrKind::Stored(StoredCsr::Stval),
             Csr::Sip => CsrKind::SupervisorPending,
+            Csr::Pmpcfg0 => CsrKind::LowConfigurations,
+            Csr::Pmpcfg2 => CsrKind::HighConfigurations,
+            Csr::Pmpaddr(number) => CsrKind::EntryAddress(number),
             Csr::Mcycle | Csr::Minstret | Csr::Mhpmcounter(_) => CsrKind::OfCore,
             Csr::Cycle => CsrKind::Counter(CY),
             Csr::Time => CsrKind::Counter(TM),

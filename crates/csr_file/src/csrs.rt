@@ -2,17 +2,17 @@
 //! Privileged Architecture's chapters "Control and Status Registers (CSRs)", "Machine-Level ISA"
 //! and "Supervisor-Level ISA".
 
-ghost use Rattle.std.specs.Prelude.{◌≡◌, ◌≤◌, ◌+◌, ◌-◌, ◌^◌, Ok, Err, OnOk, OnErr};
+ghost use Rattle.std.specs.Prelude.{◌≡◌, ◌≤◌, ◌<◌, ◌+◌, ◌-◌, ◌^◌, Ok, Err, OnOk, OnErr};
 ghost use Rattle.csr_file.specs.Fields.{merged};
 ghost use Rattle.csr_file.specs.Table.{csr_kind_of, status_written_bits};
 ghost use Rattle.csr_file.specs.Registers.{at, with_at, csrs_at_reset, pmp_entries_of};
-ghost use Rattle.csr_file.specs.Values.{pending_interrupts_of, csr_value_of, csr_base_of, free_bits_of, taken_bits_of, csr_read_of, status_write_of, csr_write_of, packed_pmpcfg_of, shown_csr};
+ghost use Rattle.csr_file.specs.Values.{pending_interrupts_of, csr_value_of, csr_base_of, free_bits_of, taken_bits_of, csr_read_of, status_write_of, csr_write_of, packed_pmpcfg_of, entry_address_of, configuration_after, configuration_written, configurations_write_of, is_locked_from_below, address_is_locked, entry_address_write_of, shown_csr};
 ghost use Rattle.csr_file.specs.Access.{counter_is_enabled, is_enabled, may_read, may_write, read_at, write_at};
 ghost use Rattle.csr_file.specs.Legal.{IsLegal};
 
 use crate::access::{CsrRead, Illegal};
 use crate::csr_kind::CsrKind;
-use crate::fields::{MPP, has_bit, merge};
+use crate::fields::{MPP, PMP_LOCK, PMP_MATCHING, has_bit, merge};
 use crate::stored_csr::{STORED_CSRS, StoredCsr};
 use csr_table::{Csr, CsrRow, row};
 use hart_words::{CsrName, Mode, PmpEntry};
@@ -122,6 +122,8 @@ impl Csrs {
                 kind,
             ),
             CsrKind::SupervisorEnables | CsrKind::Constant(_) => self.free_bits(kind),
+            CsrKind::LowConfigurations | CsrKind::HighConfigurations => self.free_bits(kind),
+            CsrKind::EntryAddress(_) => self.free_bits(kind),
         }
     }
 
@@ -211,6 +213,8 @@ impl Csrs {
             CsrKind::Stored(_) | CsrKind::Status | CsrKind::Pending => true,
             CsrKind::SupervisorStatus | CsrKind::SupervisorEnables => true,
             CsrKind::SupervisorPending | CsrKind::Constant(_) | CsrKind::OfCore => true,
+            CsrKind::LowConfigurations | CsrKind::HighConfigurations => true,
+            CsrKind::EntryAddress(_) => true,
         }
     }
 
@@ -255,6 +259,9 @@ impl Csrs {
             CsrKind::SupervisorPending => {
                 self.pending_interrupts(lines) & self.get(StoredCsr::Mideleg)
             }
+            CsrKind::LowConfigurations => self.packed_pmpcfg(0),
+            CsrKind::HighConfigurations => self.packed_pmpcfg(8),
+            CsrKind::EntryAddress(number) => self.entry_address(number),
             CsrKind::Constant(number) => number,
             CsrKind::OfCore | CsrKind::Counter(_) | CsrKind::ClosedCounter => 0,
         }
@@ -271,7 +278,8 @@ impl Csrs {
             CsrKind::SupervisorStatus | CsrKind::SupervisorEnables => self.value(kind, lines),
             CsrKind::SupervisorPending | CsrKind::Constant(_) => self.value(kind, lines),
             CsrKind::OfCore | CsrKind::Counter(_) => self.value(kind, lines),
-            CsrKind::ClosedCounter => self.value(kind, lines),
+            CsrKind::ClosedCounter | CsrKind::EntryAddress(_) => self.value(kind, lines),
+            CsrKind::LowConfigurations | CsrKind::HighConfigurations => self.value(kind, lines),
         }
     }
 
@@ -288,6 +296,8 @@ impl Csrs {
             CsrKind::OfCore | CsrKind::Counter(_) | CsrKind::ClosedCounter => u64::MAX,
             CsrKind::Stored(_) | CsrKind::Status | CsrKind::SupervisorStatus => 0,
             CsrKind::SupervisorEnables | CsrKind::Constant(_) => 0,
+            CsrKind::LowConfigurations | CsrKind::HighConfigurations => 0,
+            CsrKind::EntryAddress(_) => 0,
         }
     }
 
@@ -310,6 +320,9 @@ impl Csrs {
                 let mask = self.get(StoredCsr::Mideleg) & SIP_WRITABLE;
                 self.write_bits(StoredCsr::Mip, mask, value);
             }
+            CsrKind::LowConfigurations => self.write_configurations(0, value),
+            CsrKind::HighConfigurations => self.write_configurations(8, value),
+            CsrKind::EntryAddress(number) => self.write_entry_address(number, value),
             CsrKind::Constant(_) | CsrKind::OfCore => {}
             CsrKind::Counter(_) | CsrKind::ClosedCounter => {}
         }
@@ -344,4 +357,84 @@ impl Csrs {
         bytes.copy_from_slice(&self.pmpcfg[first..first + 8]);
         u64::from_le_bytes(bytes)
     }
+
+    /// The address of an entry, of whose number the low four bits count.
+    fn entry_address(&self, number: u8) -> u64
+        ensures { result ≡ entry_address_of self.now number }
+    {
+        self.pmpaddr[usize::from(number % 16)]
+    }
+
+    /// Writes the configurations of eight entries from one on, each by itself, with the locks as
+    /// they are before.
+    #[tactic(auto, unfolding(crate::specs::Values::configurations_write_of))]
+    fn write_configurations(&mut self, first: u8, value: u64)
+        requires { first ≤ 8 }
+        ensures { self.new ≡ configurations_write_of self.old first value }
+    {
+        let mut written = [0; 16];
+        for i in 0..16 {
+            written[i] = self.configuration_written(first, value, i);
+        }
+        self.pmpcfg = written;
+    }
+
+    /// The configuration of an entry after that write.
+    #[tactic(auto, unfolding(crate::specs::Values::configuration_written))]
+    fn configuration_written(&self, first: u8, value: u64, number: usize) -> u8
+        requires first { first ≤ 8 }
+        requires number { number < 16 }
+        ensures { result ≡ configuration_written self.now first value number }
+    {
+        let first = usize::from(first);
+        if first <= number && number < first + 8 {
+            let byte = (value >> (8 * (number - first))) % 256;
+            configuration_after(self.pmpcfg[number], byte as u8)
+        } else {
+            self.pmpcfg[number]
+        }
+    }
+
+    /// Writes the address of an entry, unless it is locked.
+    #[tactic(auto, unfolding(crate::specs::Values::entry_address_write_of))]
+    fn write_entry_address(&mut self, number: u8, value: u64)
+        ensures { self.new ≡ entry_address_write_of self.old number value }
+    {
+        let number = usize::from(number % 16);
+        if !self.address_is_locked(number) {
+            self.pmpaddr[number] = value % (1 << 54);
+        }
+    }
+
+    /// Whether an entry's address is locked: with it, or since the entry after it is locked and
+    /// begins there.
+    #[tactic(auto, unfolding(crate::specs::Values::address_is_locked))]
+    fn address_is_locked(&self, number: usize) -> bool
+        requires { number < 16 }
+        ensures { result ≡ address_is_locked self.now number }
+    {
+        has_bit(u64::from(self.pmpcfg[number]), PMP_LOCK)
+            || (number < 15 && is_locked_from_below(self.pmpcfg[number + 1]))
+    }
+}
+
+/// A configuration byte after a write of it: as it was where its entry is locked, and where W would
+/// come without R.
+#[tactic(auto, unfolding(crate::specs::Values::configuration_after))]
+fn configuration_after(old: u8, byte: u8) -> u8
+    ensures { result ≡ configuration_after old byte }
+{
+    if has_bit(u64::from(old), PMP_LOCK) || byte % 4 == 2 {
+        old
+    } else {
+        byte % 32 + byte / 128 % 2 * 128
+    }
+}
+
+/// Whether an entry with this configuration is locked and begins at the address of the entry before
+/// it.
+fn is_locked_from_below(configuration: u8) -> bool
+    ensures { result ≡ is_locked_from_below configuration }
+{
+    has_bit(u64::from(configuration), PMP_LOCK) && (configuration >> PMP_MATCHING) % 4 == 1
 }

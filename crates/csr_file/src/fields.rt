@@ -59,6 +59,12 @@ pub const IR: u8 = 2;
 // The bit of menvcfg and senvcfg.
 pub const FIOM: u8 = 0;
 
+// The fields of a configuration byte of physical memory protection: how addresses match, two bits
+// from this one on, and the lock.
+pub const PMP_MATCHING: u8 = 3;
+
+pub const PMP_LOCK: u8 = 7;
+
 /// Whether a bit of a value is set; bits from 64 on never are.
 #[tactic(auto, using(crate::proofs::Bits::no_high_bit))]
 pub fn has_bit(value: u64, bit: u8) -> bool

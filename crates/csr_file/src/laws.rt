@@ -3,13 +3,20 @@
 ghost use Rattle.std.specs.Prelude.{ℕ, ◌<◌, ◌^◌};
 ghost use Rattle.csr_table.specs.declared.registers.Csr.{Csr};
 ghost use Rattle.csr_file.specs.declared.csrs.Csrs.{Csrs};
-ghost use Rattle.csr_file.specs.Laws.{LeavesOtherRegisters, LeavesProtection, MergesByBits};
+ghost use Rattle.csr_file.specs.Laws.{LeavesLocked, LeavesOtherRegisters, LeavesProtection, MergesByBits};
 
-/// A write of a register leaves every stored register but the one that it writes as it was.
+/// A write of a register leaves every stored register but the one that it writes as it was, and
+/// physical memory protection unless the register is of it.
 #[tactic(auto, using(crate::proofs::Writes::leaves_registers, crate::proofs::Writes::leaves_protection))]
 pub fn writes_leave_the_rest()
     ensures rest { (csrs : Csrs) (csr : Csr) (value : ℕ) → LeavesOtherRegisters csrs csr value }
     ensures protection { (csrs : Csrs) (csr : Csr) (value : ℕ) → LeavesProtection csrs csr value }
+{}
+
+/// No write changes the configuration or the address of a locked entry, nor, where it begins there,
+/// the address of the entry before it.
+pub fn locked_entries_stay()
+    ensures { (csrs : Csrs) (csr : Csr) (value : ℕ) → LeavesLocked csrs csr value }
 {}
 
 /// What is written under a mask has its bits of the new value, and all others of the old one.

@@ -36,6 +36,10 @@ fn writes_what_is_writable(rt: HostRuntime) -> Result<(), Fail> {
         (0x142, ALL),
         (0x143, ALL),
         (0x144, 0),
+        (0x3A0, 0x9F9F_9F9F_9F9F_9F9F),
+        (0x3A2, 0x9F9F_9F9F_9F9F_9F9F),
+        (0x3B0, 0x3F_FFFF_FFFF_FFFF),
+        (0x3BF, 0x3F_FFFF_FFFF_FFFF),
         (0xB00, 0),
     ];
     for (address, wanted) in cases {
@@ -47,6 +51,7 @@ fn writes_what_is_writable(rt: HostRuntime) -> Result<(), Fail> {
     }
     laws::writes_leave_the_rest();
     laws::merges_by_bits();
+    laws::locked_entries_stay();
     Ok(())
 }
 
@@ -68,7 +73,9 @@ fn asks_for_the_mode(rt: HostRuntime) -> Result<(), Fail> {
         (0xF11, Mode::Machine, true, false),
         (0xF15, Mode::Supervisor, false, false),
         (0x180, Mode::Machine, false, false),
-        (0x3A0, Mode::Machine, false, false),
+        (0x3A0, Mode::Machine, true, true),
+        (0x3A1, Mode::Machine, false, false),
+        (0x3B0, Mode::Supervisor, false, false),
     ];
     for (address, mode, readable, writable) in cases {
         let mut csrs = Csrs::reset();
@@ -108,6 +115,39 @@ fn asks_for_both_enables_in_u(rt: HostRuntime) -> Result<(), Fail> {
             "{address}"
         );
         assert!(rt; csrs.read(address, Mode::Machine, 0).is_ok(), "{address}");
+    }
+    Ok(())
+}
+
+/// Configurations and addresses, one write after another: what is written, and what the register
+/// reads as then. Entry 1 is locked and begins at the address of entry 0.
+#[test]
+fn locks_entries(rt: HostRuntime) -> Result<(), Fail> {
+    let cases = [
+        (0x3A0, 0xff_ff00_0202, 0x9f_9f00_0000),
+        (0x3A0, 0x1f_0003, 0x9f_9f1f_0003),
+        (0x3B2, 5, 5),
+        (0x3B3, 6, 0),
+        (0x3B4, 7, 0),
+        (0x3B2, 8, 8),
+        (0x3A0, 0x8900, 0x9f_9f00_8900),
+        (0x3B0, 9, 0),
+        (0x3B1, 9, 0),
+        (0x3B2, 9, 9),
+        (0x3A0, 0, 0x9f_9f00_8900),
+        (0x3A2, 0x8800_0000_0000_0000, 0x8800_0000_0000_0000),
+        (0x3BE, 4, 0),
+        (0x3BD, 4, 4),
+        (0x3A2, ALL, 0x889F_9F9F_9F9F_9F9F),
+    ];
+    let mut csrs = Csrs::reset();
+    for (address, value, wanted) in cases {
+        csrs.write(address, Mode::Machine, value)?;
+        assert_eq!(rt;
+            csrs.read(address, Mode::Machine, 0)?.value,
+            wanted,
+            "{address}"
+        );
     }
     Ok(())
 }

@@ -1,0 +1,153 @@
+-- What writes of the registers of physical memory protection leave.
+use Rattle.std.proofs.Common.{◌≡◌, ◌≢◌, ℕ, ◌+◌, ◌-◌, ◌*◌, ◌/◌, ◌%◌, ◌^◌, ◌<◌, ◌≤◌, Bool, true, false, ◌&&◌, ◌||◌, nat_lt, nat_le, inl, inr, refl, sym, ◌∙◌, subst, arith, length, get_or, get_or-set_other, slice_index, slice_set, if◌then◌else◌}
+use Rattle.std.specs.Prelude.{◌==◌}
+use Rattle.std.specs.List.{range_with_len}
+use Rattle.std.proofs.lemmas.Bool.{cases_Bool}
+use Rattle.std.proofs.lemmas.Bool.Decides.{nat_tests}
+use Rattle.std.proofs.lemmas.List.Elements.{All-map, All-set}
+use Rattle.std.proofs.lemmas.List.FromFn.{get_or-map-range_with_len}
+use Rattle.std.proofs.Math.ListN.{get_or-eq_default}
+use Rattle.hart_words.specs.Words.{bit_field}
+use Rattle.csr_file.specs.declared.csrs.Csrs.{Csrs}
+use Rattle.csr_file.specs.declared.fields.TheConstants.{PMP_LOCK}
+use Rattle.csr_file.specs.Fields.{bit_is_set}
+use Rattle.csr_file.specs.Registers.{at}
+use Rattle.csr_file.specs.Values.{configuration_after, configuration_written, configurations_write_of, is_locked_from_below, address_is_locked, entry_address_write_of}
+use Rattle.csr_file.specs.Legal.{IsLegal, IsLegalConfiguration}
+use Rattle.csr_file.specs.Laws.{KeepsLocked}
+
+-- the bits that a configuration byte keeps make a legal one
+fields_legal : (byte : ℕ) → byte % 4 ≢ 2 → IsLegalConfiguration (byte % 32 + byte / 128 % 2 * 128)
+fields_legal byte apart = record { reserved = omega arith; rights = λ two. apart (omega (arith, two)) }
+
+differs : (a b : ℕ) → (a == b) ≡ false → a ≢ b
+differs a b off same = grind (arith, nat_tests)
+
+after_by : (old byte : ℕ) (locked reserved : Bool) → (byte % 4 == 2) ≡ reserved → IsLegalConfiguration old → IsLegalConfiguration (if locked || reserved then old else byte % 32 + byte / 128 % 2 * 128)
+after_by old byte true reserved is legal = legal
+after_by old byte false true is legal = legal
+after_by old byte false false is legal = fields_legal byte (differs (byte % 4) 2 is)
+
+after_legal : (old byte : ℕ) → IsLegalConfiguration old → IsLegalConfiguration (configuration_after old byte)
+unfolding configuration_after
+after_legal old byte legal = after_by old byte (bit_is_set old PMP_LOCK) (byte % 4 == 2) refl legal
+
+none_set : IsLegalConfiguration 0
+none_set = record { reserved = refl; rights = λ two. omega arith }
+
+-- a number past the entries reads as 0
+entry_legal : (csrs : Csrs) (number : ℕ) → IsLegal csrs → IsLegalConfiguration (slice_index csrs.pmpcfg number)
+entry_legal csrs number legal = elim (cases_Bool (nat_lt number (length csrs.pmpcfg))) [
+  | inl inside ↦ legal.configurations number 0 (grind (arith, nat_tests, inside))
+  | inr outside ↦
+      let past : length csrs.pmpcfg ≤ number = grind (arith, nat_tests, outside) in
+      subst IsLegalConfiguration (sym (get_or-eq_default csrs.pmpcfg 0 past)) none_set
+]
+
+written_by : (old byte : ℕ) (inside : Bool) → IsLegalConfiguration old → IsLegalConfiguration (if inside then configuration_after old byte else old)
+written_by old byte true legal = after_legal old byte legal
+written_by old byte false legal = legal
+
+written_legal : (csrs : Csrs) (first value number : ℕ) → IsLegal csrs → IsLegalConfiguration (configuration_written csrs first value number)
+unfolding configuration_written
+written_legal csrs first value number legal =
+    written_by (slice_index csrs.pmpcfg number) (bit_field (8 * (number - first)) 8 value) (nat_le first number && nat_lt number (first + 8)) (entry_legal csrs number legal)
+
+pub configurations_legal : (csrs : Csrs) (first value : ℕ) → IsLegal csrs → IsLegal (configurations_write_of csrs first value)
+unfolding configurations_write_of at
+configurations_legal csrs first value legal = record {
+  whole = legal.whole;
+  values = legal.values;
+  configurations = All-map IsLegalConfiguration (configuration_written csrs first value) (range_with_len 0 16) (λ k d inside. written_legal csrs first value (get_or (range_with_len 0 16) k d) legal);
+  addresses = legal.addresses;
+}
+
+address_by : (csrs : Csrs) (number value : ℕ) (locked : Bool) → IsLegal csrs → IsLegal (if locked then csrs else record csrs { pmpaddr = slice_set csrs.pmpaddr number (value % 2 ^ 54) })
+unfolding at
+address_by csrs number value true legal = legal
+address_by csrs number value false legal = record {
+  whole = legal.whole;
+  values = legal.values;
+  configurations = legal.configurations;
+  addresses = All-set (λ address. address < 2 ^ 54) csrs.pmpaddr number (value % 2 ^ 54) (omega arith) legal.addresses;
+}
+
+pub address_legal : (csrs : Csrs) (number value : ℕ) → IsLegal csrs → IsLegal (entry_address_write_of csrs number value)
+unfolding entry_address_write_of
+address_legal csrs number value legal = address_by csrs (number % 16) value (address_is_locked csrs (number % 16)) legal
+
+-- a locked entry keeps its configuration
+locked_by : (old byte : ℕ) (reserved : Bool) → bit_is_set old PMP_LOCK ≡ true → (if bit_is_set old PMP_LOCK || reserved then old else byte) ≡ old
+locked_by old byte reserved locked =
+    let P : Bool → Type 0 = λ b. (if b || reserved then old else byte) ≡ old in
+    subst P (sym locked) refl
+
+after_locked : (old byte : ℕ) → bit_is_set old PMP_LOCK ≡ true → configuration_after old byte ≡ old
+unfolding configuration_after
+after_locked old byte locked = locked_by old (byte % 32 + byte / 128 % 2 * 128) (byte % 4 == 2) locked
+
+inside_by : (old byte : ℕ) (inside : Bool) → bit_is_set old PMP_LOCK ≡ true → (if inside then configuration_after old byte else old) ≡ old
+inside_by old byte true locked = after_locked old byte locked
+inside_by old byte false locked = refl
+
+written_locked : (csrs : Csrs) (first value number : ℕ) → bit_is_set (slice_index csrs.pmpcfg number) PMP_LOCK ≡ true → configuration_written csrs first value number ≡ slice_index csrs.pmpcfg number
+unfolding configuration_written
+written_locked csrs first value number locked =
+    inside_by (slice_index csrs.pmpcfg number) (bit_field (8 * (number - first)) 8 value) (nat_le first number && nat_lt number (first + 8)) locked
+
+pub configurations_keep : (csrs : Csrs) (first value number : ℕ) → number < 16 → bit_is_set (slice_index csrs.pmpcfg number) PMP_LOCK ≡ true → KeepsLocked csrs (configurations_write_of csrs first value) number
+unfolding configurations_write_of
+configurations_keep csrs first value number below locked = record {
+  configuration = get_or-map-range_with_len (configuration_written csrs first value) 0 16 number number 0 below (omega arith) ∙ written_locked csrs first value number locked;
+  address = refl;
+  below = λ begins. refl;
+}
+
+-- and its address
+unlocked_apart : (csrs : Csrs) (one number : ℕ) → bit_is_set (slice_index csrs.pmpcfg number) PMP_LOCK ≡ true → address_is_locked csrs one ≡ false → number ≢ one
+unfolding address_is_locked
+unlocked_apart csrs one number locked free same =
+    let P : ℕ → Type 0 = λ n. bit_is_set (slice_index csrs.pmpcfg n) PMP_LOCK ≡ true in
+    left_false (bit_is_set (slice_index csrs.pmpcfg one) PMP_LOCK) (nat_lt one 15 && is_locked_from_below (slice_index csrs.pmpcfg (one + 1))) free (subst P same locked)
+  where
+    left_false : (a b : Bool) → (a || b) ≡ false → a ≡ true → ⊥
+    left_false true b off on = cc
+    left_false false b off on = cc
+
+before_apart : (csrs : Csrs) (one number : ℕ) → number < 16 → 0 < number → is_locked_from_below (slice_index csrs.pmpcfg number) ≡ true → address_is_locked csrs one ≡ false → number - 1 ≢ one
+unfolding address_is_locked
+before_apart csrs one number below some begins free same =
+    let is : one + 1 ≡ number = omega (arith, same) in
+    let P : ℕ → Type 0 = λ n. is_locked_from_below (slice_index csrs.pmpcfg n) ≡ true in
+    let low : nat_lt one 15 ≡ true = grind (arith, nat_tests, is, below) in
+    right_false (bit_is_set (slice_index csrs.pmpcfg one) PMP_LOCK) (nat_lt one 15) (is_locked_from_below (slice_index csrs.pmpcfg (one + 1))) free low (subst P (sym is) begins)
+  where
+    right_false : (a b d : Bool) → (a || (b && d)) ≡ false → b ≡ true → d ≡ true → ⊥
+    right_false true b d off on here = cc
+    right_false false true true off on here = cc
+    right_false false true false off on here = cc
+    right_false false false d off on here = cc
+
+kept_by : (csrs : Csrs) (one number value : ℕ) (free : Bool) → (free ≡ false → number ≢ one) → slice_index (if free then csrs else record csrs { pmpaddr = slice_set csrs.pmpaddr one (value % 2 ^ 54) }).pmpaddr number ≡ slice_index csrs.pmpaddr number
+kept_by csrs one number value true apart = refl
+kept_by csrs one number value false apart = get_or-set_other csrs.pmpaddr one number (value % 2 ^ 54) 0 (apart refl)
+
+same_configurations : (csrs : Csrs) (one number value : ℕ) (free : Bool) → slice_index (if free then csrs else record csrs { pmpaddr = slice_set csrs.pmpaddr one (value % 2 ^ 54) }).pmpcfg number ≡ slice_index csrs.pmpcfg number
+same_configurations csrs one number value true = refl
+same_configurations csrs one number value false = refl
+
+below_by : (csrs : Csrs) (one number : ℕ) → number < 16 → bit_is_set (slice_index csrs.pmpcfg number) PMP_LOCK ≡ true → is_locked_from_below (slice_index csrs.pmpcfg number) ≡ true → address_is_locked csrs one ≡ false → number - 1 ≢ one
+below_by csrs zero_or number below locked begins free = elim (cases_Bool (nat_lt 0 number)) [
+  | inl some ↦ before_apart csrs zero_or number below (grind (arith, nat_tests, some)) begins free
+  | inr none ↦
+      let is : number - 1 ≡ number = grind (arith, nat_tests, none) in
+      λ same. unlocked_apart csrs zero_or number locked free (sym is ∙ same)
+]
+
+pub address_keeps : (csrs : Csrs) (one value number : ℕ) → number < 16 → bit_is_set (slice_index csrs.pmpcfg number) PMP_LOCK ≡ true → KeepsLocked csrs (entry_address_write_of csrs one value) number
+unfolding entry_address_write_of
+address_keeps csrs one value number below locked = record {
+  configuration = same_configurations csrs (one % 16) number value (address_is_locked csrs (one % 16));
+  address = kept_by csrs (one % 16) number value (address_is_locked csrs (one % 16)) (unlocked_apart csrs (one % 16) number locked);
+  below = λ begins. kept_by csrs (one % 16) (number - 1) value (address_is_locked csrs (one % 16)) (below_by csrs (one % 16) number below locked begins);
+}
