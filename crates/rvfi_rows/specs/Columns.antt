@@ -7,7 +7,7 @@ use Rattle.hart_words.specs.SignalNames.{name_of}
 use Rattle.hart_words.specs.declared.signal.TheConstants.{SIGNALS}
 use Rattle.hart_words.specs.declared.signal.Signal.{Signal}
 use Rattle.hart_words.specs.declared.signal.Signal.TheVariants.{Insn, PcRdata, Csr}
-use Rattle.hart_words.specs.declared.signal.CsrName.TheVariants.{Satp, Pmpcfg0, Pmpcfg2}
+use Rattle.hart_words.specs.declared.signal.CsrName.TheVariants.{Satp}
 use Rattle.csv_line.specs.Fields.{fields_of_line}
 use Rattle.hart_words.specs.Results.{◌>>◌, refuse_if}
 use Rattle.rvfi_rows.specs.declared.fault.HeaderFault.{HeaderFault}
@@ -22,8 +22,6 @@ ColumnList = List (Option Signal)
 -- the signal is read from a trace; every other name is passed over
 abbrev pub is_known : Signal → Bool
 is_known (Csr Satp side) = false
-is_known (Csr Pmpcfg0 side) = false
-is_known (Csr Pmpcfg2 side) = false
 is_known _ = true
 
 -- a name less one `rvfi_` at its front

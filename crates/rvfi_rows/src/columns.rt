@@ -160,13 +160,13 @@ fn signal_among(entries: &[SignalEntry], name: &[u8]) -> Option<Signal>
         .map(|entry| entry.signal)
 }
 
-/// Whether a trace's columns of the signal are read: all but those of satp and of physical memory
-/// protection, which the reference hart does not follow yet.
+/// Whether a trace's columns of the signal are read: all but those of satp, which the reference
+/// hart does not follow yet.
 fn is_known(signal: Signal) -> bool
     ensures { result ≡ is_known signal }
 {
     match signal {
-        Signal::Csr(CsrName::Satp | CsrName::Pmpcfg0 | CsrName::Pmpcfg2, _) => false,
+        Signal::Csr(CsrName::Satp, _) => false,
         _ => true,
     }
 }

@@ -69,14 +69,14 @@ fn reads_registers_and_masks(rt: HostRuntime) -> Result<(), Fail> {
     Ok(())
 }
 
-/// The columns of control and status registers have 64 bits; those of satp and of physical memory
-/// protection are passed over.
+/// The columns of control and status registers have 64 bits; those of satp are passed
+/// over.
 #[test]
 fn reads_registers_of_control(rt: HostRuntime) -> Result<(), Fail> {
     let alloc = rt.alloc();
     let columns = read_header(
         alloc,
-        b"insn,rvfi_csr_mepc_rdata,csr_satp_wdata,pc_rdata,csr_sip_wmask,csr_pmpcfg2_rdata",
+        b"insn,rvfi_csr_mepc_rdata,csr_satp_wdata,pc_rdata,csr_sip_wmask,csr_satp_rdata",
     )?;
     let mepc = Signal::Csr(CsrName::Mepc, CsrSide::Rdata);
     let row = read_row(alloc, &columns, b"1,0xffffffffffffffff,x,2,,x")?.ok_or("it is valid")?;
