@@ -79,6 +79,13 @@ const UNSTACKED_TRACE: &[u8] =
 0x00100313,0x80000010,3,0,1,0x80000014,11,0x80000010,0xa00000080
 ";
 
+/// Entry 0 of protection is given the four bytes at 0x80000100 without rights, and eight bytes there
+/// are loaded: part of the access is covered, so that it is refused in M too.
+const ENTRY_IMAGE: &[u8] = b"@80000000
+    17 01 00 00 93 51 21 00 93 81 01 04 73 90 01 3b
+    13 02 00 01 73 10 02 3a 83 32 01 10
+";
+
 const COMPUTES: [Case; 3] = [
     Case {
         options: &[],
@@ -226,6 +233,27 @@ const CONTROLS: [Case; 7] = [
     },
 ];
 
+const PROTECTS: [Case; 3] = [
+    Case {
+        options: &[],
+        image: ENTRY_IMAGE,
+        trace: b"insn,pc_rdata,trap,csr_mcause_wdata,csr_mtval_wdata\n0x00000117,0x80000000,0,,\n0x00215193,0x80000004,0,,\n0x04018193,0x80000008,0,,\n0x3b019073,0x8000000c,0,,\n0x01000213,0x80000010,0,,\n0x3a021073,0x80000014,0,,\n0x10013283,0x80000018,1,5,0x80000100\n",
+        text: b"agrees 7\n",
+    },
+    Case {
+        options: &[],
+        image: ENTRY_IMAGE,
+        trace: b"insn,pc_rdata,trap,csr_mcause_wdata,csr_mtval_wdata\n0x00000117,0x80000000,0,,\n0x00215193,0x80000004,0,,\n0x04018193,0x80000008,0,,\n0x3b019073,0x8000000c,0,,\n0x01000213,0x80000010,0,,\n0x3a021073,0x80000014,0,,\n0x10013283,0x80000018,0,5,0x80000100\n",
+        text: b"differs row 7: trap expected 0x0000000000000001 found 0x0000000000000000\n",
+    },
+    Case {
+        options: &[],
+        image: ENTRY_IMAGE,
+        trace: b"insn,pc_rdata,csr_pmpcfg0_wdata\n0x00000117,0x80000000,0\n0x00215193,0x80000004,0\n0x04018193,0x80000008,0\n0x3b019073,0x8000000c,0\n0x01000213,0x80000010,0\n0x3a021073,0x80000014,0x90\n",
+        text: b"differs row 6: csr_pmpcfg0_wdata expected 0x0000000000000010 found 0x0000000000000090\n",
+    },
+];
+
 fn says<R: Threads + Sync + Abort>(rt: &R, alloc: Global, case: &Case) -> Result<(), Fail> {
     let mut words = Vec::from_slice(alloc, &["rvjudge", "judge", "i", "t"])?;
     for option in case.options {
@@ -271,6 +299,14 @@ fn expands_and_exchanges(rt: HostRuntime) -> Result<(), Fail> {
 #[test]
 fn controls(rt: HostRuntime) -> Result<(), Fail> {
     for case in &CONTROLS {
+        says(&rt, rt.alloc(), case)?;
+    }
+    Ok(())
+}
+
+#[test]
+fn protects(rt: HostRuntime) -> Result<(), Fail> {
+    for case in &PROTECTS {
         says(&rt, rt.alloc(), case)?;
     }
     Ok(())
