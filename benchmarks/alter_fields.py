@@ -21,7 +21,7 @@ from random import Random
 from typing import NamedTuple
 
 from judge import PLAIN, WIDTHS, Judge, answer, number, read_row, span
-from reference_hart import ADDRESSES, DECIDED, LOADS, STORES, Hart, Memory, decode, expand, read_image
+from reference_hart import ADDRESSES, DECIDED, LOADS, STORES, M, Hart, Memory, decode, expand, read_image
 
 EVERY = 32  # rows between two kept states
 BEHIND = 6  # rows of an altered trace behind the altered one
@@ -126,13 +126,14 @@ def choice_shown(row, devices):
 
 
 def kinds_of_rows(rows):
-    """The numbers of all rows, and of those of traps, handlers, the system, stores and loads."""
+    """The numbers of all rows, and of those of traps, handlers, S and U, the system, stores and loads."""
     numbered = list(enumerate(rows))
     names = [instruction.name if instruction else "" for instruction in map(instruction_of, rows)]
     return [
         range(len(rows)),
         [at for at, row in numbered if row.get("trap")],
         [at for at, row in numbered if row.get("intr") and not row.get("trap")],
+        [at for at, row in numbered if row.get("mode", M) != M],
         [at for at, row in numbered if row["insn"] & 0x7F == 0x73],
         [at for at, name in enumerate(names) if name in STORES or name.startswith(("AMO", "SC"))],
         [at for at, name in enumerate(names) if name in LOADS or name.startswith(("AMO", "LR"))],

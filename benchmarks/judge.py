@@ -20,7 +20,7 @@ PLAIN = {
 }
 CSRS = (
     "mstatus", "misa", "medeleg", "mideleg", "mie", "mtvec", "mscratch", "mepc", "mcause", "mtval", "mip",
-    "sstatus", "sie", "sip", "stvec", "sscratch", "sepc", "scause", "stval",
+    "sstatus", "sie", "sip", "stvec", "sscratch", "sepc", "scause", "stval", "pmpcfg0", "pmpcfg2",
 )
 WIDTHS = PLAIN | {
     f"csr_{name}_{part}": 64 for name in CSRS for part in ("rmask", "wmask", "rdata", "wdata")

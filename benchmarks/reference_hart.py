@@ -6,8 +6,8 @@ Written after the RISC-V Unprivileged ISA and the Privileged Architecture, versi
 rvjudge, whose second opinion it is. What the standards leave to a core is asked of a Core. Which bits of a
 register can be written is the profile that docs/REFERENCE.md describes.
 
-There is no protection that a program could set yet, so that every access of another mode than M is
-refused, and no translation: satp, pmpcfg and pmpaddr are unknown, and SFENCE.VMA has nothing to do.
+Every access is held to the 16 entries of physical memory protection. There is no translation: satp is
+unknown, virtual addresses are physical ones in every mode, and SFENCE.VMA has nothing to do.
 """
 from typing import NamedTuple
 
@@ -401,6 +401,13 @@ HELD = 1 << 1 | 1 << 5 | 1 << 9  # SSIP, STIP, SEIP of mip, which software write
 INTERRUPT_ORDER = (11, 3, 7, 9, 1, 5)
 SSTATUS_READ, SSTATUS_WRITE = 0x3000C0122, 0xC0122
 
+# physical memory protection: the bits of an entry's configuration, and the kinds of its region
+PMP_ENTRIES = 16
+READ, WRITE, EXECUTE, LOCKED = 1 << 0, 1 << 1, 1 << 2, 1 << 7
+KIND_AT, OFF, TOR, NA4, NAPOT = 3, 0, 1, 2, 3
+CONFIGURATION = 0x9F  # bits 6:5 are 0
+PMP_ADDRESS = (1 << 54) - 1  # bits 55:2 of an address
+
 ALL, EVEN = MASK, MASK - 1
 VECTOR = MASK - 2  # a base and, in bit 0, the mode
 
@@ -410,7 +417,9 @@ WRITABLE = {
     "mcounteren": 7, "scounteren": 7, "menvcfg": 1, "senvcfg": 1, "mcountinhibit": 5,
     "mscratch": ALL, "sscratch": ALL, "mepc": EVEN, "sepc": EVEN, "mcause": ALL, "scause": ALL,
     "mtval": ALL, "stval": ALL, "mip": HELD,
+    "pmpcfg0": int.from_bytes([CONFIGURATION] * 8), "pmpcfg2": int.from_bytes([CONFIGURATION] * 8),
 }
+WRITABLE |= {f"pmpaddr{n}": PMP_ADDRESS for n in range(PMP_ENTRIES)}
 # the registers that always read the same; a write to them changes nothing
 FIXED = {"misa": 0x8000000000141105} | {f"mhpmevent{n}": 0 for n in range(3, 32)}
 
@@ -420,10 +429,12 @@ ADDRESSES = {
     0x300: "mstatus", 0x301: "misa", 0x302: "medeleg", 0x303: "mideleg", 0x304: "mie", 0x305: "mtvec",
     0x306: "mcounteren", 0x30A: "menvcfg", 0x320: "mcountinhibit",
     0x340: "mscratch", 0x341: "mepc", 0x342: "mcause", 0x343: "mtval", 0x344: "mip",
+    0x3A0: "pmpcfg0", 0x3A2: "pmpcfg2",
     0xB00: "mcycle", 0xB02: "minstret", 0xC00: "cycle", 0xC01: "time", 0xC02: "instret",
     0xF11: "mvendorid", 0xF12: "marchid", 0xF13: "mimpid", 0xF14: "mhartid", 0xF15: "mconfigptr",
 }
 ADDRESSES |= {0x320 + n: f"mhpmevent{n}" for n in range(3, 32)}
+ADDRESSES |= {0x3B0 + n: f"pmpaddr{n}" for n in range(PMP_ENTRIES)}
 ADDRESSES |= {0xB00 + n: f"mhpmcounter{n}" for n in range(3, 32)}
 ADDRESSES |= {0xC00 + n: f"hpmcounter{n}" for n in range(3, 32)}
 
@@ -436,6 +447,7 @@ class ControlRegisters:
 
     def __init__(self, values=None):
         self.values = values or dict.fromkeys(WRITABLE, 0) | {"mstatus": XLENS}
+        self.entries = None  # of protection, where they were worked out since the last write
 
     def copy(self):
         return ControlRegisters(dict(self.values))
@@ -469,8 +481,58 @@ class ControlRegisters:
             case "sip":
                 software = values["mideleg"] & 1 << 1
                 values["mip"] = values["mip"] & ~software | value & software
+            case "pmpcfg0" | "pmpcfg2":
+                values[name] = self.configurations(values[name], value)
+                self.entries = None
+            case _ if name.startswith("pmpaddr"):
+                if not self.is_address_locked(int(name.removeprefix("pmpaddr"))):
+                    values[name] = value & PMP_ADDRESS
+                    self.entries = None
             case _ if name in WRITABLE:
                 values[name] = value & WRITABLE[name]
+
+    @staticmethod
+    def configurations(old, new):
+        """What eight configurations are after a write, each for itself."""
+        pairs = zip(old.to_bytes(8), new.to_bytes(8))
+        return int.from_bytes(
+            was if was & LOCKED or to_be & (READ | WRITE) == WRITE else to_be & CONFIGURATION for was, to_be in pairs
+        )
+
+    def configuration(self, entry):
+        """The configuration of an entry of protection."""
+        return self.values["pmpcfg0" if entry < 8 else "pmpcfg2"] >> 8 * (entry % 8) & 0xFF
+
+    def is_address_locked(self, entry):
+        """Whether the address of an entry is locked, by itself or as the bottom of the next one."""
+        if self.configuration(entry) & LOCKED:
+            return True
+        above = self.configuration(entry + 1) if entry + 1 < PMP_ENTRIES else 0
+        return bool(above & LOCKED) and above >> KIND_AT & 3 == TOR
+
+    def region(self, entry):
+        """The bytes that an entry covers."""
+        address, kind = self.values[f"pmpaddr{entry}"], self.configuration(entry) >> KIND_AT & 3
+        if kind == OFF:
+            return range(0)
+        if kind == TOR:
+            return range(4 * self.values[f"pmpaddr{entry - 1}"] if entry else 0, 4 * address)
+        if kind == NA4:
+            return range(4 * address, 4 * address + 4)
+        ones = address & ~(address + 1)  # those at the end, which tell the size
+        return range(4 * (address - ones), 4 * (address - ones) + 8 * (ones + 1))
+
+    def allows(self, mode, address, length, right):
+        """Whether protection lets this mode read, write or execute all of these bytes."""
+        if self.entries is None:
+            numbered = ((self.region(entry), self.configuration(entry)) for entry in range(PMP_ENTRIES))
+            self.entries = [(region, configuration) for region, configuration in numbered if region]
+        for region, configuration in self.entries:
+            if address < region.stop and region.start < address + length:
+                if address < region.start or region.stop < address + length:
+                    return False
+                return (mode == M and not configuration & LOCKED) or bool(configuration & right)
+        return mode == M
 
     def named(self, address, mode, writes):
         """The register at an address, None where this access to it is illegal."""
@@ -590,7 +652,7 @@ class Hart:
         return bits | self.fetch_half(self.pc + 2 & MASK) << 16, 4
 
     def fetch_half(self, address):
-        if self.mode != M or address not in RAM:
+        if not self.csrs.allows(self.mode, address, 2, EXECUTE) or address not in RAM:
             raise Trap(FETCH_ACCESS, address)
         return self.memory.read(address, 2)
 
@@ -600,10 +662,10 @@ class Hart:
         return status >> MPP_AT & 3 if self.mode == M and status & MPRV else self.mode
 
     def in_ram(self, address, length, is_store, atomic=False):
-        """Whether a data access goes to RAM, not to a device; a trap where it may go nowhere."""
+        """Whether a data access goes to RAM, not to a device; a trap where it is refused or goes nowhere."""
         if address % length:
             raise Trap(STORE_MISALIGNED if is_store else LOAD_MISALIGNED, address)
-        if self.data_mode() == M:
+        if self.csrs.allows(self.data_mode(), address, length, WRITE if is_store else READ):
             if address in RAM:
                 return True
             if address in self.devices and not atomic:

@@ -1,5 +1,5 @@
 #!/usr/bin/env python3
-"""Runs the program in machine/ and writes the trace of its run with all columns: run_machine.py IMAGE TRACE.
+"""Runs the program in machine/ and writes the trace of its run: run_machine.py IMAGE TRACE.
 
 Prints the number of valid rows. The status is not 0 where the program found something wrong itself.
 

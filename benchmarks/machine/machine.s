@@ -1,10 +1,10 @@
-# A program in M-mode that goes through what M-mode can do: exceptions, interrupts, every control and status
-# register, falls into S and U, loads and stores with the privilege of another mode, atomics, compressed code.
+# A program that goes through what M, S and U can do: exceptions, interrupts, every control and status register,
+# loads and stores with the privilege of another mode, atomics, compressed code, physical memory protection.
 # It checks what it can see itself. machine.hex is its image, made with binutils-riscv64-unknown-elf 2.40 by
 # the commands of make.sh, which joins the files of this folder.
 #
-# Where no entry of physical memory protection is on, S and U may not even fetch: each fall comes back as an
-# instruction access fault, or as an interrupt.
+# Up to `storm` no entry of physical memory protection is on, and S and U may not even fetch: each fall comes
+# back as an instruction access fault, or as an interrupt. From protection.s on they run programs.
 #
 # What run_machine.py has at DEVICES: LINES holds the interrupt lines, bit by bit as in mip; TIMER raises MTIP
 # so many rows later, until LINES is written; STORM, not 0, raises lines as they come; FINISH ends the run,
@@ -79,6 +79,12 @@ _start:
     call    other_privilege
     call    atomics
     call    storm
+    call    protection_registers
+    call    regions
+    call    sweeps
+    call    under_mprv
+    call    supervisor
+    call    locks
     li      t0, 1
     sd      t0, FINISH(s0)
 1:  j       1b
@@ -174,7 +180,8 @@ interrupt:
     not     t2, t2
     and     t3, t3, t2
     sd      t3, LINES(s0)
-    csrr    t2, mstatus             # from S or U there is no way on
+    beqz    s11, leave
+    csrr    t2, mstatus             # from S or U there is no way on but s11
     li      t3, MPP
     and     t2, t2, t3
     beq     t2, t3, leave
