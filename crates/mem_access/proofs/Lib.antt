@@ -1,3 +1,4 @@
 pub mod Looks
+pub mod Unconfigured
 pub mod Writes
 pub mod ZeroBytes

@@ -1,8 +1,11 @@
 //! Where an access goes.
 
-ghost use Rattle.std.specs.Prelude.{◌≡◌, ◌≤◌, ◌%◌, IfOk, false};
+ghost use Rattle.std.specs.Prelude.{◌≡◌, ◌==◌, ◌≤◌, ◌%◌, IfOk, false};
+ghost use Rattle.std.specs.List.{list_all};
 ghost use Rattle.hart_words.specs.AccessSizes.{IsLength};
 ghost use Rattle.hart_words.specs.Memory.{IsPlace};
+ghost use Rattle.csr_file.specs.Registers.{pmp_entries_of};
+ghost use Rattle.pmp_check.specs.Protection.{is_allowed, is_machine};
 ghost use Rattle.mem_access.specs.Places.{data_mode_of, is_device, place_in, place_of};
 
 use csr_file::fields::{MPP, MPRV};
@@ -52,7 +55,7 @@ pub fn place_of(
     ensures memory { devices ≡ false → IfOk result (λ place. place.io ≡ false) }
     ensures placed { IfOk result (λ place. place.io ≡ false → IsPlace map.now.ram place.pa len) }
 {
-    if !allows(&csrs.pmp_entries(), mode, pa, len, access) {
+    if !is_allowed(csrs, mode, pa, len, access) {
         return Err(access.access_fault());
     }
     if map.ram.holds(pa, len) {
@@ -62,6 +65,32 @@ pub fn place_of(
         return Ok(Place { pa, io: true });
     }
     Err(access.access_fault())
+}
+
+/// Whether protection allows an access. Where no entry is configured M alone has access, so that
+/// none is made nor looked at.
+fn is_allowed(csrs: &Csrs, mode: Mode, pa: u64, len: u8, access: Access) -> bool
+    ensures { result ≡ is_allowed (pmp_entries_of csrs.now) mode pa len access }
+{
+    if is_unset(&csrs.pmpcfg) {
+        return is_machine(mode);
+    }
+    allows(&csrs.pmp_entries(), mode, pa, len, access)
+}
+
+/// Whether no entry is configured.
+fn is_unset(configurations: &[u8]) -> bool
+    ensures { result ≡ list_all (λ configuration. configuration == 0) configurations.now }
+{
+    configurations
+        .iter()
+        .all(|configuration| *configuration == 0)
+}
+
+fn is_machine(mode: Mode) -> bool
+    ensures { result ≡ is_machine mode }
+{
+    matches!(mode, Mode::Machine)
 }
 
 fn is_device(io: &Option<Span>, pa: u64, len: u8) -> bool
