@@ -11,16 +11,16 @@ use Rattle.pmp_check.specs.Covering.{Covers, CoversAt, Decides, IsRegister, Some
 use Rattle.pmp_check.proofs.Covering.{region_of-Covers, some_byte, each_byte}
 
 -- the entry at a place of a list that comes after an entry with the address register `first`
-abbrev CoversFrom : ℕ → List PmpEntry → ℕ → ℕ → Type 0
+abbrev pub CoversFrom : ℕ → List PmpEntry → ℕ → ℕ → Type 0
 CoversFrom first entries i a = Covers (register_before first entries i) (entry_at entries i) a
 
-abbrev Touches : ℕ → List PmpEntry → ℕ → ℕ → ℕ → Type 0
+abbrev pub Touches : ℕ → List PmpEntry → ℕ → ℕ → ℕ → Type 0
 Touches first entries i pa len = SomeByte pa len (CoversFrom first entries i)
 
-SomeByte-map : {P Q : ℕ → Type 0} (pa len : ℕ) → ((a : ℕ) → P a → Q a) → SomeByte pa len P → SomeByte pa len Q
+pub SomeByte-map : {P Q : ℕ → Type 0} (pa len : ℕ) → ((a : ℕ) → P a → Q a) → SomeByte pa len P → SomeByte pa len Q
 SomeByte-map pa len f byte = record { a = byte.a; low = byte.low; high = byte.high; holds = f byte.a byte.holds }
 
-touched : (before : ℕ) (entry : PmpEntry) (pa len : ℕ) → IsRegister entry → SomeByte pa len (Covers before entry) → covers_some (region_of before entry) pa len ≡ true
+pub touched : (before : ℕ) (entry : PmpEntry) (pa len : ℕ) → IsRegister entry → SomeByte pa len (Covers before entry) → covers_some (region_of before entry) pa len ≡ true
 touched before entry pa len h byte =
     (some_byte (region_of before entry) pa len).1 (SomeByte-map pa len (λ a. (region_of-Covers before entry a h).1) byte)
 
@@ -34,20 +34,20 @@ before_shift : (first : ℕ) (entry : PmpEntry) (entries : List PmpEntry) (i : �
 before_shift first entry entries zero = refl
 before_shift first entry entries (suc i) = refl
 
-shift : (first : ℕ) (entry : PmpEntry) (entries : List PmpEntry) (i pa len : ℕ) → Touches entry.addr entries i pa len → Touches first (entry ∷ entries) (suc i) pa len
+pub shift : (first : ℕ) (entry : PmpEntry) (entries : List PmpEntry) (i pa len : ℕ) → Touches entry.addr entries i pa len → Touches first (entry ∷ entries) (suc i) pa len
 shift first entry entries i pa len = subst (λ (b : ℕ). Touches entry.addr entries i pa len → SomeByte pa len (Covers b (entry_at entries i))) (before_shift first entry entries i) (λ byte. byte)
 
-unshift : (first : ℕ) (entry : PmpEntry) (entries : List PmpEntry) (i pa len : ℕ) → Touches first (entry ∷ entries) (suc i) pa len → Touches entry.addr entries i pa len
+pub unshift : (first : ℕ) (entry : PmpEntry) (entries : List PmpEntry) (i pa len : ℕ) → Touches first (entry ∷ entries) (suc i) pa len → Touches entry.addr entries i pa len
 unshift first entry entries i pa len = subst (λ (b : ℕ). SomeByte pa len (Covers b (entry_at entries i)) → Touches entry.addr entries i pa len) (before_shift first entry entries i) (λ byte. byte)
 
 -- an entry of the list has a register
-register_at : (entries : List PmpEntry) (i : ℕ) → All IsRegister entries → i < length entries → IsRegister (entry_at entries i)
+pub register_at : (entries : List PmpEntry) (i : ℕ) → All IsRegister entries → i < length entries → IsRegister (entry_at entries i)
 register_at entries i h below = h i (record { cfg = 0; addr = 0 }) below
 
-head : (entry : PmpEntry) (entries : List PmpEntry) → All IsRegister (entry ∷ entries) → IsRegister entry
+pub head : (entry : PmpEntry) (entries : List PmpEntry) → All IsRegister (entry ∷ entries) → IsRegister entry
 head entry entries h = h 0 entry (omega arith)
 
-tail : (entry : PmpEntry) (entries : List PmpEntry) → All IsRegister (entry ∷ entries) → All IsRegister entries
+pub tail : (entry : PmpEntry) (entries : List PmpEntry) → All IsRegister (entry ∷ entries) → All IsRegister entries
 tail entry entries h = λ k d below. h (suc k) d (omega arith)
 
 pub after_none : (first : ℕ) (entries : List PmpEntry) (mode : Mode) (pa len : ℕ) (access : Access) → All IsRegister entries → ((i : ℕ) → i < length entries → Touches first entries i pa len → ⊥) → is_allowed_after first entries mode pa len access ≡ is_machine mode
@@ -76,8 +76,13 @@ pub none_decides : (entries : List PmpEntry) (mode : Mode) (pa len : ℕ) (acces
 unfolding is_allowed
 none_decides entries mode pa len access h none = after_none 0 entries mode pa len access h none
 
-some_is : (pa len : ℕ) {P : ℕ → Type 0} → SomeByte pa len P → 1 ≤ len
+pub some_is : (pa len : ℕ) {P : ℕ → Type 0} → SomeByte pa len P → 1 ≤ len
 some_is pa len byte = omega (arith, byte.low, byte.high)
+
+-- the least entry decides, whether it covers every byte or not
+pub least_decides : (entries : List PmpEntry) (i : ℕ) (mode : Mode) (pa len : ℕ) (access : Access) → All IsRegister entries → i < length entries → Decides entries i pa len → is_allowed entries mode pa len access ≡ (covers_all (region_of (register_before 0 entries i) (entry_at entries i)) pa len && is_permitted (entry_at entries i).cfg mode access)
+unfolding is_allowed answer
+least_decides entries i mode pa len access h below decides = after_least 0 entries i mode pa len access h below decides.some decides.least
 
 pub whole_decides : (entries : List PmpEntry) (i : ℕ) (mode : Mode) (pa len : ℕ) (access : Access) → All IsRegister entries → i < length entries → Decides entries i pa len → EachByte pa len (CoversAt entries i) → is_allowed entries mode pa len access ≡ is_permitted (entry_at entries i).cfg mode access
 unfolding is_allowed answer

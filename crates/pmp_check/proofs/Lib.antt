@@ -1,3 +1,5 @@
 pub mod Ones
 pub mod Covering
 pub mod Deciding
+pub mod Granting
+pub mod Parts

@@ -1,6 +1,6 @@
 -- Which bytes the entries cover, one byte at a time, as the Privileged Architecture's chapter "Machine-Level ISA"
 -- has it.
-use Rattle.std.specs.Prelude.{◌≡◌, ℕ, zero, suc, ◌+◌, ◌-◌, ◌*◌, ◌/◌, ◌%◌, ◌^◌, ◌<◌, ◌≤◌, List, slice_index_or}
+use Rattle.std.specs.Prelude.{◌≡◌, ℕ, zero, suc, ◌+◌, ◌-◌, ◌*◌, ◌/◌, ◌%◌, ◌^◌, ◌<◌, ◌≤◌, List, slice_index_or, length}
 use Rattle.hart_words.specs.declared.privilege.PmpEntry.{PmpEntry}
 use Rattle.pmp_check.specs.declared.region.Matching.{Matching}
 use Rattle.pmp_check.specs.declared.region.Matching.TheVariants.{Off, TopOfRange, FourBytes, PowerOfTwo}
@@ -61,3 +61,7 @@ IsRegister entry = entry.addr < 2 ^ 64
 pub record Decides (entries : List PmpEntry) (i pa len : ℕ) : Type 0 where
   pub some : SomeByte pa len (CoversAt entries i)
   pub least : (j : ℕ) → j < i → SomeByte pa len (CoversAt entries j) → ⊥
+
+-- no entry covers a byte of an access
+abbrev pub NoneCovers : List PmpEntry → ℕ → ℕ → Type 0
+NoneCovers entries pa len = (i : ℕ) → i < length entries → SomeByte pa len (CoversAt entries i) → ⊥

@@ -1,11 +1,12 @@
 -- What the check amounts to, byte by byte, from the Privileged Architecture's chapter "Machine-Level ISA".
-use Rattle.std.specs.Prelude.{◌≡◌, ℕ, ◌<◌, ◌≤◌, ◌↔◌, List, All, length, IsTrue, false}
+use Rattle.std.specs.Prelude.{◌≡◌, ℕ, ◌+◌, ◌<◌, ◌≤◌, ◌↔◌, ◌⊎◌, List, All, length, IsTrue, false}
 use Rattle.hart_words.specs.declared.privilege.Mode.{Mode}
+use Rattle.hart_words.specs.declared.privilege.Mode.TheVariants.{User, Supervisor, Machine}
 use Rattle.hart_words.specs.declared.privilege.Access.{Access}
 use Rattle.hart_words.specs.declared.privilege.PmpEntry.{PmpEntry}
 use Rattle.pmp_check.specs.declared.region.Region.{Region}
 use Rattle.pmp_check.specs.Protection.{covers_all, covers_some, is_allowed, is_machine, is_permitted, region_of}
-use Rattle.pmp_check.specs.Covering.{Covers, CoversAt, Decides, EachByte, IsIn, IsRegister, SomeByte, entry_at}
+use Rattle.pmp_check.specs.Covering.{Covers, CoversAt, Decides, EachByte, IsIn, IsRegister, NoneCovers, SomeByte, entry_at}
 
 -- the region of an entry has just the bytes that the entry covers
 abbrev pub HasJustCovered : ℕ → PmpEntry → ℕ → Type 0
@@ -33,5 +34,33 @@ LeastRefusesPart entries i mode pa len access =
 -- without an entry that covers any byte M alone has access
 abbrev pub NoneLeavesMachine : List PmpEntry → Mode → ℕ → ℕ → Access → Type 0
 NoneLeavesMachine entries mode pa len access =
-    All IsRegister entries → ((i : ℕ) → i < length entries → SomeByte pa len (CoversAt entries i) → ⊥)
-    → is_allowed entries mode pa len access ≡ is_machine mode
+    All IsRegister entries → NoneCovers entries pa len → is_allowed entries mode pa len access ≡ is_machine mode
+
+-- an entry is the least that covers any byte of an access, covers every byte of it, and permits it
+pub record Grants (entries : List PmpEntry) (mode : Mode) (pa len : ℕ) (access : Access) : Type 0 where
+  pub number : ℕ
+  pub there : number < length entries
+  pub decides : Decides entries number pa len
+  pub covers : EachByte pa len (CoversAt entries number)
+  pub permits : IsTrue (is_permitted (entry_at entries number).cfg mode access)
+
+-- an entry grants the access, or it is M's and no entry covers a byte of it
+abbrev pub IsGranted : List PmpEntry → Mode → ℕ → ℕ → Access → Type 0
+IsGranted entries mode pa len access =
+    Grants entries mode pa len access ⊎ ((mode ≡ Machine) × NoneCovers entries pa len)
+
+-- the check allows what is granted, and nothing else
+abbrev pub AllowsJustGranted : List PmpEntry → Mode → ℕ → ℕ → Access → Type 0
+AllowsJustGranted entries mode pa len access =
+    All IsRegister entries → (IsTrue (is_allowed entries mode pa len access) ↔ IsGranted entries mode pa len access)
+
+-- what is allowed is allowed in each of its parts
+abbrev pub AllowsParts : List PmpEntry → Mode → ℕ → ℕ → Access → Type 0
+AllowsParts entries mode pa len access =
+    IsTrue (is_allowed entries mode pa len access)
+    → (part count : ℕ) → pa ≤ part → 1 ≤ count → part + count ≤ pa + len
+    → IsTrue (is_allowed entries mode part count access)
+
+-- S and U are allowed the same
+abbrev pub AllowsBothAlike : List PmpEntry → ℕ → ℕ → Access → Type 0
+AllowsBothAlike entries pa len access = is_allowed entries User pa len access ≡ is_allowed entries Supervisor pa len access

@@ -5,7 +5,7 @@ ghost use Rattle.hart_words.specs.declared.privilege.Mode.{Mode};
 ghost use Rattle.hart_words.specs.declared.privilege.Access.{Access};
 ghost use Rattle.hart_words.specs.declared.privilege.PmpEntry.{PmpEntry};
 ghost use Rattle.pmp_check.specs.declared.region.Region.{Region};
-ghost use Rattle.pmp_check.specs.Laws.{ComparesEach, ComparesSome, HasJustCovered, LeastDecides, LeastRefusesPart, NoneLeavesMachine};
+ghost use Rattle.pmp_check.specs.Laws.{AllowsBothAlike, AllowsJustGranted, AllowsParts, ComparesEach, ComparesSome, HasJustCovered, LeastDecides, LeastRefusesPart, NoneLeavesMachine};
 
 /// The region of an entry has just the bytes that the entry covers.
 pub fn regions_are_what_entries_cover()
@@ -28,4 +28,23 @@ pub fn least_entry_decides()
         → LeastRefusesPart entries i mode pa len access }
     ensures none { (entries : List PmpEntry) (mode : Mode) (pa len : ℕ) (access : Access)
         → NoneLeavesMachine entries mode pa len access }
+{}
+
+/// An access is allowed exactly where it is granted: the lowest-numbered entry that covers any byte
+/// of it covers every byte and permits it, or M makes it and no entry covers a byte of it.
+pub fn just_what_is_granted_is_allowed()
+    ensures { (entries : List PmpEntry) (mode : Mode) (pa len : ℕ) (access : Access)
+        → AllowsJustGranted entries mode pa len access }
+{}
+
+/// Each part of an allowed access, each byte of it among them, is allowed by itself.
+pub fn parts_are_allowed_with_the_whole()
+    ensures { (entries : List PmpEntry) (mode : Mode) (pa len : ℕ) (access : Access)
+        → AllowsParts entries mode pa len access }
+{}
+
+/// Protection does not tell S from U.
+pub fn supervisor_and_user_are_allowed_alike()
+    ensures { (entries : List PmpEntry) (pa len : ℕ) (access : Access)
+        → AllowsBothAlike entries pa len access }
 {}
