@@ -1,21 +1,21 @@
 -- What is written can be stored, so that registers stay legal.
-use Rattle.std.proofs.Common.{◌≡◌, ◌≢◌, inl, inr, ℕ, ◌+◌, ◌-◌, ◌*◌, ◌%◌, ◌^◌, ◌<◌, false, ◌==◌, refl, ap, ◌∙◌, sym, subst, lit<, arith, bit_and, length-set, if◌then◌else◌}
+use Rattle.std.proofs.Common.{◌≡◌, ◌≢◌, ◌⊎◌, inl, inr, ℕ, ◌+◌, ◌-◌, ◌*◌, ◌%◌, ◌^◌, ◌<◌, Bool, true, false, ◌==◌, refl, ap, ◌∙◌, sym, subst, lit<, arith, bit_and, length-set, if◌then◌else◌}
 use Rattle.std.specs.Int.{bit_at}
 use Rattle.std.proofs.lemmas.Bool.{cases_eq, cases_Bool}
 use Rattle.std.proofs.lemmas.Bool.Decides.{nat_tests}
-use Rattle.std.proofs.lemmas.List.Elements.{All-replicate}
 use Rattle.csr_table.specs.declared.registers.Csr.{Csr}
 use Rattle.csr_table.specs.declared.registers.Csr.TheVariants as csr
 use Rattle.csr_file.specs.declared.csrs.Csrs.{Csrs}
 use Rattle.csr_file.specs.declared.stored_csr.StoredCsr.{StoredCsr}
 use Rattle.csr_file.specs.declared.stored_csr.StoredCsr.TheVariants.{Mstatus, Medeleg, Mideleg, Mie, Mtvec, Mcounteren, Menvcfg, Mcountinhibit, Mscratch, Mepc, Mcause, Mtval, Mip, Stvec, Scounteren, Senvcfg, Sscratch, Sepc, Scause, Stval, Satp}
 use Rattle.csr_file.specs.Registers.{at, with_at, stored_index_of, csrs_at_reset}
-use Rattle.csr_file.specs.Fields.{all_bits, merged, mpp_of}
+use Rattle.csr_file.specs.declared.fields.TheConstants.{BARE, SV39}
+use Rattle.csr_file.specs.Fields.{all_bits, is_supported_mode, merged, mpp_of, satp_mode_of}
 use Rattle.csr_file.specs.Table.{all_interrupts, csr_kind_of, pc_bits, sip_writable, sstatus_writable, status_written_bits, supervisor_interrupts, vector_bits, writable_bits, writable_without_mpp}
-use Rattle.csr_file.specs.Values.{status_write_of, csr_write_of}
-use Rattle.csr_file.specs.Legal.{IsWithin, IsLegalStatus, IsLegalValue, IsLegal, IsLegalConfiguration}
+use Rattle.csr_file.specs.Values.{status_write_of, translation_write_of, csr_write_of}
+use Rattle.csr_file.specs.Legal.{IsWithin, IsLegalStatus, IsLegalValue, IsLegal}
 use Rattle.csr_file.proofs.Places.{at_same, at_other, same_index}
-use Rattle.csr_file.proofs.Protection.{configurations_legal, address_legal}
+use Rattle.csr_file.proofs.Protection.{configurations_legal, address_legal, reset_entries_legal}
 use Rattle.csr_file.proofs.Bits.{within_mask, within_first, within_second, within_larger, within_or, merged_keeps, bit_kept, bit_taken, mpp_bits, out_of}
 
 -- a value that a register can have keeps all registers legal
@@ -28,8 +28,7 @@ legal_with csrs stored value legal can = record {
         subst (λ h. IsLegalValue h (at (with_at csrs stored value) h)) (sym e) (subst (IsLegalValue stored) (sym (at_same csrs stored value legal.whole)) can)
     | inr apart ↦ subst (IsLegalValue other) (sym (at_other csrs stored other value apart)) (legal.values other)
   ];
-  configurations = legal.configurations;
-  addresses = legal.addresses;
+  entries = legal.entries;
 }
 
 -- mstatus keeps what it is where MPP is left out, or takes no 2
@@ -79,6 +78,18 @@ unfolding merged
 stored_interrupts delegated old value few legal =
     within_or supervisor_interrupts _ _ (within_first supervisor_interrupts old _ legal) (within_second supervisor_interrupts value (bit_and delegated sip_writable) (within_first supervisor_interrupts delegated sip_writable few))
 
+-- satp takes a mode that the hart has, or keeps what it is
+one_of_two : (mode : ℕ) → is_supported_mode mode ≡ true → (mode ≡ BARE) ⊎ (mode ≡ SV39)
+one_of_two mode supported = grind (arith, nat_tests, supported)
+
+translation_by : (csrs : Csrs) (value : ℕ) (supported : Bool) → is_supported_mode (satp_mode_of value) ≡ supported → IsLegal csrs → IsLegal (if supported then with_at csrs Satp value else csrs)
+translation_by csrs value true is legal = legal_with csrs Satp value legal (one_of_two (satp_mode_of value) is)
+translation_by csrs value false is legal = legal
+
+translation_legal : (csrs : Csrs) (value : ℕ) → IsLegal csrs → IsLegal (translation_write_of csrs value)
+unfolding translation_write_of
+translation_legal csrs value legal = translation_by csrs value (is_supported_mode (satp_mode_of value)) refl legal
+
 -- a write leaves a stored register's writable bits
 written : (csrs : Csrs) (stored : StoredCsr) (value : ℕ) → IsLegal csrs → IsLegalValue stored (bit_and value (writable_bits stored)) → IsLegal (with_at csrs stored (bit_and value (writable_bits stored)))
 written csrs stored value legal can = legal_with csrs stored _ legal can
@@ -110,6 +121,7 @@ write_legal csrs csr.Sepc value legal = written csrs Sepc value legal (even valu
 write_legal csrs csr.Scause value legal = written csrs Scause value legal tt
 write_legal csrs csr.Stval value legal = written csrs Stval value legal tt
 write_legal csrs csr.Sip value legal = legal_with csrs Mip _ legal (stored_interrupts (at csrs Mideleg) (at csrs Mip) value (legal.values Mideleg) (legal.values Mip))
+write_legal csrs csr.Satp value legal = translation_legal csrs value legal
 write_legal csrs csr.Pmpcfg0 value legal = configurations_legal csrs 0 value legal
 write_legal csrs csr.Pmpcfg2 value legal = configurations_legal csrs 8 value legal
 write_legal csrs (csr.Pmpaddr number) value legal = address_legal csrs number value legal
@@ -125,9 +137,6 @@ write_legal csrs csr.Marchid value legal = legal
 write_legal csrs csr.Mimpid value legal = legal
 write_legal csrs csr.Mhartid value legal = legal
 write_legal csrs csr.Mconfigptr value legal = legal
-
-none_reserved : IsLegalConfiguration 0
-none_reserved = record { reserved = refl; rights = λ two. omega arith }
 
 legal_at_reset : (stored : StoredCsr) → IsLegalValue stored (at csrs_at_reset stored)
 unfolding at csrs_at_reset
@@ -158,6 +167,5 @@ unfolding csrs_at_reset
 reset_legal = record {
   whole = refl;
   values = legal_at_reset;
-  configurations = All-replicate IsLegalConfiguration 16 0 none_reserved;
-  addresses = All-replicate (λ address. address < 2 ^ 54) 16 0 (lit< tt);
+  entries = reset_entries_legal;
 }

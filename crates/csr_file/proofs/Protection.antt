@@ -1,19 +1,21 @@
 -- What writes of the registers of physical memory protection leave.
-use Rattle.std.proofs.Common.{◌≡◌, ◌≢◌, ℕ, ◌+◌, ◌-◌, ◌*◌, ◌/◌, ◌%◌, ◌^◌, ◌<◌, ◌≤◌, Bool, true, false, ◌&&◌, ◌||◌, nat_lt, nat_le, inl, inr, refl, sym, ◌∙◌, subst, arith, length, get_or, get_or-set_other, slice_index, slice_set, if◌then◌else◌}
+use Rattle.std.proofs.Common.{◌≡◌, ◌≢◌, ℕ, ◌+◌, ◌-◌, ◌*◌, ◌/◌, ◌%◌, ◌<◌, ◌≤◌, Bool, true, false, ◌&&◌, ◌||◌, nat_lt, nat_le, inl, inr, refl, sym, ap, ◌∙◌, subst, arith, lit<, List, length, map, get_or, get_or-set_other, replicate, All, if◌then◌else◌}
 use Rattle.std.specs.Prelude.{◌==◌}
 use Rattle.std.specs.List.{range_with_len}
 use Rattle.std.proofs.lemmas.Bool.{cases_Bool}
 use Rattle.std.proofs.lemmas.Bool.Decides.{nat_tests}
-use Rattle.std.proofs.lemmas.List.Elements.{All-map, All-set}
-use Rattle.std.proofs.lemmas.List.FromFn.{get_or-map-range_with_len}
+use Rattle.std.proofs.lemmas.List.Elements.{All-map, All-replicate, All-set}
+use Rattle.std.proofs.lemmas.List.FromFn.{get_or-map-range_with_len, length-map-range_with_len}
+use Rattle.std.proofs.lemmas.List.{ext_get_or}
 use Rattle.std.proofs.Math.ListN.{get_or-eq_default}
 use Rattle.hart_words.specs.Words.{bit_field}
+use Rattle.hart_words.specs.declared.privilege.PmpEntry.{PmpEntry}
 use Rattle.csr_file.specs.declared.csrs.Csrs.{Csrs}
 use Rattle.csr_file.specs.declared.fields.TheConstants.{PMP_LOCK}
 use Rattle.csr_file.specs.Fields.{bit_is_set}
-use Rattle.csr_file.specs.Registers.{at}
-use Rattle.csr_file.specs.Values.{configuration_after, configuration_written, configurations_write_of, is_locked_from_below, address_is_locked, entry_address_write_of}
-use Rattle.csr_file.specs.Legal.{IsLegal, IsLegalConfiguration}
+use Rattle.csr_file.specs.Registers.{at, no_entry, pmp_entry_of}
+use Rattle.csr_file.specs.Values.{configuration_of, configuration_after, configuration_written, entry_written, with_entry_address, configurations_write_of, is_locked_from_below, address_is_locked, entry_address_write_of}
+use Rattle.csr_file.specs.Legal.{IsLegal, IsLegalConfiguration, IsLegalEntry}
 use Rattle.csr_file.specs.Laws.{KeepsLocked}
 
 -- the bits that a configuration byte keeps make a legal one
@@ -32,44 +34,49 @@ after_legal : (old byte : ℕ) → IsLegalConfiguration old → IsLegalConfigura
 unfolding configuration_after
 after_legal old byte legal = after_by old byte (bit_is_set old PMP_LOCK) (byte % 4 == 2) refl legal
 
-none_set : IsLegalConfiguration 0
-none_set = record { reserved = refl; rights = λ two. omega arith }
+off_legal : IsLegalEntry no_entry
+off_legal = record { configuration = record { reserved = refl; rights = λ two. omega arith }; address = lit< tt }
 
--- a number past the entries reads as 0
-entry_legal : (csrs : Csrs) (number : ℕ) → IsLegal csrs → IsLegalConfiguration (slice_index csrs.pmpcfg number)
-entry_legal csrs number legal = elim (cases_Bool (nat_lt number (length csrs.pmpcfg))) [
-  | inl inside ↦ legal.configurations number 0 (grind (arith, nat_tests, inside))
+-- a number past the entries reads as one that is off
+entry_legal : (csrs : Csrs) (number : ℕ) → IsLegal csrs → IsLegalEntry (pmp_entry_of csrs number)
+entry_legal csrs number legal = elim (cases_Bool (nat_lt number (length csrs.entries))) [
+  | inl inside ↦ legal.entries number no_entry (grind (arith, nat_tests, inside))
   | inr outside ↦
-      let past : length csrs.pmpcfg ≤ number = grind (arith, nat_tests, outside) in
-      subst IsLegalConfiguration (sym (get_or-eq_default csrs.pmpcfg 0 past)) none_set
+      let past : length csrs.entries ≤ number = grind (arith, nat_tests, outside) in
+      subst IsLegalEntry (sym (get_or-eq_default csrs.entries no_entry past)) off_legal
 ]
+
+pub reset_entries_legal : All IsLegalEntry (replicate 16 no_entry)
+reset_entries_legal = All-replicate IsLegalEntry 16 no_entry off_legal
 
 written_by : (old byte : ℕ) (inside : Bool) → IsLegalConfiguration old → IsLegalConfiguration (if inside then configuration_after old byte else old)
 written_by old byte true legal = after_legal old byte legal
 written_by old byte false legal = legal
 
-written_legal : (csrs : Csrs) (first value number : ℕ) → IsLegal csrs → IsLegalConfiguration (configuration_written csrs first value number)
+written_legal : (csrs : Csrs) (first value number : ℕ) → IsLegal csrs → IsLegalEntry (entry_written csrs first value number)
 unfolding configuration_written
 written_legal csrs first value number legal =
-    written_by (slice_index csrs.pmpcfg number) (bit_field (8 * (number - first)) 8 value) (nat_le first number && nat_lt number (first + 8)) (entry_legal csrs number legal)
+    let before = entry_legal csrs number legal in
+    record {
+      configuration = written_by (configuration_of csrs number) (bit_field (8 * (number - first)) 8 value) (nat_le first number && nat_lt number (first + 8)) before.configuration;
+      address = before.address;
+    }
 
 pub configurations_legal : (csrs : Csrs) (first value : ℕ) → IsLegal csrs → IsLegal (configurations_write_of csrs first value)
 unfolding configurations_write_of at
 configurations_legal csrs first value legal = record {
   whole = legal.whole;
   values = legal.values;
-  configurations = All-map IsLegalConfiguration (configuration_written csrs first value) (range_with_len 0 16) (λ k d inside. written_legal csrs first value (get_or (range_with_len 0 16) k d) legal);
-  addresses = legal.addresses;
+  entries = All-map IsLegalEntry (entry_written csrs first value) (range_with_len 0 16) (λ k d inside. written_legal csrs first value (get_or (range_with_len 0 16) k d) legal);
 }
 
-address_by : (csrs : Csrs) (number value : ℕ) (locked : Bool) → IsLegal csrs → IsLegal (if locked then csrs else record csrs { pmpaddr = slice_set csrs.pmpaddr number (value % 2 ^ 54) })
+address_by : (csrs : Csrs) (number value : ℕ) (locked : Bool) → IsLegal csrs → IsLegal (if locked then csrs else with_entry_address csrs number value)
 unfolding at
 address_by csrs number value true legal = legal
 address_by csrs number value false legal = record {
   whole = legal.whole;
   values = legal.values;
-  configurations = legal.configurations;
-  addresses = All-set (λ address. address < 2 ^ 54) csrs.pmpaddr number (value % 2 ^ 54) (omega arith) legal.addresses;
+  entries = All-set IsLegalEntry csrs.entries number _ (record { configuration = (entry_legal csrs number legal).configuration; address = omega arith }) legal.entries;
 }
 
 pub address_legal : (csrs : Csrs) (number value : ℕ) → IsLegal csrs → IsLegal (entry_address_write_of csrs number value)
@@ -90,37 +97,42 @@ inside_by : (old byte : ℕ) (inside : Bool) → bit_is_set old PMP_LOCK ≡ tru
 inside_by old byte true locked = after_locked old byte locked
 inside_by old byte false locked = refl
 
-written_locked : (csrs : Csrs) (first value number : ℕ) → bit_is_set (slice_index csrs.pmpcfg number) PMP_LOCK ≡ true → configuration_written csrs first value number ≡ slice_index csrs.pmpcfg number
+written_locked : (csrs : Csrs) (first value number : ℕ) → bit_is_set (configuration_of csrs number) PMP_LOCK ≡ true → configuration_written csrs first value number ≡ configuration_of csrs number
 unfolding configuration_written
 written_locked csrs first value number locked =
-    inside_by (slice_index csrs.pmpcfg number) (bit_field (8 * (number - first)) 8 value) (nat_le first number && nat_lt number (first + 8)) locked
+    inside_by (configuration_of csrs number) (bit_field (8 * (number - first)) 8 value) (nat_le first number && nat_lt number (first + 8)) locked
 
-pub configurations_keep : (csrs : Csrs) (first value number : ℕ) → number < 16 → bit_is_set (slice_index csrs.pmpcfg number) PMP_LOCK ≡ true → KeepsLocked csrs (configurations_write_of csrs first value) number
+-- each entry after a write of configurations
+entry_after : (csrs : Csrs) (first value number : ℕ) → number < 16 → pmp_entry_of (configurations_write_of csrs first value) number ≡ entry_written csrs first value number
 unfolding configurations_write_of
-configurations_keep csrs first value number below locked = record {
-  configuration = get_or-map-range_with_len (configuration_written csrs first value) 0 16 number number 0 below (omega arith) ∙ written_locked csrs first value number locked;
-  address = refl;
-  below = λ begins. refl;
-}
+entry_after csrs first value number below = get_or-map-range_with_len (entry_written csrs first value) 0 16 number number no_entry below (omega arith)
+
+pub configurations_keep : (csrs : Csrs) (first value number : ℕ) → number < 16 → bit_is_set (configuration_of csrs number) PMP_LOCK ≡ true → KeepsLocked csrs (configurations_write_of csrs first value) number
+configurations_keep csrs first value number below locked =
+    let with_configuration : ℕ → PmpEntry = λ cfg. record (pmp_entry_of csrs number) { cfg = cfg } in
+    record {
+      entry = entry_after csrs first value number below ∙ ap with_configuration (written_locked csrs first value number locked);
+      below = λ begins. ap (λ entry. entry.addr) (entry_after csrs first value (number - 1) (omega (arith, below)));
+    }
 
 -- and its address
-unlocked_apart : (csrs : Csrs) (one number : ℕ) → bit_is_set (slice_index csrs.pmpcfg number) PMP_LOCK ≡ true → address_is_locked csrs one ≡ false → number ≢ one
+unlocked_apart : (csrs : Csrs) (one number : ℕ) → bit_is_set (configuration_of csrs number) PMP_LOCK ≡ true → address_is_locked csrs one ≡ false → number ≢ one
 unfolding address_is_locked
 unlocked_apart csrs one number locked free same =
-    let P : ℕ → Type 0 = λ n. bit_is_set (slice_index csrs.pmpcfg n) PMP_LOCK ≡ true in
-    left_false (bit_is_set (slice_index csrs.pmpcfg one) PMP_LOCK) (nat_lt one 15 && is_locked_from_below (slice_index csrs.pmpcfg (one + 1))) free (subst P same locked)
+    let P : ℕ → Type 0 = λ n. bit_is_set (configuration_of csrs n) PMP_LOCK ≡ true in
+    left_false (bit_is_set (configuration_of csrs one) PMP_LOCK) (nat_lt one 15 && is_locked_from_below (configuration_of csrs (one + 1))) free (subst P same locked)
   where
     left_false : (a b : Bool) → (a || b) ≡ false → a ≡ true → ⊥
     left_false true b off on = cc
     left_false false b off on = cc
 
-before_apart : (csrs : Csrs) (one number : ℕ) → number < 16 → 0 < number → is_locked_from_below (slice_index csrs.pmpcfg number) ≡ true → address_is_locked csrs one ≡ false → number - 1 ≢ one
+before_apart : (csrs : Csrs) (one number : ℕ) → number < 16 → 0 < number → is_locked_from_below (configuration_of csrs number) ≡ true → address_is_locked csrs one ≡ false → number - 1 ≢ one
 unfolding address_is_locked
 before_apart csrs one number below some begins free same =
     let is : one + 1 ≡ number = omega (arith, same) in
-    let P : ℕ → Type 0 = λ n. is_locked_from_below (slice_index csrs.pmpcfg n) ≡ true in
+    let P : ℕ → Type 0 = λ n. is_locked_from_below (configuration_of csrs n) ≡ true in
     let low : nat_lt one 15 ≡ true = grind (arith, nat_tests, is, below) in
-    right_false (bit_is_set (slice_index csrs.pmpcfg one) PMP_LOCK) (nat_lt one 15) (is_locked_from_below (slice_index csrs.pmpcfg (one + 1))) free low (subst P (sym is) begins)
+    right_false (bit_is_set (configuration_of csrs one) PMP_LOCK) (nat_lt one 15) (is_locked_from_below (configuration_of csrs (one + 1))) free low (subst P (sym is) begins)
   where
     right_false : (a b d : Bool) → (a || (b && d)) ≡ false → b ≡ true → d ≡ true → ⊥
     right_false true b d off on here = cc
@@ -128,15 +140,11 @@ before_apart csrs one number below some begins free same =
     right_false false true false off on here = cc
     right_false false false d off on here = cc
 
-kept_by : (csrs : Csrs) (one number value : ℕ) (free : Bool) → (free ≡ false → number ≢ one) → slice_index (if free then csrs else record csrs { pmpaddr = slice_set csrs.pmpaddr one (value % 2 ^ 54) }).pmpaddr number ≡ slice_index csrs.pmpaddr number
+kept_by : (csrs : Csrs) (one number value : ℕ) (free : Bool) → (free ≡ false → number ≢ one) → pmp_entry_of (if free then csrs else with_entry_address csrs one value) number ≡ pmp_entry_of csrs number
 kept_by csrs one number value true apart = refl
-kept_by csrs one number value false apart = get_or-set_other csrs.pmpaddr one number (value % 2 ^ 54) 0 (apart refl)
+kept_by csrs one number value false apart = get_or-set_other csrs.entries one number _ no_entry (apart refl)
 
-same_configurations : (csrs : Csrs) (one number value : ℕ) (free : Bool) → slice_index (if free then csrs else record csrs { pmpaddr = slice_set csrs.pmpaddr one (value % 2 ^ 54) }).pmpcfg number ≡ slice_index csrs.pmpcfg number
-same_configurations csrs one number value true = refl
-same_configurations csrs one number value false = refl
-
-below_by : (csrs : Csrs) (one number : ℕ) → number < 16 → bit_is_set (slice_index csrs.pmpcfg number) PMP_LOCK ≡ true → is_locked_from_below (slice_index csrs.pmpcfg number) ≡ true → address_is_locked csrs one ≡ false → number - 1 ≢ one
+below_by : (csrs : Csrs) (one number : ℕ) → number < 16 → bit_is_set (configuration_of csrs number) PMP_LOCK ≡ true → is_locked_from_below (configuration_of csrs number) ≡ true → address_is_locked csrs one ≡ false → number - 1 ≢ one
 below_by csrs zero_or number below locked begins free = elim (cases_Bool (nat_lt 0 number)) [
   | inl some ↦ before_apart csrs zero_or number below (grind (arith, nat_tests, some)) begins free
   | inr none ↦
@@ -144,10 +152,14 @@ below_by csrs zero_or number below locked begins free = elim (cases_Bool (nat_lt
       λ same. unlocked_apart csrs zero_or number locked free (sym is ∙ same)
 ]
 
-pub address_keeps : (csrs : Csrs) (one value number : ℕ) → number < 16 → bit_is_set (slice_index csrs.pmpcfg number) PMP_LOCK ≡ true → KeepsLocked csrs (entry_address_write_of csrs one value) number
+pub address_keeps : (csrs : Csrs) (one value number : ℕ) → number < 16 → bit_is_set (configuration_of csrs number) PMP_LOCK ≡ true → KeepsLocked csrs (entry_address_write_of csrs one value) number
 unfolding entry_address_write_of
 address_keeps csrs one value number below locked = record {
-  configuration = same_configurations csrs (one % 16) number value (address_is_locked csrs (one % 16));
-  address = kept_by csrs (one % 16) number value (address_is_locked csrs (one % 16)) (unlocked_apart csrs (one % 16) number locked);
-  below = λ begins. kept_by csrs (one % 16) (number - 1) value (address_is_locked csrs (one % 16)) (below_by csrs (one % 16) number below locked begins);
+  entry = kept_by csrs (one % 16) number value (address_is_locked csrs (one % 16)) (unlocked_apart csrs (one % 16) number locked);
+  below = λ begins. ap (λ entry. entry.addr) (kept_by csrs (one % 16) (number - 1) value (address_is_locked csrs (one % 16)) (below_by csrs (one % 16) number below locked begins));
 }
+
+-- a list that holds at each place what a function gives from a number on
+pub filled_from : (f : ℕ → ℕ) (first count : ℕ) (xs : List ℕ) → length xs ≡ count → ((k : ℕ) → k < count → get_or xs k 0 ≡ f (first + k)) → xs ≡ map f (range_with_len first count)
+filled_from f first count xs whole each =
+    ext_get_or 0 xs _ (whole ∙ sym (length-map-range_with_len f first count)) (λ k inside. let below : k < count = omega (arith, inside, whole) in each k below ∙ sym (get_or-map-range_with_len f first count k (first + k) 0 below refl))

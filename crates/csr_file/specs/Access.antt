@@ -1,17 +1,18 @@
 -- Which accesses are legal, and what they give, from the Privileged Architecture's chapter "Control and Status
--- Registers (CSRs)" and its description of mcounteren and scounteren.
-use Rattle.std.specs.Prelude.{ℕ, Bool, true, not, ◌&&◌, nat_le, Option, Some, None, Result, Ok, Err, if◌then◌else◌}
+-- Registers (CSRs)" and its descriptions of mcounteren, scounteren and TVM.
+use Rattle.std.specs.Prelude.{ℕ, Bool, true, false, not, ◌&&◌, nat_le, Option, Some, None, Result, Ok, Err, if◌then◌else◌}
 use Rattle.hart_words.specs.declared.privilege.Mode.{Mode}
 use Rattle.hart_words.specs.declared.privilege.Mode.TheVariants.{User, Supervisor, Machine}
 use Rattle.hart_words.specs.Privilege.{mode_number}
 use Rattle.csr_table.specs.declared.registers.CsrRow.{CsrRow}
 use Rattle.csr_table.specs.Addresses.{csr_row_of}
 use Rattle.csr_file.specs.declared.csrs.Csrs.{Csrs}
-use Rattle.csr_file.specs.declared.stored_csr.StoredCsr.TheVariants.{Mcounteren, Scounteren}
+use Rattle.csr_file.specs.declared.stored_csr.StoredCsr.TheVariants.{Mstatus, Mcounteren, Scounteren}
 use Rattle.csr_file.specs.declared.csr_kind.CsrKind.{CsrKind}
-use Rattle.csr_file.specs.declared.csr_kind.CsrKind.TheVariants.{Stored, Status, Pending, SupervisorStatus, SupervisorEnables, SupervisorPending, LowConfigurations, HighConfigurations, EntryAddress, Constant, OfCore, Counter, ClosedCounter}
+use Rattle.csr_file.specs.declared.csr_kind.CsrKind.TheVariants.{Stored, Status, Pending, SupervisorStatus, SupervisorEnables, SupervisorPending, Translation, LowConfigurations, HighConfigurations, EntryAddress, Constant, OfCore, Counter, ClosedCounter}
 use Rattle.csr_file.specs.declared.access.CsrRead.{CsrRead}
 use Rattle.csr_file.specs.declared.access.Illegal.{Illegal}
+use Rattle.csr_file.specs.declared.fields.TheConstants.{TVM}
 use Rattle.csr_file.specs.Registers.{at}
 use Rattle.csr_file.specs.Fields.{bit_is_set}
 use Rattle.csr_file.specs.Table.{csr_kind_of}
@@ -24,8 +25,14 @@ counter_is_enabled csrs Supervisor bit = bit_is_set (at csrs Mcounteren) bit
 counter_is_enabled csrs User bit =
     bit_is_set (at csrs Mcounteren) bit && bit_is_set (at csrs Scounteren) bit
 
--- the register may be read in the mode, as far as the enables of counters go; no enable stands for the
--- further counters
+-- satp may be accessed in the mode: in S where TVM of mstatus is clear
+abbrev pub translation_is_open : Csrs → Mode → Bool
+translation_is_open csrs Machine = true
+translation_is_open csrs Supervisor = not (bit_is_set (at csrs Mstatus) TVM)
+translation_is_open csrs User = false
+
+-- the register may be accessed in the mode, as far as TVM and the enables of counters go; no enable stands for
+-- the further counters
 unfoldable pub is_enabled : Csrs → Mode → CsrKind → Bool
 is_enabled csrs mode (Stored stored) = true
 is_enabled csrs mode Status = true
@@ -33,6 +40,7 @@ is_enabled csrs mode Pending = true
 is_enabled csrs mode SupervisorStatus = true
 is_enabled csrs mode SupervisorEnables = true
 is_enabled csrs mode SupervisorPending = true
+is_enabled csrs mode Translation = translation_is_open csrs mode
 is_enabled csrs mode LowConfigurations = true
 is_enabled csrs mode HighConfigurations = true
 is_enabled csrs mode (EntryAddress number) = true

@@ -1,9 +1,9 @@
--- Bits and fields of the registers, from the Privileged Architecture's chapter "Machine-Level ISA" (mstatus,
--- mip).
-use Rattle.std.specs.Prelude.{ℕ, ◌+◌, ◌-◌, ◌*◌, ◌/◌, ◌%◌, ◌^◌, Bool, ◌==◌, if◌then◌else◌, bit_and, bit_or, List, [], ◌∷◌}
+-- Bits and fields of the registers, from the Privileged Architecture's chapters "Machine-Level ISA" (mstatus, mip)
+-- and "Supervisor-Level ISA" (satp).
+use Rattle.std.specs.Prelude.{ℕ, ◌+◌, ◌-◌, ◌*◌, ◌/◌, ◌%◌, ◌^◌, Bool, ◌||◌, ◌==◌, if◌then◌else◌, bit_and, bit_or, List, [], ◌∷◌}
 use Rattle.hart_words.specs.declared.privilege.Mode.{Mode}
 use Rattle.hart_words.specs.declared.privilege.Mode.TheVariants.{User, Supervisor, Machine}
-use Rattle.csr_file.specs.declared.fields.TheConstants.{MPP}
+use Rattle.csr_file.specs.declared.fields.TheConstants.{MPP, SATP_MODE, BARE, SV39}
 
 -- the number that has just these bits
 abbrev pub bits : List ℕ → ℕ
@@ -29,6 +29,14 @@ merged mask old value = bit_or (bit_and old (all_bits - mask)) (bit_and value ma
 -- MPP of mstatus, two bits
 abbrev pub mpp_of : ℕ → ℕ
 mpp_of status = status / 2 ^ MPP % 4
+
+-- MODE of satp, its four highest bits
+abbrev pub satp_mode_of : ℕ → ℕ
+satp_mode_of satp = satp / 2 ^ SATP_MODE
+
+-- the hart has this mode of satp
+abbrev pub is_supported_mode : ℕ → Bool
+is_supported_mode mode = (mode == BARE) || (mode == SV39)
 
 -- the mode of an encoding; 2 is none, and MPP never holds it
 abbrev pub mode_numbered : ℕ → Mode

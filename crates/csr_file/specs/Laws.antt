@@ -1,17 +1,17 @@
 -- What a write leaves as it was.
-use Rattle.std.specs.Prelude.{◌≡◌, ◌≢◌, ℕ, ◌-◌, ◌<◌, Bool, true, false, Option, Some, None, slice_index, if◌then◌else◌}
+use Rattle.std.specs.Prelude.{◌≡◌, ◌≢◌, ℕ, ◌-◌, ◌<◌, Bool, true, false, Option, Some, None, if◌then◌else◌}
 use Rattle.std.specs.Int.{bit_at}
 use Rattle.csr_table.specs.declared.registers.Csr.{Csr}
 use Rattle.csr_file.specs.declared.csrs.Csrs.{Csrs}
 use Rattle.csr_file.specs.declared.stored_csr.StoredCsr.{StoredCsr}
-use Rattle.csr_file.specs.declared.stored_csr.StoredCsr.TheVariants.{Mstatus, Mie, Mip}
+use Rattle.csr_file.specs.declared.stored_csr.StoredCsr.TheVariants.{Mstatus, Mie, Mip, Satp}
 use Rattle.csr_file.specs.declared.csr_kind.CsrKind.{CsrKind}
-use Rattle.csr_file.specs.declared.csr_kind.CsrKind.TheVariants.{Stored, Status, Pending, SupervisorStatus, SupervisorEnables, SupervisorPending, LowConfigurations, HighConfigurations, EntryAddress, Constant, OfCore, Counter, ClosedCounter}
+use Rattle.csr_file.specs.declared.csr_kind.CsrKind.TheVariants.{Stored, Status, Pending, SupervisorStatus, SupervisorEnables, SupervisorPending, Translation, LowConfigurations, HighConfigurations, EntryAddress, Constant, OfCore, Counter, ClosedCounter}
 use Rattle.csr_file.specs.declared.fields.TheConstants.{PMP_LOCK}
-use Rattle.csr_file.specs.Registers.{at}
+use Rattle.csr_file.specs.Registers.{at, pmp_entry_of}
 use Rattle.csr_file.specs.Fields.{bit_is_set, merged}
 use Rattle.csr_file.specs.Table.{csr_kind_of}
-use Rattle.csr_file.specs.Values.{csr_write_of, is_locked_from_below}
+use Rattle.csr_file.specs.Values.{configuration_of, csr_write_of, is_locked_from_below}
 
 -- the stored register that a write changes: a view's is another register
 abbrev pub written_register_of : CsrKind → Option StoredCsr
@@ -21,6 +21,7 @@ written_register_of Pending = Some Mip
 written_register_of SupervisorStatus = Some Mstatus
 written_register_of SupervisorEnables = Some Mie
 written_register_of SupervisorPending = Some Mip
+written_register_of Translation = Some Satp
 written_register_of LowConfigurations = None
 written_register_of HighConfigurations = None
 written_register_of (EntryAddress number) = None
@@ -46,20 +47,17 @@ is_protective _ = false
 abbrev pub LeavesProtection : Csrs → Csr → ℕ → Type 0
 LeavesProtection csrs csr value =
     is_protective (csr_kind_of csr) ≡ false
-    → ((csr_write_of csrs (csr_kind_of csr) value).pmpcfg ≡ csrs.pmpcfg)
-    × ((csr_write_of csrs (csr_kind_of csr) value).pmpaddr ≡ csrs.pmpaddr)
+    → (csr_write_of csrs (csr_kind_of csr) value).entries ≡ csrs.entries
 
--- an entry that is locked keeps its configuration and its address, and where it begins at the address of the entry
--- before it, that address too
+-- an entry that is locked stays, and where it begins at the address of the entry before it, that address too
 pub record KeepsLocked (before after : Csrs) (number : ℕ) : Type 0 where
-  pub configuration : slice_index after.pmpcfg number ≡ slice_index before.pmpcfg number
-  pub address : slice_index after.pmpaddr number ≡ slice_index before.pmpaddr number
-  pub below : is_locked_from_below (slice_index before.pmpcfg number) ≡ true
-      → slice_index after.pmpaddr (number - 1) ≡ slice_index before.pmpaddr (number - 1)
+  pub entry : pmp_entry_of after number ≡ pmp_entry_of before number
+  pub below : is_locked_from_below (configuration_of before number) ≡ true
+      → (pmp_entry_of after (number - 1)).addr ≡ (pmp_entry_of before (number - 1)).addr
 
 abbrev pub LeavesLocked : Csrs → Csr → ℕ → Type 0
 LeavesLocked csrs csr value =
-    (number : ℕ) → number < 16 → bit_is_set (slice_index csrs.pmpcfg number) PMP_LOCK ≡ true
+    (number : ℕ) → number < 16 → bit_is_set (configuration_of csrs number) PMP_LOCK ≡ true
     → KeepsLocked csrs (csr_write_of csrs (csr_kind_of csr) value) number
 
 -- a merged value has the bits of the mask from the new value and all others from the old one

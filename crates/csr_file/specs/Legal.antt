@@ -2,6 +2,7 @@
 -- "Supervisor-Level ISA": all of them from reset on.
 use Rattle.std.specs.Prelude.{◌≡◌, ◌≢◌, ◌⊎◌, ℕ, ◌-◌, ◌/◌, ◌%◌, ◌^◌, ◌<◌, bit_and, length, All}
 use Rattle.std.specs.Int.{bit_at}
+use Rattle.hart_words.specs.declared.privilege.PmpEntry.{PmpEntry}
 use Rattle.csr_file.specs.declared.csrs.Csrs.{Csrs}
 use Rattle.csr_file.specs.declared.stored_csr.StoredCsr.{StoredCsr}
 use Rattle.csr_file.specs.declared.stored_csr.StoredCsr.TheVariants.{Mstatus, Medeleg, Mideleg, Mie, Mtvec, Mcounteren, Menvcfg, Mcountinhibit, Mscratch, Mepc, Mcause, Mtval, Mip, Stvec, Scounteren, Senvcfg, Sscratch, Sepc, Scause, Stval, Satp}
@@ -49,9 +50,13 @@ pub record IsLegalConfiguration (byte : ℕ) : Type 0 where
   pub reserved : byte / 32 % 4 ≡ 0
   pub rights : byte % 4 ≢ 2
 
+-- an entry of it: its configuration, and an address register of 54 bits
+pub record IsLegalEntry (entry : PmpEntry) : Type 0 where
+  pub configuration : IsLegalConfiguration entry.cfg
+  pub address : entry.addr < 2 ^ 54
+
 -- each register, by itself, has a value that it can have
 pub record IsLegal (csrs : Csrs) : Type 0 where
   pub whole : length csrs.values ≡ STORED_CSRS
   pub values : (stored : StoredCsr) → IsLegalValue stored (at csrs stored)
-  pub configurations : All IsLegalConfiguration csrs.pmpcfg
-  pub addresses : All (λ address. address < 2 ^ 54) csrs.pmpaddr
+  pub entries : All IsLegalEntry csrs.entries

@@ -1,7 +1,6 @@
 -- The registers that are stored, from the Privileged Architecture's chapters "Control and Status Registers
 -- (CSRs)" and "Machine-Level ISA".
-use Rattle.std.specs.Prelude.{ℕ, ◌-◌, List, ◌∷◌, map, slice_index, slice_set, replicate}
-use Rattle.std.specs.List.{range_with_len}
+use Rattle.std.specs.Prelude.{ℕ, ◌-◌, List, ◌∷◌, slice_index, slice_index_or, slice_set, replicate}
 use Rattle.hart_words.specs.declared.privilege.PmpEntry.{PmpEntry}
 use Rattle.csr_file.specs.declared.csrs.Csrs.{Csrs}
 use Rattle.csr_file.specs.declared.stored_csr.StoredCsr.{StoredCsr}
@@ -41,18 +40,21 @@ at csrs stored = slice_index csrs.values (stored_index_of stored)
 unfoldable pub with_at : Csrs → StoredCsr → ℕ → Csrs
 with_at csrs stored value = record csrs { values = slice_set csrs.values (stored_index_of stored) value }
 
+-- an entry of physical memory protection that is off, and all 0
+abbrev pub no_entry : PmpEntry
+no_entry = record { cfg = 0; addr = 0 }
+
 -- at reset mstatus has its constants, and all else is 0
 unfoldable pub csrs_at_reset : Csrs
 csrs_at_reset = record {
   values = status_constant ∷ replicate (STORED_CSRS - 1) 0;
-  pmpcfg = replicate 16 0;
-  pmpaddr = replicate 16 0;
+  entries = replicate 16 no_entry;
 }
 
--- the entry of physical memory protection with this number
-abbrev pub pmp_entry_of : Csrs → ℕ → PmpEntry
-pmp_entry_of csrs i = record { cfg = slice_index csrs.pmpcfg i; addr = slice_index csrs.pmpaddr i }
-
 -- all entries of physical memory protection, in their order
-unfoldable pub pmp_entries_of : Csrs → List PmpEntry
-pmp_entries_of csrs = map (pmp_entry_of csrs) (range_with_len 0 16)
+abbrev pub pmp_entries_of : Csrs → List PmpEntry
+pmp_entries_of csrs = csrs.entries
+
+-- the entry with this number
+abbrev pub pmp_entry_of : Csrs → ℕ → PmpEntry
+pmp_entry_of csrs number = slice_index_or csrs.entries number no_entry

@@ -8,7 +8,7 @@ use Rattle.csr_table.specs.declared.registers.Csr.TheVariants as csr
 use Rattle.csr_file.specs.declared.stored_csr.StoredCsr.{StoredCsr}
 use Rattle.csr_file.specs.declared.stored_csr.StoredCsr.TheVariants.{Mstatus, Medeleg, Mideleg, Mie, Mtvec, Mcounteren, Menvcfg, Mcountinhibit, Mscratch, Mepc, Mcause, Mtval, Mip, Stvec, Scounteren, Senvcfg, Sscratch, Sepc, Scause, Stval, Satp}
 use Rattle.csr_file.specs.declared.csr_kind.CsrKind.{CsrKind}
-use Rattle.csr_file.specs.declared.csr_kind.CsrKind.TheVariants.{Stored, Status, Pending, SupervisorStatus, SupervisorEnables, SupervisorPending, LowConfigurations, HighConfigurations, EntryAddress, Constant, OfCore, Counter, ClosedCounter}
+use Rattle.csr_file.specs.declared.csr_kind.CsrKind.TheVariants.{Stored, Status, Pending, SupervisorStatus, SupervisorEnables, SupervisorPending, Translation, LowConfigurations, HighConfigurations, EntryAddress, Constant, OfCore, Counter, ClosedCounter}
 use Rattle.csr_file.specs.declared.fields.TheConstants.{SIE, MIE, SPIE, MPIE, SPP, MPP, MPRV, SUM, MXR, TVM, TW, TSR, UXL, SXL, SSIP, MSIP, STIP, MTIP, SEIP, MEIP, CY, TM, IR, FIOM}
 use Rattle.csr_file.specs.Fields.{bits, field_bits, all_bits, mpp_of}
 
@@ -44,7 +44,7 @@ vector_bits = all_bits - bits (1 ∷ [])
 abbrev pub pc_bits : ℕ
 pc_bits = all_bits - bits (0 ∷ [])
 
--- the bits of each stored register that a write can set; no write reaches satp yet
+-- the bits of each stored register that a write can set
 abbrev pub writable_bits : StoredCsr → ℕ
 writable_bits Mstatus = writable_without_mpp + field_bits MPP 2
 writable_bits Medeleg = delegable_exceptions
@@ -66,7 +66,7 @@ writable_bits Sscratch = all_bits
 writable_bits Sepc = pc_bits
 writable_bits Scause = all_bits
 writable_bits Stval = all_bits
-writable_bits Satp = 0
+writable_bits Satp = all_bits
 
 -- the constants of mstatus: UXL and SXL are 2, for 64 bits
 abbrev pub status_constant : ℕ
@@ -118,6 +118,7 @@ csr_kind_of csr.Sepc = Stored Sepc
 csr_kind_of csr.Scause = Stored Scause
 csr_kind_of csr.Stval = Stored Stval
 csr_kind_of csr.Sip = SupervisorPending
+csr_kind_of csr.Satp = Translation
 csr_kind_of csr.Pmpcfg0 = LowConfigurations
 csr_kind_of csr.Pmpcfg2 = HighConfigurations
 csr_kind_of (csr.Pmpaddr number) = EntryAddress number

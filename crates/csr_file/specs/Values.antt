@@ -1,33 +1,38 @@
 -- What each register reads as, and what a write leaves, from the Privileged Architecture's chapters
 -- "Machine-Level ISA" and "Supervisor-Level ISA".
-use Rattle.std.specs.Prelude.{ℕ, ◌+◌, ◌-◌, ◌*◌, ◌/◌, ◌%◌, ◌^◌, Bool, ◌&&◌, ◌||◌, ◌==◌, nat_le, nat_lt, if◌then◌else◌, bit_and, bit_or, map, slice_index, slice_range, slice_set}
+use Rattle.std.specs.Prelude.{ℕ, ◌+◌, ◌-◌, ◌*◌, ◌/◌, ◌%◌, ◌^◌, Bool, ◌&&◌, ◌||◌, ◌==◌, nat_le, nat_lt, if◌then◌else◌, bit_and, bit_or, map, slice_set}
 use Rattle.std.specs.List.{range_with_len}
 use Rattle.std.specs.Int.{w64, from_le_bytes}
 use Rattle.hart_words.specs.Words.{bit_field}
+use Rattle.hart_words.specs.declared.privilege.PmpEntry.{PmpEntry}
 use Rattle.hart_words.specs.declared.signal.CsrName.{CsrName}
 use Rattle.hart_words.specs.declared.signal.CsrName.TheVariants as names
 use Rattle.csr_table.specs.declared.registers.Csr.TheVariants as csr
 use Rattle.csr_file.specs.declared.csrs.Csrs.{Csrs}
 use Rattle.csr_file.specs.declared.stored_csr.StoredCsr.TheVariants.{Mstatus, Mideleg, Mie, Mip, Satp}
 use Rattle.csr_file.specs.declared.csr_kind.CsrKind.{CsrKind}
-use Rattle.csr_file.specs.declared.csr_kind.CsrKind.TheVariants.{Stored, Status, Pending, SupervisorStatus, SupervisorEnables, SupervisorPending, LowConfigurations, HighConfigurations, EntryAddress, Constant, OfCore, Counter, ClosedCounter}
+use Rattle.csr_file.specs.declared.csr_kind.CsrKind.TheVariants.{Stored, Status, Pending, SupervisorStatus, SupervisorEnables, SupervisorPending, Translation, LowConfigurations, HighConfigurations, EntryAddress, Constant, OfCore, Counter, ClosedCounter}
 use Rattle.csr_file.specs.declared.access.CsrRead.{CsrRead}
-use Rattle.csr_file.specs.Registers.{at, with_at}
+use Rattle.csr_file.specs.Registers.{at, with_at, pmp_entry_of}
 use Rattle.csr_file.specs.declared.fields.TheConstants.{PMP_MATCHING, PMP_LOCK}
-use Rattle.csr_file.specs.Fields.{all_bits, bit_is_set, merged}
+use Rattle.csr_file.specs.Fields.{all_bits, bit_is_set, is_supported_mode, merged, satp_mode_of}
 use Rattle.csr_file.specs.Table.{csr_kind_of, line_bits, sip_writable, sstatus_shown, sstatus_writable, status_written_bits, writable_bits}
 
 -- the interrupts that are pending: those stored in mip, and the lines from outside
 unfoldable pub pending_interrupts_of : Csrs → ℕ → ℕ
 pending_interrupts_of csrs lines = bit_or (at csrs Mip) (bit_and lines line_bits)
 
--- eight configuration bytes of physical memory protection, the lowest first
-abbrev pub packed_pmpcfg_of : Csrs → ℕ → ℕ
-packed_pmpcfg_of csrs first = from_le_bytes w64 (slice_range csrs.pmpcfg first (first + 8))
+-- the configuration byte of an entry of physical memory protection
+abbrev pub configuration_of : Csrs → ℕ → ℕ
+configuration_of csrs number = (pmp_entry_of csrs number).cfg
+
+-- the configurations of eight entries from one on, the lowest first
+unfoldable pub packed_pmpcfg_of : Csrs → ℕ → ℕ
+packed_pmpcfg_of csrs first = from_le_bytes w64 (map (configuration_of csrs) (range_with_len first 8))
 
 -- the address of the entry with this number, of which the low four bits count
 abbrev pub entry_address_of : Csrs → ℕ → ℕ
-entry_address_of csrs number = slice_index csrs.pmpaddr (number % 16)
+entry_address_of csrs number = (pmp_entry_of csrs (number % 16)).addr
 
 -- the value that a register reads as; what the core decides is 0 here
 unfoldable pub csr_value_of : Csrs → CsrKind → ℕ → ℕ
@@ -37,6 +42,7 @@ csr_value_of csrs Pending lines = pending_interrupts_of csrs lines
 csr_value_of csrs SupervisorStatus lines = bit_and (at csrs Mstatus) sstatus_shown
 csr_value_of csrs SupervisorEnables lines = bit_and (at csrs Mie) (at csrs Mideleg)
 csr_value_of csrs SupervisorPending lines = bit_and (pending_interrupts_of csrs lines) (at csrs Mideleg)
+csr_value_of csrs Translation lines = at csrs Satp
 csr_value_of csrs LowConfigurations lines = packed_pmpcfg_of csrs 0
 csr_value_of csrs HighConfigurations lines = packed_pmpcfg_of csrs 8
 csr_value_of csrs (EntryAddress number) lines = entry_address_of csrs number
@@ -53,6 +59,7 @@ csr_base_of csrs Status lines = csr_value_of csrs Status lines
 csr_base_of csrs SupervisorStatus lines = csr_value_of csrs SupervisorStatus lines
 csr_base_of csrs SupervisorEnables lines = csr_value_of csrs SupervisorEnables lines
 csr_base_of csrs SupervisorPending lines = csr_value_of csrs SupervisorPending lines
+csr_base_of csrs Translation lines = csr_value_of csrs Translation lines
 csr_base_of csrs LowConfigurations lines = csr_value_of csrs LowConfigurations lines
 csr_base_of csrs HighConfigurations lines = csr_value_of csrs HighConfigurations lines
 csr_base_of csrs (EntryAddress number) lines = csr_value_of csrs (EntryAddress number) lines
@@ -73,6 +80,7 @@ free_bits_of csrs Pending = open_lines_of csrs
 free_bits_of csrs SupervisorStatus = 0
 free_bits_of csrs SupervisorEnables = 0
 free_bits_of csrs SupervisorPending = bit_and (open_lines_of csrs) (at csrs Mideleg)
+free_bits_of csrs Translation = 0
 free_bits_of csrs LowConfigurations = 0
 free_bits_of csrs HighConfigurations = 0
 free_bits_of csrs (EntryAddress number) = 0
@@ -91,6 +99,7 @@ taken_bits_of csrs SupervisorStatus shown = free_bits_of csrs SupervisorStatus
 taken_bits_of csrs SupervisorEnables shown = free_bits_of csrs SupervisorEnables
 taken_bits_of csrs SupervisorPending shown =
     bit_and (free_bits_of csrs SupervisorPending) (all_bits - shown)
+taken_bits_of csrs Translation shown = free_bits_of csrs Translation
 taken_bits_of csrs LowConfigurations shown = free_bits_of csrs LowConfigurations
 taken_bits_of csrs HighConfigurations shown = free_bits_of csrs HighConfigurations
 taken_bits_of csrs (EntryAddress number) shown = free_bits_of csrs (EntryAddress number)
@@ -109,6 +118,10 @@ unfoldable pub status_write_of : Csrs → ℕ → Csrs
 status_write_of csrs value =
     with_at csrs Mstatus (merged (status_written_bits value) (at csrs Mstatus) value)
 
+-- the registers after a write of satp: where it selects a mode that the hart has not, the whole write has no effect
+unfoldable pub translation_write_of : Csrs → ℕ → Csrs
+translation_write_of csrs value = if is_supported_mode (satp_mode_of value) then with_at csrs Satp value else csrs
+
 -- a configuration byte after a write of it: it stays where its entry is locked, and where W would come without
 -- R, which is reserved; bits 6:5 are 0
 unfoldable pub configuration_after : ℕ → ℕ → ℕ
@@ -119,12 +132,17 @@ configuration_after old byte =
 unfoldable pub configuration_written : Csrs → ℕ → ℕ → ℕ → ℕ
 configuration_written csrs first value number =
     if nat_le first number && nat_lt number (first + 8)
-    then configuration_after (slice_index csrs.pmpcfg number) (bit_field (8 * (number - first)) 8 value)
-    else slice_index csrs.pmpcfg number
+    then configuration_after (configuration_of csrs number) (bit_field (8 * (number - first)) 8 value)
+    else configuration_of csrs number
+
+-- the entry after that write
+abbrev pub entry_written : Csrs → ℕ → ℕ → ℕ → PmpEntry
+entry_written csrs first value number =
+    record (pmp_entry_of csrs number) { cfg = configuration_written csrs first value number }
 
 unfoldable pub configurations_write_of : Csrs → ℕ → ℕ → Csrs
 configurations_write_of csrs first value =
-    record csrs { pmpcfg = map (configuration_written csrs first value) (range_with_len 0 16) }
+    record csrs { entries = map (entry_written csrs first value) (range_with_len 0 16) }
 
 abbrev pub is_locked_from_below : ℕ → Bool
 is_locked_from_below configuration = bit_is_set configuration PMP_LOCK && (configuration / 2 ^ PMP_MATCHING % 4 == 1)
@@ -132,14 +150,18 @@ is_locked_from_below configuration = bit_is_set configuration PMP_LOCK && (confi
 -- an entry's address is locked with it, and where the entry after it is locked and begins there (TOR)
 unfoldable pub address_is_locked : Csrs → ℕ → Bool
 address_is_locked csrs number =
-    bit_is_set (slice_index csrs.pmpcfg number) PMP_LOCK
-    || (nat_lt number 15 && is_locked_from_below (slice_index csrs.pmpcfg (number + 1)))
+    bit_is_set (configuration_of csrs number) PMP_LOCK
+    || (nat_lt number 15 && is_locked_from_below (configuration_of csrs (number + 1)))
 
--- an address of an entry has 54 bits
+-- the same registers with another address of an entry, of which 54 bits are kept
+abbrev pub with_entry_address : Csrs → ℕ → ℕ → Csrs
+with_entry_address csrs number value =
+    let entry = record (pmp_entry_of csrs number) { addr = value % 2 ^ 54 } in
+    record csrs { entries = slice_set csrs.entries number entry }
+
 unfoldable pub entry_address_write_of : Csrs → ℕ → ℕ → Csrs
 entry_address_write_of csrs number value =
-    if address_is_locked csrs (number % 16) then csrs
-    else record csrs { pmpaddr = slice_set csrs.pmpaddr (number % 16) (value % 2 ^ 54) }
+    if address_is_locked csrs (number % 16) then csrs else with_entry_address csrs (number % 16) value
 
 -- the registers after a legal write of a register
 unfoldable pub csr_write_of : Csrs → CsrKind → ℕ → Csrs
@@ -151,6 +173,7 @@ csr_write_of csrs SupervisorStatus value =
 csr_write_of csrs SupervisorEnables value = with_at csrs Mie (merged (at csrs Mideleg) (at csrs Mie) value)
 csr_write_of csrs SupervisorPending value =
     with_at csrs Mip (merged (bit_and (at csrs Mideleg) sip_writable) (at csrs Mip) value)
+csr_write_of csrs Translation value = translation_write_of csrs value
 csr_write_of csrs LowConfigurations value = configurations_write_of csrs 0 value
 csr_write_of csrs HighConfigurations value = configurations_write_of csrs 8 value
 csr_write_of csrs (EntryAddress number) value = entry_address_write_of csrs number value
@@ -172,7 +195,7 @@ shown_csr csrs names.Mepc lines = csr_value_of csrs (csr_kind_of csr.Mepc) lines
 shown_csr csrs names.Mcause lines = csr_value_of csrs (csr_kind_of csr.Mcause) lines
 shown_csr csrs names.Mtval lines = csr_value_of csrs (csr_kind_of csr.Mtval) lines
 shown_csr csrs names.Mip lines = csr_value_of csrs (csr_kind_of csr.Mip) lines
-shown_csr csrs names.Satp lines = at csrs Satp
+shown_csr csrs names.Satp lines = csr_value_of csrs (csr_kind_of csr.Satp) lines
 shown_csr csrs names.Sstatus lines = csr_value_of csrs (csr_kind_of csr.Sstatus) lines
 shown_csr csrs names.Sie lines = csr_value_of csrs (csr_kind_of csr.Sie) lines
 shown_csr csrs names.Sip lines = csr_value_of csrs (csr_kind_of csr.Sip) lines

@@ -23,6 +23,8 @@ pub enum CsrKind {
     SupervisorEnables,
     /// sip: mip under mideleg.
     SupervisorPending,
+    /// satp: a write has no effect where its mode is none that the hart has.
+    Translation,
     /// pmpcfg0: the configurations of entries 0 to 7.
     LowConfigurations,
     /// pmpcfg2: the configurations of entries 8 to 15.
@@ -71,6 +73,7 @@ impl CsrKind {
             Csr::Scause => CsrKind::Stored(StoredCsr::Scause),
             Csr::Stval => CsrKind::Stored(StoredCsr::Stval),
             Csr::Sip => CsrKind::SupervisorPending,
+            Csr::Satp => CsrKind::Translation,
             Csr::Pmpcfg0 => CsrKind::LowConfigurations,
             Csr::Pmpcfg2 => CsrKind::HighConfigurations,
             Csr::Pmpaddr(number) => CsrKind::EntryAddress(number),

@@ -3,16 +3,16 @@
 //! and "Supervisor-Level ISA".
 
 ghost use Rattle.std.specs.Prelude.{◌≡◌, ◌≤◌, ◌<◌, ◌+◌, ◌-◌, ◌^◌, Ok, Err, OnOk, OnErr};
-ghost use Rattle.csr_file.specs.Fields.{merged};
+ghost use Rattle.csr_file.specs.Fields.{is_supported_mode, merged};
 ghost use Rattle.csr_file.specs.Table.{csr_kind_of, status_written_bits};
-ghost use Rattle.csr_file.specs.Registers.{at, with_at, csrs_at_reset, pmp_entries_of};
-ghost use Rattle.csr_file.specs.Values.{pending_interrupts_of, csr_value_of, csr_base_of, free_bits_of, taken_bits_of, csr_read_of, status_write_of, csr_write_of, packed_pmpcfg_of, entry_address_of, configuration_after, configuration_written, configurations_write_of, is_locked_from_below, address_is_locked, entry_address_write_of, shown_csr};
-ghost use Rattle.csr_file.specs.Access.{counter_is_enabled, is_enabled, may_read, may_write, read_at, write_at};
+ghost use Rattle.csr_file.specs.Registers.{at, with_at, csrs_at_reset, pmp_entries_of, pmp_entry_of};
+ghost use Rattle.csr_file.specs.Values.{pending_interrupts_of, csr_value_of, csr_base_of, free_bits_of, taken_bits_of, csr_read_of, status_write_of, translation_write_of, csr_write_of, packed_pmpcfg_of, entry_address_of, configuration_after, configuration_written, configurations_write_of, is_locked_from_below, address_is_locked, entry_address_write_of, shown_csr};
+ghost use Rattle.csr_file.specs.Access.{counter_is_enabled, translation_is_open, is_enabled, may_read, may_write, read_at, write_at};
 ghost use Rattle.csr_file.specs.Legal.{IsLegal};
 
 use crate::access::{CsrRead, Illegal};
 use crate::csr_kind::CsrKind;
-use crate::fields::{MPP, PMP_LOCK, PMP_MATCHING, has_bit, merge};
+use crate::fields::{BARE, MPP, PMP_LOCK, PMP_MATCHING, SATP_MODE, SV39, TVM, has_bit, merge};
 use crate::stored_csr::{STORED_CSRS, StoredCsr};
 use csr_table::{Csr, CsrRow, row};
 use hart_words::{CsrName, Mode, PmpEntry};
@@ -34,13 +34,13 @@ const SIP_WRITABLE: u64 = 2;
 /// The bits of mip that may be lines from outside: MSIP, MTIP, SEIP, MEIP.
 const LINES: u64 = 0xA88;
 
-/// All control and status registers that the reference hart stores. Physical memory protection has
-/// 16 entries, each with a configuration byte and an address register.
+/// All control and status registers that the reference hart stores. The entries of physical memory
+/// protection are kept as they are walked at each access, each with its configuration byte and its
+/// address register.
 #[derive(Clone, Copy, Debug, PartialEq, Eq)]
 pub struct Csrs {
     pub values: [u64; STORED_CSRS],
-    pub pmpcfg: [u8; 16],
-    pub pmpaddr: [u64; 16],
+    pub entries: [PmpEntry; 16],
 }
 
 impl Csrs {
@@ -54,8 +54,7 @@ impl Csrs {
         values[StoredCsr::Mstatus as usize] = STATUS_CONSTANT;
         Csrs {
             values,
-            pmpcfg: [0; 16],
-            pmpaddr: [0; 16],
+            entries: [PmpEntry { cfg: 0, addr: 0 }; 16],
         }
     }
 
@@ -76,18 +75,18 @@ impl Csrs {
     }
 
     /// The entries of physical memory protection.
-    #[tactic(auto, unfolding(crate::specs::Registers::pmp_entries_of))]
-    pub fn pmp_entries(&self) -> [PmpEntry; 16]
-        ensures { result ≡ pmp_entries_of self.now }
+    pub fn pmp_entries(&self) -> &[PmpEntry; 16]
+        ensures { result.now ≡ pmp_entries_of self.now }
     {
-        let mut entries = [PmpEntry { cfg: 0, addr: 0 }; 16];
-        for i in 0..16 {
-            entries[i] = PmpEntry {
-                cfg: self.pmpcfg[i],
-                addr: self.pmpaddr[i],
-            };
-        }
-        entries
+        &self.entries
+    }
+
+    /// The entry of physical memory protection with this number.
+    fn entry(&self, number: usize) -> PmpEntry
+        requires { number < 16 }
+        ensures { result ≡ pmp_entry_of self.now number }
+    {
+        self.entries[number]
     }
 
     /// What a read of the register at `address` gives in a mode, with these interrupt lines (bits
@@ -122,6 +121,7 @@ impl Csrs {
                 kind,
             ),
             CsrKind::SupervisorEnables | CsrKind::Constant(_) => self.free_bits(kind),
+            CsrKind::Translation => self.free_bits(kind),
             CsrKind::LowConfigurations | CsrKind::HighConfigurations => self.free_bits(kind),
             CsrKind::EntryAddress(_) => self.free_bits(kind),
         }
@@ -166,7 +166,7 @@ impl Csrs {
             CsrName::Mcause => self.value(CsrKind::of(Csr::Mcause), lines),
             CsrName::Mtval => self.value(CsrKind::of(Csr::Mtval), lines),
             CsrName::Mip => self.value(CsrKind::of(Csr::Mip), lines),
-            CsrName::Satp => self.get(StoredCsr::Satp),
+            CsrName::Satp => self.value(CsrKind::of(Csr::Satp), lines),
             CsrName::Sstatus => self.value(CsrKind::of(Csr::Sstatus), lines),
             CsrName::Sie => self.value(CsrKind::of(Csr::Sie), lines),
             CsrName::Sip => self.value(CsrKind::of(Csr::Sip), lines),
@@ -202,7 +202,7 @@ impl Csrs {
         self.may_read(mode, row) && !row.read_only
     }
 
-    /// Whether the enables of counters let a mode read a register.
+    /// Whether TVM and the enables of counters let a mode access a register.
     #[tactic(auto, unfolding(crate::specs::Access::is_enabled))]
     fn is_enabled(&self, mode: Mode, kind: CsrKind) -> bool
         ensures { result ≡ is_enabled self.now mode kind }
@@ -210,11 +210,23 @@ impl Csrs {
         match kind {
             CsrKind::Counter(bit) => self.counter_is_enabled(mode, bit),
             CsrKind::ClosedCounter => matches!(mode, Mode::Machine),
+            CsrKind::Translation => self.translation_is_open(mode),
             CsrKind::Stored(_) | CsrKind::Status | CsrKind::Pending => true,
             CsrKind::SupervisorStatus | CsrKind::SupervisorEnables => true,
             CsrKind::SupervisorPending | CsrKind::Constant(_) | CsrKind::OfCore => true,
             CsrKind::LowConfigurations | CsrKind::HighConfigurations => true,
             CsrKind::EntryAddress(_) => true,
+        }
+    }
+
+    /// Whether a mode may access satp: S only while TVM of mstatus is clear.
+    fn translation_is_open(&self, mode: Mode) -> bool
+        ensures { result ≡ translation_is_open self.now mode }
+    {
+        match mode {
+            Mode::Machine => true,
+            Mode::Supervisor => !has_bit(self.get(StoredCsr::Mstatus), TVM),
+            Mode::User => false,
         }
     }
 
@@ -259,6 +271,7 @@ impl Csrs {
             CsrKind::SupervisorPending => {
                 self.pending_interrupts(lines) & self.get(StoredCsr::Mideleg)
             }
+            CsrKind::Translation => self.get(StoredCsr::Satp),
             CsrKind::LowConfigurations => self.packed_pmpcfg(0),
             CsrKind::HighConfigurations => self.packed_pmpcfg(8),
             CsrKind::EntryAddress(number) => self.entry_address(number),
@@ -278,6 +291,7 @@ impl Csrs {
             CsrKind::SupervisorStatus | CsrKind::SupervisorEnables => self.value(kind, lines),
             CsrKind::SupervisorPending | CsrKind::Constant(_) => self.value(kind, lines),
             CsrKind::OfCore | CsrKind::Counter(_) => self.value(kind, lines),
+            CsrKind::Translation => self.value(kind, lines),
             CsrKind::ClosedCounter | CsrKind::EntryAddress(_) => self.value(kind, lines),
             CsrKind::LowConfigurations | CsrKind::HighConfigurations => self.value(kind, lines),
         }
@@ -296,6 +310,7 @@ impl Csrs {
             CsrKind::OfCore | CsrKind::Counter(_) | CsrKind::ClosedCounter => u64::MAX,
             CsrKind::Stored(_) | CsrKind::Status | CsrKind::SupervisorStatus => 0,
             CsrKind::SupervisorEnables | CsrKind::Constant(_) => 0,
+            CsrKind::Translation => 0,
             CsrKind::LowConfigurations | CsrKind::HighConfigurations => 0,
             CsrKind::EntryAddress(_) => 0,
         }
@@ -320,6 +335,7 @@ impl Csrs {
                 let mask = self.get(StoredCsr::Mideleg) & SIP_WRITABLE;
                 self.write_bits(StoredCsr::Mip, mask, value);
             }
+            CsrKind::Translation => self.write_translation(value),
             CsrKind::LowConfigurations => self.write_configurations(0, value),
             CsrKind::HighConfigurations => self.write_configurations(8, value),
             CsrKind::EntryAddress(number) => self.write_entry_address(number, value),
@@ -341,6 +357,16 @@ impl Csrs {
         self.write_bits(StoredCsr::Mstatus, mask, value);
     }
 
+    /// A write of satp: where it selects a mode that the hart has not, it has no effect at all.
+    #[tactic(auto, unfolding(crate::specs::Values::translation_write_of))]
+    fn write_translation(&mut self, value: u64)
+        ensures { self.new ≡ translation_write_of self.old value }
+    {
+        if is_supported_mode(value >> SATP_MODE) {
+            self.set(StoredCsr::Satp, value);
+        }
+    }
+
     /// Writes the bits of a mask.
     fn write_bits(&mut self, stored: StoredCsr, mask: u64, value: u64)
         ensures { self.new ≡ with_at self.old stored (merged mask (at self.old stored) value) }
@@ -354,7 +380,9 @@ impl Csrs {
         ensures { result ≡ packed_pmpcfg_of self.now first }
     {
         let mut bytes = [0; 8];
-        bytes.copy_from_slice(&self.pmpcfg[first..first + 8]);
+        for i in 0..8 {
+            bytes[i] = self.entry(first + i).cfg;
+        }
         u64::from_le_bytes(bytes)
     }
 
@@ -362,7 +390,7 @@ impl Csrs {
     fn entry_address(&self, number: u8) -> u64
         ensures { result ≡ entry_address_of self.now number }
     {
-        self.pmpaddr[usize::from(number % 16)]
+        self.entry(usize::from(number % 16)).addr
     }
 
     /// Writes the configurations of eight entries from one on, each by itself, with the locks as
@@ -372,11 +400,14 @@ impl Csrs {
         requires { first ≤ 8 }
         ensures { self.new ≡ configurations_write_of self.old first value }
     {
-        let mut written = [0; 16];
+        let mut written = [PmpEntry { cfg: 0, addr: 0 }; 16];
         for i in 0..16 {
-            written[i] = self.configuration_written(first, value, i);
+            written[i] = PmpEntry {
+                cfg: self.configuration_written(first, value, i),
+                addr: self.entry(i).addr,
+            };
         }
-        self.pmpcfg = written;
+        self.entries = written;
     }
 
     /// The configuration of an entry after that write.
@@ -389,9 +420,9 @@ impl Csrs {
         let first = usize::from(first);
         if first <= number && number < first + 8 {
             let byte = (value >> (8 * (number - first))) % 256;
-            configuration_after(self.pmpcfg[number], byte as u8)
+            configuration_after(self.entry(number).cfg, byte as u8)
         } else {
-            self.pmpcfg[number]
+            self.entry(number).cfg
         }
     }
 
@@ -402,7 +433,10 @@ impl Csrs {
     {
         let number = usize::from(number % 16);
         if !self.address_is_locked(number) {
-            self.pmpaddr[number] = value % (1 << 54);
+            self.entries[number] = PmpEntry {
+                cfg: self.entry(number).cfg,
+                addr: value % (1 << 54),
+            };
         }
     }
 
@@ -413,9 +447,16 @@ impl Csrs {
         requires { number < 16 }
         ensures { result ≡ address_is_locked self.now number }
     {
-        has_bit(u64::from(self.pmpcfg[number]), PMP_LOCK)
-            || (number < 15 && is_locked_from_below(self.pmpcfg[number + 1]))
+        has_bit(u64::from(self.entry(number).cfg), PMP_LOCK)
+            || (number < 15 && is_locked_from_below(self.entry(number + 1).cfg))
     }
+}
+
+/// Whether the hart has a mode of satp.
+fn is_supported_mode(mode: u64) -> bool
+    ensures { result ≡ is_supported_mode mode }
+{
+    mode == BARE || mode == SV39
 }
 
 /// A configuration byte after a write of it: as it was where its entry is locked, and where W would

@@ -59,6 +59,13 @@ pub const IR: u8 = 2;
 // The bit of menvcfg and senvcfg.
 pub const FIOM: u8 = 0;
 
+// The field MODE of satp, from this bit on, and the modes that the hart has.
+pub const SATP_MODE: u8 = 60;
+
+pub const BARE: u64 = 0;
+
+pub const SV39: u64 = 8;
+
 // The fields of a configuration byte of physical memory protection: how addresses match, two bits
 // from this one on, and the lock.
 pub const PMP_MATCHING: u8 = 3;

@@ -59,7 +59,7 @@ impl StoredCsr {
             StoredCsr::Sepc => !1,
             StoredCsr::Scause => u64::MAX,
             StoredCsr::Stval => u64::MAX,
-            StoredCsr::Satp => 0,
+            StoredCsr::Satp => u64::MAX,
         }
     }
 }

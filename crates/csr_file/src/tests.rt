@@ -1,6 +1,6 @@
 use super::*;
 use csr_table::Csr;
-use hart_words::{CsrName, Mode};
+use hart_words::{CsrName, Mode, PmpEntry};
 use std::test::Fail;
 
 const ALL: u64 = u64::MAX;
@@ -36,6 +36,7 @@ fn writes_what_is_writable(rt: HostRuntime) -> Result<(), Fail> {
         (0x142, ALL),
         (0x143, ALL),
         (0x144, 0),
+        (0x180, 0),
         (0x3A0, 0x9F9F_9F9F_9F9F_9F9F),
         (0x3A2, 0x9F9F_9F9F_9F9F_9F9F),
         (0x3B0, 0x3F_FFFF_FFFF_FFFF),
@@ -72,7 +73,9 @@ fn asks_for_the_mode(rt: HostRuntime) -> Result<(), Fail> {
         (0xC1F, Mode::Supervisor, false, false),
         (0xF11, Mode::Machine, true, false),
         (0xF15, Mode::Supervisor, false, false),
-        (0x180, Mode::Machine, false, false),
+        (0x180, Mode::Supervisor, true, true),
+        (0x180, Mode::User, false, false),
+        (0x181, Mode::Machine, false, false),
         (0x3A0, Mode::Machine, true, true),
         (0x3A1, Mode::Machine, false, false),
         (0x3B0, Mode::Supervisor, false, false),
@@ -148,6 +151,55 @@ fn locks_entries(rt: HostRuntime) -> Result<(), Fail> {
             wanted,
             "{address}"
         );
+    }
+    Ok(())
+}
+
+/// Writes of satp, one after another: the value, and what the register reads as then. Of its modes
+/// the hart has 0 (Bare) and 8 (Sv39).
+#[test]
+fn keeps_satp_from_other_modes(rt: HostRuntime) -> Result<(), Fail> {
+    let cases = [
+        (0x0000_0000_0000_0007, 0x0000_0000_0000_0007),
+        (0x8FFF_FFFF_FFFF_FFFF, 0x8FFF_FFFF_FFFF_FFFF),
+        (0x9000_0000_0000_0001, 0x8FFF_FFFF_FFFF_FFFF),
+        (0x8001_0000_0008_0000, 0x8001_0000_0008_0000),
+        (0x1000_0000_0000_0000, 0x8001_0000_0008_0000),
+        (0xF000_0000_0000_0000, 0x8001_0000_0008_0000),
+        (0x0000_0000_0000_0000, 0x0000_0000_0000_0000),
+    ];
+    let mut csrs = Csrs::reset();
+    for (value, wanted) in cases {
+        csrs.write(0x180, Mode::Supervisor, value)?;
+        let read = csrs.read(0x180, Mode::Supervisor, 0)?;
+        assert_eq!(rt;
+            (read.value, read.free, read.base),
+            (wanted, 0, wanted),
+            "{value}"
+        );
+        assert_eq!(rt; csrs.shown(CsrName::Satp, 0), wanted, "{value}");
+    }
+    Ok(())
+}
+
+/// Whether satp can be accessed: TVM of mstatus bars S alone, and U never can.
+#[test]
+fn bars_satp_by_tvm(rt: HostRuntime) -> Result<(), Fail> {
+    let cases = [
+        (0, Mode::Machine, true),
+        (0, Mode::Supervisor, true),
+        (0, Mode::User, false),
+        (1 << 20, Mode::Machine, true),
+        (1 << 20, Mode::Supervisor, false),
+        (1 << 20, Mode::User, false),
+        (!(1 << 20), Mode::Supervisor, true),
+    ];
+    for (status, mode, open) in cases {
+        let mut csrs = Csrs::reset();
+        csrs.write(0x300, Mode::Machine, status)?;
+        assert_eq!(rt; csrs.read(0x180, mode, 0).is_ok(), open, "{status}");
+        assert_eq!(rt; csrs.write(0x180, mode, 5).is_ok(), open, "{status}");
+        assert_eq!(rt; csrs.shown(CsrName::Satp, 0) == 5, open, "{status}");
     }
     Ok(())
 }
@@ -229,6 +281,7 @@ fn takes_from_the_row(rt: HostRuntime) -> Result<(), Fail> {
         (Csr::Sstatus, 0, 0),
         (Csr::Misa, 0, 0),
         (Csr::Mhpmevent(3), 0, 0),
+        (Csr::Satp, 0, 0),
     ];
     for (csr, shown, wanted) in cases {
         assert_eq!(rt; csrs.taken_bits(csr, shown), wanted, "{shown}");
@@ -243,9 +296,8 @@ fn takes_from_the_row(rt: HostRuntime) -> Result<(), Fail> {
 fn stores_physical_memory_protection(rt: HostRuntime) -> Result<(), Fail> {
     let mut csrs = Csrs::reset();
     assert_eq!(rt; csrs.pmp_entries()[15].cfg, 0);
-    csrs.pmpcfg[1] = 0x1F;
-    csrs.pmpcfg[15] = 0x18;
-    csrs.pmpaddr[15] = 5;
+    csrs.entries[1].cfg = 0x1F;
+    csrs.entries[15] = PmpEntry { cfg: 0x18, addr: 5 };
     csrs.set(StoredCsr::Satp, 7);
     assert_eq!(rt; csrs.shown(CsrName::Pmpcfg0, 0), 0x1F00);
     assert_eq!(rt; csrs.shown(CsrName::Pmpcfg2, 0), 0x18 << 56);

@@ -2,7 +2,7 @@
 -- and Status Registers (CSRs)".
 use Rattle.std.specs.Prelude.{ℕ, ◌/◌, ◌%◌, ◌^◌, Bool, ◌&&◌, nat_le, ◌==◌, List, [], ◌∷◌, ◌++◌, Option, option_map, find}
 use Rattle.csr_table.specs.declared.registers.Csr.{Csr}
-use Rattle.csr_table.specs.declared.registers.Csr.TheVariants.{Mstatus, Misa, Medeleg, Mideleg, Mie, Mtvec, Mcounteren, Menvcfg, Mcountinhibit, Mhpmevent, Mscratch, Mepc, Mcause, Mtval, Mip, Pmpcfg0, Pmpcfg2, Pmpaddr, Sstatus, Sie, Stvec, Scounteren, Senvcfg, Sscratch, Sepc, Scause, Stval, Sip, Mcycle, Minstret, Mhpmcounter, Cycle, Time, Instret, Hpmcounter, Mvendorid, Marchid, Mimpid, Mhartid, Mconfigptr}
+use Rattle.csr_table.specs.declared.registers.Csr.TheVariants.{Mstatus, Misa, Medeleg, Mideleg, Mie, Mtvec, Mcounteren, Menvcfg, Mcountinhibit, Mhpmevent, Mscratch, Mepc, Mcause, Mtval, Mip, Pmpcfg0, Pmpcfg2, Pmpaddr, Sstatus, Sie, Stvec, Scounteren, Senvcfg, Sscratch, Sepc, Scause, Stval, Sip, Satp, Mcycle, Minstret, Mhpmcounter, Cycle, Time, Instret, Hpmcounter, Mvendorid, Marchid, Mimpid, Mhartid, Mconfigptr}
 use Rattle.csr_table.specs.declared.registers.CsrRow.{CsrRow}
 
 -- an entry of the table: the addresses from one to another, and what each of them names
@@ -58,6 +58,7 @@ supervisor_ranges =
     ∷ one 0x142 Scause
     ∷ one 0x143 Stval
     ∷ one 0x144 Sip
+    ∷ one 0x180 Satp
     ∷ []
 
 -- physical memory protection of 16 entries; with 64 bits the configurations have even numbers alone

@@ -36,6 +36,7 @@ pub enum Csr {
     Scause,
     Stval,
     Sip,
+    Satp,
     Mcycle,
     Minstret,
     /// 3 to 31.

@@ -75,6 +75,7 @@ fn supervisor_csr_at(address: u16) -> Option<Csr>
         0x142 => Some(Csr::Scause),
         0x143 => Some(Csr::Stval),
         0x144 => Some(Csr::Sip),
+        0x180 => Some(Csr::Satp),
         _ => None,
     }
 }

@@ -7,6 +7,7 @@ fn names_registers(rt: HostRuntime) -> Result<(), Fail> {
     let cases = [
         (0x300, Csr::Mstatus, 3, false),
         (0x100, Csr::Sstatus, 1, false),
+        (0x180, Csr::Satp, 1, false),
         (0x33F, Csr::Mhpmevent(31), 3, false),
         (0x344, Csr::Mip, 3, false),
         (0x3A0, Csr::Pmpcfg0, 3, false),
@@ -34,7 +35,7 @@ fn names_registers(rt: HostRuntime) -> Result<(), Fail> {
 #[test]
 fn leaves_out_what_is_no_register(rt: HostRuntime) -> Result<(), Fail> {
     for address in [
-        0x000, 0x180, 0x3A1, 0x3A3, 0x3A4, 0x3AF, 0x3C0, 0x3EF, 0x321, 0x322, 0xB01, 0xC20, 0xF16,
+        0x000, 0x181, 0x3A1, 0x3A3, 0x3A4, 0x3AF, 0x3C0, 0x3EF, 0x321, 0x322, 0xB01, 0xC20, 0xF16,
         0xFFF,
     ] {
         assert_eq!(rt; row(address), None);

@@ -356,12 +356,13 @@ fn registers_under_masks(rt: HostRuntime) -> Result<(), Fail> {
     let mut csrs_after = csrs_before;
     csrs_after.set(StoredCsr::Mepc, 0x8000_0000);
     csrs_after.set(StoredCsr::Mcause, 2);
+    csrs_after.set(StoredCsr::Satp, 0x8000_0000_0008_0001);
     let row = Retired {
         csrs_before,
         csrs_after,
         ..retired(Err(Cause::IllegalInstruction))
     };
-    let cases: [Case; 12] = [
+    let cases: [Case; 14] = [
         ("csr_mepc_rdata,csr_mepc_wdata", "0x1234,0x80000000", None),
         (
             "csr_mepc_rdata",
@@ -402,6 +403,20 @@ fn registers_under_masks(rt: HostRuntime) -> Result<(), Fail> {
             "csr_mcause_wdata",
             "0",
             Some((after(CsrName::Mcause), 2, 0)),
+        ),
+        (
+            "csr_satp_rdata,csr_satp_wdata,csr_satp_wmask",
+            "0,0x8000000000000000,0xf000000000000000",
+            None,
+        ),
+        (
+            "csr_satp_wdata",
+            "0x8000000000080000",
+            Some((
+                after(CsrName::Satp),
+                0x8000_0000_0008_0001,
+                0x8000_0000_0008_0000,
+            )),
         ),
         // MXL of misa is 2; UXL and SXL of mstatus are 2, of which sstatus shows UXL.
         (

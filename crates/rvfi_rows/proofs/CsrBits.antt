@@ -1,6 +1,6 @@
 -- Whether a row shows a column of a control and status register, by the bits of what it shows.
-use Rattle.std.proofs.Common.{◌≡◌, ◌∙◌, sym, ap, refl, subst, ℕ, zero, suc, ◌+◌, ◌*◌, ◌<◌, ◌/◌, ◌%◌, ◌^◌, ◌==◌, Bool, true, false, not, ◌&&◌, bit_or, List, [], ◌∷◌, length, drop, inl, inr, Option, Some, None, arith}
-use Rattle.std.specs.Prelude.{◌||◌, if◌then◌else◌, slice_index}
+use Rattle.std.proofs.Common.{◌≡◌, ◌∙◌, sym, ap, refl, subst, ℕ, zero, suc, ◌+◌, ◌*◌, ◌<◌, ◌/◌, ◌%◌, ◌^◌, ◌==◌, Bool, true, false, not, ◌&&◌, bit_or, List, [], ◌∷◌, length, drop, inl, inr, arith}
+use Rattle.std.specs.Prelude.{◌||◌, slice_index}
 use Rattle.std.specs.Int.{bit_at}
 use Rattle.std.specs.List.{list_any}
 use Rattle.std.specs.Option.{is_some}
@@ -9,7 +9,6 @@ use Rattle.std.proofs.lemmas.Bool.{eqb-true}
 use Rattle.std.proofs.lemmas.Bool.Decides.{eqb_tells}
 use Rattle.std.proofs.lemmas.Nat.{or_lt, shr-shr}
 use Rattle.std.proofs.Math.Pow.{pow-lt}
-use Rattle.hart_words.specs.declared.signal.Signal.{Signal}
 use Rattle.hart_words.specs.declared.signal.SignalEntry.{SignalEntry}
 use Rattle.hart_words.specs.declared.signal.TheConstants.{SIGNALS}
 use Rattle.hart_words.specs.Signals.{index_of}

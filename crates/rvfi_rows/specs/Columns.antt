@@ -1,13 +1,12 @@
 -- The columns of a trace, as its header names them.
-use Rattle.std.specs.Prelude.{ℕ, Bool, true, false, ◌==◌, ◌&&◌, not, List, [], ◌∷◌, ◌++◌, map, drop, find, codes, nat_eq, Option, option_map, Some, None, Result, Ok, Err, if◌then◌else◌}
+use Rattle.std.specs.Prelude.{ℕ, Bool, false, ◌==◌, not, List, [], ◌∷◌, ◌++◌, map, drop, find, codes, nat_eq, Option, option_map, Some, None, Result, Ok, Err, if◌then◌else◌}
 use Rattle.std.specs.List.{list_any, starts_with}
 use Rattle.std.specs.Str.{bytes_eq}
 use Rattle.hart_words.specs.Signals.{index_of}
 use Rattle.hart_words.specs.SignalNames.{name_of}
 use Rattle.hart_words.specs.declared.signal.TheConstants.{SIGNALS}
 use Rattle.hart_words.specs.declared.signal.Signal.{Signal}
-use Rattle.hart_words.specs.declared.signal.Signal.TheVariants.{Insn, PcRdata, Csr}
-use Rattle.hart_words.specs.declared.signal.CsrName.TheVariants.{Satp}
+use Rattle.hart_words.specs.declared.signal.Signal.TheVariants.{Insn, PcRdata}
 use Rattle.csv_line.specs.Fields.{fields_of_line}
 use Rattle.hart_words.specs.Results.{◌>>◌, refuse_if}
 use Rattle.rvfi_rows.specs.declared.fault.HeaderFault.{HeaderFault}
@@ -19,18 +18,13 @@ use Rattle.rvfi_rows.specs.declared.fault.HeaderError.TheVariants as errors
 abbrev pub ColumnList : Type 0
 ColumnList = List (Option Signal)
 
--- the signal is read from a trace; every other name is passed over
-abbrev pub is_known : Signal → Bool
-is_known (Csr Satp side) = false
-is_known _ = true
-
 -- a name less one `rvfi_` at its front
 unfoldable pub less_prefix : List ℕ → List ℕ
 less_prefix name = if starts_with nat_eq name (codes "rvfi_") then drop 5 name else name
 
--- the known signal of a name
+-- the signal of a name; a name that no signal has is passed over
 unfoldable pub signal_named : List ℕ → Option Signal
-signal_named name = option_map (λ entry. entry.signal) (find (λ entry. is_known entry.signal && bytes_eq name (name_of entry.signal)) SIGNALS)
+signal_named name = option_map (λ entry. entry.signal) (find (λ entry. bytes_eq name (name_of entry.signal)) SIGNALS)
 
 -- what a field of the header names
 abbrev pub column_of : List ℕ → Option Signal

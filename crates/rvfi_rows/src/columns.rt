@@ -1,15 +1,15 @@
 //! The columns of a trace.
 
-ghost use Rattle.std.specs.Prelude.{◌≡◌, ◌&&◌, ℕ, List, [], find, map, option_map};
+ghost use Rattle.std.specs.Prelude.{◌≡◌, ℕ, List, [], find, map, option_map};
 ghost use Rattle.std.specs.Str.{bytes_eq};
 ghost use Rattle.hart_words.specs.SignalNames.{name_of};
 ghost use Rattle.hart_words.specs.declared.signal.Signal.{Signal};
 ghost use Rattle.hart_words.specs.Results.{Gives};
-ghost use Rattle.rvfi_rows.specs.Columns.{header_columns, header_fault, column_of, signal_named, less_prefix, is_known, is_of, has_column, stands_in, repeated_after, has_return};
+ghost use Rattle.rvfi_rows.specs.Columns.{header_columns, header_fault, column_of, signal_named, less_prefix, is_of, has_column, stands_in, repeated_after, has_return};
 
 use crate::fault::{HeaderError, HeaderFault};
 use csv_line::{Fields, line_fields};
-use hart_words::{CsrName, SIGNALS, Signal, SignalEntry};
+use hart_words::{SIGNALS, Signal, SignalEntry};
 use std::alloc::Global;
 use std::marker::Model;
 
@@ -122,11 +122,11 @@ fn columns_named(alloc: Global, fields: &Fields) -> Result<Columns, HeaderError>
     Ok(Columns { signals })
 }
 
-/// The known signal that a header's field names.
+/// The signal that a header's field names.
 fn column_named(field: &[u8]) -> Option<Signal>
     ensures { result ≡ column_of field.now }
 {
-    known_signal(without_prefix(field))
+    signal_named(without_prefix(field))
 }
 
 #[tactic(auto, unfolding(crate::specs::Columns::less_prefix))]
@@ -140,33 +140,22 @@ fn without_prefix(name: &[u8]) -> &[u8]
     }
 }
 
-/// The known signal of a name.
+/// The signal of a name.
 #[tactic(auto, unfolding(crate::specs::Columns::signal_named))]
-fn known_signal(name: &[u8]) -> Option<Signal>
+fn signal_named(name: &[u8]) -> Option<Signal>
     ensures { result ≡ signal_named name.now }
 {
     signal_among(&SIGNALS, name)
 }
 
-/// The known signal of a name among those of entries.
+/// The signal of a name among those of entries.
 fn signal_among(entries: &[SignalEntry], name: &[u8]) -> Option<Signal>
     ensures { result ≡ option_map (λ entry. entry.signal)
-        (find (λ entry. is_known entry.signal && bytes_eq name.now (name_of entry.signal))
+        (find (λ entry. bytes_eq name.now (name_of entry.signal))
         entries.now) }
 {
     entries
         .iter()
-        .find(|entry| is_known(entry.signal) && entry.signal.is_named(name))
+        .find(|entry| entry.signal.is_named(name))
         .map(|entry| entry.signal)
-}
-
-/// Whether a trace's columns of the signal are read: all but those of satp, which the reference
-/// hart does not follow yet.
-fn is_known(signal: Signal) -> bool
-    ensures { result ≡ is_known signal }
-{
-    match signal {
-        Signal::Csr(CsrName::Satp, _) => false,
-        _ => true,
-    }
 }

@@ -69,28 +69,34 @@ fn reads_registers_and_masks(rt: HostRuntime) -> Result<(), Fail> {
     Ok(())
 }
 
-/// The columns of control and status registers have 64 bits; those of satp are passed
-/// over.
+/// The columns of control and status registers have 64 bits; a name that is none of theirs is
+/// passed over.
 #[test]
 fn reads_registers_of_control(rt: HostRuntime) -> Result<(), Fail> {
     let alloc = rt.alloc();
     let columns = read_header(
         alloc,
-        b"insn,rvfi_csr_mepc_rdata,csr_satp_wdata,pc_rdata,csr_sip_wmask,csr_satp_rdata",
+        b"insn,rvfi_csr_mepc_rdata,csr_satp_wdata,pc_rdata,csr_sip_wmask,csr_tselect_rdata",
     )?;
     let mepc = Signal::Csr(CsrName::Mepc, CsrSide::Rdata);
-    let row = read_row(alloc, &columns, b"1,0xffffffffffffffff,x,2,,x")?.ok_or("it is valid")?;
+    let satp = Signal::Csr(CsrName::Satp, CsrSide::Wdata);
+    let row = read_row(alloc, &columns, b"1,0xffffffffffffffff,1,2,,x")?.ok_or("it is valid")?;
     assert_eq!(rt; row.shown(mepc), Some(u64::MAX));
+    assert_eq!(rt; row.shown(satp), Some(1));
     assert!(rt; row.shows_csr());
     assert_eq!(rt; row.shown(Signal::Csr(CsrName::Sip, CsrSide::Wmask)), None);
-    let row = read_row(alloc, &columns, b"1,,x,2,0,x")?.ok_or("it is valid")?;
+    let row = read_row(alloc, &columns, b"1,,,2,0,x")?.ok_or("it is valid")?;
     assert_eq!(rt;
         row.shown(Signal::Csr(CsrName::Sip, CsrSide::Wmask)),
         Some(0)
     );
-    let row = read_row(alloc, &columns, b"1,,0,2,,0")?.ok_or("it is valid")?;
+    let row = read_row(alloc, &columns, b"1,,,2,,0")?.ok_or("it is valid")?;
     assert!(rt; !row.shows_csr());
-    assert_eq!(rt; row.shown(Signal::Csr(CsrName::Satp, CsrSide::Wdata)), None);
+    assert_eq!(rt; row.shown(satp), None);
+    assert_eq!(rt;
+        row_fault(alloc, &columns, b"1,,x,2,,"),
+        Some(RowFault::NotNumber(satp))
+    );
     let again = HeaderFault::Twice(mepc);
     assert_eq!(rt;
         header_fault(alloc, b"csr_mepc_rdata,rvfi_csr_mepc_rdata"),

@@ -8,7 +8,7 @@ use crate::tests::{CODE, memory_with, put, ram_and_devices};
 use csr_file::Csrs;
 use hart_step::Hart;
 use hart_words::Mode::{Machine, Supervisor, User};
-use hart_words::{Cause, Map, Mode};
+use hart_words::{Cause, Map, Mode, PmpEntry};
 use page_layers::MapMem;
 use rvfi_rows::{Expected, read_header, read_row};
 use std::alloc::Global;
@@ -80,8 +80,10 @@ fn granted() -> Csrs
     ensures { IsLegal result }
 {
     let mut csrs = Csrs::reset();
-    csrs.pmpcfg[0] = 0x1f;
-    csrs.pmpaddr[0] = 0x3f_ffff_ffff_ffff;
+    csrs.entries[0] = PmpEntry {
+        cfg: 0x1f,
+        addr: 0x3f_ffff_ffff_ffff,
+    };
     csrs
 }
 

@@ -28,16 +28,14 @@ machine_only : (csrs : Csrs) (mode : Mode) (interrupt : Bool) (cause tval pc : �
 unfolding enter_machine_of with_at
 machine_only csrs mode interrupt cause tval pc = record {
   registers = λ stored out. four csrs is_of_machine Mepc Mcause Mtval Mstatus stored _ _ _ _ refl refl refl refl out;
-  configurations = refl;
-  addresses = refl;
+  entries = refl;
 }
 
 supervisor_only : (csrs : Csrs) (mode : Mode) (interrupt : Bool) (cause tval pc : ℕ) → ChangesOnly is_of_supervisor csrs (enter_supervisor_of csrs mode (cause_value interrupt cause) tval pc)
 unfolding enter_supervisor_of with_at
 supervisor_only csrs mode interrupt cause tval pc = record {
   registers = λ stored out. four csrs is_of_supervisor Sepc Scause Stval Mstatus stored _ _ _ _ refl refl refl refl out;
-  configurations = refl;
-  addresses = refl;
+  entries = refl;
 }
 
 pub enters_only : (csrs : Csrs) (mode : Mode) (interrupt : Bool) (cause tval pc : ℕ) → EntersOnly csrs mode interrupt cause tval pc
@@ -53,14 +51,12 @@ pub mret_only : (csrs : Csrs) → ChangesOnly is_status csrs (mret_of csrs)
 unfolding mret_of with_at
 mret_only csrs = record {
   registers = λ stored out. at_other csrs Mstatus stored _ (apart is_status stored Mstatus refl out);
-  configurations = refl;
-  addresses = refl;
+  entries = refl;
 }
 
 pub sret_only : (csrs : Csrs) → ChangesOnly is_status csrs (sret_of csrs)
 unfolding sret_of with_at
 sret_only csrs = record {
   registers = λ stored out. at_other csrs Mstatus stored _ (apart is_status stored Mstatus refl out);
-  configurations = refl;
-  addresses = refl;
+  entries = refl;
 }
