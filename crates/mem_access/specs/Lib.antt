@@ -1,2 +1,4 @@
 pub mod Places
+pub mod Translation
 pub mod Accesses
+pub mod Laws

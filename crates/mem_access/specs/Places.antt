@@ -1,8 +1,8 @@
--- Where an access goes, and why it may not go there. From the Privileged Architecture's chapter "Machine-Level ISA" (physical memory attributes and protection, exception codes).
+-- Where an access to a physical address goes, and why it may not go there. From the Privileged Architecture's
+-- chapter "Machine-Level ISA" (physical memory attributes and protection, exception codes).
 use Rattle.std.specs.Prelude.{ℕ, Bool, true, false, ◌&&◌, if◌then◌else◌, Option, Some, None, Result, Ok, Err}
 use Rattle.hart_words.specs.declared.privilege.Mode.{Mode}
 use Rattle.hart_words.specs.declared.privilege.Mode.TheVariants.{User, Supervisor, Machine}
-use Rattle.hart_words.specs.declared.privilege.Access.{Access}
 use Rattle.hart_words.specs.declared.privilege.Cause.{Cause}
 use Rattle.hart_words.specs.declared.span.Span.{Span}
 use Rattle.hart_words.specs.declared.map.Map.{Map}
@@ -14,6 +14,7 @@ use Rattle.csr_file.specs.declared.fields.TheConstants.{MPRV}
 use Rattle.csr_file.specs.Registers.{at, pmp_entries_of}
 use Rattle.csr_file.specs.Fields.{bit_is_set, mode_numbered, mpp_of}
 use Rattle.pmp_check.specs.Protection.{is_allowed}
+use Rattle.mem_access.specs.declared.place.AccessRequest.{AccessRequest}
 use Rattle.mem_access.specs.declared.place.Place.{Place}
 
 -- the mode of a load or a store: MPP in M where MPRV is set, else the mode itself; a fetch has the mode itself
@@ -29,13 +30,17 @@ is_device None pa len = false
 is_device (Some io) pa len = holds_all io pa len
 
 -- RAM, or, for accesses that devices answer, IO; elsewhere is nothing
-abbrev pub place_in : Map → Access → Bool → ℕ → ℕ → Result Place Cause
-place_in map access devices pa len =
-    if holds_all map.ram pa len then Ok (record { pa = pa; io = false })
-    else if devices && is_device map.io pa len then Ok (record { pa = pa; io = true })
-    else Err (access_fault_of access)
+abbrev pub place_in : Map → AccessRequest → ℕ → Result Place Cause
+place_in map request pa =
+    if holds_all map.ram pa request.len then Ok (record { pa = pa; io = false })
+    else if request.devices && is_device map.io pa request.len then Ok (record { pa = pa; io = true })
+    else Err (access_fault_of request.access)
 
--- the place of an access, unless protection refuses it or nothing is there; devices answer no fetch and no atomic access
-unfoldable pub place_of : Csrs → Map → Mode → Access → Bool → ℕ → ℕ → Result Place Cause
-place_of csrs map mode access devices pa len =
-    if is_allowed (pmp_entries_of csrs) mode pa len access then place_in map access devices pa len else Err (access_fault_of access)
+-- protection allows the access
+abbrev pub is_granted : Csrs → AccessRequest → ℕ → Bool
+is_granted csrs request pa = is_allowed (pmp_entries_of csrs) request.mode pa request.len request.access
+
+-- the place of an access, unless protection refuses it or nothing is there
+unfoldable pub place_of : Csrs → Map → AccessRequest → ℕ → Result Place Cause
+place_of csrs map request pa =
+    if is_granted csrs request pa then place_in map request pa else Err (access_fault_of request.access)

@@ -4,14 +4,15 @@ ghost use Rattle.std.specs.Prelude.{◌≡◌, ◌≤◌, ◌<◌, ◌+◌, ◌*
 ghost use Rattle.hart_words.specs.Memory.{IsPlace};
 ghost use Rattle.hart_words.specs.Actions.{Observes};
 ghost use Rattle.hart_words.specs.AccessSizes.{IsLength};
-ghost use Rattle.mem_access.specs.Accesses.{loaded, store_place_of};
+ghost use Rattle.mem_access.specs.Accesses.{data_request, loaded, store_place_of};
 
-use crate::place::{Place, data_mode, place_of};
+use crate::address_space::{AddressSpace, WALK_READS};
+use crate::place::{AccessRequest, Place, data_mode};
 use csr_file::Csrs;
 use hart_words::{Access, Cause, MOST_READS, Map, Mode, PhysMem, Seen};
 
 /// The most reads of a data access: three entries of page tables, and its own bytes.
-pub const ACCESS_READS: usize = 4;
+pub const ACCESS_READS: usize = WALK_READS + 1;
 
 /// Loads `len` bytes, 1, 2, 4 or 8, from a virtual address: the place and the number that stands
 /// there, 0 where a device answers. `mode` is that of the instruction; with MPRV in M the access is
@@ -34,7 +35,7 @@ pub fn load<M: PhysMem>(
     requires room { length seen.old + ACCESS_READS ≤ MOST_READS }
     ensures looked { Observes (loaded csrs.now map.now mode va len atomic) result
         seen.old seen.new (M.bytes mem.now) }
-    ensures noted { length seen.new ≤ length seen.old + 1 }
+    ensures noted { length seen.new ≤ length seen.old + ACCESS_READS }
     ensures fits { IfOk result (λ found. found.1 < 2 ^ (8 * len)) }
     ensures memory { atomic ≡ true → IfOk result (λ found. found.0.io ≡ false) }
     ensures placed { IfOk result (λ found. found.0.io ≡ false
@@ -43,8 +44,9 @@ pub fn load<M: PhysMem>(
     if va % u64::from(len) != 0 {
         return Err((Cause::LoadAddressMisaligned, va));
     }
-    let mode = data_mode(csrs, mode);
-    match place_of(csrs, map, mode, Access::Load, !atomic, va, len) {
+    let request = data_request(csrs, mode, Access::Load, len, atomic);
+    let space = AddressSpace { mem, csrs, map };
+    match space.reach(request, va, seen) {
         Err(cause) => Err((cause, va)),
         Ok(place) => {
             if place.io {
@@ -76,18 +78,29 @@ pub fn store_place<M: PhysMem>(
     requires room { length seen.old + ACCESS_READS ≤ MOST_READS }
     ensures looked { Observes (store_place_of csrs.now map.now mode va len atomic) result
         seen.old seen.new (M.bytes mem.now) }
-    ensures noted { length seen.new ≤ length seen.old + 1 }
+    ensures noted { length seen.new ≤ length seen.old + WALK_READS }
     ensures memory { atomic ≡ true → IfOk result (λ place. place.io ≡ false) }
     ensures placed { IfOk result (λ place. place.io ≡ false → IsPlace map.now.ram place.pa len) }
 {
-    let _memory = mem;
-    let _reads = seen;
     if va % u64::from(len) != 0 {
         return Err((Cause::StoreAddressMisaligned, va));
     }
-    let mode = data_mode(csrs, mode);
-    match place_of(csrs, map, mode, Access::Store, !atomic, va, len) {
-        Err(cause) => return Err((cause, va)),
-        Ok(place) => return Ok(place),
+    let request = data_request(csrs, mode, Access::Store, len, atomic);
+    let space = AddressSpace { mem, csrs, map };
+    match space.reach(request, va, seen) {
+        Err(cause) => Err((cause, va)),
+        Ok(place) => Ok(place),
+    }
+}
+
+/// A load or a store as it is asked for. Devices answer none that is atomic.
+fn data_request(csrs: &Csrs, mode: Mode, access: Access, len: u8, atomic: bool) -> AccessRequest
+    ensures { result ≡ data_request csrs.now mode access len atomic }
+{
+    AccessRequest {
+        mode: data_mode(csrs, mode),
+        access,
+        len,
+        devices: !atomic,
     }
 }

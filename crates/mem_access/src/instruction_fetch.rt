@@ -4,12 +4,15 @@ ghost use Rattle.std.specs.Prelude.{◌≡◌, ◌≤◌, ◌<◌, ◌+◌, ◌%
 ghost use Rattle.hart_words.specs.Actions.{Observes};
 ghost use Rattle.mem_access.specs.Accesses.{parcel_at, fetched};
 
-use crate::place::place_of;
+use crate::address_space::{AddressSpace, WALK_READS};
+use crate::place::AccessRequest;
 use csr_file::Csrs;
 use hart_words::{Access, Cause, MOST_READS, Map, Mode, PhysMem, Seen};
 
 /// The most reads of a fetch: for each of two parcels three entries of page tables, and the parcel.
-pub const FETCH_READS: usize = 8;
+pub const FETCH_READS: usize = 2 * PARCEL_READS;
+
+const PARCEL_READS: usize = WALK_READS + 1;
 
 /// The instruction at `pc` and its length in bytes, 2 or 4: a word of 4 where the low two bits of
 /// the first parcel are 3. Each parcel is fetched by itself, with its own check. An exception gives
@@ -32,7 +35,7 @@ pub fn fetch<M: PhysMem>(
     requires room { length seen.old + FETCH_READS ≤ MOST_READS }
     ensures looked { Observes (fetched csrs.now map.now mode pc) result seen.old seen.new
         (M.bytes mem.now) }
-    ensures noted { length seen.new ≤ length seen.old + 2 }
+    ensures noted { length seen.new ≤ length seen.old + FETCH_READS }
     ensures lengths { IfOk result (λ word. (word.1 ≡ 2) ⊎ (word.1 ≡ 4)) }
     ensures short { IfOk result (λ word. word.1 ≡ 2 → word.0 < 2 ^ 16) }
 {
@@ -60,12 +63,19 @@ fn parcel<M: PhysMem>(
 ) -> Result<u16, (Cause, u64)>
     requires ram { M.ram mem.now ≡ map.now.ram }
     requires even { at % 2 ≡ 0 }
-    requires room { length seen.old + 1 ≤ MOST_READS }
+    requires room { length seen.old + PARCEL_READS ≤ MOST_READS }
     ensures looked { Observes (parcel_at csrs.now map.now mode at) result seen.old seen.new
         (M.bytes mem.now) }
-    ensures noted { length seen.new ≤ length seen.old + 1 }
+    ensures noted { length seen.new ≤ length seen.old + PARCEL_READS }
 {
-    match place_of(csrs, map, mode, Access::Fetch, false, at, 2) {
+    let request = AccessRequest {
+        mode,
+        access: Access::Fetch,
+        len: 2,
+        devices: false,
+    };
+    let space = AddressSpace { mem, csrs, map };
+    match space.reach(request, at, seen) {
         Err(cause) => Err((cause, at)),
         Ok(place) => {
             seen.put(place.pa, 2);

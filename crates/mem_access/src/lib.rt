@@ -6,6 +6,7 @@
 //! "Machine-Level ISA".
 #![tactic(auto)]
 
+mod address_space;
 mod data_access;
 mod instruction_fetch;
 pub mod laws;

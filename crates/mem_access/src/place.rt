@@ -1,4 +1,4 @@
-//! Where an access goes.
+//! Where an access to a physical address goes.
 
 ghost use Rattle.std.specs.Prelude.{◌≡◌, ◌==◌, ◌≤◌, ◌%◌, IfOk, false};
 ghost use Rattle.std.specs.List.{list_all};
@@ -10,7 +10,7 @@ ghost use Rattle.mem_access.specs.Places.{data_mode_of, is_device, place_in, pla
 
 use csr_file::fields::{MPP, MPRV};
 use csr_file::{Csrs, StoredCsr, has_bit, mode_numbered};
-use hart_words::{Access, Cause, Map, Mode, Span};
+use hart_words::{Access, Cause, Map, Mode, PmpEntry, Span};
 use pmp_check::allows;
 
 /// The physical address of an access, and whether it is one of a device.
@@ -18,6 +18,18 @@ use pmp_check::allows;
 pub struct Place {
     pub pa: u64,
     pub io: bool,
+}
+
+/// An access as it is asked for, but for its address.
+#[derive(Clone, Copy, Debug)]
+pub struct AccessRequest {
+    /// The mode that it is made in: for data under MPRV not that of the instruction.
+    pub mode: Mode,
+    pub access: Access,
+    /// Its bytes.
+    pub len: u8,
+    /// Whether devices answer it.
+    pub devices: bool,
 }
 
 /// The mode of a load or a store: MPP in M where MPRV is set, else the mode of the instruction.
@@ -40,54 +52,46 @@ pub fn data_mode(csrs: &Csrs, mode: Mode) -> Mode
 
 /// The place of an access, unless protection refuses it or nothing is there.
 #[tactic(auto, unfolding(crate::specs::Places::place_of))]
-pub fn place_of(
-    csrs: &Csrs,
-    map: &Map,
-    mode: Mode,
-    access: Access,
-    devices: bool,
-    pa: u64,
-    len: u8,
-) -> Result<Place, Cause>
-    requires length { IsLength len }
-    requires aligned { pa % len ≡ 0 }
-    ensures meant { result ≡ place_of csrs.now map.now mode access devices pa len }
-    ensures memory { devices ≡ false → IfOk result (λ place. place.io ≡ false) }
-    ensures placed { IfOk result (λ place. place.io ≡ false → IsPlace map.now.ram place.pa len) }
+pub fn place_of(csrs: &Csrs, map: &Map, request: AccessRequest, pa: u64) -> Result<Place, Cause>
+    requires length { IsLength request.len }
+    requires aligned { pa % request.len ≡ 0 }
+    ensures meant { result ≡ place_of csrs.now map.now request pa }
+    ensures memory { request.devices ≡ false → IfOk result (λ place. place.io ≡ false) }
+    ensures placed { IfOk result (λ place. place.io ≡ false
+        → IsPlace map.now.ram place.pa request.len) }
 {
-    if !is_allowed(csrs, mode, pa, len, access) {
-        return Err(access.access_fault());
+    if !is_allowed(csrs, request.mode, pa, request.len, request.access) {
+        return Err(request.access.access_fault());
     }
-    if map.ram.holds(pa, len) {
+    if map.ram.holds(pa, request.len) {
         return Ok(Place { pa, io: false });
     }
-    if devices && is_device(&map.io, pa, len) {
+    if request.devices && is_device(&map.io, pa, request.len) {
         return Ok(Place { pa, io: true });
     }
-    Err(access.access_fault())
+    Err(request.access.access_fault())
 }
 
 /// Whether protection allows an access. Where no entry is configured M alone has access, so that
-/// none is made nor looked at.
-fn is_allowed(csrs: &Csrs, mode: Mode, pa: u64, len: u8, access: Access) -> bool
+/// none is looked at.
+pub fn is_allowed(csrs: &Csrs, mode: Mode, pa: u64, len: u8, access: Access) -> bool
     ensures { result ≡ is_allowed (pmp_entries_of csrs.now) mode pa len access }
 {
-    if is_unset(&csrs.pmpcfg) {
+    if is_unset(&csrs.entries) {
         return is_machine(mode);
     }
-    allows(&csrs.pmp_entries(), mode, pa, len, access)
+    allows(&csrs.entries, mode, pa, len, access)
 }
 
 /// Whether no entry is configured.
-fn is_unset(configurations: &[u8]) -> bool
-    ensures { result ≡ list_all (λ configuration. configuration == 0) configurations.now }
+fn is_unset(entries: &[PmpEntry]) -> bool
+    ensures { result ≡ list_all (λ entry. entry.cfg == 0) entries.now }
 {
-    configurations
-        .iter()
-        .all(|configuration| *configuration == 0)
+    entries.iter().all(|entry| entry.cfg == 0)
 }
 
-fn is_machine(mode: Mode) -> bool
+/// Whether a mode is M.
+pub fn is_machine(mode: Mode) -> bool
     ensures { result ≡ is_machine mode }
 {
     matches!(mode, Mode::Machine)

@@ -1,6 +1,6 @@
 use super::*;
-use csr_file::Csrs;
-use hart_words::{Cause, Map, Mode, NoMemory, PhysMem, Seen, Span};
+use csr_file::{Csrs, StoredCsr};
+use hart_words::{Cause, Map, Mode, NoMemory, PhysMem, PmpEntry, Seen, Span};
 use std::test::Fail;
 
 /// A page of RAM, and a page of devices.
@@ -136,6 +136,56 @@ fn fetches(rt: HostRuntime) -> Result<(), Fail> {
         let mut seen = Seen::empty();
         let found = fetch(&mem, &Csrs::reset(), &map, mode, pc, &mut seen);
         assert_eq!(rt; found, want);
+    }
+    Ok(())
+}
+
+/// Loads of the byte at an address by way of page tables: the configuration of entry 0, which
+/// covers all, satp, the mode, and what comes of it with the number of reads. All entries of the
+/// tables are 0, which are not valid; those of page 0x80001 are outside RAM.
+#[test]
+fn loads_by_page_tables(rt: HostRuntime) -> Result<(), Fail> {
+    let map = ram_and_devices()?;
+    let mem = Zeros { ram: map.ram };
+    let inside = 8 << 60 | 0x80000;
+    let outside = 8 << 60 | 0x80001;
+    let page_fault = Err(Cause::LoadPageFault);
+    let access_fault = Err(Cause::LoadAccessFault);
+    let cases = [
+        (0x1f, inside, Mode::Supervisor, 0x8000_0000, page_fault, 1),
+        (0x1f, inside, Mode::User, 0x8000_0000, page_fault, 1),
+        (0x1f, inside, Mode::Supervisor, 1 << 38, page_fault, 0),
+        (
+            0x1f,
+            outside,
+            Mode::Supervisor,
+            0x8000_0000,
+            access_fault,
+            0,
+        ),
+        (0x1e, inside, Mode::Supervisor, 0x8000_0000, access_fault, 0),
+        (0x1f, inside, Mode::Machine, 0x8000_0000, Ok(false), 1),
+        (0x1f, 0x80000, Mode::User, 0x8000_0000, Ok(false), 1),
+        (0x1f, 0x80000, Mode::User, 0x1000_0000, Ok(true), 0),
+    ];
+    for (cfg, satp, mode, va, want, reads) in cases {
+        let mut csrs = Csrs::reset();
+        csrs.entries[0] = PmpEntry {
+            cfg,
+            addr: 0x3f_ffff_ffff_ffff,
+        };
+        csrs.set(StoredCsr::Satp, satp);
+        let mut seen = Seen::empty();
+        let found = load(&mem, &csrs, &map, mode, va, 1, false, &mut seen);
+        let told = match found {
+            Ok((place, _)) => Ok(place.io),
+            Err((cause, value)) => {
+                assert_eq!(rt; value, va);
+                Err(cause)
+            }
+        };
+        assert_eq!(rt; told, want);
+        assert_eq!(rt; seen.as_slice().len(), reads);
     }
     Ok(())
 }

@@ -9,6 +9,7 @@ mod entry;
 pub mod laws;
 mod walk;
 
+pub use entry::ENTRY_SIZE;
 pub use walk::translate;
 
 #[cfg(test)]
