@@ -188,6 +188,7 @@ taken_same csrs one other kinds.Pending shown same = ap (λ v. bit_and (unwrap_o
 taken_same csrs one other kinds.SupervisorStatus shown same = none_taken (unwrap_or one.rd_wdata 0) (unwrap_or other.rd_wdata 0) 0 refl
 taken_same csrs one other kinds.SupervisorEnables shown same = none_taken (unwrap_or one.rd_wdata 0) (unwrap_or other.rd_wdata 0) 0 refl
 taken_same csrs one other kinds.SupervisorPending shown same = ap (λ v. bit_and (unwrap_or v 0) (taken_bits_of csrs kinds.SupervisorPending shown)) (same refl)
+taken_same csrs one other kinds.Translation shown same = none_taken (unwrap_or one.rd_wdata 0) (unwrap_or other.rd_wdata 0) 0 refl
 taken_same csrs one other kinds.LowConfigurations shown same = none_taken (unwrap_or one.rd_wdata 0) (unwrap_or other.rd_wdata 0) 0 refl
 taken_same csrs one other kinds.HighConfigurations shown same = none_taken (unwrap_or one.rd_wdata 0) (unwrap_or other.rd_wdata 0) 0 refl
 taken_same csrs one other (kinds.EntryAddress number) shown same = none_taken (unwrap_or one.rd_wdata 0) (unwrap_or other.rd_wdata 0) 0 refl

@@ -4,3 +4,9 @@ pub mod Traps
 pub mod Modes
 pub mod Decisions
 pub mod Reserved
+pub mod ProtectiveCsrs
+pub mod Entries
+pub mod Locks
+pub mod Granted
+pub mod Rows
+pub mod Alike

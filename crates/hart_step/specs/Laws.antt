@@ -23,7 +23,7 @@ use Rattle.csr_table.specs.declared.registers.CsrRow.{CsrRow}
 use Rattle.csr_table.specs.Addresses.{csr_row_of}
 use Rattle.csr_file.specs.declared.csrs.Csrs.{Csrs}
 use Rattle.csr_file.specs.declared.csr_kind.CsrKind.{CsrKind}
-use Rattle.csr_file.specs.declared.csr_kind.CsrKind.TheVariants.{Stored, Status, Pending, SupervisorStatus, SupervisorEnables, SupervisorPending, LowConfigurations, HighConfigurations, EntryAddress, Constant, OfCore, Counter, ClosedCounter}
+use Rattle.csr_file.specs.declared.csr_kind.CsrKind.TheVariants.{Stored, Status, Pending, SupervisorStatus, SupervisorEnables, SupervisorPending, Translation, LowConfigurations, HighConfigurations, EntryAddress, Constant, OfCore, Counter, ClosedCounter}
 use Rattle.csr_file.specs.Table.{csr_kind_of}
 use Rattle.trap_entry.specs.Entries.{enter_of, mode_by_enter, pc_by_enter}
 use Rattle.trap_entry.specs.Returns.{mode_by_mret, mode_by_sret}
@@ -74,6 +74,7 @@ is_adopted Pending = true
 is_adopted SupervisorStatus = false
 is_adopted SupervisorEnables = false
 is_adopted SupervisorPending = true
+is_adopted Translation = false
 is_adopted LowConfigurations = false
 is_adopted HighConfigurations = false
 is_adopted (EntryAddress number) = false

@@ -6,3 +6,5 @@ pub mod Returns
 pub mod Instructions
 pub mod Steps
 pub mod Laws
+pub mod Rows
+pub mod ProtectionLaws

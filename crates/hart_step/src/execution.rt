@@ -14,7 +14,7 @@ use crate::state::Core;
 use crate::touched::Touched;
 use csr_file::fields::{TSR, TVM};
 use hart_words::{Cause, Mode, NoMemory, PhysMem};
-use mem_access::fetch;
+use mem_access::{FETCH_READS, fetch};
 use rv_compressed::expand;
 use rv_decode::{Op, decode};
 use rv_integer::{CsrRequest, IntResult, SystemRequest, compute};
@@ -94,7 +94,7 @@ impl Core {
     ) -> Result<Result<Option<Accessed>, Exception>, NoMemory>
         requires sound { IsSound self.old }
         requires ram { M.ram mem.old ≡ self.old.map.ram }
-        requires room { length touched.old.seen ≤ 2 }
+        requires room { length touched.old.seen ≤ FETCH_READS }
         requires blank { length touched.old.wrote ≤ 1 }
         requires even { instruction.now.len % 2 ≡ 0 }
         requires offset { HasEvenOffset instruction.now.op }

@@ -15,6 +15,7 @@ mod hart;
 mod instruction;
 pub mod laws;
 mod memory;
+pub mod protection_laws;
 mod returns;
 mod state;
 mod step;

@@ -12,7 +12,7 @@ use crate::instruction::Exception;
 use crate::state::Core;
 use crate::touched::Touched;
 use hart_words::{AccessSize, NoMemory, PhysMem, Seen, Wrote, sext};
-use mem_access::{Place, load, store_place};
+use mem_access::{FETCH_READS, Place, load, store_place};
 use rv_atomic::{Reservation, amo};
 use rv_integer::{MemoryOp, MemoryRequest};
 use rvfi_rows::Accessed;
@@ -39,7 +39,7 @@ impl Core {
         touched: &mut Touched,
     ) -> Result<Result<Answer, Exception>, NoMemory>
         requires ram { M.ram mem.old ≡ self.now.map.ram }
-        requires room { length touched.old.seen ≤ 2 }
+        requires room { length touched.old.seen ≤ FETCH_READS }
         requires blank { length touched.old.wrote ≤ 1 }
         ensures accessed { IfOk result (λ done. Performs
             (accessed self.now choices.now request.now) done
@@ -72,7 +72,7 @@ impl Core {
         seen: &mut Seen,
     ) -> Result<(Place, u64), Exception>
         requires ram { M.ram mem.now ≡ self.now.map.ram }
-        requires room { length seen.old ≤ 2 }
+        requires room { length seen.old ≤ FETCH_READS }
         ensures placed { Observes (placed self.now request.now) result
             seen.old seen.new (M.bytes mem.now) }
         ensures in_ram { IfOk result (λ found. found.0.io ≡ false

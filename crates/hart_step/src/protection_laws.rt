@@ -1,0 +1,60 @@
+//! What physical memory protection comes to over steps.
+
+ghost use Rattle.std.specs.Prelude.{◌≡◌, ℕ, List};
+ghost use Rattle.hart_words.specs.Memory.{Bytes};
+ghost use Rattle.hart_words.specs.Signals.{Shown};
+ghost use Rattle.pmp_check.specs.Covering.{NoneCovers};
+ghost use Rattle.csr_file.specs.Registers.{pmp_entries_of};
+ghost use Rattle.hart_step.specs.declared.state.Core.{Core};
+ghost use Rattle.hart_step.specs.Cores.{IsSound};
+ghost use Rattle.hart_step.specs.Laws.{next_of};
+ghost use Rattle.hart_step.specs.Rows.{HartState, RunBelowMachine, after_rows};
+ghost use Rattle.hart_step.specs.ProtectionLaws.{ForbidsStores, IsRefused, LocksOutlast, LowerModesLeaveProtection, Outlasts, RowsGoAlike, StepIsGranted, StepsAlike};
+
+/// No step, and so no rows, change the configuration or the address of a locked entry, nor the
+/// bytes that it covers: where it begins at the address of the entry before it, that stays too.
+pub fn locked_entries_outlast_steps()
+    ensures step { (core : Core) (shown : Shown) (bytes : Bytes)
+        → LocksOutlast core.csrs (next_of core shown bytes).csrs }
+    ensures rows { (state : HartState) (rows : List Shown)
+        → LocksOutlast state.core.csrs (after_rows state rows).core.csrs }
+{}
+
+/// A step whose instruction runs in S or U leaves every entry; so do rows of which each is such.
+pub fn lower_modes_leave_protection()
+    ensures step { (core : Core) (shown : Shown) (bytes : Bytes)
+        → LowerModesLeaveProtection core shown bytes }
+    ensures rows { (state : HartState) (rows : List Shown) → RunBelowMachine state rows
+        → pmp_entries_of (after_rows state rows).core.csrs ≡ pmp_entries_of state.core.csrs }
+{}
+
+/// Each read of a step is of an entry of a page table, 8 bytes of RAM that S may load, of a parcel
+/// that the mode may fetch, or of the bytes that the instruction asks for, which the mode of loads
+/// and stores may load, or may store where an AMO reads them. Each write is of bytes of RAM that
+/// this mode may store, and the access that is expected of the row is one that it may make.
+pub fn steps_access_what_is_granted()
+    ensures { (core : Core) (shown : Shown) (bytes : Bytes) → StepIsGranted core shown bytes }
+{}
+
+/// Rows that run their instructions in S and U leave each byte that protection refuses them to
+/// write: each that the lowest-numbered entry which covers it forbids to store, and each that none
+/// covers.
+pub fn refused_bytes_outlast_rows()
+    ensures refused { (state : HartState) (rows : List Shown) (byte : ℕ)
+        → IsRefused state.core byte → Outlasts state rows byte }
+    ensures forbidden { (state : HartState) (rows : List Shown) (byte : ℕ)
+        → IsSound state.core → ForbidsStores (pmp_entries_of state.core.csrs) byte
+        → Outlasts state rows byte }
+    ensures uncovered { (state : HartState) (rows : List Shown) (byte : ℕ)
+        → IsSound state.core → NoneCovers (pmp_entries_of state.core.csrs) byte 1
+        → Outlasts state rows byte }
+{}
+
+/// In S and U nothing depends on a byte that protection refuses them: memories that agree on all
+/// others give the same steps, and so do rows, one after another.
+pub fn refused_bytes_decide_nothing()
+    ensures step { (core : Core) (shown : Shown) (one other : Bytes)
+        → StepsAlike core shown one other }
+    ensures rows { (core : Core) (rows : List Shown) (one other : Bytes)
+        → RowsGoAlike core rows one other }
+{}
