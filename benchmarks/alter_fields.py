@@ -20,8 +20,11 @@ from pathlib import Path
 from random import Random
 from typing import NamedTuple
 
+from hart_instructions import LOADS, STORES, decode, expand
+from hart_memory import Memory, read_image
+from hart_registers import ADDRESSES, DECIDED, SATP_MODE_AT, SV39, M
 from judge import PLAIN, WIDTHS, Judge, answer, number, read_row, span
-from reference_hart import ADDRESSES, DECIDED, LOADS, STORES, M, Hart, Memory, decode, expand, read_image
+from reference_hart import Hart
 
 EVERY = 32  # rows between two kept states
 BEHIND = 6  # rows of an altered trace behind the altered one
@@ -52,11 +55,14 @@ class Trace:
         self.rows = [read_row(self.columns, line) for line in self.lines]
         self.thin = list(self.thin_lines())
         self.kept = []  # each: the judge before a row, and the number of valid rows before it
+        self.translating = set()  # the numbers of the rows while satp says that addresses are translated
         valid = 0
-        for at in range(0, len(self.rows), EVERY):
-            self.kept.append((judge.copy(), valid))
-            rows = self.rows[at : at + EVERY]
-            self.verdict = answer(judge, rows, at, valid)
+        for at, row in enumerate(self.rows):
+            if at % EVERY == 0:
+                self.kept.append((judge.copy(), valid))
+            if judge.hart.csrs.values["satp"] >> SATP_MODE_AT == SV39:
+                self.translating.add(at)
+            self.verdict = answer(judge, [row], at, valid)
             if self.verdict.startswith("differs"):
                 return
             valid = int(self.verdict.split()[1])
@@ -120,24 +126,41 @@ def choice_shown(row, devices):
             return "value", ("rd_wdata", "trap") if csr == "time" else ("rd_wdata",)
         case name if name.startswith("CSRR") and csr in ("mip", "sip"):
             return "lines", ("rd_wdata", "csr_mip_rdata", "csr_mip_rmask")
-        case name if name in LOADS and row.get("mem_addr") in devices:
+        case name if name in LOADS and row.get("mem_paddr") in devices:
             return "device", ("mem_rdata", "rd_wdata", "mem_addr")
     return ("interrupt", ("intr", "csr_mip_rdata", "csr_mip_rmask")) if row.get("intr") else (None, ())
 
 
-def kinds_of_rows(rows):
-    """The numbers of all rows, and of those of traps, handlers, S and U, the system, stores and loads."""
-    numbered = list(enumerate(rows))
-    names = [instruction.name if instruction else "" for instruction in map(instruction_of, rows)]
+def kinds_of_rows(trace):
+    """The numbers of all rows, and of those of each kind.
+
+    Traps, handlers, S and U, the system, stores and loads; under translation S and U, traps, and accesses whose
+    physical address is another one.
+    """
+    numbered = list(enumerate(trace.rows))
+    names = [instruction.name if instruction else "" for instruction in map(instruction_of, trace.rows)]
+    traps = [at for at, row in numbered if row.get("trap")]
+    lower = [at for at, row in numbered if row.get("mode", M) != M]
+    stores = [at for at, name in enumerate(names) if name in STORES or name.startswith(("AMO", "SC"))]
+    loads = [at for at, name in enumerate(names) if name in LOADS or name.startswith(("AMO", "LR"))]
     return [
-        range(len(rows)),
-        [at for at, row in numbered if row.get("trap")],
+        range(len(trace.rows)),
+        traps,
         [at for at, row in numbered if row.get("intr") and not row.get("trap")],
-        [at for at, row in numbered if row.get("mode", M) != M],
+        lower,
         [at for at, row in numbered if row["insn"] & 0x7F == 0x73],
-        [at for at, name in enumerate(names) if name in STORES or name.startswith(("AMO", "SC"))],
-        [at for at, name in enumerate(names) if name in LOADS or name.startswith(("AMO", "LR"))],
+        stores,
+        loads,
+        [at for at in lower if at in trace.translating],
+        [at for at in traps if at in trace.translating],
+        [at for at in stores + loads if at in trace.translating and is_moved(trace.rows[at])],
     ]
+
+
+def is_moved(row):
+    """Whether a row shows an access whose physical address is not the virtual one."""
+    both = row.get("mem_addr"), row.get("mem_paddr")
+    return not row.get("trap") and None not in both and both[0] != both[1]
 
 
 def other_text(chance, column, old):
@@ -162,7 +185,9 @@ class Alterations:
         self.chance = Random(seed)
         # Plain columns are fewer than those of registers and come more often.
         self.columns = [name for name in trace.columns for _ in range(3 if name in PLAIN else 1)]
-        self.kinds = [kind for kind in kinds_of_rows(trace.rows) if kind]
+        kinds = kinds_of_rows(trace)
+        self.translated = set().union(*kinds[-3:])
+        self.kinds = [kind for kind in kinds if kind]
         choices = {}
         for at, row in enumerate(trace.rows):
             choice, columns = choice_shown(row, devices)
@@ -258,10 +283,12 @@ def main():
     print(f"unaltered: {trace.verdict}")
     if trace.verdict.startswith("differs"):
         return 1
-    altered = list(Alterations(trace, options.seed, devices).make(options.count))
+    alterations = Alterations(trace, options.seed, devices)
+    altered = list(alterations.make(options.count))
     compared = sum(alteration.makes_difference() for alteration in altered)
     columns = len({alteration.column for alteration in altered})
-    print(f"altered: {len(altered)} fields of {columns} columns")
+    translated = sum(alteration.row in alterations.translated for alteration in altered)
+    print(f"altered: {len(altered)} fields of {columns} columns, {translated} under translation")
     print(f"foretold: {compared} differences, {len(altered) - compared} agreements")
     wrong = 0
     if options.program:

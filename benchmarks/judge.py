@@ -9,7 +9,10 @@ import argparse
 import sys
 from typing import NamedTuple
 
-from reference_hart import BREAKPOINT, CALL_FROM_U, LINES, M, MASK, Core, Hart, Memory, read_image
+from hart_instructions import MASK
+from hart_memory import Memory, read_image
+from hart_registers import LINES, M
+from reference_hart import BREAKPOINT, CALL_FROM_U, Core, Hart
 
 # the columns with their bits, in the order of comparison; halt is never compared
 PLAIN = {
@@ -20,7 +23,7 @@ PLAIN = {
 }
 CSRS = (
     "mstatus", "misa", "medeleg", "mideleg", "mie", "mtvec", "mscratch", "mepc", "mcause", "mtval", "mip",
-    "sstatus", "sie", "sip", "stvec", "sscratch", "sepc", "scause", "stval", "pmpcfg0", "pmpcfg2",
+    "satp", "sstatus", "sie", "sip", "stvec", "sscratch", "sepc", "scause", "stval", "pmpcfg0", "pmpcfg2",
 )
 WIDTHS = PLAIN | {
     f"csr_{name}_{part}": 64 for name in CSRS for part in ("rmask", "wmask", "rdata", "wdata")
@@ -99,7 +102,7 @@ class RowCore(Core):
     def refuses(self, instruction):
         return self.row.get("trap", 0) == 1
 
-    def device_load(self, address, length):
+    def device_load(self, address, place, length):
         bits, behind = (1 << 8 * length) - 1, address - self.row.get("mem_addr", 0) & MASK
         if "mem_addr" in self.row and "mem_rdata" in self.row and behind <= 8 - length:
             return self.row["mem_rdata"] >> 8 * behind & bits
@@ -206,7 +209,7 @@ def expect_memory(access, row):
     elif shown:
         yield Expected("mem_wmask", touched)
         yield Expected("mem_wdata", access.written << 8 * behind, places)
-    yield Expected("mem_paddr", access.address - behind & MASK)
+    yield Expected("mem_paddr", access.place - behind & MASK)
 
 
 def expect_csrs(row, before, after):

@@ -1,6 +1,6 @@
 #!/bin/sh
-# Judges the trace of the program in machine/, which goes through what M-mode can do with all columns of a trace, and
-# prints rows per second and peak memory: machine.sh [PROGRAM]. The program is bin/rvjudge, or the one given.
+# Judges the trace of the program in machine/, which goes through what M, S and U can do with all columns of a trace,
+# and prints rows per second and peak memory: machine.sh [PROGRAM]. The program is bin/rvjudge, or the one given.
 set -eu
 here=$(cd "$(dirname "$0")" && pwd)
 program=${1:-$here/../bin/rvjudge}

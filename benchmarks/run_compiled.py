@@ -6,7 +6,8 @@ The hart is that of reference_hart.py: it starts at 0x80000000 in M-mode with al
 """
 import sys
 
-from reference_hart import Hart, Memory, read_image
+from hart_memory import Memory, read_image
+from reference_hart import Hart
 
 COLUMNS = (
     "order,insn,trap,pc_rdata,pc_wdata,rs1_addr,rs1_rdata,rs2_addr,rs2_rdata,rd_addr,rd_wdata,"
@@ -26,7 +27,7 @@ def access_fields(access):
     address, mask = f"0x{access.address:x}", f"0x{(1 << access.length) - 1:x}"
     read_mask, read = ("", "") if access.read is None else (mask, f"0x{access.read:x}")
     write_mask, written = ("0", "") if access.written is None else (mask, f"0x{access.written:x}")
-    return f"{address},{read_mask},{write_mask},{read},{written},{address}"
+    return f"{address},{read_mask},{write_mask},{read},{written},0x{access.place:x}"
 
 
 def trace_line(order, row):

@@ -11,13 +11,16 @@ nothing is compared, fields that are not shown, rows that are not valid.
 import sys
 from random import Random
 
+from hart_instructions import MASK
+from hart_memory import Memory, read_image
+from hart_registers import LINES
 from judge import CALLS, CSRS, PLAIN, UNTOLD_AFTER, WIDTHS
-from reference_hart import BREAKPOINT, LINES, MASK, Core, Hart, Memory, read_image
+from reference_hart import BREAKPOINT, Core, Hart
 
 DEVICES = range(0x10000000, 0x10001000)
 LINES_AT, TIMER_AT, STORM_AT, FINISH_AT = 0, 8, 16, 24
 MTIP = 1 << 7
-MOST_ROWS = 100_000
+MOST_ROWS = 200_000
 FIRST_ORDER = (1 << 64) - 1000  # so that the index passes 2^64
 IDENTITY = {"mvendorid": 0x5EA, "marchid": 0x8000000000000123, "mimpid": 0x20240101, "mhartid": 0, "mconfigptr": 0}
 
@@ -85,14 +88,14 @@ class PlayedCore(Core):
         self.asked = True
         return self.noise.one_in(1)
 
-    def device_load(self, address, length):
+    def device_load(self, address, place, length):
         self.asked = True
-        if address == DEVICES.start + LINES_AT:
+        if place == DEVICES.start + LINES_AT:
             return self.level & ((1 << 8 * length) - 1)
         return self.noise.bits(8 * length)
 
-    def device_store(self, address, length, value):
-        at = address - DEVICES.start
+    def device_store(self, place, length, value):
+        at = place - DEVICES.start
         if at == LINES_AT:
             self.level, self.timer = value & LINES, None
         elif at == TIMER_AT:
@@ -109,6 +112,7 @@ class Show:
     def __init__(self, noise):
         self.noise = noise
         self.fields = {}
+        self.place = None  # of the access, whatever mem_addr shows
 
     def garbage(self, column):
         """Anything that fits the column, and often 0."""
@@ -154,12 +158,13 @@ class Show:
             if not retired.trap:
                 self.fields["mem_wmask"] = 0
             return
+        self.place = access.place
         # A core shows the access's own address, that of its doubleword, or another one not far before.
         any_of_them = self.noise.bits(8) % (9 - access.length)
         behind = (0, 0, access.address % 8, any_of_them)[self.noise.bits(2)]
-        shown = access.address - behind & MASK
+        shown, shown_place = access.address - behind & MASK, access.place - behind & MASK
         touched, places = (1 << access.length) - 1 << behind, (1 << 8 * access.length) - 1 << 8 * behind
-        self.fields |= {"mem_addr": shown, "mem_paddr": shown, "mem_wmask": 0}
+        self.fields |= {"mem_addr": shown, "mem_paddr": shown_place, "mem_wmask": 0}
         if access.read is not None:
             self.fields["mem_rmask"] |= touched
             self.masked("mem_rdata", access.read << 8 * behind, places)
@@ -193,8 +198,8 @@ class Show:
             for column in PLAIN:
                 if column not in kept and self.noise.one_in(3):
                     self.fields[column] = None
-            if self.fields["mem_addr"] is None:  # which says where mem_paddr begins
-                self.fields["mem_paddr"] = None
+            if self.fields["mem_addr"] is None and self.place is not None:  # which says where mem_paddr begins
+                self.fields["mem_paddr"] = self.place
 
     def line(self, **others):
         """The row's line, where some fields are others."""

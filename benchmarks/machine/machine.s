@@ -1,5 +1,6 @@
 # A program that goes through what M, S and U can do: exceptions, interrupts, every control and status register,
-# loads and stores with the privilege of another mode, atomics, compressed code, physical memory protection.
+# loads and stores with the privilege of another mode, atomics, compressed code, physical memory protection, and
+# translation.
 # It checks what it can see itself. machine.hex is its image, made with binutils-riscv64-unknown-elf 2.40 by
 # the commands of make.sh, which joins the files of this folder.
 #
@@ -84,6 +85,8 @@ _start:
     call    sweeps
     call    under_mprv
     call    supervisor
+    call    translation
+    call    spaces
     call    locks
     li      t0, 1
     sd      t0, FINISH(s0)

@@ -9,7 +9,8 @@ if command -v riscv64-unknown-elf-as >/dev/null; then
     riscv64-unknown-elf-as -march=rv64imac_zicsr_zifencei -mpriv-spec=1.12 \
         -o "$folder/machine.o" "$here"/machine.s "$here"/exceptions.s "$here"/registers.s \
         "$here"/interrupts.s "$here"/modes.s "$here"/code.s \
-        "$here"/protection.s "$here"/supervisor.s "$here"/data.s
+        "$here"/protection.s "$here"/supervisor.s "$here"/translation.s \
+        "$here"/walks.s "$here"/spaces.s "$here"/data.s
     riscv64-unknown-elf-ld -T "$here/machine.ld" --no-relax -o "$folder/machine.elf" "$folder/machine.o"
     riscv64-unknown-elf-objcopy -O verilog "$folder/machine.elf" "$folder/machine.text"
     tr -d '\r' <"$folder/machine.text" >"$folder/image"

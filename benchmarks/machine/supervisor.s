@@ -500,7 +500,7 @@ written_by_s:
     holds   sie, 0x22
     holds   sip, 2
     holds   sstatus, 0x2000c0120
-    faults  2, csrr a2, satp
+    passes  csrr a2, satp
     back
 
 # Interrupts that S takes.
