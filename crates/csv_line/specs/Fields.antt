@@ -1,6 +1,6 @@
 -- The fields of one line of comma-separated values.
 use Rattle.std.specs.Prelude.{ℕ, ◌-◌, Bool, ◌||◌, ◌==◌, List, [], length, take, drop, map, Option, Some, None}
-use Rattle.std.specs.List.{prefix_len, suffix_len}
+use Rattle.std.specs.List.{list_any, prefix_len, suffix_len}
 use Rattle.csv.specs.Machine.{Read, next_record}
 use Rattle.csv.specs.Reading.{default_config, strip_bom}
 use Rattle.csv.specs.Records.{fields_of}
@@ -36,3 +36,7 @@ fields_of_line line =
 -- a record's fields, each trimmed
 abbrev pub trimmed_fields : Inside → List (List ℕ)
 trimmed_fields fields = map trimmed_of (fields_of fields.record)
+
+-- a carriage return stands in the line
+abbrev pub has_return_in : List ℕ → Bool
+has_return_in line = list_any (λ byte. byte == 13) line

@@ -1,1 +1,4 @@
 pub mod Fields
+pub mod Next
+pub mod SharedLines
+pub mod Readers

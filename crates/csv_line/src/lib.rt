@@ -1,13 +1,18 @@
-//! The fields of one line of comma-separated values. The bytes of a line go in; its fields come out
-//! in order, less the spaces and tabs at their ends, by specs/Fields.antt, which stands on what the
-//! crate `csv` defines of its default dialect. No other standard is followed: RFC 4180 allows line
-//! feeds inside quotes, and a line has none.
+//! The fields of lines of comma-separated values. The bytes of a line go in; its fields come out in
+//! order, less the spaces and tabs at their ends, by specs/Fields.antt, which stands on what the
+//! crate `csv` defines of its default dialect. `line_fields` takes one line, `LineReader` a text of
+//! many (specs/Next.antt), with the same fields. No other standard is followed: RFC 4180 allows
+//! line feeds inside quotes, and a line has none.
 #![tactic(auto)]
 
 ghost use Rattle.std.specs.Prelude.{◌≡◌, ◌↔◌, List, ℕ, [], length, slice_get, option_map, IfOk, IsTrue};
 ghost use Rattle.csv_line.specs.Fields.{fields_of_line, trimmed_start_of, trimmed_end_of, trimmed_of};
 
+mod first_line;
+mod line_reader;
+
 use csv::{ByteRecord, ReaderBuilder};
+pub use line_reader::{LineRead, LineReader};
 use std::alloc::{AllocError, Global};
 use std::marker::Model;
 
@@ -48,6 +53,15 @@ pub fn line_fields(alloc: Global, line: &[u8]) -> Result<Fields, AllocError>
 }
 
 impl Fields {
+    /// No fields: a place for those of a line.
+    pub fn new(alloc: Global) -> Fields
+        ensures { result ≡ [] }
+    {
+        Fields {
+            record: ByteRecord::new(alloc),
+        }
+    }
+
     /// How many fields there are.
     pub fn len(&self) -> usize
         ensures { result ≡ length self.now }

@@ -1,0 +1,15 @@
+use Rattle.std.proofs.lemmas.Result.{on_ok_weaker}
+use Rattle.csv.specs.Records.{fields_of}
+use Rattle.csv_line.proofs.Readers.{stands_on}
+use Rattle.csv_line.proofs.line_reader.read_on.Goals as goal
+
+pub returns : goal.returns
+returns c =
+    on_ok_weaker c.taken.result
+    (λ is text line rest stands shared.
+    let read = c.read_byte_record.ensures in
+    stands_on text line rest (fields_of c.read_byte_record.new.row) c.args.reader.now c.read_byte_record.new.self stands shared
+    (rw is at read.reads stands.trim stands.ready)
+    (rw is at read.flexible)
+    (rw is at read.ready stands.trim))
+    c.taken.ensures

@@ -1,0 +1,190 @@
+//! The first line of a text, and whether one reader of `csv` can serve it among others.
+
+ghost use Rattle.std.specs.Prelude.{◌≡◌, ◌≢◌, ◌<◌, ◌≤◌, ◌∷◌, ℕ, length, IsTrue, take, slice_index, false};
+ghost use Rattle.std.specs.List.{All};
+ghost use Rattle.line_text.specs.Lines.{lines_in, IsLine, line_feed};
+ghost use Rattle.csv.specs.Machine.{step};
+ghost use Rattle.csv.specs.Reading.{default_config};
+ghost use Rattle.csv.specs.declared.parser.State.TheVariants.{StartField, InQuoted};
+ghost use Rattle.csv_line.specs.Fields.{has_return_in};
+ghost use Rattle.csv_line.specs.SharedLines.{EndsAt, IsPlain, IsUnmarked, IsShareable, IsShared, state_after, state_of, EndsNoRecord};
+
+use memchr::{memchr, memchr3};
+
+/// The first line of a text.
+#[derive(Clone, Copy)]
+pub struct FirstLine<'t> {
+    /// Its bytes, less the line feed.
+    pub line: &'t [u8],
+    /// What follows the line feed.
+    pub rest: &'t [u8],
+    /// Whether a carriage return stands in it.
+    pub has_return: bool,
+    /// Whether a reader that stands at the text reads from it what it would read from the line
+    /// alone, and stands at the rest then.
+    pub is_shared: bool,
+}
+
+/// The first line of a text that has one.
+pub fn first_line(text: &[u8]) -> FirstLine<'_>
+    requires { 0 < length text.now }
+    ensures lines { lines_in text.now ≡ result.line.now ∷ lines_in result.rest.now }
+    ensures returns { result.has_return ≡ has_return_in result.line.now }
+    ensures shared { IsTrue result.is_shared
+        → IsShared text.now result.line.now result.rest.now }
+{
+    match memchr3(b'"', b'\r', b'\n', text) {
+        None => last_line(text),
+        Some(place) => {
+            if text[place] == b'\n' {
+                plain_line(text, place)
+            } else {
+                other_line(text)
+            }
+        }
+    }
+}
+
+/// The line that ends at a line feed, with no quote and no carriage return in it.
+fn plain_line(text: &[u8], end: usize) -> FirstLine<'_>
+    requires within { end < length text.now }
+    requires feed { slice_index text.now end ≡ line_feed }
+    requires plain { All IsPlain (take end text.now) }
+    ensures lines { lines_in text.now ≡ result.line.now ∷ lines_in result.rest.now }
+    ensures returns { result.has_return ≡ has_return_in result.line.now }
+    ensures shared { IsTrue result.is_shared
+        → IsShared text.now result.line.now result.rest.now }
+{
+    let is_shared = is_unmarked(&text[..end]);
+    ended_line(text, end, false, is_shared)
+}
+
+/// The first line of a text in which a quote or a carriage return stands.
+fn other_line(text: &[u8]) -> FirstLine<'_>
+    requires { 0 < length text.now }
+    ensures lines { lines_in text.now ≡ result.line.now ∷ lines_in result.rest.now }
+    ensures returns { result.has_return ≡ has_return_in result.line.now }
+    ensures shared { IsTrue result.is_shared
+        → IsShared text.now result.line.now result.rest.now }
+{
+    match memchr(b'\n', text) {
+        None => last_line(text),
+        Some(end) => {
+            let line = &text[..end];
+            let has_return = returns_in(line);
+            let is_shared = is_shareable(line, has_return);
+            ended_line(text, end, has_return, is_shared)
+        }
+    }
+}
+
+/// A text that is one line without a line feed.
+fn last_line(text: &[u8]) -> FirstLine<'_>
+    requires some { 0 < length text.now }
+    requires line { IsLine text.now }
+    ensures lines { lines_in text.now ≡ result.line.now ∷ lines_in result.rest.now }
+    ensures returns { result.has_return ≡ has_return_in result.line.now }
+    ensures shared { result.is_shared ≡ false }
+{
+    FirstLine {
+        line: text,
+        rest: &text[text.len()..],
+        has_return: returns_in(text),
+        is_shared: false,
+    }
+}
+
+/// The line that ends at a line feed.
+fn ended_line(text: &[u8], end: usize, has_return: bool, is_shared: bool) -> FirstLine<'_>
+    requires ended { EndsAt text.now end }
+    requires returns { has_return ≡ has_return_in (take end text.now) }
+    requires shareable { IsTrue is_shared → IsShareable (take end text.now) }
+    ensures lines { lines_in text.now ≡ result.line.now ∷ lines_in result.rest.now }
+    ensures returns { result.has_return ≡ has_return_in result.line.now }
+    ensures shared { IsTrue result.is_shared
+        → IsShared text.now result.line.now result.rest.now }
+{
+    FirstLine {
+        line: &text[..end],
+        rest: &text[end + 1..],
+        has_return,
+        is_shared,
+    }
+}
+
+/// Whether a carriage return stands in the line.
+fn returns_in(line: &[u8]) -> bool
+    ensures { result ≡ has_return_in line.now }
+{
+    memchr(b'\r', line).is_some()
+}
+
+/// Whether one reader can serve the line among others.
+fn is_shareable(line: &[u8], has_return: bool) -> bool
+    requires line { IsLine line.now }
+    requires returns { has_return ≡ has_return_in line.now }
+    ensures { IsTrue result → IsShareable line.now }
+{
+    if has_return || !is_unmarked(line) {
+        return false;
+    }
+    closes_quotes(line)
+}
+
+/// Whether the line has a first byte, and no byte order mark begins with it.
+fn is_unmarked(line: &[u8]) -> bool
+    ensures { IsTrue result → IsUnmarked line.now }
+{
+    match line {
+        [] => false,
+        [first, ..] => *first != 0xef,
+    }
+}
+
+/// Where a field of a record stands.
+#[derive(Clone, Copy)]
+enum Place {
+    /// At its start.
+    Start,
+    /// Outside quotes, where a quote is a byte.
+    Plain,
+    /// Inside quotes.
+    Quoted,
+    /// Behind a quote that closes the field, or is the first of two that stand for one.
+    Closed,
+}
+
+/// Whether all quotes that open a field are closed.
+fn closes_quotes(line: &[u8]) -> bool
+    requires { All EndsNoRecord line.now }
+    ensures { IsTrue result → state_after StartField line.now ≢ InQuoted }
+{
+    let mut place = Place::Start;
+    'bytes: for byte in line {
+        place = next_place(place, *byte);
+    }
+    is_outside(place)
+}
+
+/// Whether it is outside quotes.
+fn is_outside(place: Place) -> bool
+    ensures { IsTrue result → state_of place ≢ InQuoted }
+{
+    match place {
+        Place::Quoted => false,
+        Place::Start | Place::Plain | Place::Closed => true,
+    }
+}
+
+/// Where a field stands after one more byte.
+fn next_place(place: Place, byte: u8) -> Place
+    ensures { EndsNoRecord byte → state_of result ≡ (step default_config (state_of place) byte).0 }
+{
+    match (place, byte) {
+        (Place::Quoted, b'"') => Place::Closed,
+        (Place::Quoted, _) => Place::Quoted,
+        (Place::Start | Place::Closed, b'"') => Place::Quoted,
+        (_, b',') => Place::Start,
+        _ => Place::Plain,
+    }
+}

@@ -1,0 +1,7 @@
+use Rattle.std.proofs.Common.{◌∙◌, ap, length}
+use Rattle.line_text.proofs.Texts.{laid_out-length}
+use Rattle.line_text.proofs.lines.Lines.len.Goals as goal
+
+pub returns : goal.returns
+returns c =
+    c.len.ensures ∙ c.self.inside.ends.ok.0 ∙ laid_out-length _ _ c.self.invariant ∙ ap length c.self.view_is
