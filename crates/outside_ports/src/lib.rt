@@ -4,6 +4,7 @@
 //! of a file by specs/Front.antt. The ports in memory are for tests. No standard is followed here.
 #![tactic(auto)]
 
+mod drip_shelf;
 mod fail_shelf;
 mod fail_sink;
 mod failure;
@@ -15,6 +16,7 @@ mod mem_sink;
 mod shelf;
 mod sink;
 
+pub use drip_shelf::DripShelf;
 pub use fail_shelf::FailShelf;
 pub use fail_sink::FailSink;
 pub use failure::Failed;

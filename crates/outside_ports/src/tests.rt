@@ -2,17 +2,17 @@ use super::*;
 use std::alloc::{AllocError, Global};
 use std::test::Fail;
 
-fn one_file(alloc: Global) -> Result<MemShelf, AllocError> {
+fn one_file(alloc: Global) -> Result<Vec<NamedFile>, AllocError> {
     let mut files = Vec::new(alloc);
     let name = String::from_str(alloc, "t")?;
     let bytes = Vec::from_slice(alloc, b"abc")?;
     files.push(NamedFile { name, bytes })?;
-    Ok(MemShelf::new(files))
+    Ok(files)
 }
 
 #[test]
 fn reads_by_place(rt: HostRuntime) -> Result<(), Fail> {
-    let mut shelf = one_file(rt.alloc())?;
+    let mut shelf = MemShelf::new(one_file(rt.alloc())?);
     let mut two = [0u8; 2];
     assert_eq!(rt; shelf.read("t", 0, &mut two), Ok(2));
     assert_eq!(rt; two, [b'a', b'b']);
@@ -26,9 +26,24 @@ fn reads_by_place(rt: HostRuntime) -> Result<(), Fail> {
 }
 
 #[test]
+fn gives_so_many_bytes(rt: HostRuntime) -> Result<(), Fail> {
+    let mut shelf = DripShelf::new(one_file(rt.alloc())?, 2);
+    let mut three = [0u8; 3];
+    assert_eq!(rt; shelf.read("t", 0, &mut three), Ok(2));
+    assert_eq!(rt; three, [b'a', b'b', 0]);
+    assert_eq!(rt; shelf.read("t", 2, &mut three), Ok(1));
+    assert_eq!(rt; three, [b'c', b'b', 0]);
+    assert_eq!(rt; shelf.read("t", 3, &mut three), Ok(0));
+    assert_eq!(rt; shelf.read("t", 0, &mut three[..1]), Ok(1));
+    assert_eq!(rt; shelf.read("i", 0, &mut three), Err(Failed));
+    assert_eq!(rt; (shelf.shelf.faults, shelf.shelf.misses), (1, 1));
+    Ok(())
+}
+
+#[test]
 fn fails_where_listed(rt: HostRuntime) -> Result<(), Fail> {
     let failing = Vec::from_slice(rt.alloc(), &[2, 3])?;
-    let mut shelf = FailShelf::new(one_file(rt.alloc())?, failing);
+    let mut shelf = FailShelf::new(MemShelf::new(one_file(rt.alloc())?), failing);
     let mut two = [0u8; 2];
     assert_eq!(rt; shelf.read("t", 0, &mut two), Ok(2));
     assert_eq!(rt; shelf.read("t", 0, &mut two), Err(Failed));
