@@ -1,8 +1,10 @@
 -- Going over the columns and the fields of a line, one after the other.
-use Rattle.std.proofs.Common.{◌≡◌, ◌∙◌, sym, ap, refl, ℕ, zero, suc, ◌+◌, ◌<◌, ◌≤◌, Bool, List, [], ◌∷◌, ◌++◌, ◌==◌, true, false, length, take, drop, map, get_or, slice_get, Option, Some, None, Result, Ok, Err, add-one, arith}
+use Rattle.std.proofs.Common.{◌≡◌, ◌∙◌, sym, ap, refl, ℕ, zero, suc, ◌+◌, ◌<◌, ◌≤◌, Bool, List, [], ◌∷◌, ◌++◌, ◌==◌, true, false, length, take, drop, map, get_or, slice_get, cond, Option, Some, None, Result, Ok, Err, add-one, arith}
 use Rattle.std.specs.Prelude.{if◌then◌else◌}
+use Rattle.std.specs.List.{position, position_from}
 use Rattle.std.proofs.Math.Path.{fun_ext}
 use Rattle.std.proofs.lemmas.List.{map-append, take_more}
+use Rattle.std.proofs.lemmas.Iterator.Adapters.{position_from-zero}
 use Rattle.std.proofs.lemmas.Option.{get_or_from_slice_get}
 use Rattle.std.proofs.Math.Seq.{drop-cons, take-suc}
 use Rattle.std.proofs.Math.ListN.{drop_of_length-le}
@@ -11,8 +13,9 @@ use Rattle.hart_words.specs.declared.signal.Signal.TheVariants.{Valid}
 use Rattle.hart_words.specs.Results.{◌>>=◌}
 use Rattle.hart_words.specs.Signals.{Shown, index_of}
 use Rattle.std.specs.Option.{option_or}
+use Rattle.csv_line.specs.Fields.{fields_of_line, has_return_in}
 use Rattle.rvfi_rows.specs.Columns.{ColumnList, stands_in, repeated_after, is_of}
-use Rattle.rvfi_rows.specs.Rows.{alone, cell_of, cells_of, field_shown, nothing, shown_then, valid_of, with_shown}
+use Rattle.rvfi_rows.specs.Rows.{alone, cell_of, cells_of, field_shown, nothing, row_of_fields, row_of_line, shown_then, valid_of, with_shown}
 use Rattle.rvfi_rows.specs.declared.fault.RowFault.{RowFault}
 
 -- what was shown before, and what the rest shows
@@ -37,6 +40,11 @@ drop_gone : {A : Type 0} (xs : List A) (i : ℕ) → None ≡ slice_get xs i →
 drop_gone [] i is = drop_past [] i (omega arith)
 drop_gone (y ∷ xs) zero is = absurd cc
 drop_gone (y ∷ xs) (suc i) is = drop_gone xs i is
+
+past : {A : Type 0} (xs : List A) (i : ℕ) → None ≡ slice_get xs i → length xs ≤ i
+past [] i is = omega arith
+past (y ∷ xs) zero is = absurd cc
+past (y ∷ xs) (suc i) is = let more = past xs i is in omega (arith, more)
 
 -- ---- what the fields of a header name
 
@@ -66,25 +74,48 @@ repeated-end columns i wanted le so_far = rw (drop_past columns i le) at so_far
 
 -- ---- the column `valid`
 
-pub valid-next : (columns : ColumnList) (fields : List (List ℕ)) (i : ℕ) (field : List ℕ) (here : Bool) (wanted : Result (Option ℕ) RowFault) → i < length columns → Some field ≡ slice_get fields i → here ≡ is_of Valid (get_or columns i None)
-    → valid_of (drop i columns) (drop i fields) ≡ wanted
-    → (if here then cell_of Valid field else valid_of (drop (i + 1) columns) (drop (i + 1) fields)) ≡ wanted
-unfolding valid_of
-valid-next columns fields i field here wanted lt is test so_far = rw test (rw (drop_at columns i None lt, drop_found fields i field is) at so_far)
+-- what a field gives it, where there is one
+abbrev pub by_field : Option (List ℕ) → Result (Option ℕ) RowFault
+by_field None = Ok None
+by_field (Some field) = cell_of Valid field
+
+-- what the field at a place gives it
+abbrev pub by_place : Option ℕ → List (List ℕ) → Result (Option ℕ) RowFault
+by_place None fields = Ok None
+by_place (Some place) fields = by_field (slice_get fields place)
 
 no_fields : (columns : ColumnList) → valid_of columns [] ≡ Ok None
 unfolding valid_of
 no_fields [] = refl
 no_fields (column ∷ columns) = refl
 
-pub valid-gone : (columns : ColumnList) (fields : List (List ℕ)) (i : ℕ) (wanted : Result (Option ℕ) RowFault) → None ≡ slice_get fields i
-    → valid_of (drop i columns) (drop i fields) ≡ wanted → Ok None ≡ wanted
-valid-gone columns fields i wanted is so_far = sym (no_fields (drop i columns)) ∙ (rw (drop_gone fields i is) at so_far)
+-- at one column: it is the one, or the rest tells
+choose : (test : Bool) (all : List (List ℕ)) (i : ℕ) (place : Option ℕ) (here rest : Result (Option ℕ) RowFault) → by_field (slice_get all i) ≡ here → by_place place all ≡ rest
+    → by_place (cond test (Some i) place) all ≡ (if test then here else rest)
+choose true all i place here rest is more = is
+choose false all i place here rest is more = more
 
-pub valid-end : (columns : ColumnList) (fields : List (List ℕ)) (i : ℕ) (wanted : Result (Option ℕ) RowFault) → length columns ≤ i
-    → valid_of (drop i columns) (drop i fields) ≡ wanted → Ok None ≡ wanted
+same : (test : Bool) (value : Result (Option ℕ) RowFault) → (if test then value else value) ≡ value
+same true value = refl
+same false value = refl
+
+-- from a place on
+valid_from : (columns : ColumnList) (all : List (List ℕ)) (i : ℕ) → by_place (position_from (is_of Valid) i columns) all ≡ valid_of columns (drop i all)
 unfolding valid_of
-valid-end columns fields i wanted le so_far = rw (drop_past columns i le) at so_far
+valid_from [] all i = refl
+valid_from (column ∷ columns) all i = by (slice_get all i) refl (valid_from columns all (i + 1))
+  where
+    by : (found : Option (List ℕ)) → found ≡ slice_get all i → by_place (position_from (is_of Valid) (i + 1) columns) all ≡ valid_of columns (drop (i + 1) all)
+        → by_place (cond (is_of Valid column) (Some i) (position_from (is_of Valid) (i + 1) columns)) all ≡ valid_of (column ∷ columns) (drop i all)
+    by (Some field) at rest =
+        rw (drop_found all i field at) (choose (is_of Valid column) all i _ (cell_of Valid field) _ (ap by_field (sym at)) rest)
+    by None at rest =
+        let none : drop (i + 1) all ≡ [] = drop_past all (i + 1) (omega (arith, past all i at)) in
+        rw (drop_gone all i at) (choose (is_of Valid column) all i _ (Ok None) (Ok None) (ap by_field (sym at)) (rest ∙ ap (valid_of columns) none ∙ no_fields columns) ∙ same (is_of Valid column) (Ok None))
+
+-- it is the field at the first place of the column
+pub valid-at : (columns : ColumnList) (fields : List (List ℕ)) → by_place (position (is_of Valid) columns) fields ≡ valid_of columns fields
+valid-at columns fields = ap (λ place. by_place place fields) (position_from-zero (is_of Valid) columns) ∙ valid_from columns fields 0
 
 -- ---- all cells
 
@@ -184,3 +215,9 @@ cells-start columns fields shown is = rw is (alone_front (cells_of columns field
     alone_front : (rest : Result Shown RowFault) → with_front nothing rest ≡ rest
     alone_front (Ok row) = ap (λ (cells : Shown). Ok cells) (fun_ext (λ signal. alone_cell (row signal)))
     alone_front (Err fault) = refl
+
+-- ---- the row of a line
+
+pub of_line : (columns : ColumnList) (line : List ℕ) (has : Bool) (fields : List (List ℕ)) → has ≡ has_return_in line → fields ≡ fields_of_line line → row_of_fields columns has fields ≡ row_of_line columns line
+unfolding row_of_line
+of_line columns line has fields is are = rw (is, are) refl

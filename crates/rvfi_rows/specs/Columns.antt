@@ -7,7 +7,7 @@ use Rattle.hart_words.specs.SignalNames.{name_of}
 use Rattle.hart_words.specs.declared.signal.TheConstants.{SIGNALS}
 use Rattle.hart_words.specs.declared.signal.Signal.{Signal}
 use Rattle.hart_words.specs.declared.signal.Signal.TheVariants.{Insn, PcRdata}
-use Rattle.csv_line.specs.Fields.{fields_of_line}
+use Rattle.csv_line.specs.Fields.{fields_of_line, has_return_in}
 use Rattle.hart_words.specs.Results.{◌>>◌, refuse_if}
 use Rattle.rvfi_rows.specs.declared.fault.HeaderFault.{HeaderFault}
 use Rattle.rvfi_rows.specs.declared.fault.HeaderFault.TheVariants.{StrayReturn, Twice, NoColumn}
@@ -54,14 +54,10 @@ abbrev pub refuse_twice : Option Signal → Result (Unit {0}) HeaderFault
 refuse_twice None = Ok tt
 refuse_twice (Some signal) = Err (Twice signal)
 
--- a carriage return stands in the line
-abbrev pub has_return : List ℕ → Bool
-has_return line = list_any (λ byte. byte == 13) line
-
 -- the columns of a header, or its first fault
 unfoldable pub header_columns : List ℕ → Result ColumnList HeaderFault
 header_columns line = do
-  refuse_if (has_return line) StrayReturn
+  refuse_if (has_return_in line) StrayReturn
   let columns = map column_of (fields_of_line line)
   refuse_twice (repeated_after [] columns)
   refuse_if (not (has_column Insn columns)) (NoColumn Insn)

@@ -1,4 +1,6 @@
 pub mod Columns
 pub mod Cells
 pub mod Rows
+pub mod Kept
+pub mod Readings
 pub mod Window

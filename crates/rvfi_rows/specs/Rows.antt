@@ -1,5 +1,5 @@
 -- The rows of a trace, as its lines show them.
-use Rattle.std.specs.Prelude.{◌≡◌, ℕ, Bool, true, false, ◌==◌, ◌&&◌, not, List, [], ◌∷◌, length, Option, Some, None, Result, Ok, Err, if◌then◌else◌}
+use Rattle.std.specs.Prelude.{◌≡◌, ℕ, Bool, true, false, ◌==◌, ◌&&◌, not, List, [], ◌∷◌, length, map, Option, Some, None, Result, Ok, Err, if◌then◌else◌}
 use Rattle.std.specs.List.{list_any}
 use Rattle.std.specs.Option.{is_some, option_or}
 use Rattle.hart_words.specs.Numbers.{number_within}
@@ -9,9 +9,9 @@ use Rattle.hart_words.specs.declared.numbers.NumberFault.TheVariants as number
 use Rattle.hart_words.specs.declared.signal.Signal.{Signal}
 use Rattle.hart_words.specs.declared.signal.Signal.TheVariants.{Valid, Insn, PcRdata, Csr}
 use Rattle.hart_words.specs.declared.signal.TheConstants.{SIGNALS}
-use Rattle.csv_line.specs.Fields.{fields_of_line}
+use Rattle.csv_line.specs.Fields.{fields_of_line, has_return_in}
 use Rattle.hart_words.specs.Results.{◌>>=◌, ◌>>◌, refuse_if}
-use Rattle.rvfi_rows.specs.Columns.{ColumnList, is_of, has_return}
+use Rattle.rvfi_rows.specs.Columns.{ColumnList, is_of}
 use Rattle.rvfi_rows.specs.declared.fault.RowFault.{RowFault}
 use Rattle.rvfi_rows.specs.declared.fault.RowFault.TheVariants.{StrayReturn, FieldCount, Empty, NotNumber, TooWide}
 use Rattle.rvfi_rows.specs.declared.fault.RowError.{RowError}
@@ -93,13 +93,16 @@ row_from columns fields = do
   valid ← valid_of columns fields
   if is_invalid valid then Ok None else (cells_of columns fields >>= λ row. Ok (Some row))
 
--- the row of a line, or its first fault
-unfoldable pub row_of_line : ColumnList → List ℕ → Result (Option Shown) RowFault
-row_of_line columns line = do
-  refuse_if (has_return line) StrayReturn
-  let fields = fields_of_line line
+-- the row of a line's fields, or its first fault, where a carriage return stands in the line or not
+unfoldable pub row_of_fields : ColumnList → Bool → List (List ℕ) → Result (Option Shown) RowFault
+row_of_fields columns has_return fields = do
+  refuse_if has_return StrayReturn
   refuse_if (not (length fields == length columns)) FieldCount
   row_from columns fields
+
+-- the row of a line
+unfoldable pub row_of_line : ColumnList → List ℕ → Result (Option Shown) RowFault
+row_of_line columns line = row_of_fields columns (has_return_in line) (fields_of_line line)
 
 -- the fault that an error stands for
 abbrev pub row_fault : RowError → Option RowFault
@@ -110,3 +113,22 @@ row_fault (errors.Fault fault) = Some fault
 abbrev pub Adds : Shown → Shown → Result (Unit {0}) RowFault → Result Shown RowFault → Type 0
 Adds before now (Ok done) shown = (shown >>= λ more. Ok (shown_then before more)) ≡ Ok now
 Adds before now (Err fault) shown = shown ≡ Err fault
+
+-- what is shown, where a row is valid
+abbrev pub shown_if : Shown → Bool → Option Shown
+shown_if shown true = Some shown
+shown_if shown false = None
+
+-- what a row reads as: what it shows, nothing where it is not valid, or why it is refused
+abbrev pub RowReading : Type 0
+RowReading = Result (Option Shown) RowFault
+
+-- what lines read as under these columns
+abbrev pub rows_of : ColumnList → List (List ℕ) → List RowReading
+rows_of columns lines = map (row_of_line columns) lines
+
+-- the signals of the known columns
+unfoldable pub signals_of : ColumnList → List Signal
+signals_of [] = []
+signals_of (None ∷ columns) = signals_of columns
+signals_of (Some signal ∷ columns) = signal ∷ signals_of columns

@@ -3,9 +3,9 @@
 ghost use Rattle.std.specs.Prelude.{◌≡◌, ℕ, List, option_map};
 ghost use Rattle.hart_words.specs.Results.{Gives, seen_by};
 ghost use Rattle.rvfi_rows.specs.Cells.{shown_in};
-ghost use Rattle.rvfi_rows.specs.Rows.{cell_of, cells_of, is_needed, row_fault, row_from, row_of_line, valid_of, value_or_fault};
+ghost use Rattle.rvfi_rows.specs.Rows.{cell_of, cells_of, is_needed, row_fault, row_from, row_of_fields, row_of_line, shown_if, valid_of, value_or_fault};
 
-use crate::columns::{Columns, has_carriage_return, is_column_of};
+use crate::columns::{Columns, has_carriage_return};
 use crate::fault::{RowError, RowFault};
 use crate::row::Row;
 use csv_line::{Fields, line_fields};
@@ -19,60 +19,87 @@ use std::alloc::Global;
 /// The faults, the first that holds: a carriage return stands in the line; the fields are not as
 /// many as the columns; `valid` is no number or too wide; and for the known columns from the left,
 /// `insn` or `pc_rdata` is empty, or the field is no number or too wide.
-#[tactic(auto, unfolding(crate::specs::Rows::row_of_line))]
 pub fn read_row(alloc: Global, columns: &Columns, line: &[u8]) -> Result<Option<Row>, RowError>
     ensures { Gives row_fault (option_map shown_in) result (row_of_line columns.now line.now) }
 {
-    if has_carriage_return(line) {
-        return Err(RowError::Fault(RowFault::StrayReturn));
-    }
     let fields = line_fields(alloc, line)?;
-    let columns = columns.as_slice();
-    if fields.len() != columns.len() {
-        return Err(RowError::Fault(RowFault::FieldCount));
-    }
-    Ok(row_of_fields(columns, &fields)?)
+    Ok(row_of_fields(columns, has_carriage_return(line), &fields)?)
 }
 
+/// The row of a line's fields.
+fn row_of_fields(
+    columns: &Columns,
+    has_return: bool,
+    fields: &Fields,
+) -> Result<Option<Row>, RowFault>
+    ensures { seen_by (option_map shown_in) result
+        ≡ row_of_fields columns.now has_return fields.now }
+{
+    let mut row = Row::empty();
+    if fill_row(columns, has_return, fields, &mut row)? {
+        Ok(Some(row))
+    } else {
+        Ok(None)
+    }
+}
+
+/// Has `row` show what a line shows by its fields, and says whether the line is valid.
+#[tactic(auto, unfolding(crate::specs::Rows::row_of_fields))]
+pub(crate) fn fill_row(
+    columns: &Columns,
+    has_return: bool,
+    fields: &Fields,
+    row: &mut Row,
+) -> Result<bool, RowFault>
+    ensures { seen_by (shown_if (shown_in row.new)) result
+        ≡ row_of_fields columns.now has_return fields.now }
+{
+    if has_return {
+        return Err(RowFault::StrayReturn);
+    }
+    if fields.len() != columns.as_slice().len() {
+        return Err(RowFault::FieldCount);
+    }
+    fill_valid(columns, fields, row)
+}
+
+/// The same of fields that are as many as the columns, in a line with no carriage return.
 #[tactic(auto, unfolding(crate::specs::Rows::row_from))]
-fn row_of_fields(columns: &[Option<Signal>], fields: &Fields) -> Result<Option<Row>, RowFault>
-    ensures { seen_by (option_map shown_in) result ≡ row_from columns.now fields.now }
+fn fill_valid(columns: &Columns, fields: &Fields, row: &mut Row) -> Result<bool, RowFault>
+    ensures { seen_by (shown_if (shown_in row.new)) result ≡ row_from columns.now fields.now }
 {
     if valid_shown(columns, fields)? == Some(0) {
-        return Ok(None);
+        return Ok(false);
     }
-    Ok(Some(cells(columns, fields)?))
+    fill_cells(columns.as_slice(), fields, row)?;
+    Ok(true)
 }
 
 /// What the column `valid` shows, where there is one.
-fn valid_shown(columns: &[Option<Signal>], fields: &Fields) -> Result<Option<u64>, RowFault>
+fn valid_shown(columns: &Columns, fields: &Fields) -> Result<Option<u64>, RowFault>
     ensures { result ≡ valid_of columns.now fields.now }
 {
-    for index in 0..columns.len() {
-        match fields.get(index) {
-            None => return Ok(None),
-            Some(field) => {
-                if is_column_of(Signal::Valid, columns[index]) {
-                    return cell(Signal::Valid, field);
-                }
-            }
-        }
+    match columns.valid() {
+        None => Ok(None),
+        Some(place) => match fields.get(place) {
+            None => Ok(None),
+            Some(field) => cell(Signal::Valid, field),
+        },
     }
-    Ok(None)
 }
 
-/// All the known columns' cells.
-fn cells(columns: &[Option<Signal>], fields: &Fields) -> Result<Row, RowFault>
-    ensures { seen_by shown_in result ≡ cells_of columns.now fields.now }
+/// Has `row` show all the known columns' cells.
+fn fill_cells(columns: &[Option<Signal>], fields: &Fields, row: &mut Row) -> Result<(), RowFault>
+    ensures { seen_by (λ done. shown_in row.new) result ≡ cells_of columns.now fields.now }
 {
-    let mut row = Row::empty();
+    row.clear();
     for index in 0..columns.len() {
         match fields.get(index) {
-            None => return Ok(row),
+            None => return Ok(()),
             Some(field) => row.add(columns[index], field)?,
         }
     }
-    Ok(row)
+    Ok(())
 }
 
 /// What a field shows of its column's signal.

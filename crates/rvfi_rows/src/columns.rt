@@ -3,9 +3,12 @@
 ghost use Rattle.std.specs.Prelude.{◌≡◌, ℕ, List, [], find, map, option_map};
 ghost use Rattle.std.specs.Str.{bytes_eq};
 ghost use Rattle.hart_words.specs.SignalNames.{name_of};
+ghost use Rattle.std.specs.List.{position};
 ghost use Rattle.hart_words.specs.declared.signal.Signal.{Signal};
+ghost use Rattle.hart_words.specs.declared.signal.Signal.TheVariants.{Valid};
 ghost use Rattle.hart_words.specs.Results.{Gives};
-ghost use Rattle.rvfi_rows.specs.Columns.{header_columns, header_fault, column_of, signal_named, less_prefix, is_of, has_column, stands_in, repeated_after, has_return};
+ghost use Rattle.csv_line.specs.Fields.{has_return_in};
+ghost use Rattle.rvfi_rows.specs.Columns.{header_columns, header_fault, column_of, signal_named, less_prefix, is_of, has_column, stands_in, repeated_after};
 
 use crate::fault::{HeaderError, HeaderFault};
 use csv_line::{Fields, line_fields};
@@ -17,15 +20,22 @@ use std::marker::Model;
 #[derive(Debug, Drop)]
 pub struct Columns {
     signals: Vec<Option<Signal>>,
+    /// The place of the first column that shows `valid`.
+    valid: Option<usize>,
 }
 
 impl Model for Columns {
-    ghost use Rattle.std.specs.Prelude.{List, Option};
+    ghost use Rattle.std.specs.Prelude.{◌≡◌, List, Option};
+    ghost use Rattle.std.specs.List.{position};
     ghost use Rattle.hart_words.specs.declared.signal.Signal.{Signal};
+    ghost use Rattle.hart_words.specs.declared.signal.Signal.TheVariants.{Valid};
+    ghost use Rattle.rvfi_rows.specs.Columns.{is_of};
 
     ghost Value = { List (Option Signal) };
 
     ghost view = { λ columns. columns.signals.items };
+
+    ghost invariant = { λ columns. columns.valid ≡ position (is_of Valid) columns.signals.items };
 }
 
 impl Columns {
@@ -33,6 +43,13 @@ impl Columns {
         ensures { result.now ≡ self.now }
     {
         self.signals.as_slice()
+    }
+
+    /// The place of the first column that shows `valid`.
+    pub(crate) fn valid(&self) -> Option<usize>
+        ensures { result ≡ position (is_of Valid) self.now }
+    {
+        self.valid
     }
 }
 
@@ -64,7 +81,7 @@ pub fn read_header(alloc: Global, line: &[u8]) -> Result<Columns, HeaderError>
 
 /// Whether a carriage return stands in the line.
 pub(crate) fn has_carriage_return(line: &[u8]) -> bool
-    ensures { result ≡ has_return line.now }
+    ensures { result ≡ has_return_in line.now }
 {
     line.iter().any(|byte| *byte == b'\r')
 }
@@ -119,7 +136,17 @@ fn columns_named(alloc: Global, fields: &Fields) -> Result<Columns, HeaderError>
             signals.push(column_named(field))?;
         }
     }
-    Ok(Columns { signals })
+    let valid = place_of(Signal::Valid, &signals);
+    Ok(Columns { signals, valid })
+}
+
+/// The place of the first column that shows the signal.
+fn place_of(signal: Signal, columns: &[Option<Signal>]) -> Option<usize>
+    ensures { result ≡ position (is_of signal) columns.now }
+{
+    columns
+        .iter()
+        .position(|column| is_column_of(signal, *column))
 }
 
 /// The signal that a header's field names.

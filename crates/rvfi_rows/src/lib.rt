@@ -9,7 +9,10 @@ mod cells;
 mod columns;
 mod expected;
 mod fault;
+mod lines;
+mod reading;
 mod row;
+mod rows;
 mod verdict;
 mod window;
 
@@ -17,7 +20,10 @@ pub use cells::read_row;
 pub use columns::{Columns, read_header};
 pub use expected::{Accessed, Effects, Expected, Retired};
 pub use fault::{HeaderError, HeaderFault, RowError, RowFault};
+pub use lines::read_rows;
+pub use reading::Reading;
 pub use row::{FIRST_CSR, Row};
+pub use rows::Rows;
 pub use verdict::Verdict;
 pub use window::distance_in_window;
 

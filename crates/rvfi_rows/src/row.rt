@@ -1,6 +1,6 @@
 //! What a row of a trace shows.
 
-ghost use Rattle.std.specs.Prelude.{◌≡◌, ◌<◌, ◌^◌, length};
+ghost use Rattle.std.specs.Prelude.{◌≡◌, ◌≤◌, ◌<◌, ◌+◌, ◌++◌, ◌^◌, length, map, slice_index, vec_capacity, vec_len};
 
 use crate::cells::cell;
 use crate::fault::RowFault;
@@ -21,11 +21,11 @@ pub struct Row {
 }
 
 impl Row {
-    ghost use Rattle.rvfi_rows.specs.Cells.{shown_in};
+    ghost use Rattle.rvfi_rows.specs.Cells.{AreOf, shown_in, values_at, values_of, with_bits};
     ghost use Rattle.rvfi_rows.specs.Rows.{Adds, field_shown, nothing, shows_csr, with_shown};
 
     /// A row that shows nothing.
-    pub(crate) fn empty() -> Row
+    pub fn empty() -> Row
         ensures { shown_in result ≡ nothing }
     {
         Row {
@@ -54,6 +54,13 @@ impl Row {
         self.shown >> FIRST_CSR != 0
     }
 
+    /// Shows nothing.
+    pub(crate) fn clear(&mut self)
+        ensures { shown_in self.new ≡ nothing }
+    {
+        self.shown = 0;
+    }
+
     /// Shows a value of the signal, in place of the one shown before, if any.
     fn show(&mut self, signal: Signal, value: u64)
         ensures { shown_in self.new ≡ with_shown (shown_in self.old) signal value }
@@ -75,5 +82,34 @@ impl Row {
             }
         }
         Ok(())
+    }
+
+    /// The bits of the signals that are shown.
+    pub(crate) fn bits(&self) -> u128
+        ensures { result ≡ self.now.shown }
+    {
+        self.shown
+    }
+
+    /// Puts the values at these signals behind others; they mean nothing where no value is shown.
+    pub(crate) fn put_values(&self, signals: &[Signal], values: &mut Vec<u64>)
+        requires { vec_len values.old + length signals.now ≤ vec_capacity values.old }
+        ensures { values.new.items ≡ values.old.items ++ values_at self.now.values signals.now }
+    {
+        for signal in signals {
+            values.push_reserved(self.values[usize::from(signal.index())]);
+        }
+    }
+
+    /// Shows these values of signals, where their bits are set, and nothing else.
+    pub(crate) fn take_values(&mut self, bits: u128, signals: &[Signal], values: &[u64])
+        requires as_many { length values.now ≡ length signals.now }
+        requires theirs { AreOf signals.now bits }
+        ensures { shown_in self.new ≡ with_bits bits (values_of signals.now values.now) }
+    {
+        self.shown = bits;
+        for index in 0..signals.len() {
+            self.values[usize::from(signals[index].index())] = values[index];
+        }
     }
 }

@@ -1,5 +1,6 @@
 use super::*;
 use hart_words::{CsrName, CsrSide, Signal};
+use line_text::Lines;
 use std::alloc::Global;
 use std::test::Fail;
 
@@ -43,6 +44,51 @@ fn reads_rows(rt: HostRuntime) -> Result<(), Fail> {
     assert_eq!(rt; row.shown(Signal::Trap), None);
     // Nothing but the number of fields counts in a row that is not valid.
     assert!(rt; read_row(alloc, &columns, b"0x0,,,one,,9,-,2")?.is_none());
+    Ok(())
+}
+
+/// Rows that were read once show what each line shows by itself, behind a refused one too.
+#[test]
+fn keeps_rows(rt: HostRuntime) -> Result<(), Fail> {
+    let alloc = rt.alloc();
+    let columns = read_header(alloc, b"valid,note,insn,pc_rdata,csr_mepc_rdata,halt")?;
+    let mut lines = Lines::new(alloc);
+    lines.push(b"1,x,3,4,5,1")?;
+    lines.push(b",,6,7,,0")?;
+    lines.push(b"0,,,,9,")?;
+    lines.push(b"1,,8,,9,1")?;
+    lines.push(b"1,,8,9,1")?;
+    lines.push(b"1,,8,9\r,,1")?;
+    lines.push(b"\"1\",,10,11,12,")?;
+    lines.push(b"")?;
+    let rows = read_rows(alloc, &columns, &lines)?;
+    shared(&rows);
+    assert_eq!(rt; rows.len(), 8);
+    let mepc = Signal::Csr(CsrName::Mepc, CsrSide::Rdata);
+    let mut row = Row::empty();
+    for (place, insn, pc_rdata, csr, halt) in [
+        (0, 3, 4, Some(5), Some(1)),
+        (1, 6, 7, None, Some(0)),
+        (6, 10, 11, Some(12), None),
+        (0, 3, 4, Some(5), Some(1)),
+    ] {
+        assert_eq!(rt; rows.get(place, &mut row), Some(Reading::Valid));
+        assert_eq!(rt; row.shown(Signal::Insn), Some(insn));
+        assert_eq!(rt; row.shown(Signal::PcRdata), Some(pc_rdata));
+        assert_eq!(rt; row.shown(mepc), csr);
+        assert_eq!(rt; row.shown(Signal::Halt), halt);
+        assert_eq!(rt; row.shown(Signal::Order), None);
+    }
+    for (place, fault) in [
+        (3, RowFault::Empty(Signal::PcRdata)),
+        (4, RowFault::FieldCount),
+        (5, RowFault::StrayReturn),
+        (7, RowFault::FieldCount),
+    ] {
+        assert_eq!(rt; rows.get(place, &mut row), Some(Reading::Refused(fault)));
+    }
+    assert_eq!(rt; rows.get(2, &mut row), Some(Reading::Invalid));
+    assert_eq!(rt; rows.get(8, &mut row), None);
     Ok(())
 }
 

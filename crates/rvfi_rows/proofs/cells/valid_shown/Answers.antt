@@ -1,17 +1,14 @@
-use Rattle.std.proofs.Common.{◌∙◌, true, false}
-use Rattle.rvfi_rows.proofs.Steps.{valid-next, valid-gone, valid-end}
+use Rattle.std.proofs.Common.{◌∙◌, ap}
+use Rattle.rvfi_rows.proofs.Steps.{by_field, by_place, valid-at}
 use Rattle.rvfi_rows.proofs.cells.valid_shown.Goals as goal
 
 pub returns-in-None : goal.returns-in-None
-returns-in-None c = valid-gone c.args.columns.now c.args.fields.now c.loop-index.index _ c.in-None.ensures c.loop-index.invariant
+returns-in-None c = ap (λ place. by_place place c.args.fields.now) c.in-None.ensures ∙ valid-at c.args.columns.now c.args.fields.now
 
-pub returns-then-is_column_of : goal.returns-then-is_column_of
-returns-then-is_column_of c =
-    c.cell.ensures ∙ valid-next c.args.columns.now c.args.fields.now c.loop-index.index c.in-Some.field.now true _ c.loop-index-test.true c.in-Some.ensures c.if-is_column_of.ensures c.loop-index.invariant
+pub returns-in-None-get : goal.returns-in-None-get
+returns-in-None-get c =
+    ap by_field c.in-None-get.ensures ∙ ap (λ place. by_place place c.args.fields.now) c.in-Some.ensures ∙ valid-at c.args.columns.now c.args.fields.now
 
-pub loop-index-preserved : goal.loop-index-preserved
-loop-index-preserved c =
-    valid-next c.args.columns.now c.args.fields.now c.loop-index.index c.in-Some.field.now false _ c.loop-index-test.true c.in-Some.ensures c.if-is_column_of.ensures c.loop-index.invariant
-
-pub returns : goal.returns
-returns c = valid-end c.args.columns.now c.args.fields.now c.loop-index.index _ c.loop-index-test.false c.loop-index.invariant
+pub returns-in-Some-get : goal.returns-in-Some-get
+returns-in-Some-get c =
+    c.cell.ensures ∙ ap by_field c.in-Some-get.ensures ∙ ap (λ place. by_place place c.args.fields.now) c.in-Some.ensures ∙ valid-at c.args.columns.now c.args.fields.now

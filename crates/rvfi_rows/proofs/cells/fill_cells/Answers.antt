@@ -1,10 +1,10 @@
 use Rattle.std.proofs.lemmas.Result.{err_from_is_err_and}
 use Rattle.rvfi_rows.proofs.Steps.{cells-next, cells-gone, cells-end, cells-fail, cells-start}
 use Rattle.rvfi_rows.specs.Cells.{shown_in}
-use Rattle.rvfi_rows.proofs.cells.cells.Goals as goal
+use Rattle.rvfi_rows.proofs.cells.fill_cells.Goals as goal
 
 pub loop-index-init : goal.loop-index-init
-loop-index-init c = cells-start c.args.columns.now c.args.fields.now _ c.empty-row.ensures
+loop-index-init c = cells-start c.args.columns.now c.args.fields.now _ c.clear.ensures
 
 pub returns-in-None : goal.returns-in-None
 returns-in-None c = cells-gone c.args.columns.now c.args.fields.now c.loop-index.index (shown_in c.loop-index.row) _ c.in-None.ensures c.loop-index.invariant

@@ -1,0 +1,28 @@
+-- How rows are kept that were read.
+use Rattle.std.specs.Prelude.{ℕ, List, [], ◌∷◌, length, take, drop, Some, None, Ok, Err}
+use Rattle.hart_words.specs.declared.signal.Signal.{Signal}
+use Rattle.rvfi_rows.specs.declared.reading.Kept.{Kept}
+use Rattle.rvfi_rows.specs.declared.reading.Kept.TheVariants as kept
+use Rattle.rvfi_rows.specs.Cells.{AreOf, values_of, with_bits}
+use Rattle.rvfi_rows.specs.Rows.{RowReading}
+
+-- what a row reads as, by what is kept of it and its values
+abbrev pub kept_reading : List Signal → Kept → List ℕ → RowReading
+kept_reading signals kept.Invalid values = Ok None
+kept_reading signals (kept.Shown bits) values = Ok (Some (with_bits bits (values_of signals values)))
+kept_reading signals (kept.Refused fault) values = Err fault
+
+-- the same of rows, each with as many values as there are signals
+unfoldable pub kept_readings : List Signal → List Kept → List ℕ → List RowReading
+kept_readings signals [] values = []
+kept_readings signals (row ∷ rows) values = kept_reading signals row (take (length signals) values) ∷ kept_readings signals rows (drop (length signals) values)
+
+-- the bits of the signals that a row shows
+abbrev pub shown_bits : Kept → ℕ
+shown_bits kept.Invalid = 0
+shown_bits (kept.Shown bits) = bits
+shown_bits (kept.Refused fault) = 0
+
+-- a row shows none but these signals
+abbrev pub IsOf : List Signal → Kept → Type 0
+IsOf signals row = AreOf signals (shown_bits row)

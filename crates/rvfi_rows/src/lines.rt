@@ -1,0 +1,28 @@
+//! The rows of many lines.
+
+ghost use Rattle.std.specs.Prelude.{◌≡◌, IfOk};
+ghost use Rattle.rvfi_rows.specs.Rows.{rows_of};
+ghost use Rattle.rvfi_rows.specs.Readings.{rows_in};
+
+use crate::columns::Columns;
+use crate::row::Row;
+use crate::rows::Rows;
+use csv_line::{Fields, LineReader};
+use hart_words::NoMemory;
+use line_text::Lines;
+use std::alloc::Global;
+
+/// What lines read as under these columns: each as `read_row` reads it, behind one that is refused
+/// too.
+pub fn read_rows(alloc: Global, columns: &Columns, lines: &Lines) -> Result<Rows, NoMemory>
+    ensures { IfOk result (λ rows. rows_in rows ≡ rows_of columns.now lines.now) }
+{
+    let mut rows = Rows::with_room(alloc, columns.as_slice(), lines.len())?;
+    let mut reader = LineReader::new(alloc, lines.text());
+    let mut fields = Fields::new(alloc);
+    let mut row = Row::empty();
+    'lines: while let Some(read) = reader.next(&mut fields)? {
+        rows.push(columns, read.has_return, &fields, &mut row)?;
+    }
+    Ok(rows)
+}
