@@ -1,7 +1,9 @@
 -- Powers that count bytes and bits.
-use Rattle.std.proofs.Common.{◌≡◌, ℕ, zero, suc, ◌+◌, ◌*◌, ◌<◌, ◌≤◌, ◌^◌, refl, arith, lit<}
+use Rattle.std.proofs.Common.{◌≡◌, ℕ, zero, suc, ◌+◌, ◌*◌, ◌/◌, ◌<◌, ◌≤◌, ◌^◌, nat_eq, nat_lt, inl, inr, refl, arith, lit<}
 use Rattle.std.proofs.Math.Nat.{pow-le-pow_right, pow-suc}
-use Rattle.std.proofs.lemmas.Nat.{pow-add}
+use Rattle.std.proofs.lemmas.Nat.{pow-add, pow_pos, div_below, le-div}
+use Rattle.std.proofs.lemmas.Bool.{cases_lt}
+use Rattle.std.proofs.lemmas.Bool.Decides.{nat_tests}
 
 -- up to eight bytes, and up to seven
 pub eight_bytes : (count : ℕ) → count ≤ 8 → 256 ^ count ≤ 256 ^ 8
@@ -23,3 +25,15 @@ bits_of_bytes zero = refl
 bits_of_bytes (suc count) =
     let more : 8 * suc count ≡ 8 * count + 8 = omega arith in
     rw (pow-suc 256 count, more, pow-add 2 (8 * count) 8, bits_of_bytes count) refl
+
+-- a number is below 2 ^ width where no bit is left above the width
+pub none_left : (value width : ℕ) → nat_eq (value / 2 ^ width) 0 ≡ nat_lt value (2 ^ width)
+none_left value width = elim (cases_lt value (2 ^ width)) [
+  | inl under ↦
+      let none : value / 2 ^ width < 1 = div_below value (2 ^ width) 1 (pow_pos width) (omega arith) in
+      let zero : value / 2 ^ width ≡ 0 = omega arith in
+      grind (arith, nat_tests)
+  | inr over ↦
+      let some : 1 ≤ value / 2 ^ width = le-div 1 value (2 ^ width) (pow_pos width) (omega arith) in
+      grind (arith, nat_tests)
+]

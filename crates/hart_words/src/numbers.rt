@@ -1,8 +1,28 @@
 //! Numbers as command lines and traces write them.
 
-ghost use Rattle.std.specs.Prelude.{◌≡◌, ◌^◌, ◌≤◌, min, option_map, ℕ, ◌+◌, ◌*◌, ◌<◌, Some, None, if◌then◌else◌};
+ghost use Rattle.std.specs.Prelude.{length, ◌≡◌, ◌^◌, ◌≤◌, min, option_map, ℕ, ◌+◌, ◌*◌, ◌<◌, Some, None, if◌then◌else◌};
 ghost use Rattle.std.specs.Char.{digit_value, is_digit};
 ghost use Rattle.hart_words.specs.Numbers.{number_within, digits_number, fitted};
+
+/// The value of each byte as a digit of base 36, and 36 where it is none.
+const DIGITS: [u8; 256] = [
+    36, 36, 36, 36, 36, 36, 36, 36, 36, 36, 36, 36, 36, 36, 36, 36, // 0x00
+    36, 36, 36, 36, 36, 36, 36, 36, 36, 36, 36, 36, 36, 36, 36, 36, // 0x10
+    36, 36, 36, 36, 36, 36, 36, 36, 36, 36, 36, 36, 36, 36, 36, 36, // 0x20
+    0, 1, 2, 3, 4, 5, 6, 7, 8, 9, 36, 36, 36, 36, 36, 36, // 0x30
+    36, 10, 11, 12, 13, 14, 15, 16, 17, 18, 19, 20, 21, 22, 23, 24, // 0x40
+    25, 26, 27, 28, 29, 30, 31, 32, 33, 34, 35, 36, 36, 36, 36, 36, // 0x50
+    36, 10, 11, 12, 13, 14, 15, 16, 17, 18, 19, 20, 21, 22, 23, 24, // 0x60
+    25, 26, 27, 28, 29, 30, 31, 32, 33, 34, 35, 36, 36, 36, 36, 36, // 0x70
+    36, 36, 36, 36, 36, 36, 36, 36, 36, 36, 36, 36, 36, 36, 36, 36, // 0x80
+    36, 36, 36, 36, 36, 36, 36, 36, 36, 36, 36, 36, 36, 36, 36, 36, // 0x90
+    36, 36, 36, 36, 36, 36, 36, 36, 36, 36, 36, 36, 36, 36, 36, 36, // 0xa0
+    36, 36, 36, 36, 36, 36, 36, 36, 36, 36, 36, 36, 36, 36, 36, 36, // 0xb0
+    36, 36, 36, 36, 36, 36, 36, 36, 36, 36, 36, 36, 36, 36, 36, 36, // 0xc0
+    36, 36, 36, 36, 36, 36, 36, 36, 36, 36, 36, 36, 36, 36, 36, 36, // 0xd0
+    36, 36, 36, 36, 36, 36, 36, 36, 36, 36, 36, 36, 36, 36, 36, 36, // 0xe0
+    36, 36, 36, 36, 36, 36, 36, 36, 36, 36, 36, 36, 36, 36, 36, 36, // 0xf0
+];
 
 /// Why a text is no number of a given width.
 #[derive(Clone, Copy, Debug, PartialEq, Eq)]
@@ -20,13 +40,43 @@ pub fn read_number(text: &[u8], width: u32) -> Result<u64, NumberFault>
     requires { width ≤ 64 }
     ensures { result ≡ number_within width text.now }
 {
-    let value = match text {
-        [b'0', b'x' | b'X', digits @ ..] => value_of(digits, 16),
-        _ => value_of(text, 10),
-    };
-    match value {
-        None => Err(NumberFault::NotNumber),
-        Some(value) => fitted_to(value, width),
+    match text {
+        [b'0', b'x' | b'X', digits @ ..] => read_digits(digits, 16, 16, width),
+        _ => read_digits(text, 10, 19, width),
+    }
+}
+
+/// The number of digits in a radix, where it fits in `width` bits; `most` digits always fit in 64.
+fn read_digits(digits: &[u8], radix: u32, most: usize, width: u32) -> Result<u64, NumberFault>
+    requires some { 2 ≤ radix }
+    requires few { radix ≤ 16 }
+    requires short { radix ^ most ≤ 2 ^ 64 }
+    requires within { width ≤ 64 }
+    ensures { result ≡ fitted width (digits_number radix digits.now) }
+{
+    if digits.len() <= most {
+        match short_value_of(digits, radix) {
+            None => Err(NumberFault::NotNumber),
+            Some(value) => word_fitted_to(value, width),
+        }
+    } else {
+        match value_of(digits, radix) {
+            None => Err(NumberFault::NotNumber),
+            Some(value) => fitted_to(value, width),
+        }
+    }
+}
+
+/// A word in a width, where it fits.
+#[tactic(auto, using(crate::proofs::Powers::none_left))]
+fn word_fitted_to(value: u64, width: u32) -> Result<u64, NumberFault>
+    requires { width ≤ 64 }
+    ensures { result ≡ fitted width (Some value) }
+{
+    if width == 64 || value >> width == 0 {
+        Ok(value)
+    } else {
+        Err(NumberFault::TooWide)
     }
 }
 
@@ -35,11 +85,31 @@ fn fitted_to(value: u128, width: u32) -> Result<u64, NumberFault>
     requires { width ≤ 64 }
     ensures { (v : ℕ) → value ≡ min v (2 ^ 64) → result ≡ fitted width (Some v) }
 {
-    if value < 2u128.pow(width) {
+    if value < 1u128 << width {
         Ok(value as u64)
     } else {
         Err(NumberFault::TooWide)
     }
+}
+
+/// The value of digits that are so few that it fits in 64 bits.
+#[tactic(auto, unfolding(crate::specs::Numbers::digits_number))]
+fn short_value_of(digits: &[u8], radix: u32) -> Option<u64>
+    requires some { 1 ≤ radix }
+    requires short { radix ^ length digits.now ≤ 2 ^ 64 }
+    ensures { result ≡ digits_number radix digits.now }
+{
+    if digits.is_empty() {
+        return None;
+    }
+    let mut value: u64 = 0;
+    for digit in digits {
+        match digit_of(*digit, radix) {
+            None => return None,
+            Some(digit) => value = value * u64::from(radix) + u64::from(digit),
+        }
+    }
+    Some(value)
 }
 
 /// The value of digits in a radix, or 2^64 where it is larger.
@@ -64,11 +134,17 @@ fn value_of(digits: &[u8], radix: u32) -> Option<u128>
 
 /// The value of one digit in a radix.
 fn digit_of(byte: u8, radix: u32) -> Option<u32>
-    requires some { 2 ≤ radix }
-    requires few { radix ≤ 16 }
     ensures { result ≡ if is_digit byte radix then Some (digit_value byte) else None }
 {
-    char::from(byte).to_digit(radix)
+    let value = u32::from(value_of_byte(byte));
+    if value < radix { Some(value) } else { None }
+}
+
+/// The value of a byte as a digit of base 36, and 36 where it is none.
+fn value_of_byte(byte: u8) -> u8
+    ensures { result ≡ digit_value byte }
+{
+    DIGITS[usize::from(byte)]
 }
 
 /// A value, kept up to 2^64, with one more digit behind it.

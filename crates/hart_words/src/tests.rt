@@ -2,20 +2,79 @@ use super::*;
 use std::test::Fail;
 
 #[test]
-fn reads_numbers(rt: HostRuntime) -> Result<(), Fail> {
+fn reads_numbers(rt: HostRuntime) {
     assert_eq!(rt; read_number(b"007", 3), Ok(7));
     assert_eq!(rt; read_number(b"0XfF", 8), Ok(255));
-    assert_eq!(rt; read_number(b"0x0000000000000000000000005", 64), Ok(5));
-    assert_eq!(rt; read_number(b"18446744073709551615", 64), Ok(u64::MAX));
-    assert_eq!(rt;
-        read_number(b"18446744073709551616", 64),
-        Err(NumberFault::TooWide)
-    );
-    assert_eq!(rt; read_number(b"2", 1), Err(NumberFault::TooWide));
-    for text in [b"0x".as_slice(), b"", b"5x", b"-1", b"+1", b"0x1g", b"x1"] {
+    for (text, value) in [
+        (b"0x12345abcdefABCDE".as_slice(), 0x1234_5abc_defa_bcde),
+        (b"0x00000000000000001", 1),
+        (b"00000000000000000001", 1),
+        (b"9999999999999999999", 9_999_999_999_999_999_999),
+        (b"10000000000000000000", 10_000_000_000_000_000_000),
+        (b"18446744073709551615", u64::MAX),
+        (b"0x000000000000000000000000ffffffffffffffff", u64::MAX),
+    ] {
+        assert_eq!(rt; read_number(text, 64), Ok(value));
+    }
+}
+
+/// Numbers about the most that 1, 63 and 64 bits hold, in the order of these widths.
+#[test]
+fn numbers_fit_their_width(rt: HostRuntime) {
+    let wide = Err(NumberFault::TooWide);
+    let half = Ok((1 << 63) - 1);
+    let next = Ok(1 << 63);
+    let most = Ok(u64::MAX);
+    for (text, results) in [
+        (b"1".as_slice(), [Ok(1), Ok(1), Ok(1)]),
+        (b"2", [wide, Ok(2), Ok(2)]),
+        (b"0x7fffffffffffffff", [wide, half, half]),
+        (b"0x8000000000000000", [wide, wide, next]),
+        (b"0xffffffffffffffff", [wide, wide, most]),
+        (b"0x0ffffffffffffffff", [wide, wide, most]),
+        (b"0x10000000000000000", [wide, wide, wide]),
+        (b"9223372036854775807", [wide, half, half]),
+        (b"9223372036854775808", [wide, wide, next]),
+        (b"09223372036854775807", [wide, half, half]),
+        (b"18446744073709551615", [wide, wide, most]),
+        (b"18446744073709551616", [wide, wide, wide]),
+        (b"000000000018446744073709551616", [wide, wide, wide]),
+    ] {
+        for (width, result) in [(1, results[0]), (63, results[1]), (64, results[2])] {
+            assert_eq!(rt; read_number(text, width), result);
+        }
+    }
+}
+
+/// Among others, the bytes beside the ranges of digits, and long texts.
+#[test]
+fn other_texts_are_no_numbers(rt: HostRuntime) {
+    for text in [
+        b"0x".as_slice(),
+        b"",
+        b"5x",
+        b"-1",
+        b"+1",
+        b"x1",
+        b"1/",
+        b"1:",
+        b"1\xff",
+    ] {
         assert_eq!(rt; read_number(text, 64), Err(NumberFault::NotNumber));
     }
-    Ok(())
+    for text in [
+        b"0x1@".as_slice(),
+        b"0x1G",
+        b"0x1`",
+        b"0x1g",
+        b"0x0000000000000000g",
+    ] {
+        assert_eq!(rt; read_number(text, 64), Err(NumberFault::NotNumber));
+    }
+    assert_eq!(rt;
+        read_number(b"0000000000000000000a", 64),
+        Err(NumberFault::NotNumber)
+    );
 }
 
 #[test]
