@@ -37,9 +37,10 @@ impl Lines {
         }
     }
 
-    /// How many lines there are.
+    /// How many lines there are; memory bounds their number.
     pub fn len(&self) -> usize
-        ensures { result ≡ length self.now }
+        ensures count { result ≡ length self.now }
+        ensures few { result < 2 ^ 63 }
     {
         self.ends.len()
     }
