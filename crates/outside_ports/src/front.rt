@@ -83,15 +83,15 @@ pub fn read_front<H: Shelf>(
 
 /// The bytes that are asked for at once. No clause tells how many, since a goal of so many elements
 /// is too long.
-fn new_chunk(alloc: Global) -> Result<Vec<u8>, AllocError>
+pub fn new_chunk(alloc: Global) -> Result<Vec<u8>, AllocError>
     ensures { IfOk result (λ chunk. 0 < vec_len chunk) }
 {
     vec![in alloc; 0u8; 65536]
 }
 
-/// Reads one chunk.
+/// Reads bytes of a file from a place on, as many as the shelf gives of a chunk; none are the end.
 #[tactic(auto, using(crate::proofs::Fronts::misses_rise))]
-fn read_chunk<H: Shelf>(
+pub fn read_chunk<H: Shelf>(
     shelf: &mut H,
     name: &str,
     at: u64,

@@ -1,7 +1,8 @@
 //! What the judge asks of the outside: a `Shelf` of files that are read by place, a `Sink` that
 //! takes bytes, and a `Gate` that tests can close. Reads and writes go in, bytes and counts of
 //! faults come out, as specs/Ports.antt and specs/Counts.antt define. `read_front` gives the front
-//! of a file by specs/Front.antt. The ports in memory are for tests. No standard is followed here.
+//! of a file, and `read_chunk` bytes from a place on, by specs/Front.antt. The ports in memory are
+//! for tests. No standard is followed here.
 #![tactic(auto)]
 
 mod drip_shelf;
@@ -21,7 +22,7 @@ pub use fail_shelf::FailShelf;
 pub use fail_sink::FailSink;
 pub use failure::Failed;
 pub use files::NamedFile;
-pub use front::{Front, ReadError, read_front};
+pub use front::{Front, ReadError, new_chunk, read_chunk, read_front};
 pub use gate::{Gate, OpenGate};
 pub use mem_shelf::MemShelf;
 pub use mem_sink::MemSink;

@@ -41,6 +41,23 @@ fn gives_so_many_bytes(rt: HostRuntime) -> Result<(), Fail> {
 }
 
 #[test]
+fn reads_chunks(rt: HostRuntime) -> Result<(), Fail> {
+    let mut shelf = DripShelf::new(one_file(rt.alloc())?, 2);
+    let mut chunk = new_chunk(rt.alloc())?;
+    for (at, wanted) in [(0, 2), (1, 2), (2, 1), (3, 0)] {
+        let count = read_chunk(&mut shelf, "t", at, &mut chunk)?;
+        assert_eq!(rt; count, wanted);
+    }
+    assert_eq!(rt; chunk[0], b'c');
+    let front = read_front(rt.alloc(), &mut shelf, "t", 2)?;
+    assert_eq!(rt;
+        (front.bytes.as_slice(), front.more),
+        (b"ab".as_slice(), true)
+    );
+    Ok(())
+}
+
+#[test]
 fn fails_where_listed(rt: HostRuntime) -> Result<(), Fail> {
     let failing = Vec::from_slice(rt.alloc(), &[2, 3])?;
     let mut shelf = FailShelf::new(MemShelf::new(one_file(rt.alloc())?), failing);
