@@ -1,10 +1,11 @@
 -- The lines that were taken and those that are left.
-use Rattle.std.proofs.Common.{◌≡◌, ℕ, ◌<◌, true, false, List, [], ◌++◌, length, drop, refl, sym, ap, ◌∙◌, arith, length-append, append-nil, nat_le}
+use Rattle.std.proofs.Common.{◌≡◌, ℕ, ◌<◌, true, false, List, [], ◌++◌, length, drop, refl, sym, ap, ◌∙◌, arith, length-append, append-nil, nat_le, Some}
 use Rattle.std.proofs.lemmas.List.{take_at, drop_at, drop_all}
 use Rattle.std.proofs.lemmas.Bool.{le-leb, lt-leb}
 use Rattle.trace_lines.specs.declared.piece.Ending.{Ending}
 use Rattle.trace_lines.specs.declared.piece.Ending.TheVariants.{More, End, TooLong, TooLarge}
 use Rattle.trace_lines.specs.Lines.{Left}
+use Rattle.trace_lines.specs.Nexts.{TakesNext}
 use Rattle.trace_lines.specs.Pieces.{with_lines, front_of, back_of, FitsEnding, IsLast}
 
 -- as many lines as were asked for
@@ -19,19 +20,26 @@ unfolding back_of
 back_full asked lines rest all full is = rw (← is) (rw (drop_at lines rest.lines asked full) refl)
 
 -- fewer, and the ending
-pub front_short : (asked : ℕ) (lines : List (List ℕ)) (ending : Ending) (rest all : Left) → length lines < asked → rest ≡ record { lines = []; ending = ending } → with_lines lines rest ≡ all → record { lines = lines; ending = ending } ≡ front_of asked all
+front_short : (asked : ℕ) (lines : List (List ℕ)) (ending : Ending) (rest all : Left) → length lines < asked → rest ≡ record { lines = []; ending = ending } → with_lines lines rest ≡ all → record { lines = lines; ending = ending } ≡ front_of asked all
 unfolding front_of
 front_short asked lines ending rest all short none is =
     let whole : record { lines = lines ++ []; ending = ending } ≡ all = ap (λ left. with_lines lines left) (sym none) ∙ is in
     let few : nat_le asked (length (lines ++ [])) ≡ false = lt-leb _ _ (omega (arith, length-append lines [])) in
     rw (← whole) (rw few (rw (append-nil lines) refl))
 
-pub back_short : (asked : ℕ) (lines : List (List ℕ)) (ending : Ending) (rest all : Left) → length lines < asked → rest ≡ record { lines = []; ending = ending } → with_lines lines rest ≡ all → rest ≡ back_of asked all
+back_short : (asked : ℕ) (lines : List (List ℕ)) (ending : Ending) (rest all : Left) → length lines < asked → rest ≡ record { lines = []; ending = ending } → with_lines lines rest ≡ all → rest ≡ back_of asked all
 unfolding back_of
 back_short asked lines ending rest all short none is =
     let whole : record { lines = lines ++ []; ending = ending } ≡ all = ap (λ left. with_lines lines left) (sym none) ∙ is in
     let gone : drop asked (lines ++ []) ≡ [] = drop_all asked (lines ++ []) (omega (arith, length-append lines [])) in
     none ∙ rw (← whole) (rw gone refl)
+
+-- the same of the step that found the ending
+pub front_ended : (asked : ℕ) (lines now : List (List ℕ)) (ending : Ending) (left rest all : Left) → length lines < asked → TakesNext lines left (Some ending) now rest → with_lines lines left ≡ all → record { lines = now; ending = ending } ≡ front_of asked all
+front_ended asked lines now ending left rest all short next is = rw next.2 (front_short asked lines ending left all short next.0 is)
+
+pub back_ended : (asked : ℕ) (lines now : List (List ℕ)) (ending : Ending) (left rest all : Left) → length lines < asked → TakesNext lines left (Some ending) now rest → with_lines lines left ≡ all → rest ≡ back_of asked all
+back_ended asked lines now ending left rest all short next is = next.1 ∙ back_short asked lines ending left all short next.0 is
 
 -- an ending that nothing follows comes with fewer lines than were asked for
 pub counts_short : (asked count : ℕ) (ending : Ending) → IsLast ending → count < asked → FitsEnding ending asked count

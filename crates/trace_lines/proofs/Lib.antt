@@ -1,4 +1,7 @@
 pub mod Parts
+pub mod Cursors
+pub mod Feeds
+pub mod Chunks
+pub mod Marks
 pub mod Fronts
-pub mod CursorLemmas
 pub mod CallLemmas

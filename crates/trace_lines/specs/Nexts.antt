@@ -1,36 +1,47 @@
 -- What stands next: a line or the ending.
-use Rattle.std.specs.Prelude.{◌≡◌, ℕ, ◌+◌, ◌<◌, ◌≤◌, ◌==◌, Bool, List, [], length, drop}
-use Rattle.std.specs.List.{position_or_len}
+use Rattle.std.specs.Prelude.{◌≡◌, ℕ, ◌+◌, ◌<◌, ◌≤◌, List, [], length, take, slice_index, Option, Some, None}
+use Rattle.line_text.specs.Lines.{line_feed, IsLine}
+use Rattle.trace_lines.specs.declared.piece.Ending as ends
+use Rattle.trace_lines.specs.declared.line_cursor.LineCursor.{LineCursor}
 use Rattle.trace_lines.specs.declared.next.Next.{Next}
 use Rattle.trace_lines.specs.declared.next.Next.TheVariants.{Line, Ending}
-use Rattle.trace_lines.specs.Lines.{Left, line_feed, with_line, lines_from, parts_of}
-use Rattle.trace_lines.specs.Pieces.{IsLast}
+use Rattle.trace_lines.specs.Cursors.{held_in, left_in, left_behind}
+use Rattle.trace_lines.specs.Lines.{Left, with_line, line_in}
+use Rattle.trace_lines.specs.Pieces.{IsLast, with_lines}
 
--- how many bytes stand before the first line feed, or in all
-abbrev pub feed_place : List ℕ → ℕ
-feed_place bytes = position_or_len (λ byte. byte == line_feed) bytes
+-- so many bytes stand before the first line feed, or in all
+pub record IsBeforeFeed (bytes : List ℕ) (place : ℕ) : Type 0 where
+  pub within : place ≤ length bytes
+  pub line : IsLine (take place bytes)
+  pub feed : place < length bytes → slice_index bytes place ≡ line_feed
 
--- what stands next in bytes, and how many of them it takes
-abbrev pub Follows : Bool → ℕ → List ℕ → Next → ℕ → Type 0
-Follows more number bytes (Line line) used =
-    (lines_from more number (parts_of bytes)
-    ≡ with_line line.items (lines_from more (number + 1) (parts_of (drop used bytes))))
-    × (0 < used)
-    × (used ≤ length bytes)
-Follows more number bytes (Ending ending) used =
-    (lines_from more number (parts_of bytes) ≡ record { lines = []; ending = ending })
-    × (used ≡ 0)
-    × IsLast ending
+-- a line is held, with its line feed or without one
+pub record IsHeld (bytes : List ℕ) (len used : ℕ) : Type 0 where
+  pub line : IsLine (take len bytes)
+  pub some : 0 < used
+  pub ordered : len ≤ used
+  pub within : used ≤ length bytes
 
--- what stands next among what is left: a line before the rest, or the ending alone
-abbrev pub IsNext : Left → Next → Left → Type 0
-IsNext left (Line line) rest = left ≡ with_line line.items rest
-IsNext left (Ending ending) rest =
-    (left ≡ record { lines = []; ending = ending })
-    × (rest ≡ left)
-    × IsLast ending
+abbrev pub FitsHeld : LineCursor → Next → Type 0
+FitsHeld cursor (Line len used) = IsHeld (held_in cursor) len used
+FitsHeld cursor (Ending ending) = IsLast ending
 
--- a line takes at least one byte
-abbrev pub Uses : Next → ℕ → ℕ → Type 0
-Uses (Line line) before now = now < before
-Uses (Ending ending) before now = now ≡ before
+-- a line stands before what is left behind it, or the ending stands alone
+abbrev pub Follows : List ℕ → LineCursor → Next → Type 0
+Follows file cursor (Line len used) =
+    left_in file cursor
+    ≡ with_line (line_in (take len (held_in cursor))) (left_behind file cursor used)
+Follows file cursor (Ending ending) = left_in file cursor ≡ record { lines = []; ending = ending }
+
+-- one more line was taken, of which a blank one is dropped; or the ending is all that is left
+abbrev pub TakesNext : List (List ℕ) → Left → Option ends.Ending → List (List ℕ) → Left → Type 0
+TakesNext lines left None now rest = with_lines now rest ≡ with_lines lines left
+TakesNext lines left (Some ending) now rest =
+    (left ≡ record { lines = []; ending = ending }) × (rest ≡ left) × (now ≡ lines)
+
+-- a line takes at least one byte; with the ending all stays
+abbrev pub LeavesRoom : Option ends.Ending → ℕ → ℕ → ℕ → ℕ → Type 0
+LeavesRoom None count room count_now room_now =
+    (count_now ≤ count + 1) × (room_now < room)
+LeavesRoom (Some ending) count room count_now room_now =
+    (count_now ≡ count) × (room_now ≡ room) × IsLast ending

@@ -1,18 +1,13 @@
 -- Pieces of the lines of a file.
-use Rattle.std.specs.Prelude.{◌≡◌, ℕ, ◌<◌, List, ◌++◌, map, length, take, drop, nat_le, if◌then◌else◌}
-use Rattle.trace_lines.specs.declared.piece.Lines.{Lines}
+use Rattle.std.specs.Prelude.{◌≡◌, ℕ, ◌<◌, List, ◌++◌, length, take, drop, nat_le, if◌then◌else◌}
 use Rattle.trace_lines.specs.declared.piece.Piece.{Piece}
 use Rattle.trace_lines.specs.declared.piece.Ending.{Ending}
 use Rattle.trace_lines.specs.declared.piece.Ending.TheVariants.{More}
 use Rattle.trace_lines.specs.Lines.{Left}
 
--- the bytes of each line
-abbrev pub lines_in : Lines → List (List ℕ)
-lines_in lines = map (λ line. line.items) lines.lines.items
-
 -- a piece as lines and what follows
 abbrev pub piece_view : Piece → Left
-piece_view piece = record { lines = lines_in piece.lines; ending = piece.ending }
+piece_view piece = record { lines = piece.lines; ending = piece.ending }
 
 -- so many lines of those that are left, where there are as many; else all, and their ending
 unfoldable pub front_of : ℕ → Left → Left
@@ -40,4 +35,4 @@ FitsEnding _ asked count = count < asked
 
 -- the same of a piece
 abbrev pub FitsAsked : ℕ → Piece → Type 0
-FitsAsked asked piece = FitsEnding piece.ending asked (length (lines_in piece.lines))
+FitsAsked asked piece = FitsEnding piece.ending asked (length piece.lines)

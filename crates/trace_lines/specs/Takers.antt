@@ -10,18 +10,18 @@ use Rattle.trace_lines.specs.Pieces.{piece_view, front_of, back_of}
 -- what is left of a file that may have been read
 abbrev pub left_after : ℕ → List ℕ → Option LineCursor → Left
 left_after most file None = lines_of most file
-left_after most file (Some cursor) = left_in cursor
+left_after most file (Some cursor) = left_in file cursor
 
 -- what the taker has left to take
 abbrev pub left_of : List ℕ → LineTaker → Left
 left_of file taker = left_after taker.most file taker.cursor
 
--- how many bytes are left at most
+-- how many bytes may still come
 abbrev pub room_after : ℕ → Option LineCursor → ℕ
 room_after most None = most
 room_after most (Some cursor) = room_in cursor
 
--- how many bytes the taker has left at most
+-- how many bytes the taker may still give
 abbrev pub room_of : LineTaker → ℕ
 room_of taker = room_after taker.most taker.cursor
 

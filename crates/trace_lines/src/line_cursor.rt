@@ -1,95 +1,122 @@
-//! The front of a file, and the place in it from which lines are taken.
+//! A place in a file from which lines are taken.
 
-ghost use Rattle.std.specs.Prelude.{◌≤◌, ◌+◌, vec_len};
+ghost use Rattle.std.specs.Prelude.{◌≡◌, ◌≤◌, ◌<◌, ◌+◌, ◌^◌, take, drop, vec_len};
+ghost use Rattle.line_text.specs.Lines.{IsLine};
+ghost use Rattle.trace_lines.specs.Lines.{has_mark};
+ghost use Rattle.trace_lines.specs.declared.next.TheConstants.{LONGEST};
 
-use crate::next::{Next, next_in};
-use crate::piece::{Ending, Lines, Piece};
-use outside_ports::Front;
+use crate::next::{Next, push_line};
+use crate::piece::{Ending, LineError, Piece};
+use line_text::Lines;
+use outside_ports::{Shelf, new_chunk};
 use std::alloc::{AllocError, Global};
 
-/// The front of a file, and how far its lines were taken.
+/// What stands behind the bytes that were read.
+#[derive(Clone, Copy, PartialEq, Eq)]
+pub enum Behind {
+    /// Bytes that were not read, or none.
+    Unread,
+    /// The end of the file.
+    End,
+    /// Bytes past the most that are read.
+    TooLarge,
+}
+
+/// A place in a file, and the bytes that are held from there on. They are at most a chunk more than
+/// the longest line.
 #[derive(Drop)]
 pub struct LineCursor {
-    /// The bytes of the front, the mark and what was taken included.
+    /// The bytes that were read and not yet let go.
     pub bytes: Vec<u8>,
-    /// Whether the file has more bytes than these.
-    pub more: bool,
-    /// The place in `bytes` where the next line begins.
+    /// Where among them the next line begins.
     pub at: usize,
+    /// How many bytes from there on were searched: no line feed stands among them.
+    pub searched: usize,
     /// The number of the next line, from 1; blank lines count.
     pub number: u64,
-    ghost inside: { at ≤ vec_len bytes },
-    ghost counted: { number ≤ at + 1 },
+    /// The most bytes that are read of the file.
+    pub most: u64,
+    /// How many bytes of it were read.
+    pub place: u64,
+    pub behind: Behind,
+    /// Where a read puts its bytes.
+    pub chunk: Vec<u8>,
+    ghost inside: { at + searched ≤ vec_len bytes },
+    ghost clear: { IsLine (take searched (drop at bytes.items)) },
+    ghost within: { place ≤ most },
+    ghost bounded: { most < 2 ^ 62 },
+    ghost counted: { number + vec_len bytes ≤ place + at + 1 },
+    ghost some: { 0 < vec_len chunk },
+    ghost small: { vec_len bytes ≤ LONGEST + vec_len chunk },
 }
 
 impl LineCursor {
-    ghost use Rattle.std.specs.Prelude.{◌≡◌, IfOk, OnOk, length, drop};
-    ghost use Rattle.trace_lines.specs.Cursors.{left_in, room_in};
-    ghost use Rattle.trace_lines.specs.Lines.{lines_from, parts_of, without_mark};
-    ghost use Rattle.trace_lines.specs.Nexts.{IsNext, Uses};
-    ghost use Rattle.trace_lines.specs.Pieces.{lines_in, piece_view, front_of, back_of, FitsAsked};
+    ghost use Rattle.std.specs.Prelude.{List, ℕ, IfOk, OnOk, length};
+    ghost use Rattle.outside_ports.specs.Faults.{CountsFault, CountsMiss};
+    ghost use Rattle.outside_ports.specs.Ports.{file_of, IsThere};
+    ghost use Rattle.trace_lines.specs.Cursors.{left_in, room_in, ForFile, IsUntaken, IsNew, Holds};
+    ghost use Rattle.trace_lines.specs.Errors.{is_read_fault};
+    ghost use Rattle.trace_lines.specs.Lines.{lines_of};
+    ghost use Rattle.trace_lines.specs.Nexts.{TakesNext, LeavesRoom};
+    ghost use Rattle.trace_lines.specs.Pieces.{front_of, back_of, piece_view, FitsAsked};
 
-    #[tactic(auto, unfolding(crate::specs::Cursors::left_in, crate::specs::Lines::without_mark))]
-    /// A cursor at the first line; a byte order mark at the front is passed over.
-    pub fn new(front: Front) -> Self
-        ensures left { left_in result
-            ≡ lines_from front.more 1 (parts_of (without_mark front.bytes.items)) }
-        ensures room { room_in result ≤ vec_len front.bytes }
+    /// A cursor at the first line of a file; a byte order mark at the front is passed over.
+    pub fn open<H: Shelf>(
+        alloc: Global,
+        shelf: &mut H,
+        name: &str,
+        most: u64,
+    ) -> Result<Self, LineError>
+        requires { most < 2 ^ 62 }
+        ensures told { H.told shelf.new ≡ H.told shelf.old }
+        ensures there { OnOk result (IsThere (H.told shelf.old) name.now) }
+        ensures left { IfOk result (λ cursor. ForFile (file_of (H.told shelf.old) name.now)
+            (λ file. left_in file cursor ≡ lines_of most file)) }
+        ensures room { IfOk result (λ cursor. room_in cursor ≤ most) }
+        ensures faults { CountsFault is_read_fault result (H.faults shelf.old)
+            (H.faults shelf.new) }
+        ensures misses { let told = H.told shelf.old in
+            CountsMiss is_read_fault result told name.now (H.misses shelf.old)
+            (H.misses shelf.new) }
     {
-        let Front { bytes, more } = front;
-        match bytes.as_slice() {
-            [0xef, 0xbb, 0xbf, ..] => LineCursor {
-                bytes,
-                more,
-                at: 3,
-                number: 1,
-            },
-            _ => LineCursor {
-                bytes,
-                more,
-                at: 0,
-                number: 1,
-            },
+        let mut cursor = LineCursor::new(alloc, most)?;
+        cursor.fill(shelf, name)?;
+        'marking: while cursor.bytes.len() < 3 && cursor.behind == Behind::Unread {
+            cursor.fill(shelf, name)?;
         }
+        cursor.pass_mark();
+        Ok(cursor)
     }
 
-    #[tactic(auto, using(crate::proofs::Parts::drop_on), unfolding(crate::specs::Cursors::left_in))]
-    /// Takes what stands next: a line, which may be blank, or the ending, which then stays.
-    pub fn advance(&mut self, alloc: Global) -> Result<Next, AllocError>
-        ensures next { IfOk result (λ next. IsNext (left_in self.old) next (left_in self.new)) }
-        ensures uses { IfOk result (λ next. Uses next (room_in self.old) (room_in self.new)) }
-    {
-        let (next, used) = next_in(alloc, self.rest(), self.more, self.number)?;
-        match next {
-            Next::Line(line) => {
-                self.at += used;
-                self.number += 1;
-                Ok(Next::Line(line))
-            }
-            Next::Ending(ending) => Ok(Next::Ending(ending)),
-        }
-    }
-
-    #[tactic(auto, using(crate::proofs::Fronts::front_full, crate::proofs::Fronts::back_full, crate::proofs::Fronts::front_short, crate::proofs::Fronts::back_short, crate::proofs::Fronts::counts_short))]
+    #[tactic(auto, using(crate::proofs::Fronts::counts_short))]
     /// Takes so many lines that are not blank, or all that are left where they are fewer.
-    pub fn take_lines(&mut self, alloc: Global, asked: usize) -> Result<Piece, AllocError>
-        ensures piece { let left = left_in self.old in
-            IfOk result (λ piece. piece_view piece ≡ front_of asked left) }
-        ensures rest { OnOk result (left_in self.new ≡ back_of asked (left_in self.old)) }
+    pub fn take_lines<H: Shelf>(
+        &mut self,
+        alloc: Global,
+        shelf: &mut H,
+        name: &str,
+        asked: usize,
+    ) -> Result<Piece, LineError>
+        ensures told { H.told shelf.new ≡ H.told shelf.old }
+        ensures piece { IfOk result (λ piece. ForFile (file_of (H.told shelf.old) name.now)
+            (λ file. piece_view piece ≡ front_of asked (left_in file self.old))) }
+        ensures rest { OnOk result (ForFile (file_of (H.told shelf.old) name.now)
+            (λ file. left_in file self.new ≡ back_of asked (left_in file self.old))) }
         ensures counts { IfOk result (FitsAsked asked) }
         ensures room { let before = room_in self.old in let now = room_in self.new in
-            IfOk result (λ piece. length (lines_in piece.lines) + now ≤ before) }
+            IfOk result (λ piece. length piece.lines + now ≤ before) }
+        ensures faults { CountsFault is_read_fault result (H.faults shelf.old)
+            (H.faults shelf.new) }
+        ensures misses { let told = H.told shelf.old in
+            CountsMiss is_read_fault result told name.now (H.misses shelf.old)
+            (H.misses shelf.new) }
     {
         let mut lines = Lines::new(alloc);
         'taking: while lines.len() < asked {
-            let next = self.advance(alloc)?;
-            match next {
-                Next::Line(line) => {
-                    if !line.is_empty() {
-                        lines.push(line)?;
-                    }
-                }
-                Next::Ending(ending) => return Ok(Piece { lines, ending }),
+            let end = self.take_next(shelf, name, &mut lines)?;
+            match end {
+                None => {}
+                Some(ending) => return Ok(Piece { lines, ending }),
             }
         }
         Ok(Piece {
@@ -98,11 +125,71 @@ impl LineCursor {
         })
     }
 
-    /// The bytes whose lines were not taken.
-    fn rest(&self) -> &[u8]
-        ensures rest { result.now ≡ drop self.now.at self.now.bytes.items }
-        ensures len { length result.now + self.now.at ≡ vec_len self.now.bytes }
+    /// A cursor at the front of a file of which nothing was read.
+    fn new(alloc: Global, most: u64) -> Result<Self, AllocError>
+        requires { most < 2 ^ 62 }
+        ensures { IfOk result (IsNew most) }
     {
-        self.bytes.split_at(self.at).1
+        let chunk = new_chunk(alloc)?;
+        Ok(LineCursor {
+            bytes: Vec::new(alloc),
+            at: 0,
+            searched: 0,
+            number: 1,
+            most,
+            place: 0,
+            behind: Behind::Unread,
+            chunk,
+        })
     }
+
+    /// Passes over a byte order mark at the front.
+    fn pass_mark(&mut self)
+        requires { IsUntaken self.old }
+        ensures left { (file : List ℕ) → Holds self.old.most self.old file
+            → left_in file self.new ≡ lines_of self.old.most file }
+        ensures room { room_in self.new ≤ room_in self.old }
+    {
+        if begins_with_mark(&self.bytes) {
+            self.at = 3;
+            self.searched = 0;
+        }
+    }
+
+    /// Takes the next line and adds it, unless it is blank; or gives the ending, which then stays.
+    fn take_next<H: Shelf>(
+        &mut self,
+        shelf: &mut H,
+        name: &str,
+        lines: &mut Lines,
+    ) -> Result<Option<Ending>, LineError>
+        ensures told { H.told shelf.new ≡ H.told shelf.old }
+        ensures takes { IfOk result (λ end. ForFile (file_of (H.told shelf.old) name.now)
+            (λ file. TakesNext lines.old (left_in file self.old) end lines.new
+            (left_in file self.new))) }
+        ensures room { IfOk result (λ end. LeavesRoom end
+            (length lines.old) (room_in self.old) (length lines.new) (room_in self.new)) }
+        ensures faults { CountsFault is_read_fault result (H.faults shelf.old)
+            (H.faults shelf.new) }
+        ensures misses { let told = H.told shelf.old in
+            CountsMiss is_read_fault result told name.now (H.misses shelf.old)
+            (H.misses shelf.new) }
+    {
+        let next = self.find_next(shelf, name)?;
+        match next {
+            Next::Line { length, used } => {
+                push_line(lines, self.line(length))?;
+                self.pass(used);
+                Ok(None)
+            }
+            Next::Ending(ending) => Ok(Some(ending)),
+        }
+    }
+}
+
+/// Whether a byte order mark stands at the front.
+fn begins_with_mark(bytes: &[u8]) -> bool
+    ensures { result ≡ has_mark bytes.now }
+{
+    matches!(bytes, [0xef, 0xbb, 0xbf, ..])
 }

@@ -1,76 +1,45 @@
-//! What stands next in bytes of a trace: a line or the ending.
+//! What stands next in a file: a line or the ending.
 
-ghost use Rattle.std.specs.Prelude.{◌≡◌, ◌==◌, IfOk, position};
-ghost use Rattle.trace_lines.specs.Lines.{line_feed, line_in};
-ghost use Rattle.trace_lines.specs.Nexts.{feed_place, Follows};
+ghost use Rattle.std.specs.Prelude.{◌≡◌, ◌++◌, ◌∷◌, ◌≤◌, ◌+◌, [], length, OnOk};
+ghost use Rattle.line_text.specs.Lines.{IsLine};
+ghost use Rattle.trace_lines.specs.Lines.{Left, line_in, with_line};
+ghost use Rattle.trace_lines.specs.Pieces.{with_lines};
 
 use crate::piece::Ending;
-use std::alloc::{AllocError, Global};
+use line_text::Lines;
+use std::alloc::AllocError;
 
 /// The most bytes that a line may have before its line feed.
-const LONGEST: usize = 65536;
+pub const LONGEST: usize = 65536;
 
 /// What stands next.
-#[derive(Drop)]
+#[derive(Clone, Copy)]
 pub enum Next {
-    /// A line, which may be blank.
-    Line(Vec<u8>),
+    /// A line of so many bytes, which may be blank. With its line feed, which the last line may
+    /// lack, it takes `used` bytes.
+    Line { length: usize, used: usize },
     Ending(Ending),
 }
 
-/// What stands next in `bytes`, whose first line has this number, and how many bytes it takes.
-/// `more` says that the file goes on behind them.
-#[tactic(auto, using(crate::proofs::Parts::follow_none, crate::proofs::Parts::follow_more, crate::proofs::Parts::follow_long, crate::proofs::Parts::follow_past, crate::proofs::Parts::follow_line, crate::proofs::Parts::follow_last))]
-pub fn next_in(
-    alloc: Global,
-    bytes: &[u8],
-    more: bool,
-    number: u64,
-) -> Result<(Next, usize), AllocError>
-    ensures { IfOk result (λ next. Follows more number bytes.now next.0 next.1) }
+/// Adds a line at the end, unless it is blank; a carriage return at its end is dropped.
+pub fn push_line(lines: &mut Lines, bytes: &[u8]) -> Result<(), AllocError>
+    requires { IsLine bytes.now }
+    ensures line { OnOk result ((rest : Left) → with_lines lines.new rest
+        ≡ with_lines lines.old (with_line (line_in bytes.now) rest)) }
+    ensures count { OnOk result (length lines.new ≤ length lines.old + 1) }
 {
-    if bytes.is_empty() {
-        if more {
-            return Ok((Next::Ending(Ending::TooLarge), 0));
-        }
-        return Ok((Next::Ending(Ending::End), 0));
+    let line = without_return(bytes);
+    if line.is_empty() {
+        return Ok(());
     }
-    let place = before_feed(bytes);
-    if place > LONGEST {
-        return Ok((Next::Ending(Ending::TooLong(number)), 0));
-    }
-    if place < bytes.len() {
-        let line = Vec::from_slice(alloc, without_return(bytes.split_at(place).0))?;
-        return Ok((Next::Line(line), place + 1));
-    }
-    if more {
-        return Ok((Next::Ending(Ending::TooLarge), 0));
-    }
-    let line = Vec::from_slice(alloc, without_return(bytes))?;
-    Ok((Next::Line(line), bytes.len()))
-}
-
-/// How many bytes stand before the first line feed, or in all.
-#[tactic(auto, using(crate::proofs::Parts::feed_found, crate::proofs::Parts::feed_none))]
-fn before_feed(bytes: &[u8]) -> usize
-    ensures { result ≡ feed_place bytes.now }
-{
-    match feed_in(bytes) {
-        None => bytes.len(),
-        Some(place) => place,
-    }
-}
-
-/// The place of the first line feed.
-fn feed_in(bytes: &[u8]) -> Option<usize>
-    ensures { result ≡ position (λ byte. byte == line_feed) bytes.now }
-{
-    bytes.iter().position(|byte| *byte == b'\n')
+    lines.push(line)
 }
 
 /// A line without a carriage return at its end.
 fn without_return(bytes: &[u8]) -> &[u8]
-    ensures { result.now ≡ line_in bytes.now }
+    requires { IsLine bytes.now }
+    ensures value { result.now ≡ line_in bytes.now }
+    ensures line { IsLine result.now }
 {
     match bytes {
         [front @ .., b'\r'] => front,

@@ -1,15 +1,25 @@
-use Rattle.std.proofs.Common.{arith, ◌∙◌}
-use Rattle.trace_lines.specs.Pieces.{lines_in}
+use Rattle.std.proofs.Common.{ap, ◌∙◌, arith}
+use Rattle.outside_ports.specs.Ports.{file_of}
 use Rattle.trace_lines.specs.Cursors.{left_in}
-use Rattle.trace_lines.proofs.Fronts.{front_short, back_short}
+use Rattle.trace_lines.proofs.Fronts.{front_full, back_full, front_ended, back_ended}
 use Rattle.trace_lines.proofs.line_cursor.LineCursor.take_lines.Goals as goal
 
-pub returns-in-Ending-clause-piece : goal.returns-in-Ending-clause-piece
-returns-in-Ending-clause-piece c =
-    let next = rw c.in-Ending.is at c.in_ok-next.ensures.next in
-    front_short c.args.asked (lines_in c.taking.lines) c.in-Ending.ending (left_in c.taking.self) (left_in c.args.self.now) (omega arith) next.0 c.taking.invariant.0
+pub returns-in-Some-clause-piece : goal.returns-in-Some-clause-piece
+returns-in-Some-clause-piece g c file told =
+    let takes = rw c.in-Some.is at c.in_ok-end.ensures.takes in
+    let here = ap (λ files. file_of files c.args.name.now) c.taking.invariant.told ∙ told in
+    front_ended c.args.asked c.taking.lines c.take_next.new.lines c.in-Some.ending (left_in file c.taking.self) (left_in file c.take_next.new.self) (left_in file c.args.self.now) (omega arith) (takes file here) (c.taking.invariant.left file told)
 
-pub returns-in-Ending-clause-rest : goal.returns-in-Ending-clause-rest
-returns-in-Ending-clause-rest c =
-    let next = rw c.in-Ending.is at c.in_ok-next.ensures.next in
-    next.1 ∙ back_short c.args.asked (lines_in c.taking.lines) c.in-Ending.ending (left_in c.taking.self) (left_in c.args.self.now) (omega arith) next.0 c.taking.invariant.0
+pub returns-in-Some-clause-rest : goal.returns-in-Some-clause-rest
+returns-in-Some-clause-rest g c file told =
+    let takes = rw c.in-Some.is at c.in_ok-end.ensures.takes in
+    let here = ap (λ files. file_of files c.args.name.now) c.taking.invariant.told ∙ told in
+    back_ended c.args.asked c.taking.lines c.take_next.new.lines c.in-Some.ending (left_in file c.taking.self) (left_in file c.take_next.new.self) (left_in file c.args.self.now) (omega arith) (takes file here) (c.taking.invariant.left file told)
+
+pub returns-clause-piece : goal.returns-clause-piece
+returns-clause-piece g c file told =
+    front_full c.args.asked c.taking.lines (left_in file c.taking.self) (left_in file c.args.self.now) (omega arith) (c.taking.invariant.left file told)
+
+pub returns-clause-rest : goal.returns-clause-rest
+returns-clause-rest g c file told =
+    back_full c.args.asked c.taking.lines (left_in file c.taking.self) (left_in file c.args.self.now) (omega arith) (c.taking.invariant.left file told)

@@ -1,0 +1,20 @@
+use Rattle.std.proofs.Common.{◌≡◌, ◌≤◌}
+use Rattle.outside_ports.specs.Ports.{file_of, IsThere}
+use Rattle.trace_lines.specs.Cursors.{ForFile, Holds, room_in, reads_in}
+use Rattle.trace_lines.proofs.line_cursor.LineCursor.open.Given as goal
+
+abbrev pub invariant-marking : goal.invariant-marking
+invariant-marking g l = record {
+  told : g.H.Shelf.told l.shelf ≡ g.H.Shelf.told l.fn.shelf;
+  faults : g.H.Shelf.faults l.shelf ≡ g.H.Shelf.faults l.fn.shelf;
+  misses : g.H.Shelf.misses l.shelf ≡ g.H.Shelf.misses l.fn.shelf;
+  there : IsThere (g.H.Shelf.told l.fn.shelf) l.name;
+  holds : ForFile (file_of (g.H.Shelf.told l.fn.shelf) l.name) (Holds l.most l.cursor);
+  at : l.cursor.at ≡ 0;
+  number : l.cursor.number ≡ 1;
+  most : l.cursor.most ≡ l.most;
+  room : room_in l.cursor ≤ l.most;
+}
+
+abbrev pub decreases-marking : goal.decreases-marking
+decreases-marking g l = reads_in l.cursor
