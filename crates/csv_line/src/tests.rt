@@ -1,3 +1,5 @@
+ghost use Rattle.std.specs.Prelude.{◌<◌};
+
 use super::*;
 use std::process::Abort;
 use std::test::Fail;
@@ -102,28 +104,77 @@ fn reads_lines_among_others(rt: HostRuntime) -> Result<(), Fail> {
     check_all(&rt, alloc, &lines, false)
 }
 
-/// The next of a row of numbers that follow no order.
-fn shuffled(number: u64) -> u64 {
-    let number = number ^ (number << 13);
-    let number = number ^ (number >> 7);
-    number ^ (number << 17)
+/// Numbers that follow no order, the same in every run.
+#[derive(Clone, Copy)]
+struct Numbers {
+    last: u64,
+}
+
+impl Numbers {
+    /// The next one, below a bound.
+    fn below(&mut self, bound: usize) -> usize
+        requires { 0 < bound }
+        ensures { result < bound }
+    {
+        let number = self.last ^ (self.last << 13);
+        let number = number ^ (number >> 7);
+        self.last = number ^ (number << 17);
+        (self.last >> 20) as usize % bound
+    }
+}
+
+/// Adds fewer bytes than `bound`, of any kind.
+fn push_any(numbers: &mut Numbers, bound: usize, line: &mut Vec<u8>) -> Result<(), Fail>
+    requires { 0 < bound }
+{
+    let bytes = b"012abx,,,,\"\"\" \t\r\xef\xbb\xbf";
+    for _ in 0..numbers.below(bound) {
+        line.push(bytes[numbers.below(bytes.len())])?;
+    }
+    Ok(())
+}
+
+/// Adds a field in quotes, which close before its comma, before another byte, or not at all.
+fn push_quoted(numbers: &mut Numbers, line: &mut Vec<u8>) -> Result<(), Fail> {
+    line.push(b'"')?;
+    push_any(numbers, 5, line)?;
+    let end: &[u8] = match numbers.below(4) {
+        0 | 1 => b"\",",
+        2 => b"\"a,",
+        _ => b",",
+    };
+    line.extend_from_slice(end)?;
+    Ok(())
+}
+
+/// A line of at most 20 bytes: behind a byte order mark, with fields in quotes, or of any bytes.
+fn any_line(alloc: Global, numbers: &mut Numbers) -> Result<Vec<u8>, Fail> {
+    let mut line = Vec::new(alloc);
+    match numbers.below(8) {
+        0 => {
+            line.extend_from_slice(b"\xef\xbb\xbf")?;
+            push_any(numbers, 18, &mut line)?;
+        }
+        1 | 2 => {
+            push_quoted(numbers, &mut line)?;
+            push_quoted(numbers, &mut line)?;
+            push_any(numbers, 5, &mut line)?;
+        }
+        _ => push_any(numbers, 21, &mut line)?,
+    }
+    Ok(line)
 }
 
 #[test]
 fn reads_any_lines_among_others(rt: HostRuntime) -> Result<(), Fail> {
     let alloc = rt.alloc();
-    let bytes = b"012abx,,,,\"\"\" \t\r\xef\xbb\xbf";
-    let mut number = 88172645463325252u64;
+    let mut numbers = Numbers {
+        last: 88172645463325252,
+    };
     for round in 0..100u32 {
         let mut lines = Vec::new(alloc);
         for _ in 0..1000u32 {
-            let mut line = Vec::new(alloc);
-            number = shuffled(number);
-            for _ in 0..number % 13 {
-                number = shuffled(number);
-                line.push(bytes[(number >> 20) as usize % bytes.len()])?;
-            }
-            lines.push(line)?;
+            lines.push(any_line(alloc, &mut numbers)?)?;
         }
         check_all(&rt, alloc, &lines, round % 2 == 0)?;
     }
