@@ -4,3 +4,5 @@ pub mod Rows
 pub mod Kept
 pub mod Readings
 pub mod Window
+pub mod RowsRead
+pub mod Segments

@@ -1,6 +1,6 @@
 //! The columns of a trace.
 
-ghost use Rattle.std.specs.Prelude.{◌≡◌, ℕ, List, [], find, map, option_map};
+ghost use Rattle.std.specs.Prelude.{◌≡◌, ℕ, List, [], Decides, IfOk, find, length, map, option_map};
 ghost use Rattle.std.specs.Str.{bytes_eq};
 ghost use Rattle.hart_words.specs.SignalNames.{name_of};
 ghost use Rattle.std.specs.List.{position};
@@ -13,7 +13,7 @@ ghost use Rattle.rvfi_rows.specs.Columns.{header_columns, header_fault, column_o
 use crate::fault::{HeaderError, HeaderFault};
 use csv_line::{Fields, line_fields};
 use hart_words::{SIGNALS, Signal, SignalEntry};
-use std::alloc::Global;
+use std::alloc::{AllocError, Global};
 use std::marker::Model;
 
 /// For each field of a header the signal that it names, or none for an unknown name.
@@ -43,6 +43,24 @@ impl Columns {
         ensures { result.now ≡ self.now }
     {
         self.signals.as_slice()
+    }
+
+    /// The same columns again.
+    pub(crate) fn copy(&self) -> Result<Columns, AllocError>
+        ensures { IfOk result (λ columns. columns ≡ self.now) }
+    {
+        Ok(Columns {
+            signals: self.signals.clone()?,
+            valid: self.valid,
+        })
+    }
+
+    /// Whether the other columns are the same.
+    pub(crate) fn is_same(&self, other: &Columns) -> bool
+        ensures { Decides result (self.now ≡ other.now) }
+    {
+        let (one, other) = (self.as_slice(), other.as_slice());
+        one.len() == other.len() && are_same(one, other)
     }
 
     /// The place of the first column that shows `valid`.
@@ -94,6 +112,30 @@ pub(crate) fn is_column_of(signal: Signal, column: Option<Signal>) -> bool
         None => false,
         Some(shown) => shown.index() == signal.index(),
     }
+}
+
+/// Whether two columns show the same signal, or both none.
+#[tactic(auto, using(crate::proofs::SameColumns::is_of_decides))]
+fn is_same_column(one: Option<Signal>, other: Option<Signal>) -> bool
+    ensures { Decides result (one ≡ other) }
+{
+    match one {
+        None => other.is_none(),
+        Some(signal) => is_column_of(signal, other),
+    }
+}
+
+/// Whether as many columns are the same.
+fn are_same(one: &[Option<Signal>], other: &[Option<Signal>]) -> bool
+    requires { length one.now ≡ length other.now }
+    ensures { Decides result (one.now ≡ other.now) }
+{
+    for index in 0..one.len() {
+        if !is_same_column(one[index], other[index]) {
+            return false;
+        }
+    }
+    true
 }
 
 /// Whether some column shows the signal.

@@ -13,6 +13,9 @@ mod lines;
 mod reading;
 mod row;
 mod rows;
+mod rows_read;
+mod segment;
+mod segments;
 mod verdict;
 mod window;
 
@@ -24,6 +27,8 @@ pub use lines::read_rows;
 pub use reading::Reading;
 pub use row::{FIRST_CSR, Row};
 pub use rows::Rows;
+pub use segment::Segment;
+pub use segments::read_segments;
 pub use verdict::Verdict;
 pub use window::distance_in_window;
 

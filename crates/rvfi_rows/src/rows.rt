@@ -1,6 +1,6 @@
 //! Rows that were read once, to be looked at many times.
 
-ghost use Rattle.std.specs.Prelude.{◌≡◌, ◌≤◌, ◌<◌, ◌+◌, ◌*◌, ◌++◌, ◌∷◌, [], IfOk, OnOk, OnErr, drop, length, option_map, slice_get, take};
+ghost use Rattle.std.specs.Prelude.{◌≡◌, ◌≤◌, ◌<◌, ◌+◌, ◌*◌, ◌^◌, ◌++◌, ◌∷◌, [], IfOk, OnOk, OnErr, drop, length, option_map, slice_get, take};
 ghost use Rattle.std.specs.List.{All};
 ghost use Rattle.rvfi_rows.specs.Cells.{shown_in, values_at};
 ghost use Rattle.rvfi_rows.specs.Rows.{row_of_fields, signals_of};
@@ -71,9 +71,10 @@ impl Rows {
         Ok(())
     }
 
-    /// How many rows there are.
+    /// How many rows there are; memory bounds their number.
     pub fn len(&self) -> usize
-        ensures { result ≡ length (rows_in self.now) }
+        ensures count { result ≡ length (rows_in self.now) }
+        ensures few { result < 2 ^ 63 }
     {
         self.rows.len()
     }

@@ -2,6 +2,7 @@ use super::*;
 use hart_words::{CsrName, CsrSide, Signal};
 use line_text::Lines;
 use std::alloc::Global;
+use std::process::Abort;
 use std::test::Fail;
 
 const HEADER: &[u8] = b"valid,order, rvfi_insn ,pc_rdata,core_note,\"mode\",rd_wdata,halt";
@@ -90,6 +91,72 @@ fn keeps_rows(rt: HostRuntime) -> Result<(), Fail> {
     assert_eq!(rt; rows.get(2, &mut row), Some(Reading::Invalid));
     assert_eq!(rt; rows.get(8, &mut row), None);
     Ok(())
+}
+
+/// Two rows of each segment read so, under these columns alone. The last row shows this.
+fn check_segments(
+    rt: &impl Abort,
+    segments: &[Segment],
+    (columns, other): (&Columns, &Columns),
+    wanted: &[[Reading; 2]],
+    insn: u64,
+) -> Result<(), Fail> {
+    let mut row = Row::empty();
+    for (segment, wanted) in segments.iter().zip(wanted.iter()) {
+        shared(segment);
+        assert!(rt; segment.is_read(columns));
+        assert!(rt; segment.rows(other).is_none());
+        let rows = segment.rows(columns).ok_or("it was read")?;
+        for (place, reading) in wanted.iter().enumerate() {
+            assert_eq!(rt; rows.get(place, &mut row), Some(*reading));
+        }
+    }
+    assert_eq!(rt; segments.len(), wanted.len());
+    assert_eq!(rt; row.shown(Signal::Insn), Some(insn));
+    Ok(())
+}
+
+/// Segments are read side by side, and again under other columns.
+#[test]
+fn reads_segments(rt: HostRuntime) -> Result<(), Fail> {
+    let alloc = rt.alloc();
+    let plain = read_header(alloc, b"insn,pc_rdata")?;
+    let turned = read_header(alloc, b"pc_rdata,insn")?;
+    let mut segments = Vec::new(alloc);
+    let mut lines = Lines::new(alloc);
+    lines.push(b"1,2")?;
+    lines.push(b"3,4")?;
+    segments.push(Segment::new(lines))?;
+    let mut lines = Lines::new(alloc);
+    lines.push(b"5,6")?;
+    lines.push(b"x,8")?;
+    segments.push(Segment::new(lines))?;
+    let mut lines = Lines::new(alloc);
+    lines.push(b"")?;
+    lines.push(b"9,10")?;
+    let mut last = Segment::new(lines);
+    assert_eq!(rt; last.lines.len(), 2);
+    assert!(rt; !last.is_read(&plain));
+    last.read(alloc, &plain)?;
+    assert!(rt; last.is_read(&plain));
+    segments.push(last)?;
+    let short = Reading::Refused(RowFault::FieldCount);
+    read_segments(&rt, alloc, 1, &plain, &mut segments)?;
+    let bad = Reading::Refused(RowFault::NotNumber(Signal::Insn));
+    let wanted = [
+        [Reading::Valid; 2],
+        [Reading::Valid, bad],
+        [short, Reading::Valid],
+    ];
+    check_segments(&rt, &segments, (&plain, &turned), &wanted, 9)?;
+    read_segments(&rt, alloc, 7, &turned, &mut segments)?;
+    let bad = Reading::Refused(RowFault::NotNumber(Signal::PcRdata));
+    let wanted = [
+        [Reading::Valid; 2],
+        [Reading::Valid, bad],
+        [short, Reading::Valid],
+    ];
+    check_segments(&rt, &segments, (&turned, &plain), &wanted, 10)
 }
 
 /// The columns of registers have 5 bits, those of byte masks 8.

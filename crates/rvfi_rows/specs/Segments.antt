@@ -1,0 +1,22 @@
+-- Lines of a trace that are judged together.
+use Rattle.std.specs.Prelude.{◌≡◌, ℕ, List, Option, Some, None}
+use Rattle.std.specs.Borrow.{Bor}
+use Rattle.rvfi_rows.specs.declared.rows.Rows.{Rows}
+use Rattle.rvfi_rows.specs.declared.segment.Segment.{Segment}
+use Rattle.rvfi_rows.specs.Columns.{ColumnList}
+use Rattle.rvfi_rows.specs.RowsRead.{WasReadUnder}
+use Rattle.rvfi_rows.specs.Readings.{rows_in}
+use Rattle.rvfi_rows.specs.Rows.{rows_of}
+
+abbrev pub lines_of : Segment → List (List ℕ)
+lines_of segment = segment.lines
+
+-- the lines were read under these columns
+abbrev pub IsRead : ColumnList → Segment → Type 0
+IsRead columns segment = WasReadUnder columns segment.read
+
+-- what is found are the rows of the lines, just where they were read under these columns
+abbrev pub FindsRows : ColumnList → Segment → Option (Bor Rows) → Type 0
+FindsRows columns segment None = IsRead columns segment → ⊥
+FindsRows columns segment (Some rows) =
+    IsRead columns segment × (rows_in rows.now ≡ rows_of columns segment.lines)

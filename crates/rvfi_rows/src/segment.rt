@@ -1,0 +1,76 @@
+//! Lines of a trace that are judged together.
+
+ghost use Rattle.std.specs.Prelude.{◌≡◌, Decides, OnOk, OnErr};
+ghost use Rattle.std.specs.Option.{ForSome};
+ghost use Rattle.rvfi_rows.specs.Readings.{rows_in};
+ghost use Rattle.rvfi_rows.specs.Rows.{rows_of};
+
+use crate::columns::Columns;
+use crate::lines::read_rows;
+use crate::rows::Rows;
+use crate::rows_read::RowsRead;
+use hart_words::NoMemory;
+use line_text::Lines;
+use std::alloc::Global;
+
+/// Lines of a trace that stand one after another and are judged together. What they read as is kept
+/// beside them once they were read, so that each line is read once.
+#[derive(Drop)]
+pub struct Segment {
+    pub lines: Lines,
+    read: Option<RowsRead>,
+    ghost theirs: { ForSome read (λ read. rows_in read.rows ≡ rows_of read.columns lines) },
+}
+
+impl Segment {
+    ghost use Rattle.rvfi_rows.specs.Segments.{FindsRows, IsRead};
+
+    /// Lines that were not read.
+    pub fn new(lines: Lines) -> Segment
+        ensures lines { result.lines ≡ lines }
+    {
+        Segment { lines, read: None }
+    }
+
+    /// What the lines read as under these columns, where they were read so.
+    pub fn rows(&self, columns: &Columns) -> Option<&Rows>
+        ensures { FindsRows columns.now self.now result }
+    {
+        match &self.read {
+            None => None,
+            Some(read) => {
+                if read.columns.is_same(columns) {
+                    Some(&read.rows)
+                } else {
+                    None
+                }
+            }
+        }
+    }
+
+    /// Reads the lines under these columns, unless they were read so. Where memory is refused
+    /// nothing changes.
+    pub fn read(&mut self, alloc: Global, columns: &Columns) -> Result<(), NoMemory>
+        ensures lines { self.new.lines ≡ self.old.lines }
+        ensures read { OnOk result (IsRead columns.now self.new) }
+        ensures kept { OnErr result (self.new ≡ self.old) }
+    {
+        if self.is_read(columns) {
+            return Ok(());
+        }
+        let rows = read_rows(alloc, columns, &self.lines)?;
+        let columns = columns.copy()?;
+        self.read = Some(RowsRead { columns, rows });
+        Ok(())
+    }
+
+    /// Whether the lines were read under these columns.
+    pub fn is_read(&self, columns: &Columns) -> bool
+        ensures { Decides result (IsRead columns.now self.now) }
+    {
+        match &self.read {
+            None => false,
+            Some(read) => read.columns.is_same(columns),
+        }
+    }
+}
