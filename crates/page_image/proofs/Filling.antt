@@ -1,19 +1,22 @@
 -- Pages filled one after another.
 use Rattle.std.proofs.Common.{◌≡◌, ℕ, ◌/◌, ◌%◌, ◌<◌, cond, Option, Some, None, option_map, unwrap_or, slice_index, refl, sym, ◌∙◌, subst, inl, inr, arith, nat_cmp}
 use Rattle.std.proofs.Math.Path.{fun_ext}
-use Rattle.std.specs.Prelude.{option_and_then}
+use Rattle.std.specs.Prelude.{option_and_then, nat_eq}
 use Rattle.std.specs.List.{slice_index_or}
 use Rattle.std.specs.Ordering.{is_eq}
-use Rattle.std.specs.BTreeMap.{get}
+use Rattle.std.specs.BTreeMap as tree
+use Rattle.std.specs.HashMap.{get}
 use Rattle.std.proofs.lemmas.Bool.{cases_eq}
-use Rattle.image_text.proofs.Pages.{is_eq_same, is_eq_other}
+use Rattle.image_text.proofs.Pages.{is_eq_other, eq_same, eq_other}
 use Rattle.std.specs.Prelude.{Box}
 use Rattle.std.proofs.Common.{Global}
 use Rattle.image_text.specs.declared.pieces.PiecePage.{PiecePage}
 use Rattle.image_text.specs.declared.pieces.Pieces.{Pieces}
 use Rattle.image_text.specs.Bytes.{byte_at}
-use Rattle.page_image.specs.declared.image.Page.{Page}
+use Rattle.page_image.specs.declared.page.Page.{Page}
 use Rattle.page_image.specs.declared.image.PageImage.{PageImage}
+use Rattle.page_image.specs.Pages.{byte_or_zero}
+use Rattle.page_image.specs.Pages as pages
 use Rattle.page_image.specs.Bytes.{byte_of, filled}
 
 -- the byte of a page that is made, else of one that is left to be made, else 0
@@ -23,7 +26,7 @@ over f g None left k = unwrap_or (option_map (λ p. g p k) left) 0
 
 -- one more page is made
 pub one_more : {A B : Type 0} (f : A → ℕ → ℕ) (g : B → ℕ → ℕ) (k : ℕ) (before after : ℕ → Option A) (left rest old : ℕ → Option B) (n : ℕ) (page : A) (p : B)
-    → ((q : ℕ) → after q ≡ cond (is_eq (nat_cmp n q)) (Some page) (before q))
+    → ((q : ℕ) → after q ≡ cond (nat_eq n q) (Some page) (before q))
     → ((q : ℕ) → left q ≡ cond (is_eq (nat_cmp q n)) (Some p) (rest q))
     → f page k ≡ g p k
     → old n ≡ Some p
@@ -32,8 +35,8 @@ pub one_more : {A B : Type 0} (f : A → ℕ → ℕ) (g : B → ℕ → ℕ) (k
 one_more f g k before after left rest old n page p updates first same found kept q =
     let P : ℕ → Type 0 = λ m. over f g (after m) (rest m) k ≡ over f g None (old m) k in
     elim (cases_eq n q) [
-      | inl is ↦ subst P is (rw (updates n, is_eq_same n, found) same)
-      | inr apart ↦ rw (updates q, is_eq_other n q apart) (rw (first q, is_eq_other q n (λ e. apart (sym e))) at (kept q))
+      | inl is ↦ subst P is (rw (updates n, eq_same n, found) same)
+      | inr apart ↦ rw (updates q, eq_other n q apart) (rw (first q, is_eq_other q n (λ e. apart (sym e))) at (kept q))
     ]
 
 -- a page that is made, or 0
@@ -47,16 +50,23 @@ given : {A B : Type 0} (f : A → ℕ → ℕ) (h : B → ℕ → Option ℕ) (o
 given f h None k = refl
 given f h (Some p) k = refl
 
--- a byte of a page, and of a page of pieces
+-- a byte of a page by its offset
 abbrev pub page_byte : Box Page Global → ℕ → ℕ
 page_byte page k = slice_index page.value.bytes k
 
+-- a page that is made has its byte at an address, and where there is none it is 0
+shown : (held : Option (Box Page Global)) (pa : ℕ) → byte_or_zero (option_map (λ page. page.value) held) pa ≡ unwrap_or (option_map (λ page. page_byte page (pa % 4096)) held) 0
+unfolding pages.page_byte
+shown None pa = refl
+shown (Some page) pa = refl
+
+-- a byte of a page of pieces
 abbrev pub piece_byte : Box PiecePage Global → ℕ → ℕ
 piece_byte page k = unwrap_or (slice_index_or page.value.bytes k None) 0
 
 pub all_made : (image : PageImage) (pieces : Pieces)
-    → ((q k : ℕ) → k < 4096 → over page_byte piece_byte (get nat_cmp image.pages q) None k ≡ over page_byte piece_byte None (get nat_cmp pieces.pages q) k)
+    → ((q k : ℕ) → k < 4096 → over page_byte piece_byte (get nat_eq image.pages q) None k ≡ over page_byte piece_byte None (tree.get nat_cmp pieces.pages q) k)
     → byte_of image ≡ filled (byte_at pieces)
 unfolding byte_of byte_at
 all_made image pieces kept =
-    fun_ext (λ a. made page_byte piece_byte (get nat_cmp image.pages (a / 4096)) (a % 4096) ∙ kept (a / 4096) (a % 4096) (grind arith) ∙ given page_byte (λ p j. slice_index_or p.value.bytes j None) (get nat_cmp pieces.pages (a / 4096)) (a % 4096))
+    fun_ext (λ a. shown (get nat_eq image.pages (a / 4096)) a ∙ made page_byte piece_byte (get nat_eq image.pages (a / 4096)) (a % 4096) ∙ kept (a / 4096) (a % 4096) (grind arith) ∙ given page_byte (λ p j. slice_index_or p.value.bytes j None) (tree.get nat_cmp pieces.pages (a / 4096)) (a % 4096))

@@ -1,1 +1,3 @@
 pub mod Filling
+pub mod Stored
+pub mod PageBytes

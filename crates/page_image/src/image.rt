@@ -1,30 +1,23 @@
-//! Pages of bytes by their number.
+//! The pages of an image by their number.
 
-ghost use Rattle.std.specs.Prelude.{◌≡◌, length};
-ghost use Rattle.hart_words.specs.declared.span.TheConstants.{PAGE_SIZE};
-
-use hart_words::{NoMemory, PAGE_BYTES, PAGE_SIZE, Span};
+use crate::page::Page;
+use hart_words::{NoMemory, PAGE_SIZE, Span};
 use image_text::Pieces;
 use std::alloc::Global;
-use std::collections::BTreeMap;
-
-/// 4,096 addresses and their bytes.
-#[derive(Drop)]
-struct Page {
-    bytes: [u8; PAGE_BYTES],
-    ghost full: { length bytes ≡ PAGE_SIZE },
-}
+use std::collections::HashMap;
 
 /// The bytes of RAM before the first step: those of an image, and 0 elsewhere.
 #[derive(Drop)]
 pub struct PageImage {
     ram: Span,
-    pages: BTreeMap<u64, Box<Page>>,
+    pages: HashMap<u64, Box<Page>>,
 }
 
 impl PageImage {
-    ghost use Rattle.std.specs.Prelude.{◌≡◌, IfOk};
+    ghost use Rattle.std.specs.Prelude.{◌≡◌, ◌/◌, ℕ, IfOk, option_copied};
     ghost use Rattle.image_text.specs.Bytes.{byte_at};
+    ghost use Rattle.hart_words.specs.declared.span.TheConstants.{PAGE_SIZE};
+    ghost use Rattle.page_image.specs.Pages.{byte_or_zero};
     ghost use Rattle.page_image.specs.Bytes.{byte_of, filled};
 
     /// The memory in which each address has the byte that the pieces have there, or 0.
@@ -34,24 +27,38 @@ impl PageImage {
     {
         let mut image = PageImage {
             ram,
-            pages: BTreeMap::new(alloc),
+            pages: HashMap::new(alloc),
         };
         for (number, page) in pieces.pages().iter() {
-            let page = Page {
-                bytes: page.plain(),
-            };
+            let page = Page::of(page.plain());
             image.pages.insert(*number, Box::new(alloc, page)?)?;
         }
         Ok(image)
     }
 
-    /// The byte at an address.
+    /// The pages by their number.
+    pub fn pages(&self) -> &HashMap<u64, Box<Page>>
+        ensures { result.now ≡ self.now.pages }
+    {
+        &self.pages
+    }
+
+    /// The page of a number, if the image has it: the addresses that divided by 4,096 give it.
     #[tactic(auto, unfolding(crate::specs::Bytes::byte_of))]
+    pub fn page(&self, number: u64) -> Option<&Page>
+        ensures { (pa : ℕ) → pa / PAGE_SIZE ≡ number
+            → byte_of self.now pa ≡ byte_or_zero (option_copied result) pa }
+    {
+        let page = self.pages.get(&number)?;
+        Some(page)
+    }
+
+    /// The byte at an address.
     pub fn byte(&self, pa: u64) -> u8
         ensures { result ≡ byte_of self.now pa }
     {
-        match self.pages.get(&(pa / PAGE_SIZE)) {
-            Some(page) => page.bytes[(pa % PAGE_SIZE) as usize],
+        match self.page(pa / PAGE_SIZE) {
+            Some(page) => page.byte(pa),
             None => 0,
         }
     }

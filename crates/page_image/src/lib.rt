@@ -1,12 +1,15 @@
 //! The memory that an image describes, before a hart's first step.
 //!
 //! In come an image's pieces and the range of RAM. Out comes a memory that is never written: each
-//! address has the image's byte, or 0 (`byte_of` and `filled`, `specs/Bytes.antt`).
+//! address has the image's byte, or 0 (`byte_of` and `filled`, `specs/Bytes.antt`). Its pages
+//! (`Page`, `specs/Pages.antt`) are those of memories that are written too.
 #![tactic(auto)]
 
 mod image;
+mod page;
 
 pub use image::PageImage;
+pub use page::Page;
 
 #[cfg(test)]
 mod tests;

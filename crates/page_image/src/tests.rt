@@ -28,3 +28,37 @@ fn bytes_of_ram(rt: HostRuntime) -> Result<(), Fail> {
     assert_eq!(rt; image.ram().base, 0x8000_0000);
     Ok(())
 }
+
+#[test]
+fn pages_hold_numbers(rt: HostRuntime) -> Result<(), Fail> {
+    let mut page = Page::zeros();
+    assert!(&rt; page.is_zero());
+    page.put(0x8000_0ff8, 8, 0x0807_0605_0403_0201);
+    assert_eq!(&rt; page.number(0x8000_0ff8, 8), 0x0807_0605_0403_0201);
+    assert_eq!(&rt; page.number(0x8000_0ffe, 2), 0x0807);
+    assert_eq!(&rt; page.number(0x8000_0ff0, 8), 0);
+    assert_eq!(&rt; page.byte(0x8000_0fff), 8);
+    let mut other = page.clone()?;
+    assert!(&rt; page.same_as(&other));
+    other.put(0x8000_0fff, 1, 0xff09);
+    assert_eq!(&rt; other.number(0x8000_0ff8, 8), 0x0907_0605_0403_0201);
+    assert!(&rt; !page.same_as(&other));
+    assert!(&rt; !page.is_zero());
+    assert!(&rt; Page::same_bytes(None, None));
+    assert!(&rt; Page::same_bytes(None, Some(&Page::zeros())));
+    assert!(&rt; !Page::same_bytes(Some(&page), None));
+    assert!(&rt; !Page::same_bytes(Some(&page), Some(&other)));
+    Ok(())
+}
+
+#[test]
+fn pages_of_an_image(rt: HostRuntime) -> Result<(), Fail> {
+    let ram = Span::new(0x8000_0000, 0x1_0000).ok_or("no range")?;
+    let pieces = read_image(rt.alloc(), b"@80001ffe 12 34 56", ram)?;
+    let image = PageImage::build(rt.alloc(), &pieces, ram)?;
+    assert!(&rt; image.page(0x8_0000).is_none());
+    let page = image.page(0x8_0001).ok_or("no page")?;
+    assert_eq!(&rt; page.number(0x8000_1ffe, 2), 0x3412);
+    assert_eq!(&rt; image.pages().len(), 2);
+    Ok(())
+}

@@ -1,2 +1,5 @@
-pub mod Stored
 pub mod Changes
+pub mod PageChanges
+pub mod TableChanges
+pub mod Directory
+pub mod Same

@@ -1,2 +1,5 @@
+pub mod Held
+pub mod Bytes
+pub mod Tables
 pub mod Pages
 pub mod Memories

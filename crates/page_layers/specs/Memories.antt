@@ -7,7 +7,8 @@ use Rattle.hart_words.specs.Memory.{Bytes}
 use Rattle.page_image.specs.Bytes.{byte_of}
 use Rattle.page_layers.specs.declared.layered.Layered.{Layered}
 use Rattle.page_layers.specs.declared.map_mem.MapMem.{MapMem}
-use Rattle.page_layers.specs.Pages.{own_byte, over}
+use Rattle.page_layers.specs.Bytes.{over}
+use Rattle.page_layers.specs.Pages.{own_byte}
 use Rattle.hart_words.specs.declared.span.TheConstants.{PAGE_SIZE}
 
 -- the image's bytes under the pages that were written
@@ -16,6 +17,15 @@ layered_bytes mem = over (own_byte mem.pages) (byte_of mem.image.now)
 
 abbrev pub layered_ram : Layered → Span
 layered_ram mem = mem.image.now.ram
+
+-- two memories have the same bytes in a page
+abbrev pub IsSamePage : Layered → Layered → ℕ → Type 0
+IsSamePage one other number =
+    (pa : ℕ) → pa / PAGE_SIZE ≡ number → layered_bytes one pa ≡ layered_bytes other pa
+
+-- all bytes of a page are zeros
+abbrev pub IsZeroPage : Bytes → ℕ → Type 0
+IsZeroPage bytes number = (pa : ℕ) → pa / PAGE_SIZE ≡ number → bytes pa ≡ 0
 
 -- the byte that the map has at an address, 0 where it has none
 unfoldable pub map_bytes : MapMem → Bytes

@@ -1,16 +1,15 @@
 //! The memory of a hart over an image.
 
-ghost use Rattle.std.specs.Prelude.{◌≡◌, ◌<◌, ◌+◌, ◌*◌, ◌^◌, ℕ, length, slice_index};
-ghost use Rattle.page_image.specs.Bytes.{byte_of};
-
-use crate::numbers::{ByteMem, number_of, put_number};
+use crate::held::Held;
 use crate::pages::Pages;
-use hart_words::{NoMemory, PAGE_BYTES, PAGE_SIZE, PhysMem};
-use page_image::PageImage;
+use crate::table::{TABLE_PAGES, Table};
+use hart_words::{NoMemory, PAGE_SIZE, PhysMem};
+use page_image::{Page, PageImage};
 use std::alloc::Global;
+use std::collections::HashMap;
 
 /// The bytes of an image, under the pages that were written since. A page is copied as a whole when
-/// a byte of it is first written.
+/// a byte of it is first written, by this memory or since it was copied.
 #[derive(Drop)]
 pub struct Layered<'a> {
     alloc: Global,
@@ -19,9 +18,15 @@ pub struct Layered<'a> {
 }
 
 impl<'a> Layered<'a> {
-    ghost use Rattle.std.specs.Prelude.{◌≡◌};
+    ghost use Rattle.std.specs.Prelude.{◌≡◌, ◌/◌, ◌⊎◌, ℕ, nat_eq, IsOk, IsTrue, OnOk, is_some, option_copied};
+    ghost use Rattle.std.specs.Bool.{Decides};
+    ghost use Rattle.std.specs.HashMap.{get};
+    ghost use Rattle.hart_words.specs.declared.span.TheConstants.{PAGE_SIZE};
+    ghost use Rattle.page_image.specs.Pages.{byte_or_zero};
     ghost use Rattle.page_image.specs.Bytes.{byte_of};
-    ghost use Rattle.page_layers.specs.Memories.{layered_bytes, layered_ram};
+    ghost use Rattle.page_layers.specs.Bytes.{over};
+    ghost use Rattle.page_layers.specs.Pages.{first_of, own_byte, owns};
+    ghost use Rattle.page_layers.specs.Memories.{IsSamePage, IsZeroPage, layered_bytes, layered_ram};
 
     /// The memory of an image, before any write.
     pub fn over(alloc: Global, image: &'a PageImage) -> Layered<'a>
@@ -34,63 +39,138 @@ impl<'a> Layered<'a> {
             pages: Pages::none(alloc),
         }
     }
-}
 
-impl<'a> ByteMem for Layered<'a> {
-    ghost use Rattle.std.specs.Prelude.{IsTrue};
-    ghost use Rattle.page_layers.specs.Pages.{has_page};
-    ghost use Rattle.page_layers.specs.Memories.{layered_bytes, layered_ram};
-
-    ghost bytes = { layered_bytes };
-
-    ghost ram = { layered_ram };
-
-    ghost admits = { λ mem page. IsTrue (has_page mem.pages page) };
-
-    fn byte(&self, pa: u64) -> u8 {
-        match self.pages.byte(pa) {
-            Some(byte) => byte,
-            None => self.image.byte(pa),
+    /// The page of a number, if there is one; its bytes are zeros if not.
+    fn page(&self, number: u64) -> Option<&Page>
+        ensures { (pa : ℕ) → pa / PAGE_SIZE ≡ number
+            → layered_bytes self.now pa ≡ byte_or_zero (option_copied result) pa }
+    {
+        match self.pages.page(number) {
+            Some(page) => Some(page),
+            None => self.image.page(number),
         }
     }
 
-    fn admit(&mut self, pa: u64) -> Result<(), NoMemory> {
-        let number = pa / PAGE_SIZE;
-        if self.pages.contains(number) {
+    /// Whether this memory has the bytes of another at each address.
+    pub fn same_as(&self, other: &Layered) -> bool
+        ensures { Decides result (layered_bytes self.now ≡ layered_bytes other.now) }
+    {
+        self.same_under(other, &self.pages, self.image)
+            && self.same_under(other, &other.pages, other.image)
+    }
+
+    /// Whether it has the bytes of another in each page in which an image under pages has more than
+    /// zeros, and maybe in others.
+    fn same_under(&self, other: &Layered, pages: &Pages, image: &PageImage) -> bool
+        ensures told { IsTrue result → (number : ℕ)
+            → IsZeroPage (over (own_byte pages.now) (byte_of image.now)) number
+            ⊎ IsSamePage self.now other.now number }
+        ensures same { layered_bytes self.now ≡ layered_bytes other.now → IsTrue result }
+    {
+        self.same_in_tables(other, pages.tables()) && self.same_in_image(other, image)
+    }
+
+    /// Whether it has the bytes of another in each page of these tables.
+    fn same_in_tables(&self, other: &Layered, tables: &HashMap<u64, Held<Table>>) -> bool
+        ensures told { IsTrue result → (number : ℕ)
+            → IsTrue (is_some (get nat_eq tables.now (first_of number)))
+            → IsSamePage self.now other.now number }
+        ensures same { layered_bytes self.now ≡ layered_bytes other.now → IsTrue result }
+    {
+        for first in tables.keys() {
+            if !self.same_table(other, *first) {
+                return false;
+            }
+        }
+        true
+    }
+
+    /// Whether it has the bytes of another in each page that an image has.
+    fn same_in_image(&self, other: &Layered, image: &PageImage) -> bool
+        ensures told { IsTrue result → (number : ℕ)
+            → IsTrue (is_some (get nat_eq image.now.pages number))
+            → IsSamePage self.now other.now number }
+        ensures same { layered_bytes self.now ≡ layered_bytes other.now → IsTrue result }
+    {
+        for number in image.pages().keys() {
+            if !self.same_page(other, *number) {
+                return false;
+            }
+        }
+        true
+    }
+
+    /// Whether it has the bytes of another in each page of a table, by its first page.
+    fn same_table(&self, other: &Layered, first: u64) -> bool
+        ensures told { IsTrue result → (number : ℕ) → first_of number ≡ first
+            → IsSamePage self.now other.now number }
+        ensures same { layered_bytes self.now ≡ layered_bytes other.now → IsTrue result }
+    {
+        for k in 0..TABLE_PAGES {
+            if !self.same_page(other, first.wrapping_add(k)) {
+                return false;
+            }
+        }
+        true
+    }
+
+    /// Whether it has the bytes of another in a page.
+    fn same_page(&self, other: &Layered, number: u64) -> bool
+        ensures { Decides result (IsSamePage self.now other.now number) }
+    {
+        Page::same_bytes(self.page(number), other.page(number))
+    }
+
+    /// Makes a page its own, with the bytes that it has.
+    fn own(&mut self, number: u64) -> Result<(), NoMemory>
+        ensures bytes { layered_bytes self.new ≡ layered_bytes self.old }
+        ensures ok { OnOk result (IsTrue (owns self.new.pages number)) }
+        ensures owned { IsTrue (owns self.old.pages number) → IsOk result }
+        ensures keeps { (page : ℕ) → IsTrue (owns self.old.pages page)
+            → IsTrue (owns self.new.pages page) }
+        ensures ram { layered_ram self.new ≡ layered_ram self.old }
+    {
+        if self.pages.is_own(number) {
             return Ok(());
         }
-        let bytes = page_of(self.image, number);
-        self.pages.add(self.alloc, number, bytes)
-    }
-
-    fn set(&mut self, pa: u64, value: u8) {
-        self.pages.set(pa, value);
+        let page = match self.page(number) {
+            Some(page) => *page,
+            None => Page::zeros(),
+        };
+        self.pages
+            .set(self.alloc, number, Box::new(self.alloc, page)?)
     }
 }
 
 impl<'a> PhysMem for Layered<'a> {
     ghost use Rattle.std.specs.Prelude.{IsTrue};
-    ghost use Rattle.page_layers.specs.Pages.{has_page};
+    ghost use Rattle.page_layers.specs.Pages.{owns};
     ghost use Rattle.page_layers.specs.Memories.{layered_bytes, layered_ram};
 
     ghost bytes = { layered_bytes };
 
     ghost ram = { layered_ram };
 
-    ghost is_ready = { λ mem page. IsTrue (has_page mem.pages page) };
+    ghost is_ready = { λ mem page. IsTrue (owns mem.pages page) };
 
     fn read(&self, pa: u64, len: u8) -> u64 {
-        number_of(self, pa, len)
+        match self.page(pa / PAGE_SIZE) {
+            Some(page) => page.number(pa, len),
+            None => 0,
+        }
     }
 
     fn write(&mut self, pa: u64, len: u8, value: u64) -> Result<(), NoMemory> {
-        self.admit(pa)?;
-        put_number(self, pa, len, value);
+        if self.pages.put(pa, len, value) {
+            return Ok(());
+        }
+        self.own(pa / PAGE_SIZE)?;
+        self.pages.put(pa, len, value);
         Ok(())
     }
 
     fn ready(&mut self, pa: u64) -> Result<(), NoMemory> {
-        self.admit(pa)
+        self.own(pa / PAGE_SIZE)
     }
 
     fn copy(&self) -> Result<Layered<'a>, NoMemory> {
@@ -100,18 +180,4 @@ impl<'a> PhysMem for Layered<'a> {
             pages: self.pages.copy()?,
         })
     }
-}
-
-/// The bytes of a page of the image.
-fn page_of(image: &PageImage, number: u64) -> [u8; PAGE_BYTES]
-    requires { number < 2 ^ 52 }
-    ensures full { length result ≡ PAGE_SIZE }
-    ensures bytes { (k : ℕ) → k < PAGE_SIZE
-        → slice_index result k ≡ byte_of image.now (number * PAGE_SIZE + k) }
-{
-    let mut bytes = [0; PAGE_BYTES];
-    for k in 0..PAGE_BYTES {
-        bytes[k] = image.byte(number * PAGE_SIZE + k as u64);
-    }
-    bytes
 }

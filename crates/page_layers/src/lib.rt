@@ -5,10 +5,12 @@
 //! bytes they have stands in `specs/Memories.antt`.
 #![tactic(auto)]
 
+mod held;
 mod layered;
 mod map_mem;
 mod numbers;
 mod pages;
+mod table;
 
 pub use layered::Layered;
 pub use map_mem::MapMem;

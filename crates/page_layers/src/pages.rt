@@ -1,109 +1,150 @@
-//! Pages of bytes by their number.
+//! The pages of a memory by their number.
 
-ghost use Rattle.std.specs.Prelude.{◌≡◌, length};
-ghost use Rattle.hart_words.specs.declared.span.TheConstants.{PAGE_SIZE};
+ghost use Rattle.std.specs.Prelude.{◌≡◌};
+ghost use Rattle.page_layers.specs.Pages.{first_of};
 
-use hart_words::{NoMemory, PAGE_BYTES, PAGE_SIZE};
+use crate::held::Held;
+use crate::table::{TABLE_PAGES, Table};
+use hart_words::{NoMemory, PAGE_SIZE};
+use page_image::Page;
 use std::alloc::{AllocError, Global};
-use std::collections::BTreeMap;
+use std::collections::HashMap;
 
-/// 4,096 addresses and their bytes.
-pub struct Page {
-    bytes: [u8; PAGE_BYTES],
-    ghost full: { length bytes ≡ PAGE_SIZE },
+/// The number of the first page in the table of a page.
+fn first_of(number: u64) -> u64
+    ensures { result ≡ first_of number }
+{
+    number - number % TABLE_PAGES
 }
 
-impl Copy for Page {}
-
-impl Clone for Page {
-    ghost use Rattle.std.specs.Prelude.{◌≡◌};
-
-    ghost is_clone = { λ page other. other.bytes ≡ page.bytes };
-
-    fn clone(&self) -> Result<Page, AllocError> {
-        Ok(*self)
-    }
-}
-
-/// The pages that a memory has of its own, by their number: an address divided by 4,096.
+/// The pages that a memory has beside its image, by their number: an address divided by 4,096. They
+/// stand in tables, so that a copy costs what was written since the last one, and not all there is.
 #[derive(Drop)]
 pub struct Pages {
-    pages: BTreeMap<u64, Box<Page>>,
+    tables: HashMap<u64, Held<Table>>,
 }
 
 impl Pages {
-    ghost use Rattle.std.specs.Prelude.{◌≡◌, ◌/◌, ℕ, ◌+◌, ◌*◌, ◌<◌, false, length, None, Some, OnOk, OnErr, IfOk, IsTrue, is_some, slice_index};
+    ghost use Rattle.std.specs.Prelude.{◌≡◌, ◌≤◌, ◌<◌, ◌+◌, ◌/◌, ◌%◌, ◌^◌, ◌==◌, ℕ, None, Some, OnOk, OnErr, IfOk, IsTrue, option_copied, if◌then◌else◌};
+    ghost use Rattle.hart_words.specs.declared.span.TheConstants.{PAGE_SIZE};
     ghost use Rattle.hart_words.specs.Memory.{stored};
-    ghost use Rattle.page_layers.specs.Pages.{own_byte, has_page, over};
+    ghost use Rattle.page_layers.specs.Bytes.{over};
+    ghost use Rattle.page_layers.specs.Tables.{page_in};
+    ghost use Rattle.page_layers.specs.Pages.{first_of, own_byte, owns, owns_table, page_at};
 
     /// No page.
-    #[tactic(auto, unfolding(crate::specs::Pages::own_byte))]
+    #[tactic(auto, unfolding(crate::specs::Pages::page_at))]
     pub fn none(alloc: Global) -> Pages
-        ensures { own_byte result ≡ (λ _. None) }
+        ensures { page_at result ≡ (λ _. None) }
     {
         Pages {
-            pages: BTreeMap::new(alloc),
+            tables: HashMap::new(alloc),
         }
     }
 
-    /// The byte at an address, if its page is there.
-    #[tactic(auto, unfolding(crate::specs::Pages::own_byte))]
-    pub fn byte(&self, pa: u64) -> Option<u8>
-        ensures { result ≡ own_byte self.now pa }
+    /// The tables by the number of their first page.
+    pub fn tables(&self) -> &HashMap<u64, Held<Table>>
+        ensures { result.now ≡ self.now.tables }
     {
-        let page = self.pages.get(&(pa / PAGE_SIZE))?;
-        Some(page.bytes[(pa % PAGE_SIZE) as usize])
+        &self.tables
     }
 
-    /// Whether a page is there.
-    #[tactic(auto, unfolding(crate::specs::Pages::has_page))]
-    pub fn contains(&self, number: u64) -> bool
-        ensures { result ≡ has_page self.now number }
+    /// The page of a number, if it is there.
+    #[tactic(auto, unfolding(crate::specs::Pages::page_at))]
+    pub fn page(&self, number: u64) -> Option<&Page>
+        ensures { option_copied result ≡ page_at self.now number }
     {
-        self.pages.contains_key(&number)
+        let table = self.tables.get(&first_of(number))?;
+        table.value().page(number)
     }
 
-    /// Adds a page, unless it is there.
-    pub fn add(
-        &mut self,
-        alloc: Global,
-        number: u64,
-        bytes: [u8; PAGE_BYTES],
-    ) -> Result<(), NoMemory>
-        requires absent { has_page self.old number ≡ false }
-        requires full { length bytes ≡ PAGE_SIZE }
-        ensures ok { OnOk result (IsTrue (has_page self.new number)) }
-        ensures bytes { (base : ℕ → ℕ)
-            → ((k : ℕ) → k < PAGE_SIZE → slice_index bytes k ≡ base (number * PAGE_SIZE + k))
-            → over (own_byte self.new) base ≡ over (own_byte self.old) base }
-        ensures keeps { (page : ℕ) → IsTrue (has_page self.old page)
-            → IsTrue (has_page self.new page) }
+    /// Whether a page is there that no copy shares.
+    #[tactic(auto, unfolding(crate::specs::Pages::owns))]
+    pub fn is_own(&self, number: u64) -> bool
+        ensures { result ≡ owns self.now number }
     {
-        let page = Box::new(alloc, Page { bytes })?;
-        self.pages.insert(number, page)?;
+        match self.tables.get(&first_of(number)) {
+            Some(table) => table.is_own() && table.value().is_own(number),
+            None => false,
+        }
+    }
+
+    /// Whether a table is there that no copy shares.
+    #[tactic(auto, unfolding(crate::specs::Pages::owns_table))]
+    fn is_table_own(&self, number: u64) -> bool
+        ensures { result ≡ owns_table self.now number }
+    {
+        match self.tables.get(&first_of(number)) {
+            Some(held) => held.is_own(),
+            None => false,
+        }
+    }
+
+    /// A table with the pages that are there.
+    fn copy_table(&self, number: u64) -> Result<Table, AllocError>
+        ensures { IfOk result (λ table. (q : ℕ) → first_of q ≡ first_of number
+            → page_in table q ≡ page_at self.now q) }
+    {
+        match self.tables.get(&first_of(number)) {
+            Some(held) => held.value().clone(),
+            None => Ok(Table::none()),
+        }
+    }
+
+    /// Makes the table of a page its own.
+    fn own_table(&mut self, alloc: Global, number: u64) -> Result<(), NoMemory>
+        ensures pages { page_at self.new ≡ page_at self.old }
+        ensures ok { OnOk result (IsTrue (owns_table self.new number)) }
+        ensures keeps { (q : ℕ) → IsTrue (owns self.old q) → IsTrue (owns self.new q) }
+    {
+        if self.is_table_own(number) {
+            return Ok(());
+        }
+        let table = Box::new(alloc, self.copy_table(number)?)?;
+        self.tables.insert(first_of(number), Held::Own(table))?;
         Ok(())
     }
 
-    /// Sets the byte at an address whose page is there.
-    pub fn set(&mut self, pa: u64, value: u8)
-        requires { IsTrue (has_page self.old (pa / PAGE_SIZE)) }
-        ensures bytes { (base : ℕ → ℕ)
-            → over (own_byte self.new) base ≡ stored pa 1 value (over (own_byte self.old) base) }
-        ensures keeps { (page : ℕ) → IsTrue (has_page self.old page)
-            → IsTrue (has_page self.new page) }
+    /// Sets the page of a number, to be its own. A refused one changes nothing.
+    pub fn set(&mut self, alloc: Global, number: u64, page: Box<Page>) -> Result<(), NoMemory>
+        ensures ok { OnOk result ((q : ℕ)
+            → page_at self.new q ≡ (if q == number then Some page.value else page_at self.old q)) }
+        ensures err { OnErr result (page_at self.new ≡ page_at self.old) }
+        ensures owned { OnOk result (IsTrue (owns self.new number)) }
+        ensures keeps { (q : ℕ) → IsTrue (owns self.old q) → IsTrue (owns self.new q) }
     {
-        match self.pages.get_mut(&(pa / PAGE_SIZE)) {
-            Some(page) => page.bytes[(pa % PAGE_SIZE) as usize] = value,
+        self.own_table(alloc, number)?;
+        match self.tables.get_mut(&first_of(number)) {
+            Some(table) => table.set(number, page),
             None => unreachable!(),
+        }
+        Ok(())
+    }
+
+    /// Puts the low `len` bytes of a number at an address, within a page that is its own. Where
+    /// there is none nothing changes.
+    pub fn put(&mut self, pa: u64, len: u8, value: u64) -> bool
+        requires few { len ≤ 8 }
+        requires inside { pa + len < 2 ^ 64 }
+        requires page { pa % PAGE_SIZE + len ≤ PAGE_SIZE }
+        ensures own { result ≡ owns self.old (pa / PAGE_SIZE) }
+        ensures stays { owns self.new ≡ owns self.old }
+        ensures bytes { (base : ℕ → ℕ) → over (own_byte self.new) base ≡ (if result
+            then stored pa len value (over (own_byte self.old) base)
+            else over (own_byte self.old) base) }
+    {
+        match self.tables.get_mut(&first_of(pa / PAGE_SIZE)) {
+            Some(table) => table.put(pa, len, value),
+            None => false,
         }
     }
 
-    /// The same pages once more.
+    /// The same pages once more. The two share them from then on, but for the first's own ones.
     pub fn copy(&self) -> Result<Pages, NoMemory>
-        ensures { IfOk result (λ other. own_byte other ≡ own_byte self.now) }
+        ensures { IfOk result (λ other. page_at other ≡ page_at self.now) }
     {
         Ok(Pages {
-            pages: self.pages.clone()?,
+            tables: self.tables.clone()?,
         })
     }
 }

@@ -130,7 +130,43 @@ fn serves<M: PhysMem + Drop>(rt: &impl Abort, mut mem: M, ram: &Span) -> Result<
     Ok(())
 }
 
-fn is_sent<T: Send>(_value: &T) {}
+/// The next number of a small generator.
+fn next(seed: u64) -> u64 {
+    seed.wrapping_mul(6_364_136_223_846_793_005)
+        .wrapping_add(1_442_695_040_888_963_407)
+}
+
+/// Writes 60 numbers of the generator, of any length and at any place.
+fn write_some<M: PhysMem>(mem: &mut M, ram: &Span, seed: u64) -> Result<(), Fail>
+    requires { M.ram mem.old ≡ ram.now }
+    ensures { M.ram mem.new ≡ M.ram mem.old }
+{
+    let mut seed = seed;
+    for _turn in 0..60 {
+        seed = next(seed);
+        let pa = 0x8000_0000 + (seed >> 33) % 0x3000;
+        let len = (1 + (seed >> 20) % 8) as u8;
+        if is_place(ram, pa, len) {
+            mem.write(pa, len, seed)?;
+        }
+    }
+    Ok(())
+}
+
+/// Two memories have the same bytes.
+fn agree<M: PhysMem, N: PhysMem>(rt: &impl Abort, one: &M, other: &N, ram: &Span)
+    requires one { M.ram one.now ≡ ram.now }
+    requires other { N.ram other.now ≡ ram.now }
+{
+    for k in 0..0x600_u64 {
+        let pa = 0x8000_0000 + k * 8;
+        assert!(rt; is_place(ram, pa, 8));
+        assert_eq!(rt; one.read(pa, 8), other.read(pa, 8), "at {pa}");
+    }
+}
+
+/// Threads may share it.
+fn is_shared<T: Send + Sync>(_value: &T) {}
 
 #[test]
 fn serves_over_an_image(rt: HostRuntime) -> Result<(), Fail> {
@@ -138,7 +174,7 @@ fn serves_over_an_image(rt: HostRuntime) -> Result<(), Fail> {
     let pieces = read_image(rt.alloc(), IMAGE, ram)?;
     let image = PageImage::build(rt.alloc(), &pieces, ram)?;
     let mem = Layered::over(rt.alloc(), &image);
-    is_sent(&mem);
+    is_shared(&mem);
     serves(&rt, mem, &ram)
 }
 
@@ -148,4 +184,65 @@ fn serves_over_a_map(rt: HostRuntime) -> Result<(), Fail> {
     let mut mem = MapMem::zeros(rt.alloc(), ram);
     write_all(&rt, &mut mem, &ram, LOADED)?;
     serves(&rt, mem, &ram)
+}
+
+/// Copies of copies, and writes to each of them after it was copied.
+#[test]
+fn copies_stand_alone(rt: HostRuntime) -> Result<(), Fail> {
+    let ram = three_pages()?;
+    let pieces = read_image(rt.alloc(), IMAGE, ram)?;
+    let image = PageImage::build(rt.alloc(), &pieces, ram)?;
+    let mut first = Layered::over(rt.alloc(), &image);
+    let mut plain = MapMem::zeros(rt.alloc(), ram);
+    write_all(&rt, &mut plain, &ram, LOADED)?;
+    write_some(&mut first, &ram, 1)?;
+    write_some(&mut plain, &ram, 1)?;
+    let mut second = first.copy()?;
+    let mut plain_second = plain.copy()?;
+    assert!(&rt; first.same_as(&second));
+    write_some(&mut first, &ram, 2)?;
+    write_some(&mut plain, &ram, 2)?;
+    write_some(&mut second, &ram, 3)?;
+    write_some(&mut plain_second, &ram, 3)?;
+    let mut third = second.copy()?;
+    let mut plain_third = plain_second.copy()?;
+    write_some(&mut second, &ram, 4)?;
+    write_some(&mut plain_second, &ram, 4)?;
+    write_some(&mut third, &ram, 5)?;
+    write_some(&mut plain_third, &ram, 5)?;
+    agree(&rt, &first, &plain, &ram);
+    agree(&rt, &second, &plain_second, &ram);
+    agree(&rt, &third, &plain_third, &ram);
+    assert!(&rt; !first.same_as(&second));
+    assert!(&rt; !second.same_as(&third));
+    Ok(())
+}
+
+/// Bytes are compared, whoever has them.
+#[test]
+fn compares_bytes(rt: HostRuntime) -> Result<(), Fail> {
+    let ram = three_pages()?;
+    let pieces = read_image(rt.alloc(), IMAGE, ram)?;
+    let image = PageImage::build(rt.alloc(), &pieces, ram)?;
+    let nothing = read_image(rt.alloc(), b"", ram)?;
+    let empty = PageImage::build(rt.alloc(), &nothing, ram)?;
+    let mem = Layered::over(rt.alloc(), &image);
+    let mut other = Layered::over(rt.alloc(), &empty);
+    assert!(&rt; !mem.same_as(&other));
+    assert!(&rt; !other.same_as(&mem));
+    write_all(&rt, &mut other, &ram, LOADED)?;
+    assert!(&rt; mem.same_as(&other));
+    assert!(&rt; other.same_as(&mem));
+    let mut own = mem.copy()?;
+    ready_all(&rt, &mut own, &ram)?;
+    write_all(&rt, &mut own, &ram, SHOWN)?;
+    assert!(&rt; own.same_as(&mem));
+    assert!(&rt; mem.same_as(&own));
+    assert!(&rt; own.same_as(&other));
+    write_all(&rt, &mut own, &ram, &[(0x8000_1fff, 1, 1)])?;
+    assert!(&rt; !own.same_as(&mem));
+    assert!(&rt; !mem.same_as(&own));
+    write_all(&rt, &mut own, &ram, &[(0x8000_1fff, 1, 0)])?;
+    assert!(&rt; own.same_as(&mem));
+    Ok(())
 }

@@ -1,7 +1,7 @@
 use Rattle.std.proofs.Common.{◌≡◌, ◌+◌, ◌-◌, ◌<◌, arith, refl, sym, ◌∙◌, lit<}
 use Rattle.hart_words.specs.Memory.{number_at}
 use Rattle.hart_words.proofs.Powers.{bits_of_bytes}
-use Rattle.page_layers.proofs.Stored.{number_at-more, number_grows, number_fits}
+use Rattle.page_image.proofs.Stored.{number_at-more, number_grows, number_fits}
 use Rattle.page_layers.proofs.numbers.number_of.Goals as goal
 
 pub loop-k-init : goal.loop-k-init

@@ -1,7 +1,7 @@
 use Rattle.std.proofs.Common.{◌+◌, ◌%◌, refl, sym, ◌∙◌, ap, lit<}
 use Rattle.std.proofs.Math.Nat.{div-one, mod-lt}
 use Rattle.hart_words.specs.Memory.{stored}
-use Rattle.page_layers.proofs.Stored.{stored-none, stored-more, rest_more}
+use Rattle.page_image.proofs.Stored.{stored-none, stored-more, rest_more}
 use Rattle.page_layers.proofs.numbers.put_number.Goals as goal
 
 pub loop-k-init : goal.loop-k-init

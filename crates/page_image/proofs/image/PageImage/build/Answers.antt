@@ -1,5 +1,7 @@
 use Rattle.std.proofs.Common.{rules, Some, ◌≡◌, ◌∙◌, refl, nat_cmp}
-use Rattle.std.specs.BTreeMap.{get, is_at}
+use Rattle.std.specs.Prelude.{nat_eq}
+use Rattle.std.specs.BTreeMap as tree
+use Rattle.std.specs.HashMap.{get}
 use Rattle.std.specs.Map.{lookup}
 use Rattle.std.specs.Map.Iter.{deref_pair}
 use Rattle.std.proofs.lemmas.Cmp.{nat_cmp_total}
@@ -15,13 +17,13 @@ loop-number-preserved-in_ok-insert c =
     let first = rest_more deref_pair _ _ _ _ c.in-Some.is c.next.ensures.steps in
     let turn = btree_map_turn deref_pair c.loop-number.yielded c.into_iter-number-iterator.result c.loop-number.number-iterator c.next.new.self c.next.result (c.in-Some.number, c.in-Some.page)
     c.loop-number.yielded_by c.in-Some.is c.next.ensures.steps {R = nat_cmp} nat_cmp_total c.pages.result.now start ordered in
-    let found : get nat_cmp c.args.pieces.now.pages c.in-Some.number.now ≡ Some c.in-Some.page.now = rw (← c.pages.ensures) turn.1 in
+    let found : tree.get nat_cmp c.args.pieces.now.pages c.in-Some.number.now ≡ Some c.in-Some.page.now = rw (← c.pages.ensures) turn.1 in
     record {
       ram = c.loop-number.invariant.ram;
       kept = λ q k below.
-          one_more page_byte piece_byte k (get nat_cmp c.loop-number.image.pages) (get nat_cmp c.insert.new.self) (λ q. lookup (is_at (nat_cmp q)) c.loop-number.number-iterator) (λ q. lookup (is_at (nat_cmp q)) c.next.new.self)
-          (get nat_cmp c.args.pieces.now.pages) c.in-Some.number.now c.in_ok-new.field-0 c.in-Some.page.now c.in_ok-insert.ensures.updates.0 (λ q. rw first refl)
-          (rw c.in_ok-new.ensures.ok (rw c.deref.ensures at (c.plain.ensures.value k below))) found (λ q. c.loop-number.invariant.kept q k below) q;
+          one_more page_byte piece_byte k (get nat_eq c.loop-number.image.pages) (get nat_eq c.insert.new.self) (λ q. lookup (tree.is_at (nat_cmp q)) c.loop-number.number-iterator) (λ q. lookup (tree.is_at (nat_cmp q)) c.next.new.self)
+          (tree.get nat_cmp c.args.pieces.now.pages) c.in-Some.number.now c.in_ok-new.field-0 c.in-Some.page.now c.in_ok-insert.ensures.updates.0 (λ q. rw first refl)
+          (rw (c.in_ok-new.ensures.ok, c.of-page.ensures) (rw c.deref.ensures at (c.plain.ensures.value k below))) found (λ q. c.loop-number.invariant.kept q k below) q;
     }
 
 pub returns-clause-bytes : goal.returns-clause-bytes

@@ -1,5 +1,7 @@
 use Rattle.std.proofs.Common.{◌≡◌, ◌<◌, ℕ, None, nat_cmp}
-use Rattle.std.specs.BTreeMap.{get, is_at}
+use Rattle.std.specs.Prelude.{nat_eq}
+use Rattle.std.specs.BTreeMap as tree
+use Rattle.std.specs.HashMap.{get}
 use Rattle.std.specs.Map.{lookup}
 use Rattle.page_image.proofs.Filling.{over, page_byte, piece_byte}
 use Rattle.page_image.proofs.image.PageImage.build.Given as goal
@@ -7,6 +9,6 @@ use Rattle.page_image.proofs.image.PageImage.build.Given as goal
 abbrev pub invariant-loop-number : goal.invariant-loop-number
 invariant-loop-number l = record {
   ram : l.image.ram ≡ l.fn.ram;
-  kept : (q k : ℕ) → k < 4096 → over page_byte piece_byte (get nat_cmp l.image.pages q) (lookup (is_at (nat_cmp q)) l.number-iterator) k
-      ≡ over page_byte piece_byte None (get nat_cmp l.pieces.pages q) k;
+  kept : (q k : ℕ) → k < 4096 → over page_byte piece_byte (get nat_eq l.image.pages q) (lookup (tree.is_at (nat_cmp q)) l.number-iterator) k
+      ≡ over page_byte piece_byte None (tree.get nat_cmp l.pieces.pages q) k;
 }

@@ -1,28 +1,37 @@
-use Rattle.std.proofs.Common.{◌<◌, ◌%◌, ◌/◌, length, refl, sym, ◌∙◌, ap, arith, nat_cmp}
-use Rattle.std.specs.BTreeMap.{get}
+use Rattle.std.proofs.Common.{◌∙◌, sym, ap, refl, Some, if◌then◌else◌}
+use Rattle.std.specs.Prelude.{nat_eq, ◌==◌}
+use Rattle.std.specs.HashMap.{get}
 use Rattle.std.specs.Option.{option_copied_mut}
-use Rattle.image_text.proofs.Pages.{set_at}
-use Rattle.page_layers.specs.Pages.{has_page}
-use Rattle.page_layers.proofs.Changes.{page_changed, there_still}
+use Rattle.page_layers.proofs.Directory.{set_at_place, own_found, own_there, page_put, put_owned, put_keeps}
 use Rattle.page_layers.proofs.pages.Pages.set.Goals as goal
 
-pub unreachable-requires : goal.unreachable-requires
-unfolding has_page
-unreachable-requires c =
-    let absent = sym c.get_mut.ensures.value ∙ ap option_copied_mut c.in-None.is in
-    let present = rw absent at c.requires in
-    cc
+pub set-requires : goal.set-requires
+set-requires c =
+    let was = ap (get nat_eq c.own_table.new.self.tables) (sym c.first_of.ensures) ∙ sym c.get_mut.ensures.value ∙ ap option_copied_mut c.in-Some.is in
+    own_found c.own_table.new.self c.in-Some.table.now c.args.number was c.in_ok-own_table.ensures.ok
 
-pub returns-clause-bytes : goal.returns-clause-bytes
-returns-clause-bytes c = λ base.
-    let below : c.args.pa % 4096 < length c.in-Some.page.now.value.bytes = omega (arith, c.in-Some.page.now.value.full) in
-    let was = sym c.get_mut.ensures.value ∙ ap option_copied_mut c.in-Some.is in
-    let updates = (c.get_mut.follows.holds _).3 (rw was refl) in
-    page_changed _ _ c.args.pa c.args.value c.in-Some.page.now _ base updates.0 was (λ j. rw c.deref_mut.ensures.value (set_at c.in-Some.page.now.value.bytes (c.args.pa % 4096) j _ _ below)) c.ranges.value.fits
+pub unreachable-requires : goal.unreachable-requires
+unreachable-requires c =
+    let was = ap (get nat_eq c.own_table.new.self.tables) (sym c.first_of.ensures) ∙ sym c.get_mut.ensures.value ∙ ap option_copied_mut c.in-None.is in
+    own_there c.own_table.new.self c.args.number was c.in_ok-own_table.ensures.ok
+
+pub returns-clause-ok : goal.returns-clause-ok
+returns-clause-ok c = λ q.
+    let found = sym c.get_mut.ensures.value ∙ ap option_copied_mut c.in-Some.is in
+    let was = ap (get nat_eq c.own_table.new.self.tables) (sym c.first_of.ensures) ∙ found in
+    let updates = (c.get_mut.follows.holds c.set.new.self).3 (rw found refl) in
+    page_put c.own_table.new.self _ c.args.number _ c.set.new.self c.args.page.value (set_at_place _ _ _ _ c.set.new.self c.first_of.ensures updates.0) was c.set.ensures.page q
+    ∙ ap (λ pages. if q == c.args.number then Some c.args.page.value else pages q) c.in_ok-own_table.ensures.pages
+
+pub returns-clause-owned : goal.returns-clause-owned
+returns-clause-owned c =
+    let found = sym c.get_mut.ensures.value ∙ ap option_copied_mut c.in-Some.is in
+    let updates = (c.get_mut.follows.holds c.set.new.self).3 (rw found refl) in
+    put_owned c.own_table.new.self _ c.args.number c.set.new.self (set_at_place _ _ _ _ c.set.new.self c.first_of.ensures updates.0) c.set.ensures.own c.set.ensures.owned
 
 pub returns-clause-keeps : goal.returns-clause-keeps
-unfolding has_page
-returns-clause-keeps c =
-    let was = sym c.get_mut.ensures.value ∙ ap option_copied_mut c.in-Some.is in
-    let updates = (c.get_mut.follows.holds _).3 (rw was refl) in
-    λ page there. there_still (get nat_cmp c.args.self.now.pages) _ (c.args.pa / 4096) _ updates.0 page there
+returns-clause-keeps c = λ q there.
+    let found = sym c.get_mut.ensures.value ∙ ap option_copied_mut c.in-Some.is in
+    let was = ap (get nat_eq c.own_table.new.self.tables) (sym c.first_of.ensures) ∙ found in
+    let updates = (c.get_mut.follows.holds c.set.new.self).3 (rw found refl) in
+    put_keeps c.own_table.new.self _ c.args.number _ c.set.new.self (set_at_place _ _ _ _ c.set.new.self c.first_of.ensures updates.0) was c.set.ensures.own c.set.ensures.keeps q (c.in_ok-own_table.ensures.keeps q there)

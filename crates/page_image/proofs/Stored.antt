@@ -1,8 +1,7 @@
 -- A number put byte by byte.
-use Rattle.std.proofs.Common.{◌≡◌, ℕ, zero, suc, ◌+◌, ◌-◌, ◌*◌, ◌/◌, ◌%◌, ◌^◌, ◌<◌, ◌≤◌, ◌⊎◌, inl, inr, refl, sym, ◌∙◌, ap, arith, subst, if◌then◌else◌}
+use Rattle.std.proofs.Common.{◌≡◌, ℕ, suc, ◌+◌, ◌-◌, ◌*◌, ◌/◌, ◌%◌, ◌^◌, ◌<◌, ◌≤◌, ◌⊎◌, inl, inr, sym, ◌∙◌, ap, arith, subst, if◌then◌else◌}
 use Rattle.std.specs.Prelude.{◌==◌}
 use Rattle.std.proofs.Math.Path.{fun_ext}
-use Rattle.std.proofs.Common.{lit<}
 use Rattle.std.proofs.Math.Nat.{div-one, div-div-eq-div-mul, pow-suc, mod-eq_of_lt}
 use Rattle.std.proofs.lemmas.Bool.{cases_eq, cases_lt}
 use Rattle.image_text.proofs.Pages.{eq_same, eq_other}
@@ -81,3 +80,14 @@ pub number_fits : (n b k : ℕ) → n < 256 ^ k → b < 256 → k ≤ 7 → n * 
 number_fits n b k below small few =
     let most = seven_bytes k few in
     omega (arith, most)
+
+-- one more byte is put in a page
+pub put_more : (start before after : Bytes) (pa len k value byte at : ℕ) → byte ≡ value / 256 ^ k % 256 → byte < 256 → pa % 4096 + len ≤ 4096 → k < len → at / 4096 ≡ pa / 4096
+    → ((a : ℕ) → a / 4096 ≡ (pa + k) / 4096 → after a ≡ (if a == pa + k then byte else before a))
+    → before at ≡ stored pa k value start at
+    → after at ≡ stored pa (k + 1) value start at
+put_more start before after pa len k value byte at is small inside below in_page sets done =
+    sets at (in_page ∙ sym (same_page pa len k inside below))
+    ∙ ap (λ b. if at == pa + k then byte else b) done
+    ∙ sym (stored-byte (pa + k) byte at (stored pa k value start) small)
+    ∙ ap (λ bytes. bytes at) (stored-more pa k value byte start is small)

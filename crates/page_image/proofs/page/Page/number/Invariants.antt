@@ -1,0 +1,15 @@
+use Rattle.std.proofs.Common.{◌≡◌, ◌+◌, ◌-◌, ◌<◌, ◌≤◌, ◌^◌}
+use Rattle.hart_words.specs.Memory.{number_at}
+use Rattle.page_image.specs.Pages.{page_byte}
+use Rattle.page_image.proofs.page.Page.number.Given as goal
+
+-- the bytes from the k-th on were read
+abbrev pub invariant-loop-k : goal.invariant-loop-k
+invariant-loop-k l = record {
+  number : l.number ≡ number_at (page_byte l.self) (l.pa + l.k) (l.len - l.k);
+  small : l.number < 256 ^ (l.len - l.k);
+  within : l.k ≤ l.len;
+}
+
+abbrev pub decreases-loop-k : goal.decreases-loop-k
+decreases-loop-k l = l.k

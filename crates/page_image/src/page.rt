@@ -1,0 +1,137 @@
+//! A page: 4,096 addresses and their bytes.
+
+ghost use Rattle.std.specs.Prelude.{◌≡◌, length};
+ghost use Rattle.hart_words.specs.declared.span.TheConstants.{PAGE_SIZE};
+
+use hart_words::{PAGE_BYTES, PAGE_SIZE};
+use std::alloc::AllocError;
+
+/// The bytes of the addresses that have the same number when they are divided by 4,096. A page does
+/// not know this number.
+pub struct Page {
+    bytes: [u8; PAGE_BYTES],
+    ghost full: { length bytes ≡ PAGE_SIZE },
+}
+
+impl Copy for Page {}
+
+impl Clone for Page {
+    ghost use Rattle.std.specs.Prelude.{◌≡◌};
+
+    ghost is_clone = { λ page other. other ≡ page };
+
+    fn clone(&self) -> Result<Page, AllocError> {
+        Ok(*self)
+    }
+}
+
+impl Page {
+    ghost use Rattle.std.specs.Prelude.{◌≡◌, ◌<◌, ◌≤◌, ◌+◌, ◌*◌, ◌/◌, ◌%◌, ◌^◌, ℕ, length, slice_index, if◌then◌else◌, ◌==◌, option_copied};
+    ghost use Rattle.std.specs.Bool.{Decides};
+    ghost use Rattle.hart_words.specs.Memory.{number_at, stored};
+    ghost use Rattle.page_image.specs.Pages.{page_byte, byte_or_zero};
+
+    /// The page of these bytes.
+    pub(crate) fn of(bytes: [u8; PAGE_BYTES]) -> Page
+        requires { length bytes ≡ PAGE_SIZE }
+        ensures { result.bytes ≡ bytes }
+    {
+        Page { bytes }
+    }
+
+    /// A page of zeros.
+    pub fn zeros() -> Page
+        ensures { (pa : ℕ) → page_byte result pa ≡ 0 }
+    {
+        Page {
+            bytes: [0; PAGE_BYTES],
+        }
+    }
+
+    /// The byte at an address in the page.
+    #[tactic(auto, unfolding(crate::specs::Pages::page_byte))]
+    pub fn byte(&self, pa: u64) -> u8
+        ensures { result ≡ page_byte self.now pa }
+    {
+        self.bytes[(pa % PAGE_SIZE) as usize]
+    }
+
+    /// Sets the byte at an address in the page.
+    fn set(&mut self, pa: u64, value: u8)
+        ensures { (at : ℕ) → at / PAGE_SIZE ≡ pa / PAGE_SIZE
+            → page_byte self.new at ≡ (if at == pa then value else page_byte self.old at) }
+    {
+        self.bytes[(pa % PAGE_SIZE) as usize] = value;
+    }
+
+    /// The number of `len` bytes at an address, within the page.
+    pub fn number(&self, pa: u64, len: u8) -> u64
+        requires few { len ≤ 8 }
+        requires inside { pa + len < 2 ^ 64 }
+        ensures value { result ≡ number_at (page_byte self.now) pa len }
+        ensures fits { result < 2 ^ (8 * len) }
+    {
+        let mut number = 0;
+        let mut k = u64::from(len);
+        while k > 0 {
+            k -= 1;
+            number = number * 256 + u64::from(self.byte(pa + k));
+        }
+        number
+    }
+
+    /// Puts the low `len` bytes of a number at an address, within the page.
+    pub fn put(&mut self, pa: u64, len: u8, value: u64)
+        requires few { len ≤ 8 }
+        requires inside { pa + len < 2 ^ 64 }
+        requires page { pa % PAGE_SIZE + len ≤ PAGE_SIZE }
+        ensures { (at : ℕ) → at / PAGE_SIZE ≡ pa / PAGE_SIZE
+            → page_byte self.new at ≡ stored pa len value (page_byte self.old) at }
+    {
+        let mut rest = value;
+        for k in 0..u64::from(len) {
+            self.set(pa + k, (rest % 256) as u8);
+            rest /= 256;
+        }
+    }
+
+    /// Whether the pages have the same bytes.
+    pub fn same_as(&self, other: &Page) -> bool
+        ensures { Decides result ((pa : ℕ) → page_byte self.now pa ≡ page_byte other.now pa) }
+    {
+        self.bytes == other.bytes
+    }
+
+    /// Whether each byte is 0.
+    pub fn is_zero(&self) -> bool
+        ensures { Decides result ((pa : ℕ) → page_byte self.now pa ≡ 0) }
+    {
+        self.same_as(&Page::zeros())
+    }
+
+    /// Whether it has the bytes of another page, or zeros where there is none.
+    fn same_as_any(&self, other: Option<&Page>) -> bool
+        ensures { Decides result ((pa : ℕ)
+            → page_byte self.now pa ≡ byte_or_zero (option_copied other.entry) pa) }
+    {
+        match other {
+            Some(other) => self.same_as(other),
+            None => self.is_zero(),
+        }
+    }
+
+    /// Whether two pages have the same bytes, where one that is not there has zeros.
+    pub fn same_bytes(one: Option<&Page>, other: Option<&Page>) -> bool
+        ensures { Decides result ((pa : ℕ)
+            → byte_or_zero (option_copied one.entry) pa
+            ≡ byte_or_zero (option_copied other.entry) pa) }
+    {
+        match one {
+            Some(one) => one.same_as_any(other),
+            None => match other {
+                Some(other) => other.is_zero(),
+                None => true,
+            },
+        }
+    }
+}

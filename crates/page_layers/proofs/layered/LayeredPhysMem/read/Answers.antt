@@ -1,0 +1,11 @@
+use Rattle.std.proofs.Common.{ap, ◌∙◌, option_copied}
+use Rattle.page_image.specs.Pages.{page_byte, byte_or_zero}
+use Rattle.page_layers.specs.Memories.{layered_bytes}
+use Rattle.page_layers.proofs.PageChanges.{number_of_page, zero_of_page}
+use Rattle.page_layers.proofs.layered.LayeredPhysMem.read.Goals as goal
+
+pub returns-in-Some-clause-value : goal.returns-in-Some-clause-value
+returns-in-Some-clause-value c = c.number.ensures.value ∙ number_of_page c.args.pa c.args.len (page_byte c.in-Some.page.now) (layered_bytes c.args.self.now) c.requires.page (λ at in_page. c.page.ensures at in_page ∙ ap (λ page. byte_or_zero (option_copied page) at) c.in-Some.is)
+
+pub returns-in-None-clause-value : goal.returns-in-None-clause-value
+returns-in-None-clause-value c = zero_of_page c.args.pa c.args.len (layered_bytes c.args.self.now) c.requires.page (λ at in_page. c.page.ensures at in_page ∙ ap (λ page. byte_or_zero (option_copied page) at) c.in-None.is)
