@@ -10,3 +10,4 @@ pub mod Locks
 pub mod Granted
 pub mod Rows
 pub mod Alike
+pub mod ShownBytes

@@ -148,7 +148,7 @@ fn bytes_at(len: u8, read: u64, distance: Option<u64>) -> Option<u64>
     }
 }
 
-fn moved_down(value: u64, bytes: u64) -> u64
+pub(crate) fn moved_down(value: u64, bytes: u64) -> u64
     requires { bytes ≤ 8 }
     ensures { result ≡ value / 256 ^ bytes }
 {

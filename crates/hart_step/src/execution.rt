@@ -239,7 +239,7 @@ impl Core {
 }
 
 /// What the bits of an instruction of this length mean.
-fn op_of(word: u32, len: u8) -> Option<Op>
+pub(crate) fn op_of(word: u32, len: u8) -> Option<Op>
     requires lengths { (len ≡ 2) ⊎ (len ≡ 4) }
     requires short { len ≡ 2 → word < 2 ^ 16 }
     ensures meaning { result ≡ op_of word len }

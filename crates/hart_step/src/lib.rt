@@ -6,6 +6,9 @@
 //! execution, a trap's entry. From the Unprivileged ISA and the Privileged Architecture's chapters
 //! "Machine-Level ISA" and "Supervisor-Level ISA"; what both leave open is taken from the row, after
 //! riscv-formal's description of RVFI.
+//!
+//! A guess of a later state takes it from the rows themselves, where these are plain: they show all
+//! that their instructions change (`specs/PlainRows.antt`).
 #![tactic(auto)]
 
 mod choices;
@@ -15,10 +18,15 @@ mod hart;
 mod instruction;
 pub mod laws;
 mod memory;
+pub mod plain_laws;
+mod plain_rows;
 pub mod protection_laws;
 mod returns;
+mod same_cores;
+mod shown_store;
 mod state;
 mod step;
+mod taken_rows;
 mod touched;
 
 pub use hart::{Hart, Stepped};

@@ -67,7 +67,7 @@ impl Core {
 
     /// The order index moves on.
     #[tactic(auto, unfolding(crate::specs::Steps::counted))]
-    fn count(&mut self, row: &Row)
+    pub(crate) fn count(&mut self, row: &Row)
         ensures state { self.new ≡ counted self.old (shown_in row.now) }
         ensures sound { IsSound self.old → IsSound self.new }
         ensures map { self.new.map ≡ self.old.map }

@@ -64,7 +64,7 @@ fn hart_at<M: PhysMem + Drop>(mem: M, map: Map, pc: u64, values: [u64; 3]) -> Ha
 }
 
 /// Whether so many bytes lie in one page of RAM.
-fn is_place(ram: &Span, pa: u64, len: u8) -> bool
+pub(crate) fn is_place(ram: &Span, pa: u64, len: u8) -> bool
     ensures { IsTrue result → IsPlace ram.now pa len }
 {
     1 <= len && len <= 8 && ram.holds(pa, len) && pa % PAGE_SIZE + u64::from(len) <= PAGE_SIZE

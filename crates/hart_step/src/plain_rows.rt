@@ -1,0 +1,152 @@
+//! The rows that show all that their instructions change, and the state after one.
+
+ghost use Rattle.std.specs.Prelude.{◌≡◌, ◌⊎◌, ◌<◌, ◌%◌, ◌^◌, Option};
+ghost use Rattle.mem_access.specs.Places.{data_mode_of};
+ghost use Rattle.mem_access.specs.Translation.{is_translated};
+ghost use Rattle.rvfi_rows.specs.Cells.{shown_in};
+ghost use Rattle.hart_step.specs.PlainRows.{bits_of, insn_shown, is_plain, is_store, is_system_or_atomic, is_undisturbed, length_of, shows_bytes, shows_store, translates_data};
+
+use crate::choices::row_shows;
+use crate::execution::op_of;
+use crate::hart::Hart;
+use crate::state::Core;
+use csr_file::fields::{BARE, MPP, MPRV, SATP_MODE};
+use csr_file::{Csrs, StoredCsr, has_bit, mode_numbered};
+use hart_words::{Mode, PhysMem, Signal};
+use rv_decode::Op;
+use rv_decode::opcodes::{AMO, SYSTEM};
+use rvfi_rows::Row;
+
+/// C.EBREAK, all of whose bits are fixed: funct4 is 1001, both registers are 0, the quadrant is 2.
+pub const C_EBREAK: u32 = 0x9002;
+
+impl<M: PhysMem + Drop> Hart<M> {
+    /// Whether a valid row is plain for this hart: the row shows all that its instruction changes.
+    pub fn is_plain(&self, row: &Row) -> bool
+        ensures { result ≡ is_plain self.now.core (shown_in row.now) }
+    {
+        self.core.is_plain(row)
+    }
+}
+
+impl Core {
+    /// Whether a valid row is plain for this state: it shows all that its instruction changes.
+    #[tactic(auto, unfolding(crate::specs::PlainRows::is_plain))]
+    pub fn is_plain(&self, row: &Row) -> bool
+        ensures { result ≡ is_plain self.now (shown_in row.now) }
+    {
+        !self.halted
+            && !self.trapped_last
+            && is_undisturbed(row)
+            && !is_system_or_atomic(insn_shown(row))
+            && (!shows_store(row) || self.shows_bytes(row))
+    }
+
+    /// Whether a store's place and its bytes are known.
+    #[tactic(auto, unfolding(crate::specs::PlainRows::shows_bytes))]
+    fn shows_bytes(&self, row: &Row) -> bool
+        ensures { result ≡ shows_bytes self.now (shown_in row.now) }
+    {
+        row.shown(Signal::MemAddr).is_some()
+            && row.shown(Signal::MemWmask).is_some()
+            && row.shown(Signal::MemWdata).is_some()
+            && (row.shown(Signal::MemPaddr).is_some() || !self.translates_data())
+    }
+
+    /// Whether the addresses of loads and stores are translated.
+    fn translates_data(&self) -> bool
+        ensures { result ≡ translates_data self.now }
+    {
+        is_translated(&self.csrs, data_mode(&self.csrs, self.mode))
+    }
+}
+
+/// The mode of a load or a store: MPP in M where MPRV is set, else the mode of the instruction.
+#[tactic(auto, unfolding(mem_access::specs::Places::data_mode_of))]
+fn data_mode(csrs: &Csrs, mode: Mode) -> Mode
+    ensures { result ≡ data_mode_of csrs.now mode }
+{
+    let status = csrs.get(StoredCsr::Mstatus);
+    match mode {
+        Mode::Machine => {
+            if has_bit(status, MPRV) {
+                mode_numbered((status >> MPP) % 4)
+            } else {
+                Mode::Machine
+            }
+        }
+        Mode::Supervisor | Mode::User => mode,
+    }
+}
+
+/// Whether the accesses of a mode are translated.
+#[tactic(auto, unfolding(mem_access::specs::Translation::is_translated))]
+fn is_translated(csrs: &Csrs, mode: Mode) -> bool
+    ensures { result ≡ is_translated csrs.now mode }
+{
+    !matches!(mode, Mode::Machine) && csrs.get(StoredCsr::Satp) >> SATP_MODE != BARE
+}
+
+/// Neither a trap nor an interrupt nor a halt is shown.
+fn is_undisturbed(row: &Row) -> bool
+    ensures { result ≡ is_undisturbed (shown_in row.now) }
+{
+    !row_shows(row, Signal::Trap, 1)
+        && !row_shows(row, Signal::Intr, 1)
+        && !row_shows(row, Signal::Halt, 1)
+}
+
+/// The word that the row shows.
+pub(crate) fn insn_shown(row: &Row) -> u64
+    ensures { result ≡ insn_shown (shown_in row.now) }
+{
+    row.shown(Signal::Insn).unwrap_or(0)
+}
+
+/// The length of the instruction that a word begins with.
+pub(crate) fn length_of(word: u64) -> u8
+    ensures value { result ≡ length_of word }
+    ensures lengths { (result ≡ 2) ⊎ (result ≡ 4) }
+{
+    if word % 4 == 3 { 4 } else { 2 }
+}
+
+/// The bits of the instruction that a word begins with.
+fn bits_of(word: u64) -> u32
+    ensures value { result ≡ bits_of word }
+    ensures short { length_of word ≡ 2 → result < 2 ^ 16 }
+{
+    if word % 4 == 3 {
+        (word % (1 << 32)) as u32
+    } else {
+        (word % (1 << 16)) as u32
+    }
+}
+
+/// Whether it is a SYSTEM or AMO instruction, LR and SC among these, or C.EBREAK.
+fn is_system_or_atomic(word: u64) -> bool
+    ensures { result ≡ is_system_or_atomic word }
+{
+    if length_of(word) == 2 {
+        bits_of(word) == C_EBREAK
+    } else {
+        let opcode = (word % 128) as u32;
+        opcode == SYSTEM || opcode == AMO
+    }
+}
+
+/// Whether the row's instruction is a store.
+#[tactic(auto, unfolding(crate::specs::PlainRows::shows_store))]
+pub(crate) fn shows_store(row: &Row) -> bool
+    ensures { result ≡ shows_store (shown_in row.now) }
+{
+    let word = insn_shown(row);
+    is_store(op_of(bits_of(word), length_of(word)))
+}
+
+/// Whether an operation is a store.
+fn is_store(op: Option<Op>) -> bool
+    ensures { result ≡ is_store op }
+{
+    matches!(op, Some(Op::Store { .. }))
+}

@@ -1,0 +1,130 @@
+//! The bytes that a row shows a store to put into memory.
+
+ghost use Rattle.std.specs.Prelude.{◌≡◌, ◌<◌, ◌≤◌, ◌/◌, ℕ, IsOk, IsTrue, OnErr, OnOk, true, unwrap_or};
+ghost use Rattle.hart_words.specs.declared.span.TheConstants.{PAGE_SIZE};
+ghost use Rattle.hart_words.specs.Memory.{IsPlace};
+ghost use Rattle.hart_words.specs.Spans.{is_in};
+ghost use Rattle.rvfi_rows.specs.Cells.{shown_in};
+
+use crate::choices::moved_down;
+use csr_file::has_bit;
+use hart_words::{NoMemory, PhysMem, Signal, Span};
+use rvfi_rows::Row;
+
+/// Where a store's bytes go, which of eight bytes do, and the eight, the lowest first.
+#[derive(Clone, Copy, Debug)]
+pub struct ShownStore {
+    pub place: u64,
+    /// Bit i says whether byte i is stored, at `place` + i modulo 2^64; it may have holes.
+    pub mask: u64,
+    pub value: u64,
+}
+
+impl ShownStore {
+    ghost use Rattle.hart_step.specs.PlainRows.{byte_place, byte_put, bytes_put, has_byte, store_shown, AreReady};
+
+    /// The store that the row shows: at `mem_paddr`, or at `mem_addr` where that is not shown.
+    #[tactic(auto, unfolding(crate::specs::PlainRows::store_shown))]
+    pub fn of(row: &Row) -> ShownStore
+        ensures { result ≡ store_shown (shown_in row.now) }
+    {
+        ShownStore {
+            place: place_shown(row.shown(Signal::MemPaddr), row.shown(Signal::MemAddr)),
+            mask: row.shown(Signal::MemWmask).unwrap_or(0),
+            value: row.shown(Signal::MemWdata).unwrap_or(0),
+        }
+    }
+
+    /// Puts the bytes that lie in RAM at their places. Without memory no byte changes: the pages are
+    /// made ready first.
+    #[tactic(auto, unfolding(crate::specs::PlainRows::bytes_put))]
+    pub fn put<M: PhysMem>(&self, mem: &mut M, ram: &Span) -> Result<(), NoMemory>
+        requires ram { M.ram mem.old ≡ ram.now }
+        ensures ok { OnOk result (M.bytes mem.new ≡ bytes_put ram.now self.now 8 (M.bytes mem.old)) }
+        ensures err { OnErr result (M.bytes mem.new ≡ M.bytes mem.old) }
+        ensures ram_stays { M.ram mem.new ≡ M.ram mem.old }
+    {
+        self.ready(mem, ram)?;
+        for number in 0..8 {
+            self.put_byte(mem, ram, number)?;
+        }
+        Ok(())
+    }
+
+    /// Takes what memory the pages need in which bytes are stored.
+    fn ready<M: PhysMem>(&self, mem: &mut M, ram: &Span) -> Result<(), NoMemory>
+        requires ram { M.ram mem.old ≡ ram.now }
+        ensures ready { OnOk result (AreReady (M.is_ready mem.new) ram.now self.now 8) }
+        ensures bytes { M.bytes mem.new ≡ M.bytes mem.old }
+        ensures ram_stays { M.ram mem.new ≡ M.ram mem.old }
+    {
+        for number in 0..8 {
+            self.ready_byte(mem, ram, number)?;
+        }
+        Ok(())
+    }
+
+    /// Takes what memory the page of a byte needs, where the byte is stored.
+    fn ready_byte<M: PhysMem>(&self, mem: &mut M, ram: &Span, number: u8) -> Result<(), NoMemory>
+        requires ram { M.ram mem.old ≡ ram.now }
+        ensures ready { OnOk result (has_byte ram.now self.now number ≡ true
+            → M.is_ready mem.new (byte_place self.now number / PAGE_SIZE)) }
+        ensures kept { (page : ℕ) → M.is_ready mem.old page → M.is_ready mem.new page }
+        ensures bytes { M.bytes mem.new ≡ M.bytes mem.old }
+        ensures ram_stays { M.ram mem.new ≡ M.ram mem.old }
+    {
+        if self.has_byte(ram, number) {
+            mem.ready(self.byte_place(number))?;
+        }
+        Ok(())
+    }
+
+    /// Puts a byte at its place, where it is stored; this is not refused where its page is ready.
+    fn put_byte<M: PhysMem>(&self, mem: &mut M, ram: &Span, number: u8) -> Result<(), NoMemory>
+        requires ram { M.ram mem.old ≡ ram.now }
+        requires few { number < 8 }
+        ensures ok { OnOk result (M.bytes mem.new ≡ byte_put ram.now self.now number (M.bytes mem.old)) }
+        ensures admitted { (has_byte ram.now self.now number ≡ true
+            → M.is_ready mem.old (byte_place self.now number / PAGE_SIZE)) → IsOk result }
+        ensures kept { (page : ℕ) → M.is_ready mem.old page → M.is_ready mem.new page }
+        ensures ram_stays { M.ram mem.new ≡ M.ram mem.old }
+    {
+        if self.has_byte(ram, number) {
+            let value = moved_down(self.value, u64::from(number));
+            mem.write(self.byte_place(number), 1, value)?;
+        }
+        Ok(())
+    }
+
+    /// Whether a byte is stored: the mask has it, and its place is RAM.
+    fn has_byte(&self, ram: &Span, number: u8) -> bool
+        ensures value { result ≡ has_byte ram.now self.now number }
+        ensures place { IsTrue result → IsPlace ram.now (byte_place self.now number) 1 }
+    {
+        has_bit(self.mask, number) && is_byte_of(ram, self.byte_place(number))
+    }
+
+    fn byte_place(&self, number: u8) -> u64
+        ensures { result ≡ byte_place self.now number }
+    {
+        self.place.wrapping_add(u64::from(number))
+    }
+}
+
+/// The physical address, or else the virtual one.
+fn place_shown(physical: Option<u64>, address: Option<u64>) -> u64
+    ensures { result ≡ unwrap_or physical (unwrap_or address 0) }
+{
+    match physical {
+        Some(place) => place,
+        None => address.unwrap_or(0),
+    }
+}
+
+/// Whether the byte at an address is one of RAM.
+fn is_byte_of(ram: &Span, pa: u64) -> bool
+    ensures value { result ≡ is_in ram.now pa }
+    ensures place { IsTrue result → IsPlace ram.now pa 1 }
+{
+    ram.contains(pa)
+}

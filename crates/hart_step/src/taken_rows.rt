@@ -1,0 +1,102 @@
+//! The state after a plain row, as the row shows it.
+
+ghost use Rattle.std.specs.Prelude.{◌≡◌, ◌%◌, OnErr, OnOk};
+ghost use Rattle.hart_words.specs.Registers.{with_register};
+ghost use Rattle.rvfi_rows.specs.Cells.{shown_in};
+ghost use Rattle.hart_step.specs.Cores.{IsSound};
+ghost use Rattle.hart_step.specs.PlainRows.{behind_shown, bytes_shown, core_shown, next_pc_shown, registers_shown};
+
+use crate::hart::Hart;
+use crate::plain_rows::{insn_shown, length_of, shows_store};
+use crate::shown_store::ShownStore;
+use crate::state::Core;
+use hart_words::{NoMemory, PhysMem, Registers, Signal};
+use rvfi_rows::Row;
+
+impl<M: PhysMem + Drop> Hart<M> {
+    /// Takes the state after a row from what the row shows, as it is after a plain row: rd, pc, the
+    /// order index, and a store's bytes. Without memory neither the state nor a byte changes.
+    #[tactic(auto, unfolding(crate::specs::PlainRows::bytes_shown))]
+    pub fn take_shown(&mut self, row: &Row) -> Result<(), NoMemory>
+        requires sound { IsSound self.old.core }
+        requires ram { M.ram self.old.mem ≡ self.old.core.map.ram }
+        ensures core { OnOk result (self.new.core ≡ core_shown self.old.core (shown_in row.now)) }
+        ensures bytes { OnOk result (M.bytes self.new.mem
+            ≡ bytes_shown self.old.core (shown_in row.now) (M.bytes self.old.mem)) }
+        ensures err { OnErr result ((self.new.core ≡ self.old.core)
+            × (M.bytes self.new.mem ≡ M.bytes self.old.mem)) }
+        ensures sound { IsSound self.new.core }
+        ensures map { self.new.core.map ≡ self.old.core.map }
+        ensures ram { M.ram self.new.mem ≡ M.ram self.old.mem }
+    {
+        if shows_store(row) {
+            let ram = self.core.map.ram;
+            ShownStore::of(row).put(&mut self.mem, &ram)?;
+        }
+        self.core.take_shown(row);
+        Ok(())
+    }
+}
+
+impl Core {
+    /// Takes the state after a row, but for memory, from what the row shows.
+    #[tactic(auto, unfolding(crate::specs::PlainRows::core_shown, crate::specs::Steps::counted))]
+    pub(crate) fn take_shown(&mut self, row: &Row)
+        ensures state { self.new ≡ core_shown self.old (shown_in row.now) }
+        ensures sound { IsSound self.old → IsSound self.new }
+        ensures map { self.new.map ≡ self.old.map }
+    {
+        self.count(row);
+        take_register(
+            &mut self.registers,
+            row.shown(Signal::RdAddr),
+            row.shown(Signal::RdWdata),
+        );
+        self.pc = next_pc_shown(row);
+    }
+}
+
+/// A value goes to the register that is shown.
+fn take_register(registers: &mut Registers, rd: Option<u64>, value: Option<u64>)
+    ensures { registers.new ≡ registers_shown registers.old rd value }
+{
+    if let Some(rd) = rd {
+        if let Some(value) = value {
+            set_register(registers, rd, value);
+        }
+    }
+}
+
+/// Puts a value into a register; nothing changes where it is x0, or there is none of this number.
+fn set_register(registers: &mut Registers, number: u64, value: u64)
+    ensures { registers.new ≡ with_register registers.old number value }
+{
+    if number == 0 {
+        return;
+    }
+    let index = (number - 1) as usize;
+    if index < registers.values.len() {
+        registers.values[index] = value;
+    }
+}
+
+/// The address at which the hart goes on: the one that is shown, or else the one behind the
+/// instruction; bit 0 is cleared.
+fn next_pc_shown(row: &Row) -> u64
+    ensures value { result ≡ next_pc_shown (shown_in row.now) }
+    ensures even { result % 2 ≡ 0 }
+{
+    let next = match row.shown(Signal::PcWdata) {
+        Some(next) => next,
+        None => behind(row),
+    };
+    next - next % 2
+}
+
+/// The address behind the row's instruction.
+fn behind(row: &Row) -> u64
+    ensures { result ≡ behind_shown (shown_in row.now) }
+{
+    let pc = row.shown(Signal::PcRdata).unwrap_or(0);
+    pc.wrapping_add(u64::from(length_of(insn_shown(row))))
+}
