@@ -1,5 +1,5 @@
 -- The answer of a run: what the words, the image and the trace come to.
-use Rattle.std.specs.Prelude.{ℕ, nat_lt, if◌then◌else◌, List, [], ◌∷◌, length, Option, Some, None, Result, Ok, Err, unwrap_or}
+use Rattle.std.specs.Prelude.{ℕ, nat_lt, if◌then◌else◌, List, [], ◌∷◌, drop, length, Option, Some, None, Result, Ok, Err, unwrap_or}
 use Rattle.outside_ports.specs.Ports.{Files}
 use Rattle.judge_words.specs.Job.{JobView, job_of}
 use Rattle.image_text.specs.declared.fault.ImageFault.{ImageFault}
@@ -11,6 +11,7 @@ use Rattle.rvfi_rows.specs.declared.fault.HeaderFault.{HeaderFault}
 use Rattle.rvfi_rows.specs.declared.verdict.Verdict.{Verdict}
 use Rattle.rvfi_rows.specs.declared.verdict.Verdict.TheVariants.{Agrees, Differs, Refused}
 use Rattle.rvfi_rows.specs.Columns.{ColumnList, header_columns}
+use Rattle.rvfi_rows.specs.Rows.{rows_of}
 use Rattle.hart_words.specs.Results.{◌>>=◌}
 use Rattle.trace_report.specs.declared.outcome.Outcome.{Outcome}
 use Rattle.trace_report.specs.declared.outcome.Outcome.TheVariants as outcomes
@@ -61,23 +62,29 @@ ended job endings.More (Agrees rows valid) = outcomes.Verdict (Agrees rows valid
 ended job ending (Differs row difference) = outcomes.Verdict (Differs row difference)
 ended job ending (Refused row fault) = outcomes.Verdict (Refused row fault)
 
-abbrev pub by_header : JobView → (ℕ → ℕ) → Ending → Result ColumnList HeaderFault → List (List ℕ) → Outcome
-by_header job memory ending (Err fault) rows = outcomes.HeaderFault fault
-by_header job memory ending (Ok columns) rows =
-    ended job ending (verdict_after columns (at_reset job.pc job.map memory) rows)
+abbrev pub as_columns : Result ColumnList HeaderFault → Step ColumnList
+as_columns (Err fault) = Err (Some (outcomes.HeaderFault fault))
+as_columns (Ok columns) = Ok columns
 
-abbrev pub by_lines : JobView → (ℕ → ℕ) → Ending → List (List ℕ) → Outcome
-by_lines job memory ending [] = without_header job ending
-by_lines job memory ending (header ∷ rows) = by_header job memory ending (header_columns header) rows
+-- the columns that the first line names; where there is no line, the ending decides
+unfoldable pub columns_in : JobView → Left → Step ColumnList
+columns_in job left = by_first left.lines
+  where
+    by_first : List (List ℕ) → Step ColumnList
+    by_first [] = Err (Some (without_header job left.ending))
+    by_first (header ∷ rows) = as_columns (header_columns header)
 
 -- the first line is the header, each other a row
-unfoldable pub lines_outcome : JobView → (ℕ → ℕ) → Left → Outcome
-lines_outcome job memory left = by_lines job memory left.ending left.lines
+unfoldable pub lines_outcome : JobView → (ℕ → ℕ) → Left → Step Outcome
+lines_outcome job memory left = do
+  columns ← columns_in job left
+  let verdict = verdict_after (at_reset job.pc job.map memory) (rows_of columns (drop 1 left.lines))
+  Ok (ended job left.ending verdict)
 
 unfoldable pub trace_outcome : JobView → (ℕ → ℕ) → Files → Step Outcome
 trace_outcome job memory files = do
   file ← there (files job.trace)
-  Ok (lines_outcome job memory (lines_of job.max_trace file))
+  lines_outcome job memory (lines_of job.max_trace file)
 
 -- words, then the image, then the trace
 unfoldable pub judged : List (List ℕ) → Files → Step Outcome

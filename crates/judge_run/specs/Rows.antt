@@ -1,15 +1,13 @@
 -- What the rows of a trace come to.
-use Rattle.std.specs.Prelude.{◌≡◌, ℕ, ◌+◌, List, [], ◌∷◌, Option, Some, None, Result, Ok, Err}
+use Rattle.std.specs.Prelude.{◌≡◌, ℕ, ◌+◌, List, [], ◌∷◌, Option, Some, None, Ok, Err}
 use Rattle.hart_words.specs.declared.map.Map.{Map}
 use Rattle.hart_words.specs.declared.signal.Difference.{Difference}
 use Rattle.hart_words.specs.Memory.{Bytes, after_writes}
 use Rattle.hart_words.specs.Actions.{Run}
-use Rattle.rvfi_rows.specs.declared.fault.RowFault.{RowFault}
 use Rattle.rvfi_rows.specs.declared.verdict.Verdict.{Verdict}
 use Rattle.rvfi_rows.specs.declared.verdict.Verdict.TheVariants.{Agrees, Differs, Refused}
-use Rattle.rvfi_rows.specs.Columns.{ColumnList}
 use Rattle.hart_words.specs.Signals.{Shown}
-use Rattle.rvfi_rows.specs.Rows.{row_of_line}
+use Rattle.rvfi_rows.specs.Rows.{RowReading}
 use Rattle.hart_step.specs.declared.state.Core.{Core}
 use Rattle.hart_step.specs.Cores.{core_at_reset}
 use Rattle.hart_step.specs.Steps.{Gave, stepped}
@@ -47,22 +45,22 @@ by_difference (Some difference) row rest = Differs row difference
 by_difference None row rest = rest
 
 -- a refused row ends the trace, and so does a valid one that differs
-abbrev pub by_row : Result (Option Shown) RowFault → Standing → (Standing → Verdict) → Verdict
+abbrev pub by_row : RowReading → Standing → (Standing → Verdict) → Verdict
 by_row (Err fault) before rest = Refused (before.rows + 1) fault
 by_row (Ok None) before rest = rest (passed before)
 by_row (Ok (Some row)) before rest =
     by_difference (row_difference (step_by before row) row) (before.rows + 1) (rest (judged_by before (step_by before row)))
 
--- the verdict on lines, each a row, after what was judged before
-unfoldable pub verdict_after : ColumnList → Standing → List (List ℕ) → Verdict
-verdict_after columns before [] = Agrees before.rows before.valid
-verdict_after columns before (line ∷ lines) = by_row (row_of_line columns line) before (λ now. verdict_after columns now lines)
+-- the verdict on rows after what was judged before
+unfoldable pub verdict_after : Standing → List RowReading → Verdict
+verdict_after before [] = Agrees before.rows before.valid
+verdict_after before (row ∷ rows) = by_row row before (λ now. verdict_after now rows)
 
--- a line either ends the trace with a verdict, or leaves the rest of it to be judged
+-- a row either ends the trace with a verdict, or leaves the rest of it to be judged
 abbrev pub verdict_or : Option Verdict → Verdict → Verdict
 verdict_or (Some verdict) rest = verdict
 verdict_or None rest = rest
 
-abbrev pub LineGives : ColumnList → Standing → List ℕ → Option Verdict → Standing → Type 0
-LineGives columns before line end now =
-    (lines : List (List ℕ)) → verdict_after columns before (line ∷ lines) ≡ verdict_or end (verdict_after columns now lines)
+abbrev pub RowGives : Standing → RowReading → Option Verdict → Standing → Type 0
+RowGives before row end now =
+    (rows : List RowReading) → verdict_after before (row ∷ rows) ≡ verdict_or end (verdict_after now rows)

@@ -5,6 +5,8 @@ use Rattle.outside_ports.specs.Ports.{Files}
 use Rattle.judge_words.specs.Job.{JobView}
 use Rattle.image_text.specs.declared.fault.ImageError.{ImageError}
 use Rattle.image_text.specs.declared.fault.ImageError.TheVariants as errors
+use Rattle.trace_lines.specs.declared.piece.LineError.{LineError}
+use Rattle.trace_lines.specs.declared.piece.LineError.TheVariants as lines
 use Rattle.trace_report.specs.declared.outcome.Outcome.{Outcome}
 use Rattle.trace_report.specs.declared.outcome.Outcome.TheVariants as outcomes
 use Rattle.judge_run.specs.declared.stop.Stop.{Stop}
@@ -71,6 +73,11 @@ IsJobsOutcome (Err NoMemory) = Unit {0}
 abbrev pub image_stop : ImageError → Stop
 image_stop (errors.Fault fault) = Known (outcomes.ImageFault fault)
 image_stop errors.NoMemory = NoMemory
+
+-- how a trace whose lines cannot be taken stops the run
+abbrev pub line_stop : LineError → Stop
+line_stop lines.ReadFault = ReadFault
+line_stop lines.NoMemory = NoMemory
 
 -- an outcome tells whether the words ask for a job
 abbrev pub WordsTell : Option JobView → Result Outcome Stop → Type 0

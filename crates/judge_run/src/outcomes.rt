@@ -11,15 +11,19 @@ use crate::traces::judge_trace;
 use judge_words::{WordError, read_words};
 use outside_ports::Shelf;
 use std::alloc::Global;
+use std::thread::Threads;
 use trace_report::Outcome;
 
 /// The outcome of these words over the files of the shelf: of the words first, then of the image,
 /// then of the trace.
-pub fn find_outcome<H: Shelf>(
+pub fn find_outcome<R, H: Shelf>(
+    rt: &R,
     alloc: Global,
     words: &Vec<String>,
     shelf: &mut H,
 ) -> Result<Outcome, Stop>
+where
+    R: Threads + Sync,
     ensures told { H.told shelf.new ≡ H.told shelf.old }
     ensures meant { MeantTold (H.told shelf.old) (λ outcome. outcome) result
         (λ files. judged (map string_bytes words.now.items) files) }
@@ -38,5 +42,5 @@ pub fn find_outcome<H: Shelf>(
         Ok(image) => image,
         Err(stop) => return Err(stop),
     };
-    judge_trace(alloc, &job, &image, shelf)
+    judge_trace(rt, alloc, &job, &image, shelf)
 }

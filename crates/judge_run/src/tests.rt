@@ -1,6 +1,9 @@
 use super::*;
-use outside_ports::{FailShelf, FailSink, MemShelf, MemSink, NamedFile, OpenGate, Shelf, Sink};
+use outside_ports::{
+    DripShelf, FailShelf, FailSink, MemShelf, MemSink, NamedFile, OpenGate, Shelf, Sink,
+};
 use std::alloc::{AllocError, Global};
+use std::process::Abort;
 use std::test::Fail;
 use std::thread::Threads;
 
@@ -23,15 +26,22 @@ fn named(alloc: Global, name: &str, bytes: &[u8]) -> Result<NamedFile, AllocErro
     Ok(NamedFile { name, bytes })
 }
 
-fn files(alloc: Global, image: &[u8], trace: &[u8]) -> Result<MemShelf, AllocError> {
+fn pair(alloc: Global, image: &[u8], trace: &[u8]) -> Result<Vec<NamedFile>, AllocError> {
     let mut files = Vec::new(alloc);
     files.push(named(alloc, "i", image)?)?;
     files.push(named(alloc, "t", trace)?)?;
-    Ok(MemShelf::new(files))
+    Ok(files)
 }
 
-/// What a run over these files writes, and its status.
-pub fn judged<R: Threads + Sync>(
+fn files(alloc: Global, image: &[u8], trace: &[u8]) -> Result<MemShelf, AllocError> {
+    Ok(MemShelf::new(pair(alloc, image, trace)?))
+}
+
+/// How many bytes a read gives at most, less one.
+const DRIPS: [u16; 6] = [0, 1, 2, 6, 4095, 65535];
+
+/// What a run over these files writes, and its status: the same however few bytes a read gives.
+pub fn judged<R: Threads + Sync + Abort>(
     rt: &R,
     alloc: Global,
     words: &[&str],
@@ -42,6 +52,13 @@ pub fn judged<R: Threads + Sync>(
     let mut shelf = files(alloc, image, trace)?;
     let mut sink = MemSink::new(alloc);
     let status = judge(rt, alloc, &words, &mut shelf, &mut sink, &OpenGate);
+    for drip in DRIPS {
+        let mut shelf = DripShelf::new(pair(alloc, image, trace)?, usize::from(drip) + 1);
+        let mut dripped = MemSink::new(alloc);
+        let again = judge(rt, alloc, &words, &mut shelf, &mut dripped, &OpenGate);
+        assert_eq!(rt; again, status);
+        assert_eq!(rt; dripped.held, sink.held);
+    }
     Ok((status, sink))
 }
 
@@ -328,6 +345,27 @@ fn judges_odd_lines(rt: HostRuntime) -> Result<(), Fail> {
             trace,
         )?;
         assert_eq!(rt; sink.held.as_slice(), text);
+    }
+    Ok(())
+}
+
+/// Each limit that is below the length of a trace refuses it, unless a row before the limit decides.
+#[test]
+fn limits_a_trace(rt: HostRuntime) -> Result<(), Fail> {
+    let alloc = rt.alloc();
+    let trace = b"\xef\xbb\xbfinsn,pc_rdata\n\n0x00500093,0x80000000\r\nzz\n5";
+    for limit in 1..48u64 {
+        let number = format!(in alloc; "{limit}")?;
+        let words = ["rvjudge", "judge", "i", "t", "--max-trace", number.as_str()];
+        let (status, sink) = judged(&rt, alloc, &words, IMAGE, trace)?;
+        assert_eq!(rt; status, 4);
+        if limit < 44 {
+            assert!(rt; sink.held.starts_with(b"refused trace: more than "));
+            assert!(rt; sink.held.ends_with(b" bytes\n"));
+        } else {
+            let text = b"refused trace: row 2: wrong number of fields\n".as_slice();
+            assert_eq!(rt; sink.held.as_slice(), text);
+        }
     }
     Ok(())
 }
