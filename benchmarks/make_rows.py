@@ -1,12 +1,14 @@
 #!/usr/bin/env python3
-"""Writes the image of a loop and the trace of its run: make_rows.py IMAGE TRACE ROWS.
+"""Writes the image of a loop and the trace of its run: make_rows.py IMAGE TRACE ROWS [--quoted].
 
 The loop counts in x1, builds addresses in x2 and x3, shifts and adds, and jumps back.
 The rows are those of a hart that runs it from 0x80000000, worked out here.
+With --quoted each field stands in quotes.
 """
-import sys
+import argparse
 
 BASE = 0x80000000
+COLUMNS = "order", "insn", "pc_rdata", "rd_addr", "rd_wdata", "pc_wdata"
 MASK = (1 << 64) - 1
 
 
@@ -58,24 +60,35 @@ def write_image(path):
             image.write(" ".join(f"{byte:02x}" for byte in word.to_bytes(4, "little")) + "\n")
 
 
-def write_trace(path, count):
+def line_of(fields, quoted):
+    """A line of these fields, each in quotes or none."""
+    return ",".join(f'"{field}"' if quoted else field for field in fields) + "\n"
+
+
+def write_trace(path, count, quoted):
     registers = [0] * 32
     place = 0
     with open(path, "w", encoding="ascii") as trace:
-        trace.write("order,insn,pc_rdata,rd_addr,rd_wdata,pc_wdata\n")
+        trace.write(line_of(COLUMNS, quoted))
         for order in range(count):
             word, rd, value_of = LOOP[place]
             pc = BASE + 4 * place
             value = value_of(pc, registers) & MASK
             registers[rd] = value
             place = (place + 1) % len(LOOP)
-            trace.write(f"{order},0x{word:08x},0x{pc:x},{rd},0x{value:x},0x{BASE + 4 * place:x}\n")
+            fields = f"{order}", f"0x{word:08x}", f"0x{pc:x}", f"{rd}", f"0x{value:x}", f"0x{BASE + 4 * place:x}"
+            trace.write(line_of(fields, quoted))
 
 
 def main():
-    image, trace, count = sys.argv[1:]
-    write_image(image)
-    write_trace(trace, int(count))
+    parser = argparse.ArgumentParser(description="Writes the image of a loop and the trace of its run.")
+    parser.add_argument("image")
+    parser.add_argument("trace")
+    parser.add_argument("rows", type=int)
+    parser.add_argument("--quoted", action="store_true", help="put each field in quotes")
+    options = parser.parse_args()
+    write_image(options.image)
+    write_trace(options.trace, options.rows, options.quoted)
 
 
 if __name__ == "__main__":

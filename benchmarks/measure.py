@@ -16,6 +16,7 @@ def main():
     parser = argparse.ArgumentParser(description=__doc__)
     parser.add_argument("--expect", required=True, help="the line that the command must print")
     parser.add_argument("--rows", type=int, help="the rows judged, for rows per second")
+    parser.add_argument("--below", type=float, help="the MiB that the peak memory must stay below")
     parser.add_argument("command", nargs=argparse.REMAINDER)
     options = parser.parse_args()
     # A child's peak includes this process as it was forked, so a smaller program cannot be told.
@@ -37,6 +38,9 @@ def main():
         print(f"peak memory: {peak:.1f} MiB")
     if said != options.expect:
         print(f"expected: {options.expect}", file=sys.stderr)
+        return 1
+    if options.below and peak >= options.below:
+        print(f"the peak memory is not below {options.below:.0f} MiB", file=sys.stderr)
         return 1
     return 0
 
