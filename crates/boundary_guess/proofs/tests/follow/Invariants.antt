@@ -1,0 +1,9 @@
+use Rattle.std.proofs.Common.{◌≡◌}
+use Rattle.hart_step.specs.Cores.{IsSound}
+use Rattle.boundary_guess.proofs.tests.follow.Given as goal
+
+abbrev pub invariant-rows : goal.invariant-rows
+invariant-rows l = record {
+  sound : IsSound l.hart.core;
+  ram : l.hart.mem.ram ≡ l.hart.core.map.ram;
+}
