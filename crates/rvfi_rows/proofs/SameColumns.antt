@@ -1,8 +1,7 @@
 -- Columns are the same where they show signals of the same index.
-use Rattle.std.proofs.Common.{◌≡◌, ℕ, ◌==◌, Bool, true, Decides, Option, Some, None, option_map, slice_get, refl, sym, ap, ◌∙◌}
+use Rattle.std.proofs.Common.{◌≡◌, Decides, Option, Some, None, option_map, slice_get, sym, ap, ◌∙◌}
 use Rattle.std.proofs.lemmas.Bool.Decides.{Decides-eqb}
 use Rattle.hart_words.specs.declared.signal.Signal.{Signal}
-use Rattle.hart_words.specs.declared.signal.SignalEntry.{SignalEntry}
 use Rattle.hart_words.specs.declared.signal.TheConstants.{SIGNALS}
 use Rattle.hart_words.specs.Signals.{index_of, signal_entry_of}
 use Rattle.hart_words.proofs.SignalTable.{stands_at_its_index}

@@ -1,4 +1,4 @@
-use Rattle.std.proofs.Common.{◌≡◌, ◌+◌, ◌≤◌, ap, ◌∙◌, arith}
+use Rattle.std.proofs.Common.{◌+◌, ap, ◌∙◌, arith}
 use Rattle.rvfi_rows.specs.Cells.{shown_in}
 use Rattle.rvfi_rows.specs.Readings.{reading_of, rows_in}
 use Rattle.judge_run.specs.Rows.{Standing, verdict_after}

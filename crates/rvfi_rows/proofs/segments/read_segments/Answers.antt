@@ -1,4 +1,4 @@
-use Rattle.std.proofs.Common.{◌≡◌, sym, ap, ◌∙◌}
+use Rattle.std.proofs.Common.{sym, ap, ◌∙◌}
 use Rattle.rvfi_rows.specs.Segments.{lines_of}
 use Rattle.rvfi_rows.proofs.SegmentLines.{same_lines}
 use Rattle.rvfi_rows.proofs.segments.read_segments.Goals as goal
