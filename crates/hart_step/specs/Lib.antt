@@ -8,4 +8,5 @@ pub mod Steps
 pub mod PlainRows
 pub mod Laws
 pub mod Rows
+pub mod Harts
 pub mod ProtectionLaws

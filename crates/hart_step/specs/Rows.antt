@@ -1,15 +1,15 @@
 -- The hart with its memory, by one row after another.
 use Rattle.std.specs.Prelude.{◌≢◌, List, [], ◌∷◌}
 use Rattle.hart_words.specs.declared.privilege.Mode.TheVariants.{Machine}
-use Rattle.hart_words.specs.Memory.{Bytes, after_writes}
+use Rattle.hart_words.specs.Memory.{after_writes}
+use Rattle.hart_words.specs.States.{State}
 use Rattle.hart_words.specs.Signals.{Shown}
 use Rattle.hart_step.specs.declared.state.Core.{Core}
 use Rattle.hart_step.specs.Steps.{begun, stepped}
 
 -- a hart with its memory
-pub record HartState : Type 0 where
-  pub core : Core
-  pub bytes : Bytes
+abbrev pub HartState : Type 0
+HartState = State Core
 
 -- after the step by one row
 abbrev pub after_row : HartState → Shown → HartState

@@ -1,8 +1,6 @@
 //! The rows that show all that their instructions change, and the state after one.
 
 ghost use Rattle.std.specs.Prelude.{◌≡◌, ◌⊎◌, ◌<◌, ◌%◌, ◌^◌, Option};
-ghost use Rattle.mem_access.specs.Places.{data_mode_of};
-ghost use Rattle.mem_access.specs.Translation.{is_translated};
 ghost use Rattle.rvfi_rows.specs.Cells.{shown_in};
 ghost use Rattle.hart_step.specs.PlainRows.{bits_of, insn_shown, is_plain, is_store, is_system_or_atomic, is_undisturbed, length_of, shows_bytes, shows_store, translates_data};
 
@@ -10,9 +8,8 @@ use crate::choices::row_shows;
 use crate::execution::op_of;
 use crate::hart::Hart;
 use crate::state::Core;
-use csr_file::fields::{BARE, MPP, MPRV, SATP_MODE};
-use csr_file::{Csrs, StoredCsr, has_bit, mode_numbered};
-use hart_words::{Mode, PhysMem, Signal};
+use hart_words::{PhysMem, Signal};
+use mem_access::{data_mode, is_translated};
 use rv_decode::Op;
 use rv_decode::opcodes::{AMO, SYSTEM};
 use rvfi_rows::Row;
@@ -59,32 +56,6 @@ impl Core {
     {
         is_translated(&self.csrs, data_mode(&self.csrs, self.mode))
     }
-}
-
-/// The mode of a load or a store: MPP in M where MPRV is set, else the mode of the instruction.
-#[tactic(auto, unfolding(mem_access::specs::Places::data_mode_of))]
-fn data_mode(csrs: &Csrs, mode: Mode) -> Mode
-    ensures { result ≡ data_mode_of csrs.now mode }
-{
-    let status = csrs.get(StoredCsr::Mstatus);
-    match mode {
-        Mode::Machine => {
-            if has_bit(status, MPRV) {
-                mode_numbered((status >> MPP) % 4)
-            } else {
-                Mode::Machine
-            }
-        }
-        Mode::Supervisor | Mode::User => mode,
-    }
-}
-
-/// Whether the accesses of a mode are translated.
-#[tactic(auto, unfolding(mem_access::specs::Translation::is_translated))]
-fn is_translated(csrs: &Csrs, mode: Mode) -> bool
-    ensures { result ≡ is_translated csrs.now mode }
-{
-    !matches!(mode, Mode::Machine) && csrs.get(StoredCsr::Satp) >> SATP_MODE != BARE
 }
 
 /// Neither a trap nor an interrupt nor a halt is shown.

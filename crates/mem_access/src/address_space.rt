@@ -83,7 +83,7 @@ impl<'a, M: PhysMem> AddressSpace<'a, M> {
 
 /// Whether the accesses of a mode are translated.
 #[tactic(auto, unfolding(crate::specs::Translation::is_translated))]
-fn is_translated(csrs: &Csrs, mode: Mode) -> bool
+pub fn is_translated(csrs: &Csrs, mode: Mode) -> bool
     ensures { result ≡ is_translated csrs.now mode }
 {
     !is_machine(mode) && csrs.get(StoredCsr::Satp) >> SATP_MODE != BARE

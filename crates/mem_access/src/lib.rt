@@ -12,9 +12,10 @@ mod instruction_fetch;
 pub mod laws;
 mod place;
 
+pub use address_space::is_translated;
 pub use data_access::{ACCESS_READS, load, store_place};
 pub use instruction_fetch::{FETCH_READS, fetch};
-pub use place::Place;
+pub use place::{Place, data_mode};
 
 #[cfg(test)]
 mod tests;
