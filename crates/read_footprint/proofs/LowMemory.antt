@@ -1,0 +1,59 @@
+-- A memory whose bytes stand in a list, in tests.
+use Rattle.std.proofs.Common.{◌≡◌, ◌≢◌, ℕ, zero, suc, ◌+◌, ◌-◌, ◌*◌, ◌/◌, ◌%◌, ◌<◌, ◌≤◌, ◌^◌, inl, inr, true, ◌==◌, List, length, Some, refl, ap, ◌∙◌, sym, arith, lit<, if◌then◌else◌}
+use Rattle.std.specs.Prelude.{slice_index_or, slice_set}
+use Rattle.std.proofs.Math.Path.{fun_ext}
+use Rattle.std.proofs.Math.Nat.{div-one, pow-le-pow_right}
+use Rattle.std.proofs.lemmas.Nat.{pow-add}
+use Rattle.std.proofs.lemmas.List.{get_or-set_same, get_or-set_other}
+use Rattle.std.proofs.lemmas.Bool.{lt-ltb, le-leb, ltb-true}
+use Rattle.std.proofs.lemmas.Bool.Decides.{eqb_tells}
+use Rattle.hart_words.specs.declared.span.Span.{Span}
+use Rattle.hart_words.specs.Memory.{Bytes, is_within, number_at, stored}
+use Rattle.hart_words.specs.Spans.{is_in}
+use Rattle.read_footprint.specs.declared.footprint.Footprint.{Footprint}
+use Rattle.read_footprint.specs.LowMemory.{IsLow}
+use Rattle.read_footprint.specs.Sets.{IsWithin}
+use Rattle.read_footprint.proofs.Places.{outside}
+
+-- the list that a memory keeps, as its bytes
+abbrev pub listed : List ℕ → Bytes
+listed items = λ at. slice_index_or items at 0
+
+pub number_more : (bytes : Bytes) (pa len : ℕ) → len ≢ 0 → number_at bytes pa len ≡ bytes pa + 256 * number_at bytes (pa + 1) (len - 1)
+unfolding number_at
+number_more bytes pa zero some = absurd (some refl)
+number_more bytes pa (suc len) some = let less : suc len - 1 ≡ len = omega arith in rw less refl
+
+pub number_none : (bytes : Bytes) (pa len : ℕ) → len ≡ 0 → number_at bytes pa len ≡ 0
+unfolding number_at
+number_none bytes pa len none = rw none refl
+
+pub fits_more : (byte rest len : ℕ) → byte < 256 → len ≢ 0 → rest < 2 ^ (8 * (len - 1)) → byte + 256 * rest < 2 ^ (8 * len)
+fits_more byte rest len small some fits =
+    let more : 8 * len ≡ 8 * (len - 1) + 8 = omega (arith, some) in
+    rw (more, pow-add 2 (8 * (len - 1)) 8) (omega (arith, small, fits))
+
+pub byte_set : (items : List ℕ) (pa len value : ℕ) → len ≡ 1 → pa < length items → listed (slice_set items pa (value % 256)) ≡ stored pa len value (listed items)
+unfolding stored
+byte_set items pa len value one below = rw one (fun_ext (λ at. elim (eqb_tells at pa) [
+  | inl same ↦
+      let none : at - pa ≡ 0 = omega (arith, same.1) in
+      let within : is_within pa 1 at ≡ true = rw (le-leb pa at (omega (arith, same.1)), lt-ltb at (pa + 1) (omega (arith, same.1))) refl in
+      ap (listed (slice_set items pa (value % 256))) same.1 ∙ get_or-set_same items pa (value % 256) 0 below ∙ sym (rw (within, none, div-one value) refl)
+  | inr apart ↦ get_or-set_other items pa at (value % 256) 0 apart.1 ∙ sym (rw (outside pa at apart.1) refl)
+]))
+
+lies : (ram : Span) (address : ℕ) → ram.base ≡ 0 → address < 4096 → is_in ram address ≡ true
+lies ram address start below = rw (le-leb ram.base address (omega (arith, start)), lt-ltb address (ram.base + ram.size) (omega (arith, below, ram.some))) refl
+
+pub low_within : (ram : Span) (footprint : Footprint) → ram.base ≡ 0 → IsLow footprint → IsWithin ram footprint
+low_within ram footprint start low = record {
+  read = λ address is. lies ram address start (low.read address is);
+  wrote = λ address is. lies ram address start (low.wrote address is);
+}
+
+pub small_rest : (rest len : ℕ) → len ≤ 8 → rest < 2 ^ (8 * (len - 1)) → rest < 2 ^ 56
+small_rest rest len few fits =
+    let fewer : 8 * (len - 1) ≤ 56 = omega (arith, few) in
+    let most : 2 ^ (8 * (len - 1)) ≤ 2 ^ 56 = pow-le-pow_right {n = 2} (lit< tt) fewer in
+    omega (arith, fits, most)

@@ -1,0 +1,4 @@
+pub mod Bits
+pub mod Footprints
+pub mod Sets
+pub mod LowMemory
