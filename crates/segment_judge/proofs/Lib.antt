@@ -1,0 +1,6 @@
+pub mod Parts
+pub mod Framed
+pub mod Turns
+pub mod Within
+pub mod Progressed
+pub mod Ends

@@ -1,0 +1,6 @@
+pub mod Judgements
+pub mod Laws
+pub mod Judged
+pub mod Standings
+pub mod Progress
+pub mod Founds

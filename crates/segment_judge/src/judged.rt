@@ -1,0 +1,16 @@
+//! What the judging of a segment gives.
+
+use hart_step::Hart;
+use read_footprint::Footprint;
+use rvfi_rows::Verdict;
+
+/// What the judging of a segment gave.
+#[derive(Drop)]
+pub struct Judged<M> {
+    /// The verdict on its rows, which are numbered from 1.
+    pub verdict: Verdict,
+    /// The hart behind them, where they agree.
+    pub end: Option<Hart<M>>,
+    /// What they read and wrote, a row that differs too.
+    pub footprint: Footprint,
+}

@@ -1,0 +1,95 @@
+//! Judging the rows of a segment, one after the other.
+
+ghost use Rattle.std.specs.Prelude.{IfOk};
+ghost use Rattle.hart_step.specs.Harts.{CanStep, state_of};
+ghost use Rattle.rvfi_rows.specs.Readings.{rows_in};
+ghost use Rattle.rvfi_rows.specs.Rows.{rows_of};
+ghost use Rattle.segment_judge.specs.Judged.{IsJudgement, IsUsable, Stands};
+
+use crate::judged::Judged;
+use crate::progress::Progress;
+use hart_step::Hart;
+use hart_words::{NoMemory, PhysMem};
+use rvfi_rows::{Columns, Row, Rows, Segment, Verdict, read_rows};
+use std::alloc::Global;
+
+/// Judges the rows of a segment from a state before it. Lines that were not read under these
+/// columns are read, and not kept.
+pub fn judge<M: PhysMem + Drop>(
+    alloc: Global,
+    start: &Hart<M>,
+    columns: &Columns,
+    segment: &Segment,
+) -> Result<Judged<M>, NoMemory>
+    requires { CanStep M.ram start.now }
+    ensures judged { IfOk result (λ judged. IsJudgement M.bytes (state_of M.bytes start.now)
+        (rows_of columns.now segment.now.lines) judged) }
+    ensures usable { IfOk result (λ judged. IsUsable M.ram (M.ram start.now.mem) judged) }
+    // What was read of memory is all of it that the verdict depends on.
+    ensures stands { IfOk result (λ judged. Stands M.bytes (state_of M.bytes start.now)
+        (rows_of columns.now segment.now.lines) judged) }
+{
+    judge_from(alloc, start.copy()?, columns, segment)
+}
+
+/// The same of a hart that is not needed any more.
+pub fn judge_from<M: PhysMem + Drop>(
+    alloc: Global,
+    start: Hart<M>,
+    columns: &Columns,
+    segment: &Segment,
+) -> Result<Judged<M>, NoMemory>
+    requires { CanStep M.ram start }
+    ensures judged { IfOk result (λ judged. IsJudgement M.bytes (state_of M.bytes start)
+        (rows_of columns.now segment.now.lines) judged) }
+    ensures usable { IfOk result (λ judged. IsUsable M.ram (M.ram start.mem) judged) }
+    ensures stands { IfOk result (λ judged. Stands M.bytes (state_of M.bytes start)
+        (rows_of columns.now segment.now.lines) judged) }
+{
+    match segment.rows(columns) {
+        Some(rows) => judge_rows(alloc, start, rows),
+        None => {
+            let rows = read_rows(alloc, columns, &segment.lines)?;
+            judge_rows(alloc, start, &rows)
+        }
+    }
+}
+
+/// Judges rows that were read.
+fn judge_rows<M: PhysMem + Drop>(
+    alloc: Global,
+    start: Hart<M>,
+    rows: &Rows,
+) -> Result<Judged<M>, NoMemory>
+    requires { CanStep M.ram start }
+    ensures judged { IfOk result (λ judged.
+        IsJudgement M.bytes (state_of M.bytes start) (rows_in rows.now) judged) }
+    ensures usable { IfOk result (λ judged. IsUsable M.ram (M.ram start.mem) judged) }
+    ensures stands { IfOk result (λ judged.
+        Stands M.bytes (state_of M.bytes start) (rows_in rows.now) judged) }
+{
+    let mut progress = Progress::before(alloc, start);
+    let mut row = Row::empty();
+    for place in 0..rows.len() {
+        let reading = match rows.get(place, &mut row) {
+            None => unreachable!(),
+            Some(reading) => reading,
+        };
+        match progress.judge_row(reading, &row)? {
+            None => {}
+            Some(verdict) => return Ok(Judged {
+                verdict,
+                end: None,
+                footprint: progress.footprint,
+            }),
+        }
+    }
+    Ok(Judged {
+        verdict: Verdict::Agrees {
+            rows: progress.rows,
+            valid: progress.valid,
+        },
+        end: Some(progress.hart),
+        footprint: progress.footprint,
+    })
+}

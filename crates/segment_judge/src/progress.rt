@@ -1,0 +1,103 @@
+//! How far a segment was judged.
+
+ghost use Rattle.std.specs.Prelude.{◌≡◌, ◌≤◌, ◌<◌, ◌+◌, ◌^◌, [], List, Ok, Some, IfOk, IfNone};
+ghost use Rattle.hart_step.specs.Harts.{CanStep};
+ghost use Rattle.rvfi_rows.specs.Cells.{shown_in};
+ghost use Rattle.rvfi_rows.specs.Readings.{reading_of};
+ghost use Rattle.read_footprint.specs.Footprints.{Touched};
+ghost use Rattle.read_footprint.specs.Sets.{IsOf};
+
+use hart_step::{Hart, Stepped};
+use hart_words::{NoMemory, PhysMem};
+use read_footprint::Footprint;
+use row_compare::first_difference;
+use rvfi_rows::{Reading, Row, Verdict};
+use std::alloc::Global;
+
+/// How far a segment was judged: the hart, what the rows read and wrote, and how many rows and
+/// valid rows there were.
+#[derive(Drop)]
+pub(crate) struct Progress<M> {
+    pub hart: Hart<M>,
+    pub footprint: Footprint,
+    pub rows: u64,
+    pub valid: u64,
+}
+
+impl<M: PhysMem + Drop> Progress<M> {
+    ghost use Rattle.segment_judge.specs.Progress.{CanJudge, JudgesRow};
+
+    /// No row was judged yet.
+    pub fn before(alloc: Global, hart: Hart<M>) -> Progress<M>
+        requires { CanStep M.ram hart }
+        ensures hart { result.hart ≡ hart }
+        ensures rows { result.rows ≡ 0 }
+        ensures valid { result.valid ≡ 0 }
+        ensures footprint { IsOf result.footprint [] }
+        ensures can_judge { CanJudge M.ram result }
+    {
+        Progress {
+            hart,
+            footprint: Footprint::empty(alloc),
+            rows: 0,
+            valid: 0,
+        }
+    }
+
+    /// Judges one row, which reads so; `row` shows what it shows where it is valid. `Some` where
+    /// the segment ends with it.
+    pub fn judge_row(&mut self, reading: Reading, row: &Row) -> Result<Option<Verdict>, NoMemory>
+        requires can_judge { CanJudge M.ram self.old }
+        requires few { self.old.rows < 2 ^ 63 }
+        requires valid { self.old.valid ≤ self.old.rows }
+        ensures judges { IfOk result (λ end. (touched : List Touched) → JudgesRow M.bytes self.old
+            self.new (reading_of reading (shown_in row.now)) end touched) }
+        ensures can_judge { IfOk result (λ end. CanJudge M.ram self.new) }
+        ensures ram { M.ram self.new.hart.mem ≡ M.ram self.old.hart.mem }
+        ensures rows { IfOk result (λ end. IfNone end (self.new.rows ≡ self.old.rows + 1)) }
+        ensures valid { IfOk result (λ end. self.new.valid ≤ self.new.rows) }
+    {
+        match reading {
+            Reading::Refused(fault) => Ok(Some(Verdict::Refused {
+                row: self.rows + 1,
+                fault,
+            })),
+            Reading::Invalid => {
+                self.rows += 1;
+                Ok(None)
+            }
+            Reading::Valid => self.judge_valid(row),
+        }
+    }
+
+    /// Judges a valid row: the hart is stepped by it, and it is compared with what the hart did.
+    fn judge_valid(&mut self, row: &Row) -> Result<Option<Verdict>, NoMemory>
+        requires can_judge { CanJudge M.ram self.old }
+        requires few { self.old.rows < 2 ^ 63 }
+        requires valid { self.old.valid ≤ self.old.rows }
+        ensures judges { IfOk result (λ end. (touched : List Touched) → JudgesRow M.bytes self.old
+            self.new (Ok (Some (shown_in row.now))) end touched) }
+        ensures can_judge { IfOk result (λ end. CanJudge M.ram self.new) }
+        ensures ram { M.ram self.new.hart.mem ≡ M.ram self.old.hart.mem }
+        ensures rows { IfOk result (λ end. IfNone end (self.new.rows ≡ self.old.rows + 1)) }
+        ensures valid { IfOk result (λ end. self.new.valid ≤ self.new.rows) }
+    {
+        // What a step gives is large, and `?` would move it once more.
+        let stepped = match self.hart.step(row) {
+            Err(NoMemory) => return Err(NoMemory),
+            Ok(stepped) => stepped,
+        };
+        self.footprint.add(&stepped.seen, &stepped.wrote)?;
+        self.rows += 1;
+        match first_difference(&stepped.expected, row) {
+            Some(difference) => Ok(Some(Verdict::Differs {
+                row: self.rows,
+                difference,
+            })),
+            None => {
+                self.valid += 1;
+                Ok(None)
+            }
+        }
+    }
+}
