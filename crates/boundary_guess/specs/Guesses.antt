@@ -1,23 +1,11 @@
 -- What the rows of a trace let one guess of the hart's state behind them.
 use Rattle.std.specs.Prelude.{◌≡◌, ℕ, List, [], ◌∷◌, Some, None, Ok, Err, if◌then◌else◌, Bool}
-use Rattle.hart_words.specs.declared.span.Span.{Span}
-use Rattle.hart_words.specs.Memory.{Bytes}
 use Rattle.hart_words.specs.Signals.{Shown}
 use Rattle.rvfi_rows.specs.Columns.{ColumnList}
 use Rattle.rvfi_rows.specs.Rows.{RowReading, rows_of}
-use Rattle.hart_step.specs.declared.hart.Hart.{Hart}
-use Rattle.hart_step.specs.Cores.{IsSound}
+pub use Rattle.hart_step.specs.Harts.{CanStep, state_of}
 use Rattle.hart_step.specs.PlainRows.{bytes_shown, core_shown, is_plain}
 use Rattle.hart_step.specs.Rows.{HartState, after_row}
-
--- the state of a hart, by the bytes of its memory
-abbrev pub state_of : {M : Type 0} → (M → Bytes) → Hart M → HartState
-state_of bytes hart = record { core = hart.core; bytes = bytes hart.mem }
-
--- a step may begin: the core is sound, and the memory's RAM is the map's
-pub record CanStep {M : Type 0} (ram_of : M → Span) (hart : Hart M) : Type 0 where
-  pub sound : IsSound hart.core
-  pub ram : ram_of hart.mem ≡ hart.core.map.ram
 
 -- after a plain row, as it shows
 abbrev pub state_shown : HartState → Shown → HartState

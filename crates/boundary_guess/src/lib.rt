@@ -3,8 +3,9 @@
 //! In come the lines of a trace, and the hart before the first. Out come segments of so many lines
 //! each (`specs/Cuts.antt`), and for each the hart before it (`specs/Guesses.antt`): the first as
 //! it came, each other guessed from what the rows before it show. A row that does not show all that
-//! it changes is stepped, and nothing is compared. `laws` says that the segments are the lines. The
-//! form is this project's own: no standard is followed here.
+//! it changes is stepped, and nothing is compared. `laws` says that the segments are the lines, and
+//! where the guesses are the hart's true states (`specs/Truth.antt`). The form is this project's
+//! own: no standard is followed here.
 #![tactic(auto)]
 
 mod cuts;

@@ -1,0 +1,333 @@
+-- Which operations the words of plain rows mean: none of SYSTEM, and none that is atomic.
+use Rattle.std.proofs.Common.{◌≡◌, ℕ, ◌+◌, ◌*◌, ◌/◌, ◌%◌, ◌^◌, ◌<◌, Bool, true, false, ◌&&◌, List, [], ◌∷◌, Option, None, Some, bit_and, ◌==◌, refl, sym, ◌∙◌, ap, subst, arith, if◌then◌else◌, lit<, ◌-◌}
+use Rattle.std.specs.Prelude.{◌||◌}
+use Rattle.std.specs.List.{list_all, find}
+use Rattle.std.specs.Option.{option_map, option_and_then}
+use Rattle.std.proofs.lemmas.Nat.{and_mod, and_mask}
+use Rattle.std.proofs.lemmas.Bool.{eqb-true}
+use Rattle.std.proofs.lemmas.Bool.Decides.{nat_tests}
+use Rattle.rv_decode.specs.declared.operation.Op.{Op}
+use Rattle.rv_decode.specs.declared.operation.Op.TheVariants as ops
+use Rattle.rv_decode.specs.declared.patterns.Form.{Form}
+use Rattle.rv_decode.specs.declared.patterns.Form.TheVariants as forms
+use Rattle.rv_decode.specs.declared.patterns.Pattern.{Pattern}
+use Rattle.rv_decode.specs.Fields.{operation_of}
+use Rattle.rv_decode.specs.Operands.{destination_of}
+use Rattle.rv_decode.specs.Table.{opcodes, all_rows, meets, decoded_by, decoded}
+use Rattle.rv_compressed.specs.declared.compressed_op.CompressedOp.{CompressedOp}
+use Rattle.rv_compressed.specs.declared.compressed_op.CompressedOp.TheVariants as c
+use Rattle.rv_compressed.specs.declared.patterns.Pattern.{Pattern as Parcel}
+use Rattle.rv_compressed.specs.Formats.{r_format, i_format, s_format, b_format, u_format, j_format}
+use Rattle.rv_compressed.specs.Patterns.{holds, meets as meets_parcel}
+use Rattle.hart_step.specs.Instructions.{op_of}
+use Rattle.rv_compressed.specs.Table.{table, word_of, expansion_by, expansion_of, expanded}
+
+-- neither of SYSTEM nor atomic
+abbrev pub is_plain_op : Op → Bool
+is_plain_op (ops.Lui rd imm) = true
+is_plain_op (ops.Auipc rd imm) = true
+is_plain_op (ops.Jal rd offset) = true
+is_plain_op (ops.Jalr rd rs1 offset) = true
+is_plain_op (ops.Branch op rs1 rs2 offset) = true
+is_plain_op (ops.Load op rd rs1 offset) = true
+is_plain_op (ops.Store op rs1 rs2 offset) = true
+is_plain_op (ops.Immediate op rd rs1 imm) = true
+is_plain_op (ops.ImmediateWord op rd rs1 imm) = true
+is_plain_op (ops.Register op rd rs1 rs2) = true
+is_plain_op (ops.RegisterWord op rd rs1 rs2) = true
+is_plain_op ops.Fence = true
+is_plain_op ops.FenceI = true
+is_plain_op ops.Ecall = false
+is_plain_op ops.Ebreak = false
+is_plain_op ops.Mret = false
+is_plain_op ops.Sret = false
+is_plain_op ops.Wfi = false
+is_plain_op (ops.SfenceVma rs1 rs2) = false
+is_plain_op (ops.Csr op rd rs1 csr) = false
+is_plain_op (ops.CsrImmediate op rd imm csr) = false
+is_plain_op (ops.LoadReserved width rd rs1) = false
+is_plain_op (ops.StoreConditional width rd rs1 rs2) = false
+is_plain_op (ops.Amo op width rd rs1 rs2) = false
+
+-- the same of forms
+abbrev is_plain_form : Form → Bool
+is_plain_form forms.Lui = true
+is_plain_form forms.Auipc = true
+is_plain_form forms.Jal = true
+is_plain_form forms.Jalr = true
+is_plain_form (forms.Branch op) = true
+is_plain_form (forms.Load op) = true
+is_plain_form (forms.Store op) = true
+is_plain_form (forms.Immediate op) = true
+is_plain_form (forms.Shift op) = true
+is_plain_form (forms.ImmediateWord op) = true
+is_plain_form (forms.ShiftWord op) = true
+is_plain_form (forms.Register op) = true
+is_plain_form (forms.RegisterWord op) = true
+is_plain_form forms.Fence = true
+is_plain_form forms.FenceI = true
+is_plain_form forms.Ecall = false
+is_plain_form forms.Ebreak = false
+is_plain_form forms.Mret = false
+is_plain_form forms.Sret = false
+is_plain_form forms.Wfi = false
+is_plain_form forms.SfenceVma = false
+is_plain_form (forms.Csr op) = false
+is_plain_form (forms.CsrImmediate op) = false
+is_plain_form (forms.LoadReserved width) = false
+is_plain_form (forms.StoreConditional width) = false
+is_plain_form (forms.Amo op width) = false
+
+of_form : (form : Form) (word : ℕ) → is_plain_op (operation_of form word) ≡ is_plain_form form
+of_form forms.Lui word = refl
+of_form forms.Auipc word = refl
+of_form forms.Jal word = refl
+of_form forms.Jalr word = refl
+of_form (forms.Branch op) word = refl
+of_form (forms.Load op) word = refl
+of_form (forms.Store op) word = refl
+of_form (forms.Immediate op) word = refl
+of_form (forms.Shift op) word = refl
+of_form (forms.ImmediateWord op) word = refl
+of_form (forms.ShiftWord op) word = refl
+of_form (forms.Register op) word = refl
+of_form (forms.RegisterWord op) word = refl
+of_form forms.Fence word = refl
+of_form forms.FenceI word = refl
+of_form forms.Ecall word = refl
+of_form forms.Ebreak word = refl
+of_form forms.Mret word = refl
+of_form forms.Sret word = refl
+of_form forms.Wfi word = refl
+of_form forms.SfenceVma word = refl
+of_form (forms.Csr op) word = refl
+of_form (forms.CsrImmediate op) word = refl
+of_form (forms.LoadReserved width) word = refl
+of_form (forms.StoreConditional width) word = refl
+of_form (forms.Amo op width) word = refl
+
+both : (a b : Bool) → (a && b) ≡ true → (a ≡ true) × (b ≡ true)
+both true b h = (refl, h)
+both false b h = cc
+
+-- the opcode is SYSTEM or AMO
+abbrev is_special : ℕ → Bool
+is_special code = code == 0x73 || code == 0x2f
+
+-- the row's form is plain, or the row fixes one of those opcodes
+abbrev is_told : Pattern → Bool
+is_told row = is_plain_form row.form || ((row.mask % 128 == 127) && is_special (row.bits % 128))
+
+opcode_met : (mask bits word : ℕ) → mask % 128 ≡ 127 → bit_and word mask ≡ bits → bits % 128 ≡ word % 128
+opcode_met mask bits word all met =
+    let split : bit_and word mask % 128 ≡ bit_and (word % 128) (mask % 128) = and_mod word mask 7 in
+    let kept : bit_and (word % 128) 127 ≡ word % 128 % 128 = and_mask (word % 128) 7 in
+    let here : bits % 128 ≡ bit_and (word % 128) 127 = cc in
+    omega arith
+
+told_by : (plain : Bool) (row : Pattern) (word : ℕ) → (plain || ((row.mask % 128 == 127) && is_special (row.bits % 128))) ≡ true → meets row word ≡ true → is_special (word % 128) ≡ false → plain ≡ true
+told_by true row word told met other = refl
+told_by false row word told met other =
+    let parts = both (row.mask % 128 == 127) (is_special (row.bits % 128)) told in
+    let same = opcode_met row.mask row.bits word (eqb-true _ _ parts.0) (eqb-true _ _ met) in
+    let special : is_special (word % 128) ≡ true = ap is_special (sym same) ∙ parts.1 in
+    absurd cc
+
+some_same : {A : Type 0} (x y : A) → Some x ≡ Some y → x ≡ y
+some_same x y is = cc
+
+plain_by : (test : Bool) (row : Pattern) (rest : Option Pattern) (word : ℕ) (op : Op) → is_told row ≡ true → meets row word ≡ test → is_special (word % 128) ≡ false
+    → (option_map (λ row. operation_of row.form word) rest ≡ Some op → is_plain_op op ≡ true)
+    → option_map (λ row. operation_of row.form word) (if test then Some row else rest) ≡ Some op → is_plain_op op ≡ true
+plain_by true row rest word op told met other more is =
+    let same : operation_of row.form word ≡ op = some_same _ _ is in
+    ap is_plain_op (sym same) ∙ of_form row.form word ∙ told_by (is_plain_form row.form) row word told met other
+plain_by false row rest word op told met other more is = more is
+
+plain_among : (rows : List Pattern) (word : ℕ) (op : Op) → list_all is_told rows ≡ true → is_special (word % 128) ≡ false
+    → option_map (λ row. operation_of row.form word) (find (λ row. meets row word) rows) ≡ Some op → is_plain_op op ≡ true
+plain_among [] word op told other is = absurd cc
+plain_among (row ∷ rows) word op told other is =
+    let parts = both (is_told row) (list_all is_told rows) told in
+    plain_by (meets row word) row (find (λ row. meets row word) rows) word op parts.0 refl other (plain_among rows word op parts.1 other) is
+
+pub plain_decoded : (word : ℕ) (op : Op) → is_special (word % 128) ≡ false → decoded word ≡ Some op → is_plain_op op ≡ true
+unfolding decoded decoded_by opcodes
+plain_decoded word op other is = plain_among (all_rows opcodes) word op refl other is
+
+-- ---- compressed instructions: none but C.EBREAK expands to such a word
+
+low_r : (opcode funct3 funct7 rd rs1 rs2 : ℕ) → opcode < 128 → r_format opcode funct3 funct7 rd rs1 rs2 % 128 ≡ opcode
+unfolding r_format
+low_r opcode funct3 funct7 rd rs1 rs2 below = omega arith
+
+low_i : (opcode funct3 rd rs1 immediate : ℕ) → opcode < 128 → i_format opcode funct3 rd rs1 immediate % 128 ≡ opcode
+unfolding i_format
+low_i opcode funct3 rd rs1 immediate below = omega arith
+
+low_s_by : (opcode funct3 rs2 rs1 a b : ℕ) → opcode < 128 → (a * 2 ^ 25 + rs2 * 2 ^ 20 + rs1 * 2 ^ 15 + funct3 * 2 ^ 12 + b * 2 ^ 7 + opcode) % 128 ≡ opcode
+low_s_by opcode funct3 rs2 rs1 a b below = omega arith
+
+low_s : (opcode funct3 rs2 rs1 offset : ℕ) → opcode < 128 → s_format opcode funct3 rs2 rs1 offset % 128 ≡ opcode
+unfolding s_format
+low_s opcode funct3 rs2 rs1 offset below = low_s_by opcode funct3 rs2 rs1 _ _ below
+
+low_b_by : (opcode funct3 rs1 rs2 a b c d : ℕ) → opcode < 128 → (a * 2 ^ 31 + b * 2 ^ 25 + rs2 * 2 ^ 20 + rs1 * 2 ^ 15 + funct3 * 2 ^ 12 + c * 2 ^ 8 + d * 2 ^ 7 + opcode) % 128 ≡ opcode
+low_b_by opcode funct3 rs1 rs2 a b c d below = omega arith
+
+low_b : (opcode funct3 rs1 rs2 offset : ℕ) → opcode < 128 → b_format opcode funct3 rs1 rs2 offset % 128 ≡ opcode
+unfolding b_format
+low_b opcode funct3 rs1 rs2 offset below = low_b_by opcode funct3 rs1 rs2 _ _ _ _ below
+
+low_u : (opcode rd upper : ℕ) → opcode < 128 → u_format opcode rd upper % 128 ≡ opcode
+unfolding u_format
+low_u opcode rd upper below = omega arith
+
+low_j_by : (opcode rd a b c d : ℕ) → opcode < 128 → (a * 2 ^ 31 + b * 2 ^ 21 + c * 2 ^ 20 + d * 2 ^ 12 + rd * 2 ^ 7 + opcode) % 128 ≡ opcode
+low_j_by opcode rd a b c d below = omega arith
+
+low_j : (opcode rd offset : ℕ) → opcode < 128 → j_format opcode rd offset % 128 ≡ opcode
+unfolding j_format
+low_j opcode rd offset below = low_j_by opcode rd _ _ _ _ below
+
+special_none : (word opcode : ℕ) → is_special opcode ≡ false → word % 128 ≡ opcode → is_special (word % 128) ≡ false
+special_none word opcode none is = ap is_special is ∙ none
+
+-- the compressed instruction is not C.EBREAK
+abbrev is_no_ebreak : CompressedOp → Bool
+is_no_ebreak c.Ebreak = false
+is_no_ebreak _ = true
+
+common_word : (op : CompressedOp) (parcel : ℕ) → is_no_ebreak op ≡ true → is_special (word_of op parcel % 128) ≡ false
+unfolding word_of
+common_word c.Addi4spn parcel is = special_none _ 0x13 refl (low_i 0x13 _ _ _ _ (lit< tt))
+common_word c.Lw parcel is = special_none _ 0x03 refl (low_i 0x03 _ _ _ _ (lit< tt))
+common_word c.Ld parcel is = special_none _ 0x03 refl (low_i 0x03 _ _ _ _ (lit< tt))
+common_word c.Sw parcel is = special_none _ 0x23 refl (low_s 0x23 _ _ _ _ (lit< tt))
+common_word c.Sd parcel is = special_none _ 0x23 refl (low_s 0x23 _ _ _ _ (lit< tt))
+common_word c.Addi parcel is = special_none _ 0x13 refl (low_i 0x13 _ _ _ _ (lit< tt))
+common_word c.Addiw parcel is = special_none _ 0x1b refl (low_i 0x1b _ _ _ _ (lit< tt))
+common_word c.Li parcel is = special_none _ 0x13 refl (low_i 0x13 _ _ _ _ (lit< tt))
+common_word c.Addi16sp parcel is = special_none _ 0x13 refl (low_i 0x13 _ _ _ _ (lit< tt))
+common_word c.Lui parcel is = special_none _ 0x37 refl (low_u 0x37 _ _ (lit< tt))
+common_word c.Srli parcel is = special_none _ 0x13 refl (low_i 0x13 _ _ _ _ (lit< tt))
+common_word c.Srai parcel is = special_none _ 0x13 refl (low_i 0x13 _ _ _ _ (lit< tt))
+common_word c.Andi parcel is = special_none _ 0x13 refl (low_i 0x13 _ _ _ _ (lit< tt))
+common_word c.Sub parcel is = special_none _ 0x33 refl (low_r 0x33 _ _ _ _ _ (lit< tt))
+common_word c.Xor parcel is = special_none _ 0x33 refl (low_r 0x33 _ _ _ _ _ (lit< tt))
+common_word c.Or parcel is = special_none _ 0x33 refl (low_r 0x33 _ _ _ _ _ (lit< tt))
+common_word c.And parcel is = special_none _ 0x33 refl (low_r 0x33 _ _ _ _ _ (lit< tt))
+common_word c.Subw parcel is = special_none _ 0x3b refl (low_r 0x3b _ _ _ _ _ (lit< tt))
+common_word c.Addw parcel is = special_none _ 0x3b refl (low_r 0x3b _ _ _ _ _ (lit< tt))
+common_word c.J parcel is = special_none _ 0x6f refl (low_j 0x6f _ _ (lit< tt))
+common_word c.Beqz parcel is = special_none _ 0x63 refl (low_b 0x63 _ _ _ _ (lit< tt))
+common_word c.Bnez parcel is = special_none _ 0x63 refl (low_b 0x63 _ _ _ _ (lit< tt))
+common_word c.Slli parcel is = special_none _ 0x13 refl (low_i 0x13 _ _ _ _ (lit< tt))
+common_word c.Lwsp parcel is = special_none _ 0x03 refl (low_i 0x03 _ _ _ _ (lit< tt))
+common_word c.Ldsp parcel is = special_none _ 0x03 refl (low_i 0x03 _ _ _ _ (lit< tt))
+common_word c.Jr parcel is = special_none _ 0x67 refl (low_i 0x67 _ _ _ _ (lit< tt))
+common_word c.Mv parcel is = special_none _ 0x33 refl (low_r 0x33 _ _ _ _ _ (lit< tt))
+common_word c.Ebreak parcel is = absurd cc
+common_word c.Jalr parcel is = special_none _ 0x67 refl (low_i 0x67 _ _ _ _ (lit< tt))
+common_word c.Add parcel is = special_none _ 0x33 refl (low_r 0x33 _ _ _ _ _ (lit< tt))
+common_word c.Swsp parcel is = special_none _ 0x23 refl (low_s 0x23 _ _ _ _ (lit< tt))
+common_word c.Sdsp parcel is = special_none _ 0x23 refl (low_s 0x23 _ _ _ _ (lit< tt))
+
+-- the row's instruction is another, or the row fixes the whole parcel
+abbrev is_told_parcel : Parcel → Bool
+is_told_parcel row = is_no_ebreak row.op || ((row.mask == 2 ^ 16 - 1) && (row.bits == 0x9002))
+
+parcel_told : (common : Bool) (row : Parcel) (parcel : ℕ) → (common || ((row.mask == 2 ^ 16 - 1) && (row.bits == 0x9002))) ≡ true → meets_parcel row parcel ≡ true → parcel < 2 ^ 16 → (parcel == 0x9002) ≡ false → common ≡ true
+parcel_told true row parcel told met short other = refl
+parcel_told false row parcel told met short other =
+    let parts = both (row.mask == 2 ^ 16 - 1) (row.bits == 0x9002) told in
+    let here = both (bit_and parcel row.mask == row.bits) (holds row.condition parcel) met in
+    let fixed : bit_and parcel row.mask ≡ row.bits = eqb-true _ _ here.0 in
+    let mask : row.mask ≡ 2 ^ 16 - 1 = eqb-true _ _ parts.0 in
+    let bits : row.bits ≡ 0x9002 = eqb-true _ _ parts.1 in
+    let low : bit_and parcel (2 ^ 16 - 1) ≡ parcel % 2 ^ 16 = and_mask parcel 16 in
+    let whole : parcel ≡ 0x9002 = omega (arith, low, sym (ap (bit_and parcel) mask) ∙ fixed ∙ bits, short) in
+    absurd (grind (arith, nat_tests, whole, other))
+
+common_by : (test : Bool) (row : Parcel) (rest : Option Parcel) (parcel word : ℕ) → is_told_parcel row ≡ true → meets_parcel row parcel ≡ test → parcel < 2 ^ 16 → (parcel == 0x9002) ≡ false
+    → (option_map (λ row. word_of row.op parcel) rest ≡ Some word → is_special (word % 128) ≡ false)
+    → option_map (λ row. word_of row.op parcel) (if test then Some row else rest) ≡ Some word → is_special (word % 128) ≡ false
+common_by true row rest parcel word told met short other more is =
+    let same : word_of row.op parcel ≡ word = some_same _ _ is in
+    ap (λ w. is_special (w % 128)) (sym same) ∙ common_word row.op parcel (parcel_told (is_no_ebreak row.op) row parcel told met short other)
+common_by false row rest parcel word told met short other more is = more is
+
+common_among : (rows : List Parcel) (parcel word : ℕ) → list_all is_told_parcel rows ≡ true → parcel < 2 ^ 16 → (parcel == 0x9002) ≡ false
+    → option_map (λ row. word_of row.op parcel) (find (λ row. meets_parcel row parcel) rows) ≡ Some word → is_special (word % 128) ≡ false
+common_among [] parcel word told short other is = absurd cc
+common_among (row ∷ rows) parcel word told short other is =
+    let parts = both (is_told_parcel row) (list_all is_told_parcel rows) told in
+    common_by (meets_parcel row parcel) row (find (λ row. meets_parcel row parcel) rows) parcel word parts.0 refl short other (common_among rows parcel word parts.1 short other) is
+
+expansion_common : (parcel word : ℕ) → parcel < 2 ^ 16 → (parcel == 0x9002) ≡ false → expansion_of parcel ≡ Some word → is_special (word % 128) ≡ false
+unfolding expansion_of expansion_by table
+expansion_common parcel word short other is = common_among table parcel word refl short other is
+
+plain_expanded_by : (parcel : ℕ) (op : Op) (expansion : Option ℕ) → expansion_of parcel ≡ expansion → parcel < 2 ^ 16 → (parcel == 0x9002) ≡ false → option_and_then decoded expansion ≡ Some op → is_plain_op op ≡ true
+plain_expanded_by parcel op None at short other is = absurd cc
+plain_expanded_by parcel op (Some word) at short other is = plain_decoded word op (expansion_common parcel word short other at) is
+
+pub plain_expanded : (parcel : ℕ) (op : Op) → parcel < 2 ^ 16 → (parcel == 0x9002) ≡ false → expanded parcel ≡ Some op → is_plain_op op ≡ true
+unfolding expanded
+plain_expanded parcel op short other is = plain_expanded_by parcel op (expansion_of parcel) refl short other is
+
+-- ---- all operations are those of forms
+
+decoded_by_form : (P : Op → Type 0) → ((form : Form) (word : ℕ) → P (operation_of form word)) → (found : Option Pattern) (word : ℕ) (op : Op) → option_map (λ row. operation_of row.form word) found ≡ Some op → P op
+decoded_by_form P holds None word op is = absurd cc
+decoded_by_form P holds (Some row) word op is = subst P (some_same _ _ is) (holds row.form word)
+
+decoded_form : (P : Op → Type 0) → ((form : Form) (word : ℕ) → P (operation_of form word)) → (word : ℕ) (op : Op) → decoded word ≡ Some op → P op
+unfolding decoded decoded_by
+decoded_form P holds word op is = decoded_by_form P holds (find (λ row. meets row word) (all_rows opcodes)) word op is
+
+expanded_form : (P : Op → Type 0) → ((form : Form) (word : ℕ) → P (operation_of form word)) → (expansion : Option ℕ) (op : Op) → option_and_then decoded expansion ≡ Some op → P op
+expanded_form P holds None op is = absurd cc
+expanded_form P holds (Some word) op is = decoded_form P holds word op is
+
+form_by : (P : Op → Type 0) → ((form : Form) (word : ℕ) → P (operation_of form word)) → (short : Bool) (bits : ℕ) (op : Op) → (if short then expanded bits else decoded bits) ≡ Some op → P op
+unfolding expanded
+form_by P holds true bits op is = expanded_form P holds (expansion_of bits) op is
+form_by P holds false bits op is = decoded_form P holds bits op is
+
+pub of_some_form : (P : Op → Type 0) → ((form : Form) (word : ℕ) → P (operation_of form word)) → (bits len : ℕ) (op : Op) → op_of bits len ≡ Some op → P op
+of_some_form P holds bits len op is = form_by P holds (len == 2) bits op is
+
+five_bits : (word : ℕ) → word / 2 ^ 7 % 2 ^ 5 < 32
+five_bits word = omega arith
+
+destination_by_form : (form : Form) (word : ℕ) → destination_of (operation_of form word) < 32
+destination_by_form forms.Lui word = five_bits word
+destination_by_form forms.Auipc word = five_bits word
+destination_by_form forms.Jal word = five_bits word
+destination_by_form forms.Jalr word = five_bits word
+destination_by_form (forms.Branch op) word = lit< tt
+destination_by_form (forms.Load op) word = five_bits word
+destination_by_form (forms.Store op) word = lit< tt
+destination_by_form (forms.Immediate op) word = five_bits word
+destination_by_form (forms.Shift op) word = five_bits word
+destination_by_form (forms.ImmediateWord op) word = five_bits word
+destination_by_form (forms.ShiftWord op) word = five_bits word
+destination_by_form (forms.Register op) word = five_bits word
+destination_by_form (forms.RegisterWord op) word = five_bits word
+destination_by_form forms.Fence word = lit< tt
+destination_by_form forms.FenceI word = lit< tt
+destination_by_form forms.Ecall word = lit< tt
+destination_by_form forms.Ebreak word = lit< tt
+destination_by_form forms.Mret word = lit< tt
+destination_by_form forms.Sret word = lit< tt
+destination_by_form forms.Wfi word = lit< tt
+destination_by_form forms.SfenceVma word = lit< tt
+destination_by_form (forms.Csr op) word = five_bits word
+destination_by_form (forms.CsrImmediate op) word = five_bits word
+destination_by_form (forms.LoadReserved width) word = five_bits word
+destination_by_form (forms.StoreConditional width) word = five_bits word
+destination_by_form (forms.Amo op width) word = five_bits word
+
+pub destination_below : (bits len : ℕ) (op : Op) → op_of bits len ≡ Some op → destination_of op < 32
+destination_below bits len op is = of_some_form (λ op. destination_of op < 32) destination_by_form bits len op is

@@ -1,0 +1,76 @@
+-- When the guesses of the hart's state are the true states.
+use Rattle.std.specs.Prelude.{◌≡◌, ℕ, ◌^◌, ◌<◌, List, [], ◌∷◌, All, Some, None, Ok, Err, true}
+use Rattle.std.specs.Option.{is_some}
+use Rattle.hart_words.specs.declared.map.Map.{Map}
+use Rattle.hart_words.specs.Memory.{Bytes}
+use Rattle.hart_words.specs.Registers.{register_of}
+use Rattle.hart_words.specs.Signals.{Shown}
+use Rattle.hart_words.specs.declared.signal.Signal.{Signal}
+use Rattle.hart_words.specs.declared.signal.Signal.TheVariants.{Insn, Trap, RdAddr, RdWdata, PcWdata}
+use Rattle.csr_file.specs.declared.stored_csr.StoredCsr.{StoredCsr}
+use Rattle.csr_file.specs.Registers.{at}
+use Rattle.rvfi_rows.specs.Columns.{ColumnList}
+use Rattle.rvfi_rows.specs.Rows.{RowReading, rows_of}
+use Rattle.row_compare.specs.Difference.{difference_of}
+use Rattle.hart_step.specs.Cores.{IsSound, core_at_reset}
+use Rattle.hart_step.specs.Rows.{HartState, after_row}
+use Rattle.hart_step.specs.Steps.{stepped}
+
+-- the registers of a state hold words, and its memory bytes: so it is with every hart
+pub record HoldsWords (state : HartState) : Type 0 where
+  pub pc : state.core.pc < 2 ^ 64
+  pub registers : (number : ℕ) → register_of state.core.registers number < 2 ^ 64
+  pub csrs : (stored : StoredCsr) → at state.core.csrs stored < 2 ^ 64
+  pub configurations : All (λ entry. entry.cfg < 2 ^ 8) state.core.csrs.entries
+  pub bytes : (address : ℕ) → state.bytes address < 2 ^ 8
+
+-- a hart at reset, over a memory
+abbrev pub state_at_reset : ℕ → Map → Bytes → HartState
+state_at_reset pc map bytes = record { core = core_at_reset pc map; bytes = bytes }
+
+-- a row shows a value of the signal
+abbrev pub IsShown : Shown → Signal → Type 0
+IsShown shown signal = is_some (shown signal) ≡ true
+
+-- a row shows its instruction, and what that changes but for memory: whether it trapped, the register and its value,
+-- and where the hart goes on
+pub record ShowsChanges (shown : Shown) : Type 0 where
+  pub insn : IsShown shown Insn
+  pub trap : IsShown shown Trap
+  pub register : IsShown shown RdAddr
+  pub value : IsShown shown RdWdata
+  pub next : IsShown shown PcWdata
+
+-- each valid row does
+unfoldable pub ShowChanges : List RowReading → Type 0
+ShowChanges [] = Unit {0}
+ShowChanges (Err fault ∷ rows) = ShowChanges rows
+ShowChanges (Ok None ∷ rows) = ShowChanges rows
+ShowChanges (Ok (Some shown) ∷ rows) = ShowsChanges shown × ShowChanges rows
+
+-- rows agree with the hart from a state on: none is refused, and no valid one differs from the step by it
+unfoldable pub Agree : HartState → List RowReading → Type 0
+Agree state [] = Unit {0}
+Agree state (Err fault ∷ rows) = ⊥
+Agree state (Ok None ∷ rows) = Agree state rows
+Agree state (Ok (Some shown) ∷ rows) =
+    (difference_of ((stepped state.core shown).run state.bytes).value.expected shown ≡ None)
+    × Agree (after_row state shown) rows
+
+-- the true state after rows: that of a step by each valid one; from a refused one on nothing changes
+unfoldable pub state_after : HartState → List RowReading → HartState
+state_after state [] = state
+state_after state (Err fault ∷ rows) = state
+state_after state (Ok None ∷ rows) = state_after state rows
+state_after state (Ok (Some shown) ∷ rows) = state_after (after_row state shown) rows
+
+-- the true state before the lines of each segment
+unfoldable pub true_starts : HartState → ColumnList → List (List (List ℕ)) → List HartState
+true_starts state columns [] = []
+true_starts state columns (lines ∷ segments) =
+    state ∷ true_starts (state_after state (rows_of columns lines)) columns segments
+
+-- rows leave a sound state sound, and its values words and bytes
+pub record StaysSound (state : HartState) (rows : List RowReading) : Type 0 where
+  pub sound : IsSound (state_after state rows).core
+  pub words : HoldsWords (state_after state rows)
