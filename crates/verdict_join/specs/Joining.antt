@@ -1,0 +1,54 @@
+-- What the join in code gives, beside the join of the definitions.
+use Rattle.std.specs.Prelude.{◌≡◌, List, map, Option, Some, option_map, slice_get}
+use Rattle.hart_words.specs.Memory.{Bytes}
+use Rattle.rvfi_rows.specs.declared.segment.Segment.{Segment}
+use Rattle.rvfi_rows.specs.Columns.{ColumnList}
+use Rattle.rvfi_rows.specs.Rows.{RowReading, rows_of}
+use Rattle.hart_step.specs.declared.hart.Hart.{Hart}
+use Rattle.hart_step.specs.declared.state.Core.{Core}
+use Rattle.hart_step.specs.Harts.{state_of}
+use Rattle.hart_step.specs.Rows.{HartState}
+use Rattle.segment_judge.specs.declared.found.Found.{Found}
+use Rattle.segment_judge.specs.declared.found.What.{What}
+use Rattle.segment_judge.specs.declared.found.What.TheVariants.{Judged, Skipped}
+use Rattle.segment_judge.specs.declared.judged.Judged.{Judged as JudgedSegment}
+use Rattle.segment_judge.specs.Judgements.{Judgement, by_hart}
+use Rattle.segment_judge.specs.Laws.{judgement_from}
+use Rattle.verdict_join.specs.declared.joined.Joined.{Joined as JoinedSegments}
+use Rattle.verdict_join.specs.Joins.{Candidate, Joined, Sameness, joined}
+use Rattle.verdict_join.specs.Laws.{TellsApart}
+use Rattle.verdict_join.specs.Founds.{candidates}
+
+-- what the lines of a segment read as
+abbrev pub rows_in : ColumnList → Segment → List RowReading
+rows_in columns segment = rows_of columns segment.lines
+
+-- what was found of a segment, as the definitions have it: its judgement from its guess, where there is such a segment
+abbrev pub finding : {M : Type 0} → Option (List RowReading) → Option HartState → What (JudgedSegment M) → What (Judgement Core)
+finding rows guess (Skipped least) = Skipped least
+finding (Some rows) (Some guess) (Judged judged) = Judged (judgement_from by_hart guess rows)
+finding rows guess (Judged judged) = Skipped 0
+
+abbrev pub found_of : {M : Type 0} → List (List RowReading) → List HartState → Found (JudgedSegment M) → Found (Judgement Core)
+found_of segments guesses found = record {
+  seg = found.seg;
+  what = finding (slice_get segments found.seg) (slice_get guesses found.seg) found.what;
+}
+
+-- the segments, the guesses before them and what was found, as the definitions have them
+abbrev pub candidates_of : {M : Type 0} → (M → Bytes) → ColumnList → List Segment → List (Hart M) → List (Found (JudgedSegment M)) → List (Candidate Core)
+candidates_of bytes_of columns segments guesses founds =
+    let rows : List (List RowReading) = map (rows_in columns) segments in
+    let states : List HartState = map (state_of bytes_of) guesses in
+    candidates rows states (map (found_of rows states) founds)
+
+-- the join of the definitions, by its verdict, the state behind it, and how many segments were judged again
+pub record IsJoin {M : Type 0} (bytes_of : M → Bytes) (joined : JoinedSegments M) (whole : Joined Core) : Type 0 where
+  pub verdict : joined.verdict ≡ whole.verdict
+  pub end : option_map (state_of bytes_of) joined.end ≡ whole.end
+  pub rejudged : joined.rejudged ≡ whole.rejudged
+
+-- whichever test tells states apart
+abbrev pub JoinsThem : {M : Type 0} → (M → Bytes) → List (Candidate Core) → HartState → JoinedSegments M → Type 0
+JoinsThem bytes_of segments start result =
+    (same : Sameness Core) → TellsApart same → IsJoin bytes_of result (joined by_hart same segments start)

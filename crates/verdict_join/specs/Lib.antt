@@ -1,0 +1,5 @@
+pub mod Joins
+pub mod Laws
+pub mod Founds
+pub mod Joining
+pub mod Walks

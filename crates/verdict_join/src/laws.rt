@@ -1,0 +1,31 @@
+//! What holds of every join.
+
+ghost use Rattle.std.specs.Prelude.{◌≡◌, ℕ, List, All};
+ghost use Rattle.hart_words.specs.States.{State};
+ghost use Rattle.hart_step.specs.declared.state.Core.{Core};
+ghost use Rattle.segment_judge.specs.Judgements.{Judging};
+ghost use Rattle.verdict_join.specs.Joins.{Candidate, Sameness, joined};
+ghost use Rattle.verdict_join.specs.Laws.{AllMet, IsLawful, JoinsAnyGuesses, TellsApart, misses};
+
+/// Whatever was guessed, and whichever segments were judged from their guesses: the verdict of the
+/// join is that on all rows from the true state, and so is the state behind them.
+pub fn guesses_decide_nothing<C>()
+    ensures { (judging : Judging C) (same : Sameness C) (segments : List (Candidate C))
+        (now : State C) → JoinsAnyGuesses judging same segments now }
+{}
+
+/// A segment is judged again just where it is reached and its judgement is not adopted: so many
+/// are. None is where each was judged from a guess that is the true state.
+pub fn guesses_cost_judging_again<C>()
+    ensures counted { (judging : Judging C) (same : Sameness C) (segments : List (Candidate C))
+        (now : State C) → TellsApart same → All (IsLawful judging) segments
+        → (joined judging same segments now).rejudged ≡ misses judging same segments now }
+    ensures none { (judging : Judging C) (same : Sameness C) (segments : List (Candidate C))
+        (now : State C) → TellsApart same → AllMet judging segments now
+        → misses judging same segments now ≡ 0 }
+{}
+
+/// Some test tells the states of a hart apart, so that what holds of every such test says something.
+pub fn states_are_told_apart()
+    ensures { (same : Sameness Core) × TellsApart same }
+{}

@@ -1,0 +1,904 @@
+//! Joins of small traces, each beside the judging of all its lines as one segment.
+
+ghost use Rattle.std.specs.Prelude.{◌≡◌, ◌<◌, ◌^◌, IfOk, IfSome, IsTrue, length};
+ghost use Rattle.std.specs.List.{All, flat_map};
+ghost use Rattle.hart_words.specs.Memory.{IsPlace};
+ghost use Rattle.hart_step.specs.Cores.{IsSound};
+ghost use Rattle.hart_step.specs.Harts.{CanStep};
+ghost use Rattle.line_text.specs.Lines.{IsLine};
+ghost use Rattle.page_layers.specs.Memories.{map_bytes};
+ghost use Rattle.rvfi_rows.specs.Segments.{lines_of};
+ghost use Rattle.segment_judge.specs.Founds.{IsLawfulFound};
+
+use super::*;
+use boundary_guess::{cut, guesses};
+use hart_step::{Core, Hart};
+use hart_words::{Difference, Map, Mode, PAGE_SIZE, PhysMem, Signal, Span};
+use line_text::Lines;
+use page_layers::MapMem;
+use rvfi_rows::{Columns, RowFault, Segment, Verdict, read_header, read_row};
+use segment_judge::{Found, Judged, What, judge};
+use std::alloc::Global;
+use std::process::Abort;
+use std::test::Fail;
+
+const CODE: u64 = 0x8000_0000;
+
+const DATA: u64 = 0x8000_1000;
+
+/// Whether no line feed stands in the bytes.
+fn is_line(bytes: &[u8]) -> bool
+    ensures { IsTrue result → IsLine bytes.now }
+{
+    bytes.iter().all(|byte| *byte != b'\n')
+}
+
+fn put_line(lines: &mut Lines, line: &[u8]) -> Result<(), Fail> {
+    if !is_line(line) {
+        return Err(Fail::from("no line"));
+    }
+    lines.push(line)?;
+    Ok(())
+}
+
+fn lines_with(alloc: Global, rows: &[&[u8]]) -> Result<Lines, Fail> {
+    let mut lines = Lines::new(alloc);
+    'rows: for row in rows {
+        put_line(&mut lines, *row)?;
+    }
+    Ok(lines)
+}
+
+/// Whether so many bytes lie in one page of RAM.
+fn is_place(ram: &Span, pa: u64, len: u8) -> bool
+    ensures { IsTrue result → IsPlace ram.now pa len }
+{
+    1 <= len && len <= 8 && ram.holds(pa, len) && pa % PAGE_SIZE + u64::from(len) <= PAGE_SIZE
+}
+
+/// The number of so many bytes at an address.
+fn number_at(hart: &Hart<MapMem>, pa: u64, len: u8) -> Result<u64, Fail>
+    requires { CanStep (λ mem. mem.ram) hart.now }
+{
+    if !is_place(&hart.core.map.ram, pa, len) {
+        return Err(Fail::from("no place of RAM"));
+    }
+    Ok(hart.mem.read(pa, len))
+}
+
+/// Writes to memory, where so many bytes lie in one page of RAM.
+fn put(mem: &mut MapMem, ram: &Span, pa: u64, len: u8, value: u64) -> Result<(), Fail>
+    requires ram { mem.old.ram ≡ ram.now }
+    ensures ram { mem.new.ram ≡ mem.old.ram }
+{
+    if !is_place(ram, pa, len) {
+        return Err(Fail::from("no place of RAM"));
+    }
+    mem.write(pa, len, value)?;
+    Ok(())
+}
+
+/// What stands in memory, by address and length.
+type Number = (u64, u8, u64);
+
+/// A memory with the instructions from `CODE` on, and numbers.
+fn memory(alloc: Global, ram: Span, program: &[u32], numbers: &[Number]) -> Result<MapMem, Fail>
+    ensures { IfOk result (λ mem. mem.ram ≡ ram) }
+{
+    let mut mem = MapMem::zeros(alloc, ram);
+    let mut place = CODE;
+    'program: for instruction in program {
+        put(&mut mem, &ram, place, 4, u64::from(*instruction))?;
+        place = place.wrapping_add(4);
+    }
+    'numbers: for (address, len, value) in numbers {
+        put(&mut mem, &ram, *address, *len, *value)?;
+    }
+    Ok(mem)
+}
+
+/// The hart at reset at `CODE`, over such a memory.
+fn start(alloc: Global, program: &[u32], numbers: &[Number]) -> Result<Hart<MapMem>, Fail>
+    ensures { IfOk result (CanStep (λ mem. mem.ram)) }
+{
+    let ram = Span::new(CODE, 0x800_0000).ok_or("no range")?;
+    let map = Map::new(ram, None).ok_or("no map")?;
+    Ok(Hart::reset(memory(alloc, map.ram, program, numbers)?, CODE, map))
+}
+
+/// Writes a register of control as M does.
+fn write(core: &mut Core, address: u16, value: u64) -> Result<(), Fail>
+    requires sound { IsSound core.old }
+    ensures sound { IsSound core.new }
+    ensures map { core.new.map ≡ core.old.map }
+{
+    core.csrs
+        .write(address, Mode::Machine, value)
+        .map_err(|_| Fail::from("no register"))
+}
+
+/// What is made another in a guess.
+#[derive(Clone, Copy, Debug)]
+enum Damage {
+    Register,
+    Pc,
+    Mscratch,
+    Reservation,
+    Order,
+    Trapped,
+    Halted,
+    /// A byte of memory.
+    Byte(u64),
+}
+
+fn damage_hart(hart: &mut Hart<MapMem>, damage: Damage) -> Result<(), Fail>
+    requires { CanStep (λ mem. mem.ram) hart.old }
+    ensures { CanStep (λ mem. mem.ram) hart.new }
+{
+    match damage {
+        Damage::Register => {
+            hart.core.registers.set(9, 77);
+            Ok(())
+        }
+        Damage::Pc => {
+            hart.core.pc = 0x8000_0400;
+            Ok(())
+        }
+        Damage::Mscratch => write(&mut hart.core, 0x340, 77),
+        Damage::Reservation => {
+            hart.core.reservation.set(DATA);
+            Ok(())
+        }
+        Damage::Order => {
+            hart.core.next_order = Some(77);
+            Ok(())
+        }
+        Damage::Trapped => {
+            hart.core.trapped_last = true;
+            Ok(())
+        }
+        Damage::Halted => {
+            hart.core.halted = !hart.core.halted;
+            Ok(())
+        }
+        Damage::Byte(pa) => {
+            let byte = number_at(hart, pa, 1)?;
+            put(&mut hart.mem, &hart.core.map.ram, pa, 1, byte ^ 0xff)
+        }
+    }
+}
+
+/// Which guesses are damaged, by the numbers of their segments.
+type Damages<'a> = &'a [(usize, Damage)];
+
+fn damage_at(guesses: &mut [Hart<MapMem>], number: usize, damage: Damage) -> Result<(), Fail>
+    requires within { number < length guesses.old }
+    requires can_step { All (CanStep (λ mem. mem.ram)) guesses.old }
+    ensures can_step { All (CanStep (λ mem. mem.ram)) guesses.new }
+    ensures length { length guesses.new ≡ length guesses.old }
+{
+    damage_hart(&mut guesses[number], damage)
+}
+
+/// Numbers beyond the last segment are passed over.
+fn damage_guesses(guesses: &mut [Hart<MapMem>], damages: Damages) -> Result<(), Fail>
+    requires { All (CanStep (λ mem. mem.ram)) guesses.old }
+    ensures can_step { All (CanStep (λ mem. mem.ram)) guesses.new }
+    ensures length { length guesses.new ≡ length guesses.old }
+{
+    'damages: for (number, damage) in damages {
+        if *number < guesses.len() {
+            damage_at(guesses, *number, *damage)?;
+        }
+    }
+    Ok(())
+}
+
+/// Whether no segment has many lines.
+fn are_short(segments: &[Segment]) -> bool
+    ensures { IsTrue result → All (λ segment. length segment.lines < 1000) segments.now }
+{
+    segments.iter().all(|segment| segment.lines.len() < 1000)
+}
+
+/// Whether there are few segments, and few lines in them.
+fn are_few(segments: &[Segment]) -> bool
+    ensures segments { IsTrue result → length segments.now < 2 ^ 32 }
+    ensures lines { IsTrue result → length (flat_map lines_of segments.now) < 2 ^ 60 }
+{
+    segments.len() < 1000 && are_short(segments)
+}
+
+/// A trace that is judged: its rows as one segment, and as several with a guess before each.
+#[derive(Drop)]
+struct Trial {
+    start: Hart<MapMem>,
+    columns: Columns,
+    whole: Segment,
+    segments: Vec<Segment>,
+    guesses: Vec<Hart<MapMem>>,
+    ghost one_each: { length guesses.items ≡ length segments.items },
+    ghost few: { length segments.items < 2 ^ 32 },
+    ghost few_lines: { length (flat_map lines_of segments.items) < 2 ^ 60 },
+}
+
+/// A header and lines, and how many of these make a segment.
+#[derive(Drop)]
+struct Trace<'a> {
+    header: &'a [u8],
+    lines: Lines,
+    length: usize,
+}
+
+fn prepared(
+    alloc: Global,
+    start: Hart<MapMem>,
+    trace: Trace,
+    damages: Damages,
+) -> Result<Trial, Fail>
+    requires { CanStep (λ mem. mem.ram) start }
+    ensures start { IfOk result (λ trial. CanStep (λ mem. mem.ram) trial.start) }
+    ensures guesses { IfOk result (λ trial. All (CanStep (λ mem. mem.ram)) trial.guesses.items) }
+{
+    let columns = read_header(alloc, trace.header)?;
+    if trace.length == 0 {
+        return Err(Fail::from("no length"));
+    }
+    let segments = cut(alloc, &trace.lines, trace.length)?;
+    let mut guesses = guesses(alloc, &start, &columns, &segments)?;
+    damage_guesses(&mut guesses, damages)?;
+    if guesses.len() != segments.len() || !are_few(&segments) {
+        return Err(Fail::from("too many segments"));
+    }
+    Ok(Trial {
+        start,
+        columns,
+        whole: Segment::new(trace.lines),
+        segments,
+        guesses,
+    })
+}
+
+/// Of which segment something is found, and what.
+#[derive(Clone, Copy, Debug)]
+enum Find {
+    Judges(u32),
+    Skips(u32),
+}
+
+fn found_of(alloc: Global, trial: &Trial, find: Find) -> Result<Found<Judged<MapMem>>, Fail>
+    requires { All (CanStep (λ mem. mem.ram)) trial.now.guesses.items }
+    ensures { IfOk result (IsLawfulFound map_bytes (λ mem. mem.ram) trial.now.columns
+        trial.now.segments.items trial.now.guesses.items) }
+{
+    match find {
+        Find::Skips(seg) => {
+            if seg as usize >= trial.segments.len() {
+                return Err(Fail::from("no such segment"));
+            }
+            Ok(Found {
+                seg,
+                what: What::Skipped(1),
+            })
+        }
+        Find::Judges(seg) => {
+            let number = seg as usize;
+            if number >= trial.segments.len() {
+                return Err(Fail::from("no such segment"));
+            }
+            let guess = &trial.guesses[number];
+            let judged = judge(alloc, guess, &trial.columns, &trial.segments[number])?;
+            Ok(Found {
+                seg,
+                what: What::Judged(judged),
+            })
+        }
+    }
+}
+
+fn founds_of(
+    alloc: Global,
+    trial: &Trial,
+    finds: &[Find],
+) -> Result<Vec<Found<Judged<MapMem>>>, Fail>
+    requires { All (CanStep (λ mem. mem.ram)) trial.now.guesses.items }
+    ensures { IfOk result (λ founds. All (IsLawfulFound map_bytes (λ mem. mem.ram)
+        trial.now.columns trial.now.segments.items trial.now.guesses.items) founds.items) }
+{
+    let mut founds = Vec::new(alloc);
+    'finds: for find in finds {
+        founds.push(found_of(alloc, trial, *find)?)?;
+    }
+    Ok(founds)
+}
+
+/// Both ends are the same hart, with the same bytes in the first lines of both pages.
+fn hold_same_end(
+    rt: &impl Abort,
+    found: &Option<Hart<MapMem>>,
+    wanted: &Option<Hart<MapMem>>,
+) -> Result<(), Fail>
+    requires found { IfSome found.now (CanStep (λ mem. mem.ram)) }
+    requires wanted { IfSome wanted.now (CanStep (λ mem. mem.ram)) }
+{
+    match (found, wanted) {
+        (Some(found), Some(wanted)) => {
+            assert!(rt; found.same_but_memory(wanted));
+            'places: for place in 0..32u64 {
+                for page in [CODE, DATA, BELOW] {
+                    let pa = page.wrapping_add(place.wrapping_mul(8));
+                    assert_eq!(rt; number_at(found, pa, 8)?, number_at(wanted, pa, 8)?, "{pa}");
+                }
+            }
+            Ok(())
+        }
+        (None, None) => Ok(()),
+        _ => Err(Fail::from("one end alone")),
+    }
+}
+
+/// The join comes to the verdict, and so does the judging of all rows as one segment, with the same
+/// hart behind them. How many segments were judged again.
+fn hold_joined(
+    rt: &impl Abort,
+    alloc: Global,
+    trial: &Trial,
+    finds: &[Find],
+) -> Result<(Verdict, u32), Fail>
+    requires start { CanStep (λ mem. mem.ram) trial.now.start }
+    requires guesses { All (CanStep (λ mem. mem.ram)) trial.now.guesses.items }
+{
+    let founds = founds_of(alloc, trial, finds)?;
+    let whole = judge(alloc, &trial.start, &trial.columns, &trial.whole)?;
+    let joined = join_all(
+        alloc,
+        trial.start.copy()?,
+        &trial.columns,
+        &trial.segments,
+        &trial.guesses,
+        founds,
+    )?;
+    assert_eq!(rt; joined.verdict, whole.verdict);
+    hold_same_end(rt, &joined.end, &whole.end)?;
+    Ok((joined.verdict, joined.rejudged))
+}
+
+fn agrees(rows: u64) -> Verdict {
+    Verdict::Agrees { rows, valid: rows }
+}
+
+fn differs(row: u64, signal: Signal, expected: u64, found: u64) -> Verdict {
+    Verdict::Differs {
+        row,
+        difference: Difference {
+            signal,
+            expected,
+            found,
+        },
+    }
+}
+
+/// A header, rows, and how many of these make a segment.
+type Rows<'a> = (&'a [u8], &'a [&'a [u8]], usize);
+
+fn trace_of<'a>(alloc: Global, rows: &Rows<'a>) -> Result<Trace<'a>, Fail> {
+    Ok(Trace {
+        header: rows.0,
+        lines: lines_with(alloc, rows.1)?,
+        length: rows.2,
+    })
+}
+
+/// ADDI x1, x0, 5; ADDI x2, x1, 1; ADDI x3, x0, 3; ADDI x4, x0, 4.
+const SUMS: [u32; 4] = [0x0050_0093, 0x0010_8113, 0x0030_0193, 0x0040_0213];
+
+/// No row shows what was written, so each guess but the first has 0 in x1.
+const SILENT: Rows = (
+    b"insn,pc_rdata,rs1_rdata",
+    &[
+        b"0x00500093,0x80000000,",
+        b"0x00108113,0x80000004,5",
+        b"0x00300193,0x80000008,",
+        b"0x00400213,0x8000000c,",
+    ],
+    1,
+);
+
+/// Segments in rising and in falling order, and each twice, where the bit of its number is set.
+fn orders_of(alloc: Global, set: u32) -> Result<[Vec<Find>; 3], Fail> {
+    let mut rising = Vec::new(alloc);
+    let mut falling = Vec::new(alloc);
+    let mut twice = Vec::new(alloc);
+    for number in 0..4u32 {
+        if set >> number & 1 == 1 {
+            rising.push(Find::Judges(number))?;
+            twice.push(Find::Judges(number))?;
+            twice.push(Find::Judges(number))?;
+        }
+        if set >> (3 - number) & 1 == 1 {
+            falling.push(Find::Judges(3 - number))?;
+        }
+    }
+    Ok([rising, falling, twice])
+}
+
+/// The join of what was found of the silent rows.
+fn join_silent(rt: &impl Abort, alloc: Global, finds: &[Find]) -> Result<(Verdict, u32), Fail> {
+    let hart = start(alloc, &SUMS, &[])?;
+    let trial = prepared(alloc, hart, trace_of(alloc, &SILENT)?, &[])?;
+    hold_joined(rt, alloc, &trial, finds)
+}
+
+#[test]
+fn joins_what_was_found(rt: HostRuntime) -> Result<(), Fail> {
+    let alloc = rt.alloc();
+    let skipped = [
+        Find::Judges(0),
+        Find::Judges(1),
+        Find::Skips(2),
+        Find::Skips(3),
+    ];
+    assert_eq!(rt; join_silent(&rt, alloc, &skipped)?, (agrees(4), 3));
+    'sets: for set in 0..16u32 {
+        let rejudged = if set & 1 == 1 { 3 } else { 4 };
+        for finds in &orders_of(alloc, set)? {
+            assert_eq!(rt;
+                join_silent(&rt, alloc, finds)?,
+                (agrees(4), rejudged),
+                "{finds:?}"
+            );
+        }
+    }
+    Ok(())
+}
+
+/// The join of all segments, each judged from its guess.
+fn join_each(rt: &impl Abort, alloc: Global, trial: &Trial) -> Result<(Verdict, u32), Fail>
+    requires start { CanStep (λ mem. mem.ram) trial.now.start }
+    requires guesses { All (CanStep (λ mem. mem.ram)) trial.now.guesses.items }
+{
+    let mut finds = Vec::new(alloc);
+    'finds: for number in 0..trial.segments.len() {
+        finds.push(Find::Judges(number as u32))?;
+    }
+    hold_joined(rt, alloc, trial, &finds)
+}
+
+/// A program, what stands in memory besides, rows, which guesses are damaged, and what the join of
+/// the segments comes to.
+type Case<'a> = (
+    &'a [u32],
+    &'a [Number],
+    Rows<'a>,
+    Damages<'a>,
+    (Verdict, u32),
+);
+
+fn hold_cases(rt: &impl Abort, alloc: Global, cases: &[Case]) -> Result<(), Fail> {
+    'cases: for (program, numbers, rows, damages, wanted) in cases {
+        let hart = start(alloc, *program, *numbers)?;
+        let trial = prepared(alloc, hart, trace_of(alloc, rows)?, *damages)?;
+        let found = join_each(rt, alloc, &trial)?;
+        assert_eq!(rt; found, *wanted, "{damages:?}");
+    }
+    Ok(())
+}
+
+/// AUIPC x2, 1; ADDI x1, x0, 5; SD x1, 0(x2); ADDI x1, x0, 6; ADDI x3, x0, 1. The second row does
+/// not show x1, so the guesses before the third and the fourth lack it, and all behind the store
+/// have 0 at `DATA`.
+const STORES: [u32; 5] = [
+    0x0000_1117,
+    0x0050_0093,
+    0x0011_3023,
+    0x0060_0093,
+    0x0010_0193,
+];
+
+const STORED: Rows = (
+    b"insn,pc_rdata,rd_addr,rd_wdata",
+    &[
+        b"0x00001117,0x80000000,2,0x80001000",
+        b"0x00500093,0x80000004,,",
+        b"0x00113023,0x80000008,,",
+        b"0x00600093,0x8000000c,1,6",
+        b"0x00100193,0x80000010,3,1",
+    ],
+    1,
+);
+
+/// ADDI x1, x0, 5; ADDI x1, x1, 1. The hart halts behind the first.
+const HALTS: [u32; 2] = [0x0050_0093, 0x0010_8093];
+
+const HALTED: Rows = (
+    b"insn,pc_rdata,halt",
+    &[b"0x00500093,0x80000000,1", b"0x00108093,0x80000004,0"],
+    1,
+);
+
+const SHOWN: &[u8] = b"valid,insn,pc_rdata,rd_addr,rd_wdata";
+
+const FIRST: &[u8] = b"1,0x00500093,0x80000000,1,5";
+
+const SECOND: &[u8] = b"1,0x00108113,0x80000004,2,6";
+
+const THIRD: &[u8] = b"1,0x00300193,0x80000008,3,3";
+
+/// The fourth, with another result than it has.
+const NINE: &[u8] = b"1,0x00400213,0x8000000c,4,9";
+
+const REFUSED: &[u8] = b"1,none,0x80000008,3,3";
+
+const INVALID: &[u8] = b"0,0x00300193,0x80000008,3,3";
+
+/// Two segments of two rows each.
+const DIFFERING: Rows = (SHOWN, &[FIRST, SECOND, THIRD, NINE], 2);
+
+const REFUSING: Rows = (SHOWN, &[FIRST, SECOND, REFUSED, NINE], 2);
+
+const SKIPPING: Rows = (SHOWN, &[FIRST, INVALID, SECOND, THIRD], 2);
+
+const EMPTY: Rows = (SHOWN, &[], 2);
+
+const REGISTER: Damages = &[(1, Damage::Register)];
+
+const NOT_HALTED: Damages = &[(1, Damage::Halted)];
+
+#[test]
+fn joins_verdicts(rt: HostRuntime) -> Result<(), Fail> {
+    let nine = differs(4, Signal::RdWdata, 4, 9);
+    let halts = differs(2, Signal::Valid, 0, 1);
+    let refused = Verdict::Refused {
+        row: 3,
+        fault: RowFault::NotNumber(Signal::Insn),
+    };
+    let invalid = Verdict::Agrees { rows: 4, valid: 3 };
+    let cases: [Case; 10] = [
+        (&SUMS, &[], EMPTY, &[], (agrees(0), 0)),
+        (&STORES, &[], STORED, &[], (agrees(5), 2)),
+        (&HALTS, &[], HALTED, &[], (halts, 0)),
+        (&HALTS, &[], HALTED, NOT_HALTED, (halts, 1)),
+        (&SUMS, &[], DIFFERING, &[], (nine, 0)),
+        (&SUMS, &[], DIFFERING, REGISTER, (nine, 1)),
+        (&SUMS, &[], REFUSING, &[], (refused, 0)),
+        (&SUMS, &[], REFUSING, REGISTER, (refused, 1)),
+        (&SUMS, &[], SKIPPING, &[], (invalid, 0)),
+        (&SUMS, &[], SKIPPING, REGISTER, (invalid, 1)),
+    ];
+    hold_cases(&rt, rt.alloc(), &cases)
+}
+
+/// AUIPC x2, 1; LD x3, 0(x2).
+const LOADS: [u32; 2] = [0x0000_1117, 0x0001_3183];
+
+const HELD: u64 = 0x8899_aabb_ccdd_eeff;
+
+const LOADED: Rows = (
+    b"insn,pc_rdata,rd_addr,rd_wdata",
+    &[
+        b"0x00001117,0x80000000,2,0x80001000",
+        b"0x00013183,0x80000004,3,0x8899aabbccddeeff",
+    ],
+    1,
+);
+
+/// A guess is met where it is the true state but for bytes that its segment does not read.
+#[test]
+fn meets_guesses(rt: HostRuntime) -> Result<(), Fail> {
+    let cases: [(usize, Damage, u32); 15] = [
+        (1, Damage::Register, 1),
+        (1, Damage::Pc, 1),
+        (1, Damage::Mscratch, 1),
+        (1, Damage::Reservation, 1),
+        (1, Damage::Order, 1),
+        (1, Damage::Trapped, 1),
+        (1, Damage::Halted, 1),
+        // What the segment fetches and loads, and what stands beside that.
+        (1, Damage::Byte(CODE + 3), 0),
+        (1, Damage::Byte(CODE + 4), 1),
+        (1, Damage::Byte(DATA), 1),
+        (1, Damage::Byte(DATA + 7), 1),
+        (1, Damage::Byte(DATA + 8), 0),
+        // The first, which is known.
+        (0, Damage::Order, 1),
+        (0, Damage::Byte(CODE), 1),
+        (0, Damage::Byte(DATA), 0),
+    ];
+    let numbers: [Number; 1] = [(DATA, 8, HELD)];
+    'cases: for (number, damage, rejudged) in cases {
+        let damages = [(number, damage)];
+        let wanted = (agrees(2), rejudged);
+        hold_cases(
+            &rt,
+            rt.alloc(),
+            &[(&LOADS, &numbers, LOADED, &damages, wanted)],
+        )?;
+    }
+    Ok(())
+}
+
+/// The first page table, and the one below it.
+const ROOT: u64 = 0x8000_2000;
+
+const BELOW: u64 = 0x8000_3000;
+
+/// An entry of a page table that is valid, may be read, written and executed, has A and D, and is of
+/// the page at `CODE`.
+const LEAF: u64 = (CODE >> 12) << 10 | 0xcf;
+
+/// ADDI x5, x11, 0; SD x5, 0(x10); ADDI x5, x0, 1; LD x6, 0(x12).
+const MAPS: [u32; 4] = [0x0005_8293, 0x0055_3023, 0x0010_0293, 0x0006_3303];
+
+/// In S, by page tables that map the first 2 MiB from `CODE` on to themselves, where an entry of
+/// protection grants all. x10 has the place of the next entry, which is not valid yet, x11 what is
+/// stored there, and x12 an address that it will map to `DATA`.
+fn translated(alloc: Global) -> Result<Hart<MapMem>, Fail>
+    ensures { IfOk result (CanStep (λ mem. mem.ram)) }
+{
+    let numbers = [
+        (ROOT + 16, 8, (BELOW >> 12) << 10 | 0x01),
+        (BELOW, 8, LEAF),
+        (DATA, 8, HELD),
+    ];
+    let mut hart = start(alloc, &MAPS, &numbers)?;
+    hart.core.registers.set(10, BELOW + 8);
+    hart.core.registers.set(11, LEAF);
+    hart.core.registers.set(12, DATA + 0x20_0000);
+    // pmpaddr0, pmpcfg0, and satp with Sv39 as its MODE.
+    write(&mut hart.core, 0x3b0, 0x3f_ffff_ffff_ffff)?;
+    write(&mut hart.core, 0x3a0, 0x1f)?;
+    write(&mut hart.core, 0x180, 8 << 60 | ROOT >> 12)?;
+    hart.core.mode = Mode::Supervisor;
+    Ok(hart)
+}
+
+/// Where the first row does not show x5, the guess before the last has no entry where the load walks.
+#[test]
+fn walks_page_tables_again(rt: HostRuntime) -> Result<(), Fail> {
+    let alloc = rt.alloc();
+    let firsts: [(&[u8], u32); 2] = [
+        (b"0x00058293,0x80000000,5,0x200000cf", 0),
+        (b"0x00058293,0x80000000,,", 1),
+    ];
+    'firsts: for (first, rejudged) in firsts {
+        let rows: [&[u8]; 4] = [
+            first,
+            b"0x00553023,0x80000004,,",
+            b"0x00100293,0x80000008,5,1",
+            b"0x00063303,0x8000000c,6,0x8899aabbccddeeff",
+        ];
+        let rows: Rows = (b"insn,pc_rdata,rd_addr,rd_wdata", &rows, 3);
+        let trial = prepared(alloc, translated(alloc)?, trace_of(alloc, &rows)?, &[])?;
+        assert_eq!(rt; join_each(&rt, alloc, &trial)?, (agrees(4), rejudged));
+    }
+    Ok(())
+}
+
+/// Numbers that look random, one after another.
+#[derive(Drop)]
+struct Dice {
+    state: u64,
+}
+
+impl Dice {
+    fn roll(&mut self, sides: u64) -> u64
+        requires { 0 < sides }
+        ensures { result < sides }
+    {
+        self.state = self
+            .state
+            .wrapping_mul(0x5851_f42d_4c95_7f2d)
+            .wrapping_add(0x1405_7b7e_f767_814f);
+        (self.state >> 33) % sides
+    }
+}
+
+/// An instruction, the register that it writes, where it reads or writes memory, and the register
+/// that it stores there.
+#[derive(Clone, Copy)]
+struct Kind {
+    word: u32,
+    rd: u8,
+    place: u64,
+    stores: Option<u8>,
+}
+
+/// What x10 has.
+const PLACE: u64 = CODE + 0x80;
+
+/// ADDI x1, x1, 1; ADDI x2, x2, 3; ADD x3, x1, x2; LD x1, 0(x10); LD x2, 8(x10); SD x1, 0(x10);
+/// SD x2, 8(x10); SD x3, 0(x10).
+const KINDS: [Kind; 8] = [
+    Kind {
+        word: 0x0010_8093,
+        rd: 1,
+        place: 0,
+        stores: None,
+    },
+    Kind {
+        word: 0x0031_0113,
+        rd: 2,
+        place: 0,
+        stores: None,
+    },
+    Kind {
+        word: 0x0020_81b3,
+        rd: 3,
+        place: 0,
+        stores: None,
+    },
+    Kind {
+        word: 0x0005_3083,
+        rd: 1,
+        place: PLACE,
+        stores: None,
+    },
+    Kind {
+        word: 0x0085_3103,
+        rd: 2,
+        place: PLACE + 8,
+        stores: None,
+    },
+    Kind {
+        word: 0x0015_3023,
+        rd: 0,
+        place: PLACE,
+        stores: Some(1),
+    },
+    Kind {
+        word: 0x0025_3423,
+        rd: 0,
+        place: PLACE + 8,
+        stores: Some(2),
+    },
+    Kind {
+        word: 0x0035_3023,
+        rd: 0,
+        place: PLACE,
+        stores: Some(3),
+    },
+];
+
+const COLUMNS: &[u8] = b"insn,pc_rdata,rd_addr,rd_wdata,mem_addr,mem_wmask,mem_wdata";
+
+/// Adds a number in hexadecimal digits.
+fn put_number(line: &mut Vec<u8>, number: u64) -> Result<(), Fail> {
+    line.extend_from_slice(b"0x")?;
+    'digits: for place in 0..16u32 {
+        let digit = (number >> (60 - 4 * place)) % 16;
+        line.push(b"0123456789abcdef"[digit as usize])?;
+    }
+    Ok(())
+}
+
+/// A row that shows the instruction and its address, and nothing else yet.
+fn bare_row(alloc: Global, kind: Kind, pc: u64) -> Result<Vec<u8>, Fail> {
+    let mut line = Vec::new(alloc);
+    put_number(&mut line, u64::from(kind.word))?;
+    line.push(b',')?;
+    put_number(&mut line, pc)?;
+    Ok(line)
+}
+
+/// Adds what the hart did, or nothing; seldom another number than it wrote.
+fn put_shown(
+    line: &mut Vec<u8>,
+    hart: &Hart<MapMem>,
+    kind: Kind,
+    dice: &mut Dice,
+) -> Result<(), Fail> {
+    if dice.roll(3) == 0 {
+        line.extend_from_slice(b",,,,,")?;
+        return Ok(());
+    }
+    let wrong = if dice.roll(24) == 0 { 1 } else { 0 };
+    let written = hart.core.registers.get(kind.rd) ^ wrong;
+    let (mask, stored) = match kind.stores {
+        None => (0, 0),
+        Some(source) => (0xff, hart.core.registers.get(source)),
+    };
+    'fields: for field in [u64::from(kind.rd), written, kind.place, mask, stored] {
+        line.push(b',')?;
+        put_number(line, field)?;
+    }
+    Ok(())
+}
+
+/// The rows of the instructions, as the hart runs them.
+fn run_rows(
+    alloc: Global,
+    mut hart: Hart<MapMem>,
+    kinds: &[Kind],
+    dice: &mut Dice,
+) -> Result<Lines, Fail>
+    requires { CanStep (λ mem. mem.ram) hart }
+{
+    let columns = read_header(alloc, b"insn,pc_rdata")?;
+    let mut lines = Lines::new(alloc);
+    'kinds: for kind in kinds {
+        let mut line = bare_row(alloc, *kind, hart.core.pc)?;
+        let row = read_row(alloc, &columns, &line)?.ok_or("the row is valid")?;
+        hart.step(&row)?;
+        put_shown(&mut line, &hart, *kind, dice)?;
+        put_line(&mut lines, &line)?;
+    }
+    Ok(lines)
+}
+
+/// Two to nine instructions.
+fn roll_kinds(alloc: Global, dice: &mut Dice) -> Result<Vec<Kind>, Fail> {
+    let mut kinds = Vec::new(alloc);
+    'kinds: for _ in 0..2 + dice.roll(8) {
+        kinds.push(KINDS[dice.roll(8) as usize])?;
+    }
+    Ok(kinds)
+}
+
+/// Another damage of about every third guess.
+fn roll_damages(alloc: Global, dice: &mut Dice) -> Result<Vec<(usize, Damage)>, Fail> {
+    let damages = [
+        Damage::Register,
+        Damage::Pc,
+        Damage::Order,
+        Damage::Trapped,
+        Damage::Halted,
+        Damage::Byte(CODE + 4),
+        Damage::Byte(PLACE + 1),
+        Damage::Byte(PLACE + 8),
+    ];
+    let mut rolled = Vec::new(alloc);
+    'guesses: for number in 0..9usize {
+        if dice.roll(3) == 0 {
+            rolled.push((number, damages[dice.roll(8) as usize]))?;
+        }
+    }
+    Ok(rolled)
+}
+
+/// What is found of some segments, in any order, of some of them twice.
+fn roll_finds(alloc: Global, count: usize, dice: &mut Dice) -> Result<Vec<Find>, Fail> {
+    let mut finds = Vec::new(alloc);
+    'finds: for _ in 0..count {
+        let seg = dice.roll(9) as u32;
+        if (seg as usize) < count {
+            finds.push(Find::Judges(seg))?;
+        }
+    }
+    Ok(finds)
+}
+
+#[test]
+fn joins_as_one_hart(rt: HostRuntime) -> Result<(), Fail> {
+    let alloc = rt.alloc();
+    let mut dice = Dice { state: 1 };
+    let mut agreeing: u32 = 0;
+    let mut adopting: u32 = 0;
+    'traces: for _ in 0..300 {
+        let kinds = roll_kinds(alloc, &mut dice)?;
+        let mut words = Vec::new(alloc);
+        for kind in &kinds {
+            words.push(kind.word)?;
+        }
+        let mut hart = start(alloc, &words, &[(PLACE, 8, HELD)])?;
+        hart.core.registers.set(10, PLACE);
+        let trace = Trace {
+            header: COLUMNS,
+            lines: run_rows(alloc, hart.copy()?, &kinds, &mut dice)?,
+            length: 1 + dice.roll(5) as usize,
+        };
+        let damages = roll_damages(alloc, &mut dice)?;
+        let trial = prepared(alloc, hart, trace, &damages)?;
+        let finds = roll_finds(alloc, trial.segments.len(), &mut dice)?;
+        let (verdict, rejudged) = hold_joined(&rt, alloc, &trial, &finds)?;
+        if let Verdict::Agrees { .. } = verdict {
+            agreeing = agreeing.saturating_add(1);
+            if (rejudged as usize) < trial.segments.len() {
+                adopting = adopting.saturating_add(1);
+            }
+        }
+    }
+    // Most traces agree, some do not, and of many a segment is adopted.
+    assert!(rt; 150 < agreeing && agreeing < 300, "{agreeing}");
+    assert!(rt; 50 < adopting && adopting < agreeing, "{adopting}");
+    Ok(())
+}

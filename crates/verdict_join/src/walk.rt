@@ -1,0 +1,141 @@
+//! How far segments were walked.
+
+ghost use Rattle.std.specs.Prelude.{◌≡◌, ◌≤◌, ◌<◌, ◌+◌, ◌^◌, ℕ, IfOk, OnOk, IfSome, length, if◌then◌else◌};
+ghost use Rattle.std.specs.Option.{is_none};
+ghost use Rattle.hart_step.specs.Harts.{CanStep, state_of};
+ghost use Rattle.rvfi_rows.specs.Rows.{rows_of};
+ghost use Rattle.segment_judge.specs.Judged.{IsUsable, moved_end};
+ghost use Rattle.segment_judge.specs.Judgements.{by_hart};
+ghost use Rattle.segment_judge.specs.Laws.{conclusion_from};
+ghost use Rattle.verdict_join.specs.Walks.{Concludes, CountsOn, IsCountedAlike, IsReached, IsWithinRows, Passes};
+
+use hart_step::Hart;
+use hart_words::{NoMemory, PhysMem};
+use rvfi_rows::{Columns, Segment, Verdict};
+use segment_judge::{Judged, judge};
+use std::alloc::Global;
+
+/// How far segments were walked: the true state of the hart behind them, how many rows and valid
+/// rows they have, and how many of them were judged again.
+#[derive(Drop)]
+pub(crate) struct Walk<M> {
+    pub hart: Hart<M>,
+    pub rows: u64,
+    pub valid: u64,
+    pub rejudged: u32,
+}
+
+impl<M: PhysMem + Drop> Walk<M> {
+    /// Passes the rows of a segment: as they were judged from a guess that is met, or by judging
+    /// them again from the true state. `Some` where the walk ends with them.
+    pub fn pass(
+        &mut self,
+        alloc: Global,
+        columns: &Columns,
+        segment: &Segment,
+        adopted: Option<&Judged<M>>,
+    ) -> Result<Option<Verdict>, NoMemory>
+        requires can_step { CanStep M.ram self.old.hart }
+        requires few { self.old.rows + length segment.now.lines < 2 ^ 60 }
+        requires valid { self.old.valid ≤ self.old.rows }
+        requires again { self.old.rejudged + 1 < 2 ^ 32 }
+        requires adopted { IfSome adopted (λ judged. Concludes M.bytes
+            (state_of M.bytes self.old.hart) (rows_of columns.now segment.now.lines) judged.now) }
+        requires usable { IfSome adopted (λ judged. IsUsable M.ram (M.ram self.old.hart.mem) judged.now) }
+        ensures passes { IfOk result (λ end. Passes M.bytes self.old self.new
+            (rows_of columns.now segment.now.lines) end) }
+        ensures again { IfOk result (λ end. self.new.rejudged
+            ≡ self.old.rejudged + (if is_none adopted.entry then 1 else 0)) }
+        ensures can_step { IfOk result (λ end. CanStep M.ram self.new.hart) }
+        ensures ram { IfOk result (λ end. M.ram self.new.hart.mem ≡ M.ram self.old.hart.mem) }
+        ensures rows { IfOk result (λ end. self.new.rows ≤ self.old.rows + length segment.now.lines) }
+        ensures valid { IfOk result (λ end. self.new.valid ≤ self.new.rows) }
+    {
+        match adopted {
+            Some(judged) => {
+                self.adopt(judged)?;
+                Ok(self.count(judged.verdict))
+            }
+            None => {
+                let verdict = self.judge_again(alloc, columns, segment)?;
+                Ok(self.count(verdict))
+            }
+        }
+    }
+
+    /// Goes on behind a segment as it was judged, from a guess that is met.
+    fn adopt(&mut self, judged: &Judged<M>) -> Result<(), NoMemory>
+        requires can_step { CanStep M.ram self.old.hart }
+        requires usable { IsUsable M.ram (M.ram self.old.hart.mem) judged.now }
+        ensures reached { OnOk result (IsReached (moved_end M.bytes judged.now
+            (M.bytes self.old.hart.mem)) (state_of M.bytes self.new.hart)) }
+        ensures counts { IsCountedAlike self.old self.new }
+        ensures again { self.new.rejudged ≡ self.old.rejudged }
+        ensures can_step { OnOk result (CanStep M.ram self.new.hart) }
+        ensures ram { M.ram self.new.hart.mem ≡ M.ram self.old.hart.mem }
+    {
+        if let Some(end) = &judged.end {
+            judged.footprint.moved(&mut self.hart.mem, &end.mem)?;
+            self.hart.core = end.core;
+        }
+        Ok(())
+    }
+
+    /// Judges a segment from the true state, and goes on behind it: the verdict on it.
+    fn judge_again(
+        &mut self,
+        alloc: Global,
+        columns: &Columns,
+        segment: &Segment,
+    ) -> Result<Verdict, NoMemory>
+        requires can_step { CanStep M.ram self.old.hart }
+        requires again { self.old.rejudged + 1 < 2 ^ 32 }
+        ensures verdict { IfOk result (λ verdict. verdict ≡ (conclusion_from by_hart
+            (state_of M.bytes self.old.hart) (rows_of columns.now segment.now.lines)).verdict) }
+        ensures reached { OnOk result (IsReached (conclusion_from by_hart
+            (state_of M.bytes self.old.hart) (rows_of columns.now segment.now.lines)).end
+            (state_of M.bytes self.new.hart)) }
+        ensures counts { IsCountedAlike self.old self.new }
+        ensures again { OnOk result (self.new.rejudged ≡ self.old.rejudged + 1) }
+        ensures can_step { CanStep M.ram self.new.hart }
+        ensures ram { M.ram self.new.hart.mem ≡ M.ram self.old.hart.mem }
+    {
+        let Judged { verdict, end, .. } = judge(alloc, &self.hart, columns, segment)?;
+        self.rejudged += 1;
+        match end {
+            None => Ok(verdict),
+            Some(end) => {
+                self.hart = end;
+                Ok(verdict)
+            }
+        }
+    }
+
+    /// Counts the rows of a verdict. `Some` where the walk ends with it.
+    fn count(&mut self, verdict: Verdict) -> Option<Verdict>
+        requires few { self.old.rows < 2 ^ 62 }
+        requires valid { self.old.valid ≤ self.old.rows }
+        requires within { IsWithinRows (2 ^ 62) verdict }
+        ensures counts { CountsOn self.old self.new verdict result }
+        ensures hart { self.new.hart ≡ self.old.hart }
+        ensures again { self.new.rejudged ≡ self.old.rejudged }
+        ensures rows { (count : ℕ) → IsWithinRows count verdict → self.new.rows ≤ self.old.rows + count }
+        ensures valid { self.new.valid ≤ self.new.rows }
+    {
+        match verdict {
+            Verdict::Agrees { rows, valid } => {
+                self.rows += rows;
+                self.valid += valid;
+                None
+            }
+            Verdict::Differs { row, difference } => Some(Verdict::Differs {
+                row: self.rows + row,
+                difference,
+            }),
+            Verdict::Refused { row, fault } => Some(Verdict::Refused {
+                row: self.rows + row,
+                fault,
+            }),
+        }
+    }
+}
