@@ -1,6 +1,7 @@
 use super::*;
 use std::alloc::{AllocError, Global};
 use std::test::Fail;
+use std::thread;
 
 fn one_file(alloc: Global) -> Result<Vec<NamedFile>, AllocError> {
     let mut files = Vec::new(alloc);
@@ -85,5 +86,48 @@ fn holds_what_is_written(rt: HostRuntime) -> Result<(), Fail> {
     assert_eq!(rt; sink.faults, 1);
     OpenGate.before(1, 2);
     OpenGate.after(1, 2);
+    Ok(())
+}
+
+#[test]
+fn holds_segment_1(rt: HostRuntime) -> Result<(), Fail> {
+    let gate = HoldGate::new();
+    assert_eq!(rt;
+        (gate.befores(), gate.afters(), gate.gave_up()),
+        (0, 0, false)
+    );
+    for seg in [0, 2, u32::MAX] {
+        gate.before(1, seg);
+    }
+    for seg in [0, 1, u32::MAX] {
+        gate.after(1, seg);
+    }
+    assert_eq!(rt;
+        (gate.befores(), gate.afters(), gate.gave_up()),
+        (3, 3, false)
+    );
+    gate.before(0, 1);
+    assert_eq!(rt;
+        (gate.befores(), gate.afters(), gate.gave_up()),
+        (4, 3, true)
+    );
+    Ok(())
+}
+
+#[test]
+fn opens_after_segment_2(rt: HostRuntime) -> Result<(), Fail> {
+    let gate = HoldGate::new();
+    gate.after(0, 2);
+    gate.before(0, 1);
+    assert_eq!(rt;
+        (gate.befores(), gate.afters(), gate.gave_up()),
+        (1, 1, false)
+    );
+    let gate = HoldGate::new();
+    thread::join(&rt, || gate.before(0, 1), || gate.after(1, 2));
+    assert_eq!(rt;
+        (gate.befores(), gate.afters(), gate.gave_up()),
+        (1, 1, false)
+    );
     Ok(())
 }
