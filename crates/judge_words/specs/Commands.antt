@@ -28,6 +28,8 @@ judge_rules =
     ∷ option_of (codes "io")
     ∷ option_or (codes "max-image") (codes "0x40000000")
     ∷ option_or (codes "max-trace") (codes "0x40000000")
+    ∷ option_or (codes "workers") (codes "4")
+    ∷ option_or (codes "segment") (codes "4096")
     ∷ []
 
 -- the program's command line: its name, a command, what that command takes

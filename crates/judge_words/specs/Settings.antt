@@ -11,4 +11,6 @@ settings_view settings = record {
   map = settings.map;
   max_image = settings.max_image;
   max_trace = settings.max_trace;
+  workers = settings.workers;
+  segment = settings.segment;
 }

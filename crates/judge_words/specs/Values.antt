@@ -5,7 +5,7 @@ use Rattle.std.specs.Result.{result_ok}
 use Rattle.hart_words.specs.Numbers.{number_within}
 use Rattle.hart_words.specs.Spans.{span_of}
 use Rattle.hart_words.specs.declared.span.Span.{Span}
-use Rattle.judge_words.specs.declared.values.TheConstants.{MOST_BYTES}
+use Rattle.judge_words.specs.declared.values.TheConstants.{MOST_BYTES, MOST_WORKERS, MOST_LINES}
 
 -- the next step at the value, where there is one
 infixl 10 ◌>>=◌
@@ -24,12 +24,25 @@ even value = if value % 2 == 0 then Some value else None
 unfoldable pub even_in : List ℕ → Option ℕ
 even_in text = number_in text >>= even
 
-abbrev pub limit : ℕ → Option ℕ
-limit value = if nat_le 1 value && nat_le value MOST_BYTES then Some value else None
+-- a number from 1 to `most`
+abbrev pub up_to : ℕ → ℕ → Option ℕ
+up_to most value = if nat_le 1 value && nat_le value most then Some value else None
+
+-- the number from 1 to `most` that a text writes
+unfoldable pub number_up_to : ℕ → List ℕ → Option ℕ
+number_up_to most text = number_in text >>= up_to most
 
 -- a number of bytes, at least one
-unfoldable pub limit_in : List ℕ → Option ℕ
-limit_in text = number_in text >>= limit
+abbrev pub limit_in : List ℕ → Option ℕ
+limit_in text = number_up_to MOST_BYTES text
+
+-- a number of workers, at least one
+abbrev pub workers_in : List ℕ → Option ℕ
+workers_in text = number_up_to MOST_WORKERS text
+
+-- a number of lines of a segment, at least one
+abbrev pub segment_in : List ℕ → Option ℕ
+segment_in text = number_up_to MOST_LINES text
 
 -- the byte `:`
 abbrev pub colon : ℕ

@@ -10,7 +10,8 @@ use clap::error::ErrorKind;
 use clap::{Arg, ArgMatches, Command};
 use std::alloc::{AllocError, Global};
 
-/// `rvjudge judge IMAGE TRACE [--pc A] [--ram B:S] [--io B:S] [--max-image M] [--max-trace M]`
+/// `rvjudge judge IMAGE TRACE [--pc A] [--ram B:S] [--io B:S] [--max-image M] [--max-trace M]
+/// [--workers N] [--segment K]`
 pub fn judge_line<'a>(alloc: Global) -> Result<Command<'a>, AllocError>
     ensures { IfOk result (λ line. app_of line ≡ judge_line) }
 {
@@ -21,7 +22,9 @@ pub fn judge_line<'a>(alloc: Global) -> Result<Command<'a>, AllocError>
         .arg(option_or(alloc, "ram", "0x80000000:0x8000000"))?
         .arg(option(alloc, "io"))?
         .arg(option_or(alloc, "max-image", "0x40000000"))?
-        .arg(option_or(alloc, "max-trace", "0x40000000"))?;
+        .arg(option_or(alloc, "max-trace", "0x40000000"))?
+        .arg(option_or(alloc, "workers", "4"))?
+        .arg(option_or(alloc, "segment", "4096"))?;
     Command::new(alloc, "rvjudge").subcommand(judge)
 }
 

@@ -7,14 +7,15 @@ ghost use Rattle.judge_words.specs.Settings.{settings_view};
 ghost use Rattle.judge_words.specs.declared.job.WordError.TheVariants.{NoMemory};
 
 use crate::command_line::{given_to, judge_line, parse, text_of};
-use crate::values::{read_even, read_io, read_limit, read_span};
+use crate::values::{read_even, read_io, read_limit, read_segment, read_span, read_workers};
 use clap::ArgMatches;
 use hart_words::Map;
 use std::alloc::{AllocError, Global};
 use thiserror::Error;
 
 /// What the judge is asked to do: the names of the image and of the trace, the address of the first
-/// instruction, the ranges of RAM and of devices, and how many bytes either file may have.
+/// instruction, the ranges of RAM and of devices, how many bytes either file may have, and how the
+/// work is to be shared out, which changes no answer.
 #[derive(Debug, Drop)]
 pub struct Job {
     /// The name of the image's file.
@@ -28,6 +29,10 @@ pub struct Job {
     pub max_image: u64,
     /// The most bytes that the trace may have, from 1.
     pub max_trace: u64,
+    /// How many workers judge segments, from 1.
+    pub workers: u32,
+    /// The most lines of a segment, from 1.
+    pub segment: usize,
 }
 
 /// Why there is no job.
@@ -50,14 +55,17 @@ impl From<AllocError> for WordError {
 
 /// The job that the words of a command line ask for, the program's name first:
 ///
-/// `rvjudge judge IMAGE TRACE [--pc A] [--ram B:S] [--io B:S] [--max-image M] [--max-trace M]`
+/// `rvjudge judge IMAGE TRACE [--pc A] [--ram B:S] [--io B:S] [--max-image M] [--max-trace M]
+/// [--workers N] [--segment K]`
 ///
 /// Each option stands at most once, as `--name value` or `--name=value`. Numbers are decimal, or
 /// hexadecimal after `0x`. A is even; B and S are multiples of 4,096, S at least 4,096 and B + S at
-/// most 2^56, and the two ranges have no byte in common; each M is from 1 to 2^30.
+/// most 2^56, and the two ranges have no byte in common; each M is from 1 to 2^30, N from 1 to 64,
+/// and K from 1 to 2^20.
 ///
-/// Left out, A is 0x80000000, the B:S of RAM is 0x80000000:0x8000000, and M is 2^30; without `--io`
-/// there are no devices. All other words are no job, those that ask for help among them.
+/// Left out, A is 0x80000000, the B:S of RAM is 0x80000000:0x8000000, M is 2^30, N is 4, and K is
+/// 4,096; without `--io` there are no devices. All other words are no job, those that ask for help
+/// among them.
 #[tactic(auto, unfolding(crate::specs::Job::job_of))]
 pub fn read_words(alloc: Global, words: &Vec<String>) -> Result<Job, WordError>
     ensures job { GivesJob (job_of (map string_bytes words.now.items)) result }
@@ -84,6 +92,8 @@ fn job_given(alloc: Global, given: &ArgMatches<'_>) -> Result<Job, WordError>
             map: settings.map,
             max_image: settings.max_image,
             max_trace: settings.max_trace,
+            workers: settings.workers,
+            segment: settings.segment,
         }),
     }
 }
@@ -97,6 +107,8 @@ struct Settings<'a> {
     map: Map,
     max_image: u64,
     max_trace: u64,
+    workers: u32,
+    segment: usize,
 }
 
 /// The settings that are given, where each can be read.
@@ -115,5 +127,7 @@ fn settings_from<'a>(given: &ArgMatches<'a>) -> Option<Settings<'a>>
         map,
         max_image: read_limit(text_of(given, "max-image")?)?,
         max_trace: read_limit(text_of(given, "max-trace")?)?,
+        workers: read_workers(text_of(given, "workers")?)?,
+        segment: read_segment(text_of(given, "segment")?)?,
     })
 }

@@ -96,9 +96,55 @@ fn takes_devices(rt: HostRuntime) -> Result<(), Fail> {
 }
 
 #[test]
+fn takes_workers(rt: HostRuntime) -> Result<(), Fail> {
+    let lines: [(&[&str], u32, usize); 7] = [
+        (&["rvjudge", "judge", "i", "t"], 4, 4096),
+        (&["rvjudge", "judge", "i", "t", "--workers", "1"], 1, 4096),
+        (&["rvjudge", "judge", "--workers=64", "i", "t"], 64, 4096),
+        (&["rvjudge", "judge", "i", "t", "--segment", "1"], 4, 1),
+        (
+            &["rvjudge", "judge", "i", "--segment=1048576", "t"],
+            4,
+            1_048_576,
+        ),
+        (
+            &[
+                "rvjudge",
+                "judge",
+                "--segment",
+                "0X10",
+                "i",
+                "t",
+                "--workers=0x40",
+            ],
+            64,
+            16,
+        ),
+        (
+            &[
+                "rvjudge",
+                "judge",
+                "i",
+                "t",
+                "--workers",
+                "010",
+                "--segment=010",
+            ],
+            10,
+            10,
+        ),
+    ];
+    for (words, workers, segment) in lines {
+        let job = job_at(rt.alloc(), words)??;
+        assert_eq!(rt; (job.workers, job.segment), (workers, segment));
+    }
+    Ok(())
+}
+
+#[test]
 fn refuses_other_words(rt: HostRuntime) -> Result<(), Fail> {
     let alloc = rt.alloc();
-    let lines: [&[&str]; 16] = [
+    let lines: [&[&str]; 20] = [
         &[],
         &["rvjudge"],
         &["rvjudge", "judge", "i"],
@@ -115,6 +161,18 @@ fn refuses_other_words(rt: HostRuntime) -> Result<(), Fail> {
         &["rvjudge", "judge", "i", "t", "--pc", "-2"],
         &["rvjudge", "judge", "i", "t", "--pc", "--", "2"],
         &["rvjudge", "judge", "i", "t", "--pc=2", "--pc=2"],
+        &["rvjudge", "judge", "i", "t", "--workers", "0"],
+        &["rvjudge", "judge", "i", "t", "--workers=4", "--workers=4"],
+        &["rvjudge", "judge", "i", "t", "--segment", "0"],
+        &[
+            "rvjudge",
+            "judge",
+            "i",
+            "t",
+            "--segment",
+            "8",
+            "--segment=8",
+        ],
     ];
     for words in lines {
         refuses(&rt, alloc, words)?;
@@ -142,6 +200,14 @@ fn refuses_other_words(rt: HostRuntime) -> Result<(), Fail> {
         "--max-image=1073741825",
         "--max-trace=0",
         "--max-trace=1073741825",
+        "--workers",
+        "--workers=",
+        "--workers=0",
+        "--workers=65",
+        "--workers=4294967297",
+        "--segment=0",
+        "--segment=0x100001",
+        "--segment=1048577",
     ];
     for option in options {
         refuses(&rt, alloc, &["rvjudge", "judge", "i", "t", option])?;

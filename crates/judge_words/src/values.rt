@@ -1,12 +1,18 @@
 //! The values of options, read from their texts.
 
 ghost use Rattle.std.specs.Prelude.{◌≡◌, ◌≤◌, ◌%◌, IfSome, option_map};
-ghost use Rattle.judge_words.specs.Values.{number_in, even_in, limit_in, span_in, io_in};
+ghost use Rattle.judge_words.specs.Values.{number_in, number_up_to, even_in, limit_in, workers_in, segment_in, span_in, io_in};
 
 use hart_words::{Span, read_number};
 
 /// The most bytes that an image or a trace may be given.
 pub const MOST_BYTES: u64 = 1 << 30;
+
+/// The most workers.
+pub const MOST_WORKERS: u64 = 64;
+
+/// The most lines of a segment.
+pub const MOST_LINES: u64 = 1 << 20;
 
 /// A number below 2^64.
 #[tactic(auto, unfolding(crate::specs::Values::number_in))]
@@ -26,18 +32,44 @@ pub fn read_even(text: &str) -> Option<u64>
     if value % 2 == 0 { Some(value) } else { None }
 }
 
-/// A number of bytes, from 1 to 2^30.
-#[tactic(auto, unfolding(crate::specs::Values::limit_in))]
-pub fn read_limit(text: &str) -> Option<u64>
-    ensures value { result ≡ limit_in text.now }
-    ensures most { IfSome result (λ value. value ≤ MOST_BYTES) }
+/// A number from 1 to `most`.
+#[tactic(auto, unfolding(crate::specs::Values::number_up_to))]
+fn read_up_to(text: &str, most: u64) -> Option<u64>
+    ensures value { result ≡ number_up_to most text.now }
+    ensures range { IfSome result (λ value. (1 ≤ value) × (value ≤ most)) }
 {
     let value = read_u64(text)?;
-    if 1 <= value && value <= MOST_BYTES {
+    if 1 <= value && value <= most {
         Some(value)
     } else {
         None
     }
+}
+
+/// A number of bytes, from 1 to 2^30.
+pub fn read_limit(text: &str) -> Option<u64>
+    ensures value { result ≡ limit_in text.now }
+    ensures most { IfSome result (λ value. value ≤ MOST_BYTES) }
+{
+    read_up_to(text, MOST_BYTES)
+}
+
+/// A number of workers, from 1 to 64.
+pub fn read_workers(text: &str) -> Option<u32>
+    ensures value { result ≡ workers_in text.now }
+    ensures range { IfSome result (λ value. (1 ≤ value) × (value ≤ MOST_WORKERS)) }
+{
+    let workers = read_up_to(text, MOST_WORKERS)?;
+    Some(workers as u32)
+}
+
+/// A number of lines, from 1 to 2^20.
+pub fn read_segment(text: &str) -> Option<usize>
+    ensures value { result ≡ segment_in text.now }
+    ensures range { IfSome result (λ value. (1 ≤ value) × (value ≤ MOST_LINES)) }
+{
+    let segment = read_up_to(text, MOST_LINES)?;
+    Some(segment as usize)
 }
 
 /// A range of addresses, as `BASE:SIZE`.
