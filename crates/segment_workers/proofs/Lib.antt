@@ -1,0 +1,5 @@
+pub mod Accounts
+pub mod Finding
+pub mod Gathering
+pub mod Seats
+pub mod Leaving

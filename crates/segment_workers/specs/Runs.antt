@@ -1,0 +1,69 @@
+-- Segments judged side by side by workers at a board: what was found of them, and what the seat of all workers has of it.
+use Rattle.std.specs.Prelude.{◌≡◌, ℕ, ◌<◌, ◌≤◌, Bool, true, false, ◌&&◌, ◌==◌, nat_lt, List}
+use Rattle.board_core.specs.Bags.{Has, Names, as_number, count, is_numbered}
+use Rattle.rvfi_rows.specs.declared.verdict.Verdict.{Verdict}
+use Rattle.rvfi_rows.specs.declared.verdict.Verdict.TheVariants.{Agrees, Differs, Refused}
+use Rattle.segment_judge.specs.declared.found.Found.{Found}
+use Rattle.segment_judge.specs.declared.found.What.{What}
+use Rattle.segment_judge.specs.declared.found.What.TheVariants.{Judged, Skipped}
+use Rattle.segment_judge.specs.declared.judged.Judged.{Judged as JudgedSegment}
+use Rattle.verdict_board.specs.declared.view.View.{View}
+use Rattle.verdict_board.specs.declared.seat.Seat.{Seat}
+use Rattle.verdict_board.specs.declared.board.Board.{Board}
+use Rattle.verdict_board.specs.Seats.{AreOpened}
+
+-- all the seats of a board for n segments, just as it was opened with them
+pub record AreAllSeats (n : ℕ) (board : Board) (seats : List Seat) : Type 0 where
+  pub count : ℕ
+  pub some : 1 ≤ count
+  pub few : count ≤ 64
+  pub opened : AreOpened n count board seats
+
+-- it was found of the segment of this number
+abbrev pub is_of : {V : Type 0} → ℕ → Found V → Bool
+is_of number found = found.seg == number
+
+-- each segment below n was found once, and no other
+abbrev pub FoundBelow : {V : Type 0} → ℕ → List (Found V) → Type 0
+FoundBelow n founds = (number : ℕ) → count (is_of number) founds ≡ as_number (nat_lt number n)
+
+-- each segment below n was drawn, once
+abbrev pub DrewEach : ℕ → List (ℕ × ℕ) → Type 0
+DrewEach n draws = (number : ℕ) → number < n → count (is_numbered number) draws ≡ 1
+
+-- a difference or a refusal ends the trace
+abbrev pub ends_trace : Verdict → Bool
+ends_trace (Agrees rows valid) = false
+ends_trace (Differs row difference) = true
+ends_trace (Refused row fault) = true
+
+-- the segment was judged so
+abbrev pub is_end : {M : Type 0} → What (JudgedSegment M) → Bool
+is_end (Judged judged) = ends_trace judged.verdict
+is_end (Skipped least) = false
+
+abbrev pub is_end_of : {M : Type 0} → ℕ → Found (JudgedSegment M) → Bool
+is_end_of number found = is_of number found && is_end found.what
+
+-- a segment was posted as often as it was found to end the trace
+abbrev pub ArePosted : {M : Type 0} → List (Found (JudgedSegment M)) → List (ℕ × ℕ) → Type 0
+ArePosted founds posts = (number : ℕ) → count (is_numbered number) posts ≡ count (is_end_of number) founds
+
+-- a skipped segment has a higher number than a look of the worker's was answered
+abbrev pub IsSeenSo : {V : Type 0} → View → ℕ → ℕ → What V → Type 0
+IsSeenSo view worker number (Judged judged) = Unit {0}
+IsSeenSo view worker number (Skipped least) = (least < number) × Has view.looks (worker, least)
+
+-- a worker that drew the segment found this of it, by what the view has of draws and looks
+pub record IsFoundBy {V : Type 0} (view : View) (found : Found V) : Type 0 where
+  pub worker : ℕ
+  pub drew : Has view.draws (worker, found.seg)
+  pub so : IsSeenSo view worker found.seg found.what
+
+-- a segment is skipped for one that was posted
+abbrev pub IsSkippedFor : {V : Type 0} → List (ℕ × ℕ) → What V → Type 0
+IsSkippedFor posts (Judged judged) = Unit {0}
+IsSkippedFor posts (Skipped least) = Names posts least
+
+abbrev pub HasReason : {V : Type 0} → List (ℕ × ℕ) → Found V → Type 0
+HasReason posts found = IsSkippedFor posts found.what
