@@ -20,8 +20,7 @@ use Rattle.rvfi_rows.specs.Rows.{rows_of}
 use Rattle.trace_report.specs.declared.outcome.Outcome.{Outcome}
 use Rattle.judge_run.specs.declared.stop.Stop.{Stop}
 use Rattle.judge_run.specs.declared.stop.Stop.TheVariants.{Known, ReadFault, NoMemory}
-use Rattle.judge_run.specs.Answer.{Step, columns_in, ended, lines_outcome, trace_outcome}
-use Rattle.judge_run.specs.Rows.{at_reset, verdict_after}
+use Rattle.judge_run.specs.Answer.{Step, columns_in, ended, lines_outcome, trace_outcome, verdict_on}
 use Rattle.judge_run.specs.Stops.{MeantBy, MeantTold, MissesStop, LacksFile, line_stop}
 
 -- where fewer lines came than were asked for, they are all that were left
@@ -48,7 +47,7 @@ first_columns : (job : JobView) (left first : Left) → first ≡ front_of 1 lef
 first_columns job left first front = sym (columns_of_front job left.lines left.ending) ∙ ap (λ view. columns_in job view) (sym front)
 
 -- what the first line and then the others come to
-lines_give : (job : JobView) (memory : ℕ → ℕ) (left first rows : Left) (columns : ColumnList) → first ≡ front_of 1 left → columns_in job first ≡ Ok columns → rows ≡ back_of 1 left → lines_outcome job memory left ≡ Ok (ended job rows.ending (verdict_after (at_reset job.pc job.map memory) (rows_of columns rows.lines)))
+lines_give : (job : JobView) (memory : ℕ → ℕ) (left first rows : Left) (columns : ColumnList) → first ≡ front_of 1 left → columns_in job first ≡ Ok columns → rows ≡ back_of 1 left → lines_outcome job memory left ≡ Ok (ended job rows.ending (verdict_on job memory (rows_of columns rows.lines)))
 unfolding lines_outcome back_of
 lines_give job memory left first rows columns front named back =
     let here : columns_in job left ≡ Ok columns = first_columns job left first front ∙ named in
@@ -69,7 +68,7 @@ file_decides job memory files file outcome here is = rw here is
 all_left : (job : JobView) (name file : List ℕ) (taker : LineTaker) → Opens name job.max_trace taker → left_of file taker ≡ lines_of job.max_trace file
 all_left job name file taker opens = ap (λ cursor. left_after taker.most file cursor) opens.cursor ∙ ap (λ most. lines_of most file) opens.most
 
-pub trace_told : (told : Option Files) (name : List ℕ) (job : JobView) (memory : ℕ → ℕ) (asked : ℕ) (taker middle after : LineTaker) (first rows : Piece) (columns : ColumnList) (outcome : Outcome) → name ≡ job.trace → Opens name job.max_trace taker → IsThere told (string_bytes taker.name) → TakesTold (file_of told (string_bytes taker.name)) 1 taker first middle → columns_in job (piece_view first) ≡ Ok columns → TakesTold (file_of told (string_bytes middle.name)) asked middle rows after → length rows.lines < asked → outcome ≡ ended job rows.ending (verdict_after (at_reset job.pc job.map memory) (rows_of columns rows.lines)) → MeantTold told (λ outcome. outcome) (Ok outcome) (λ files. trace_outcome job memory files)
+pub trace_told : (told : Option Files) (name : List ℕ) (job : JobView) (memory : ℕ → ℕ) (asked : ℕ) (taker middle after : LineTaker) (first rows : Piece) (columns : ColumnList) (outcome : Outcome) → name ≡ job.trace → Opens name job.max_trace taker → IsThere told (string_bytes taker.name) → TakesTold (file_of told (string_bytes taker.name)) 1 taker first middle → columns_in job (piece_view first) ≡ Ok columns → TakesTold (file_of told (string_bytes middle.name)) asked middle rows after → length rows.lines < asked → outcome ≡ ended job rows.ending (verdict_on job memory (rows_of columns rows.lines)) → MeantTold told (λ outcome. outcome) (Ok outcome) (λ files. trace_outcome job memory files)
 trace_told None name job memory asked taker middle after first rows columns outcome same opens is one named gives few meant = tt
 trace_told (Some files) name job memory asked taker middle after first rows columns outcome same opens is one named gives few meant = of (files (string_bytes taker.name)) refl is one
   where

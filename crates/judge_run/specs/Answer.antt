@@ -11,11 +11,12 @@ use Rattle.rvfi_rows.specs.declared.fault.HeaderFault.{HeaderFault}
 use Rattle.rvfi_rows.specs.declared.verdict.Verdict.{Verdict}
 use Rattle.rvfi_rows.specs.declared.verdict.Verdict.TheVariants.{Agrees, Differs, Refused}
 use Rattle.rvfi_rows.specs.Columns.{ColumnList, header_columns}
-use Rattle.rvfi_rows.specs.Rows.{rows_of}
+use Rattle.rvfi_rows.specs.Rows.{RowReading, rows_of}
 use Rattle.hart_words.specs.Results.{◌>>=◌}
 use Rattle.trace_report.specs.declared.outcome.Outcome.{Outcome}
 use Rattle.trace_report.specs.declared.outcome.Outcome.TheVariants as outcomes
-use Rattle.judge_run.specs.Rows.{verdict_after, at_reset}
+use Rattle.hart_step.specs.Cores.{core_at_reset}
+use Rattle.segment_judge.specs.Judgements.{by_hart, judgement_of}
 
 -- a step towards the answer: its value, or the outcome at once, or nothing where a file is missing
 abbrev pub Step : Type 0 → Type 0
@@ -74,11 +75,15 @@ columns_in job left = by_first left.lines
     by_first [] = Err (Some (without_header job left.ending))
     by_first (header ∷ rows) = as_columns (header_columns header)
 
+-- the verdict on rows, by which a hart is stepped from reset over the memory
+abbrev pub verdict_on : JobView → (ℕ → ℕ) → List RowReading → Verdict
+verdict_on job memory rows = (judgement_of by_hart (core_at_reset job.pc job.map) rows memory).verdict
+
 -- the first line is the header, each other a row
 unfoldable pub lines_outcome : JobView → (ℕ → ℕ) → Left → Step Outcome
 lines_outcome job memory left = do
   columns ← columns_in job left
-  let verdict = verdict_after (at_reset job.pc job.map memory) (rows_of columns (drop 1 left.lines))
+  let verdict = verdict_on job memory (rows_of columns (drop 1 left.lines))
   Ok (ended job left.ending verdict)
 
 unfoldable pub trace_outcome : JobView → (ℕ → ℕ) → Files → Step Outcome

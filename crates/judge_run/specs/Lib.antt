@@ -1,4 +1,4 @@
-pub mod Rows
 pub mod Answer
 pub mod Stops
 pub mod Ends
+pub mod Events

@@ -19,8 +19,8 @@ use trace_report::{Outcome, report, status};
 /// `out` and gives the status: 0 the trace agrees, 1 it differs, 2 the words are refused, 3 the
 /// image is, 4 the trace is, 5 a read or a write failed, 6 memory was refused.
 ///
-/// The first word is the program's name and is not looked at. `gate` is not used yet: the rows are
-/// read and judged on this thread.
+/// The first word is the program's name and is not looked at. Each worker passes `gate` before and
+/// after a segment.
 pub fn judge<R, H: Shelf, O: Sink, G: Gate>(
     rt: &R,
     alloc: Global,
@@ -70,17 +70,17 @@ where
     ensures told { H.told shelf.new ≡ H.told shelf.old }
     ensures range { result ≤ 6 }
 {
-    let _gate = gate;
-    run(rt, alloc, words, shelf, out)
+    run(rt, alloc, words, shelf, out, gate)
 }
 
 /// Finds the outcome and writes it.
-fn run<R, H: Shelf, O: Sink>(
+fn run<R, H: Shelf, O: Sink, G: Gate>(
     rt: &R,
     alloc: Global,
     words: &Vec<String>,
     shelf: &mut H,
     out: &mut O,
+    gate: &G,
 ) -> u8
 where
     R: Threads + Sync,
@@ -100,7 +100,7 @@ where
         })
         result }
 {
-    match find_outcome(rt, alloc, words, shelf) {
+    match find_outcome(rt, alloc, words, shelf, gate) {
         Ok(outcome) => write_outcome(&outcome, out),
         Err(Stop::Known(outcome)) => write_outcome(&outcome, out),
         Err(Stop::ReadFault) => 5,

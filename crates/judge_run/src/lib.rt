@@ -7,11 +7,13 @@
 
 mod images;
 mod judgement;
+pub mod laws;
 mod outcomes;
 mod output;
-mod rows;
+mod segments;
 mod stop;
 mod traces;
+mod workers;
 
 pub use judgement::judge;
 

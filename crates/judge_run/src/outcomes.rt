@@ -8,19 +8,21 @@ ghost use Rattle.judge_run.specs.Stops.{MeantTold, CountsStop, MissesStop, Words
 use crate::images::read_memory;
 use crate::stop::Stop;
 use crate::traces::judge_trace;
+use crate::workers::Workers;
 use judge_words::{WordError, read_words};
-use outside_ports::Shelf;
+use outside_ports::{Gate, Shelf};
 use std::alloc::Global;
 use std::thread::Threads;
 use trace_report::Outcome;
 
 /// The outcome of these words over the files of the shelf: of the words first, then of the image,
 /// then of the trace.
-pub fn find_outcome<R, H: Shelf>(
+pub fn find_outcome<R, H: Shelf, G: Gate>(
     rt: &R,
     alloc: Global,
     words: &Vec<String>,
     shelf: &mut H,
+    gate: &G,
 ) -> Result<Outcome, Stop>
 where
     R: Threads + Sync,
@@ -42,5 +44,10 @@ where
         Ok(image) => image,
         Err(stop) => return Err(stop),
     };
-    judge_trace(rt, alloc, &job, &image, shelf)
+    let workers = Workers {
+        rt,
+        gate,
+        count: job.workers,
+    };
+    judge_trace(&workers, alloc, &job, &image, shelf)
 }

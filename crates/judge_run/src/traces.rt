@@ -7,11 +7,13 @@ ghost use Rattle.trace_lines.specs.Pieces.{piece_view};
 ghost use Rattle.judge_run.specs.Answer.{columns_in, ended, without_header, trace_outcome};
 ghost use Rattle.judge_run.specs.Stops.{MeantBy, MeantTold, CountsStop, MissesStop, IsJobs, IsJobsOutcome, WasRead, is_no_job};
 
-use crate::rows::judge_lines;
+use crate::segments::judge_segments;
 use crate::stop::{Stop, line_stop};
+use crate::workers::Workers;
+use boundary_guess::cut;
 use hart_step::Hart;
 use judge_words::Job;
-use outside_ports::Shelf;
+use outside_ports::{Gate, Shelf};
 use page_image::PageImage;
 use page_layers::Layered;
 use rvfi_rows::{Columns, HeaderError, Verdict, read_header};
@@ -22,8 +24,8 @@ use trace_report::Outcome;
 
 /// Reads the trace of a job and judges its rows over the memory. The lines behind the first are
 /// taken once that is known to be a header.
-pub fn judge_trace<R, H: Shelf>(
-    rt: &R,
+pub fn judge_trace<R, G: Gate, H: Shelf>(
+    workers: &Workers<R, G>,
     alloc: Global,
     job: &Job,
     image: &PageImage,
@@ -55,9 +57,12 @@ where
         Ok(taken) => taken,
         Err(error) => return Err(line_stop(error)),
     };
+    let Piece { lines, ending } = rows;
+    let mut segments = cut(alloc, &lines, job.segment)?;
+    drop(lines);
     let hart = Hart::reset(Layered::over(alloc, image), job.pc, job.map);
-    let verdict = judge_lines(rt, alloc, hart, &columns, rows.lines)?;
-    Ok(ended(job, rows.ending, verdict))
+    let joined = judge_segments(workers, alloc, hart, &columns, &mut segments)?;
+    Ok(ended(job, ending, joined.verdict))
 }
 
 /// The columns that the first of these lines names.

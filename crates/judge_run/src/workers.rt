@@ -1,0 +1,13 @@
+//! The workers that judge segments.
+
+ghost use Rattle.std.specs.Prelude.{◌≤◌};
+
+/// So many workers, the threads that they run in, and the gate that each passes at a segment.
+#[derive(Drop)]
+pub(crate) struct Workers<'a, R, G> {
+    pub rt: &'a R,
+    pub gate: &'a G,
+    pub count: u32,
+    ghost some: { 1 ≤ count },
+    ghost few: { count ≤ 64 },
+}
