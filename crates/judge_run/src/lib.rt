@@ -20,4 +20,6 @@ pub use judgement::judge;
 #[cfg(test)]
 mod program_tests;
 #[cfg(test)]
+mod segment_tests;
+#[cfg(test)]
 mod tests;

@@ -1,6 +1,6 @@
 use super::*;
 use outside_ports::{
-    DripShelf, FailShelf, FailSink, MemShelf, MemSink, NamedFile, OpenGate, Shelf, Sink,
+    DripShelf, FailShelf, FailSink, HoldGate, MemShelf, MemSink, NamedFile, OpenGate, Shelf, Sink,
 };
 use std::alloc::{AllocError, Global};
 use std::process::Abort;
@@ -37,10 +37,46 @@ fn files(alloc: Global, image: &[u8], trace: &[u8]) -> Result<MemShelf, AllocErr
     Ok(MemShelf::new(pair(alloc, image, trace)?))
 }
 
+/// ADDI x1, x0, -1; SLLI x1, x1, 63; ADDI x2, x0, -1; DIV x3, x1, x2; REM x4, x1, x0; DIVU x5, x1,
+/// x0.
+const SIX_IMAGE: &[u8] =
+    b"@80000000 93 00 f0 ff 93 90 f0 03 13 01 f0 ff b3 c1 20 02 33 e2 00 02 b3 d2 00 02";
+
+const SIX_TRACE: &[u8] = b"insn,pc_rdata,rd_addr,rd_wdata
+0xfff00093,0x80000000,1,0xffffffffffffffff
+0x03f09093,0x80000004,1,0x8000000000000000
+0xfff00113,0x80000008,2,0xffffffffffffffff
+0x0220c1b3,0x8000000c,3,0x8000000000000000
+0x0200e233,0x80000010,4,0x8000000000000000
+0x0200d2b3,0x80000014,5,0xffffffffffffffff
+";
+
 /// How many bytes a read gives at most, less one.
 const DRIPS: [u16; 6] = [0, 1, 2, 6, 4095, 65535];
 
-/// What a run over these files writes, and its status: the same however few bytes a read gives.
+/// Most lines of a segment, and workers.
+const SHARES: [(&str, &str); 6] = [
+    ("1", "1"),
+    ("1", "4"),
+    ("2", "64"),
+    ("3", "2"),
+    ("5", "3"),
+    ("1048576", "64"),
+];
+
+/// The words, and behind them the options that share the work out so.
+fn shared(alloc: Global, words: &[&str], share: (&str, &str)) -> Result<Vec<String>, AllocError> {
+    let (most, workers) = share;
+    let mut list = list(alloc, words)?;
+    list.push(String::from_str(alloc, "--segment")?)?;
+    list.push(String::from_str(alloc, most)?)?;
+    list.push(String::from_str(alloc, "--workers")?)?;
+    list.push(String::from_str(alloc, workers)?)?;
+    Ok(list)
+}
+
+/// What a run over these files writes, and its status: the same however few bytes a read gives, and
+/// however the work is shared out.
 pub fn judged<R: Threads + Sync + Abort>(
     rt: &R,
     alloc: Global,
@@ -48,16 +84,24 @@ pub fn judged<R: Threads + Sync + Abort>(
     image: &[u8],
     trace: &[u8],
 ) -> Result<(u8, MemSink), AllocError> {
-    let words = list(alloc, words)?;
+    let plain = list(alloc, words)?;
     let mut shelf = files(alloc, image, trace)?;
     let mut sink = MemSink::new(alloc);
-    let status = judge(rt, alloc, &words, &mut shelf, &mut sink, &OpenGate);
+    let status = judge(rt, alloc, &plain, &mut shelf, &mut sink, &OpenGate);
     for drip in DRIPS {
         let mut shelf = DripShelf::new(pair(alloc, image, trace)?, usize::from(drip) + 1);
         let mut dripped = MemSink::new(alloc);
-        let again = judge(rt, alloc, &words, &mut shelf, &mut dripped, &OpenGate);
+        let again = judge(rt, alloc, &plain, &mut shelf, &mut dripped, &OpenGate);
         assert_eq!(rt; again, status);
         assert_eq!(rt; dripped.held, sink.held);
+    }
+    for share in SHARES {
+        let words = shared(alloc, words, share)?;
+        let mut shelf = files(alloc, image, trace)?;
+        let mut cut = MemSink::new(alloc);
+        let again = judge(rt, alloc, &words, &mut shelf, &mut cut, &OpenGate);
+        assert_eq!(rt; again, status);
+        assert_eq!(rt; cut.held, sink.held);
     }
     Ok((status, sink))
 }
@@ -439,5 +483,31 @@ fn ends_with_each_fault(rt: HostRuntime) -> Result<(), Fail> {
         5
     );
     assert_eq!(rt; (shelf.misses, sink.held.len()), (1, 0));
+    Ok(())
+}
+
+/// Two workers judge six segments side by side: the one that claims segment 1 is held until segment
+/// 2 was found, by the other. Each segment passes the gate once.
+#[test]
+fn judges_side_by_side(rt: HostRuntime) -> Result<(), Fail> {
+    let alloc = rt.alloc();
+    let words = [
+        "rvjudge",
+        "judge",
+        "i",
+        "t",
+        "--segment",
+        "1",
+        "--workers",
+        "2",
+    ];
+    let words = list(alloc, &words)?;
+    let mut shelf = files(alloc, SIX_IMAGE, SIX_TRACE)?;
+    let mut sink = MemSink::new(alloc);
+    let gate = HoldGate::new();
+    assert_eq!(rt; judge(&rt, alloc, &words, &mut shelf, &mut sink, &gate), 0);
+    assert_eq!(rt; sink.held.as_slice(), b"agrees 6\n".as_slice());
+    assert_eq!(rt; (gate.befores(), gate.afters()), (6, 6));
+    assert!(rt; !gate.gave_up());
     Ok(())
 }
