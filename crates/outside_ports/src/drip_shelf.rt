@@ -11,7 +11,7 @@ use crate::shelf::Shelf;
 /// A `MemShelf` that gives at most so many bytes a call.
 #[derive(Drop)]
 pub struct DripShelf {
-    /// The files, and the counts of faults and misses.
+    /// The files, and the count of misses, which are the faults.
     pub shelf: MemShelf,
     /// The most bytes that a call gives.
     pub most: usize,
@@ -23,7 +23,6 @@ impl DripShelf {
     pub fn new(files: Vec<NamedFile>, most: usize) -> Self
         requires { 0 < most }
         ensures files { result.shelf.files ≡ files }
-        ensures faults { result.shelf.faults ≡ 0 }
         ensures misses { result.shelf.misses ≡ 0 }
         ensures most { result.most ≡ most }
     {
@@ -37,7 +36,7 @@ impl DripShelf {
 impl Shelf for DripShelf {
     ghost told = { λ shelf. told_of shelf.shelf.files.items };
 
-    ghost faults = { λ shelf. shelf.shelf.faults };
+    ghost faults = { λ shelf. shelf.shelf.misses };
 
     ghost misses = { λ shelf. shelf.shelf.misses };
 
@@ -48,9 +47,9 @@ impl Shelf for DripShelf {
         ensures full { let file = files_of self.old.shelf.files.items name.now in
             IfOk result (λ count. count
             ≡ count_from file at (min (length buf.new) self.old.most)) }
-        ensures calm { OnOk result (self.new.shelf.faults ≡ self.old.shelf.faults) }
-        ensures fault { OnErr result (Rose self.old.shelf.faults self.new.shelf.faults) }
-        ensures kept { self.old.shelf.faults ≤ self.new.shelf.faults }
+        ensures calm { OnOk result (self.new.shelf.misses ≡ self.old.shelf.misses) }
+        ensures fault { OnErr result (Rose self.old.shelf.misses self.new.shelf.misses) }
+        ensures kept { self.old.shelf.misses ≤ self.new.shelf.misses }
         ensures misses { let told = told_of self.old.shelf.files.items in
             self.new.shelf.misses ≡ misses_after told name.now self.old.shelf.misses }
         ensures missing { IsErr result

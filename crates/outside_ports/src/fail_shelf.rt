@@ -12,12 +12,14 @@ use crate::shelf::Shelf;
 /// name that is not there is a miss too.
 #[derive(Drop)]
 pub struct FailShelf {
-    /// The files, and the counts of faults and misses.
+    /// The files, and the count of misses.
     pub shelf: MemShelf,
     /// The numbers of the calls that fail, from 1.
     pub failing: Vec<u64>,
     /// How many calls there were.
     pub calls: u64,
+    /// How many calls failed.
+    pub faults: u64,
 }
 
 impl FailShelf {
@@ -26,11 +28,13 @@ impl FailShelf {
         ensures shelf { result.shelf ≡ shelf }
         ensures failing { result.failing ≡ failing }
         ensures calls { result.calls ≡ 0 }
+        ensures faults { result.faults ≡ 0 }
     {
         FailShelf {
             shelf,
             failing,
             calls: 0,
+            faults: 0,
         }
     }
 }
@@ -38,7 +42,7 @@ impl FailShelf {
 impl Shelf for FailShelf {
     ghost told = { λ shelf. told_of shelf.shelf.files.items };
 
-    ghost faults = { λ shelf. shelf.shelf.faults };
+    ghost faults = { λ shelf. shelf.faults };
 
     ghost misses = { λ shelf. shelf.shelf.misses };
 
@@ -48,9 +52,9 @@ impl Shelf for FailShelf {
         ensures bytes { ReadsTold (told_of self.old.shelf.files.items) name.now at buf.new result }
         ensures full { let file = files_of self.old.shelf.files.items name.now in
             IfOk result (λ count. count ≡ count_from file at (length buf.new)) }
-        ensures calm { OnOk result (self.new.shelf.faults ≡ self.old.shelf.faults) }
-        ensures fault { OnErr result (Rose self.old.shelf.faults self.new.shelf.faults) }
-        ensures kept { self.old.shelf.faults ≤ self.new.shelf.faults }
+        ensures calm { OnOk result (self.new.faults ≡ self.old.faults) }
+        ensures fault { OnErr result (Rose self.old.faults self.new.faults) }
+        ensures kept { self.old.faults ≤ self.new.faults }
         ensures misses { let told = told_of self.old.shelf.files.items in
             self.new.shelf.misses ≡ misses_after told name.now self.old.shelf.misses }
         ensures calls { self.new.calls ≡ counted self.old.calls }
@@ -61,12 +65,18 @@ impl Shelf for FailShelf {
     {
         self.calls = self.calls.saturating_add(1);
         if self.failing.contains(&self.calls) {
-            self.shelf.faults = self.shelf.faults.saturating_add(1);
+            self.faults = self.faults.saturating_add(1);
             if bytes_of(&self.shelf.files, name).is_none() {
                 self.shelf.misses = self.shelf.misses.saturating_add(1);
             }
             return Err(Failed);
         }
-        self.shelf.read(name, at, buf)
+        match self.shelf.read(name, at, buf) {
+            Ok(count) => Ok(count),
+            Err(Failed) => {
+                self.faults = self.faults.saturating_add(1);
+                Err(Failed)
+            }
+        }
     }
 }

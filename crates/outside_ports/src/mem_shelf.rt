@@ -8,12 +8,10 @@ use crate::files::{NamedFile, bytes_of, copy_from};
 use crate::shelf::Shelf;
 
 /// Files in memory. A read gives as much as is there and fits the buffer, and fails exactly where
-/// the name is not there; that counts as a fault and as a miss.
+/// the name is not there; that is a miss, and its faults are its misses.
 #[derive(Drop)]
 pub struct MemShelf {
     pub files: Vec<NamedFile>,
-    /// How many reads failed.
-    pub faults: u64,
     /// How many reads were of a name that is not there.
     pub misses: u64,
 }
@@ -22,21 +20,16 @@ impl MemShelf {
     /// A shelf of these files; of two of one name the first counts.
     pub fn new(files: Vec<NamedFile>) -> Self
         ensures files { result.files ≡ files }
-        ensures faults { result.faults ≡ 0 }
         ensures misses { result.misses ≡ 0 }
     {
-        MemShelf {
-            files,
-            faults: 0,
-            misses: 0,
-        }
+        MemShelf { files, misses: 0 }
     }
 }
 
 impl Shelf for MemShelf {
     ghost told = { λ shelf. told_of shelf.files.items };
 
-    ghost faults = { λ shelf. shelf.faults };
+    ghost faults = { λ shelf. shelf.misses };
 
     ghost misses = { λ shelf. shelf.misses };
 
@@ -46,9 +39,9 @@ impl Shelf for MemShelf {
         ensures bytes { ReadsTold (told_of self.old.files.items) name.now at buf.new result }
         ensures full { let file = files_of self.old.files.items name.now in
             IfOk result (λ count. count ≡ count_from file at (length buf.new)) }
-        ensures calm { OnOk result (self.new.faults ≡ self.old.faults) }
-        ensures fault { OnErr result (Rose self.old.faults self.new.faults) }
-        ensures kept { self.old.faults ≤ self.new.faults }
+        ensures calm { OnOk result (self.new.misses ≡ self.old.misses) }
+        ensures fault { OnErr result (Rose self.old.misses self.new.misses) }
+        ensures kept { self.old.misses ≤ self.new.misses }
         ensures misses { let told = told_of self.old.files.items in
             self.new.misses ≡ misses_after told name.now self.old.misses }
         ensures missing { IsErr result ↔ IsNone (files_of self.old.files.items name.now) }
@@ -56,7 +49,6 @@ impl Shelf for MemShelf {
         match bytes_of(&self.files, name) {
             Some(file) => Ok(copy_from(file, at, buf)),
             None => {
-                self.faults = self.faults.saturating_add(1);
                 self.misses = self.misses.saturating_add(1);
                 Err(Failed)
             }

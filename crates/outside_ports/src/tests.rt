@@ -22,7 +22,7 @@ fn reads_by_place(rt: HostRuntime) -> Result<(), Fail> {
     assert_eq!(rt; shelf.read("t", 3, &mut two), Ok(0));
     assert_eq!(rt; shelf.read("t", u64::MAX, &mut two), Ok(0));
     assert_eq!(rt; shelf.read("i", 0, &mut two), Err(Failed));
-    assert_eq!(rt; (shelf.faults, shelf.misses), (1, 1));
+    assert_eq!(rt; shelf.misses, 1);
     Ok(())
 }
 
@@ -37,7 +37,7 @@ fn gives_so_many_bytes(rt: HostRuntime) -> Result<(), Fail> {
     assert_eq!(rt; shelf.read("t", 3, &mut three), Ok(0));
     assert_eq!(rt; shelf.read("t", 0, &mut three[..1]), Ok(1));
     assert_eq!(rt; shelf.read("i", 0, &mut three), Err(Failed));
-    assert_eq!(rt; (shelf.shelf.faults, shelf.shelf.misses), (1, 1));
+    assert_eq!(rt; shelf.shelf.misses, 1);
     Ok(())
 }
 
@@ -67,7 +67,7 @@ fn fails_where_listed(rt: HostRuntime) -> Result<(), Fail> {
     assert_eq!(rt; shelf.read("t", 0, &mut two), Err(Failed));
     assert_eq!(rt; shelf.read("i", 0, &mut two), Err(Failed));
     assert_eq!(rt; shelf.read("t", 2, &mut two), Ok(1));
-    assert_eq!(rt; (shelf.shelf.faults, shelf.shelf.misses), (2, 1));
+    assert_eq!(rt; (shelf.faults, shelf.shelf.misses), (2, 1));
     Ok(())
 }
 
