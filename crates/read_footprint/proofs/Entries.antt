@@ -1,20 +1,18 @@
 -- The blocks of a footprint, entry by entry.
-use Rattle.std.proofs.Common.{◌≡◌, ◌⊎◌, inl, inr, ℕ, suc, arith, ◌<◌, ◌/◌, ◌%◌, Bool, true, false, cond, ◌==◌, ◌&&◌, ◌||◌, Option, Some, None, unwrap_or, is_some, List, All, [], ◌∷◌, refl, ap, ◌∙◌, sym, subst, if◌then◌else◌}
+use Rattle.std.proofs.Common.{◌≡◌, ◌⊎◌, inl, inr, ℕ, suc, arith, ◌/◌, ◌%◌, Bool, true, false, cond, ◌==◌, ◌&&◌, ◌||◌, Option, Some, None, unwrap_or, is_some, List, All, [], ◌∷◌, refl, ap, ◌∙◌, sym, subst, if◌then◌else◌}
 use Rattle.std.specs.Prelude.{nat_eq}
 use Rattle.std.specs.Bool.{Decides}
 use Rattle.std.specs.HashMap.{get}
 use Rattle.std.specs.Map.{lookup}
-use Rattle.std.specs.List.{list_all}
 use Rattle.std.proofs.Math.Path.{fun_ext}
 use Rattle.std.proofs.lemmas.Bool.{eq-eqb, eqb-true}
 use Rattle.std.proofs.lemmas.Bool.Decides.{eqb_tells}
 use Rattle.hart_words.specs.declared.span.Span.{Span}
 use Rattle.hart_words.specs.Memory.{Bytes}
-use Rattle.hart_words.specs.Spans.{is_in}
 use Rattle.read_footprint.specs.declared.block.Block.{Block}
 use Rattle.read_footprint.specs.declared.footprint.Footprint.{Footprint}
 use Rattle.read_footprint.specs.Bits.{has_bit}
-use Rattle.read_footprint.specs.Footprints.{Touched, agree, footprint_of, is_written, moved, writes_of}
+use Rattle.read_footprint.specs.Footprints.{Touched, agree, footprint_of, moved, writes_of}
 use Rattle.read_footprint.specs.Sets.{AreIn, ArePartlyMoved, IsOf, IsWithin, block_at, has_byte, has_read, has_written, is_among}
 use Rattle.read_footprint.proofs.Bits.{none_has}
 use Rattle.read_footprint.proofs.Noting.{nothing, block_found}

@@ -1,8 +1,8 @@
 -- What a footprint has after a block was noted.
-use Rattle.std.proofs.Common.{◌≡◌, ◌⊎◌, inl, inr, ℕ, ◌+◌, ◌*◌, ◌/◌, ◌%◌, ◌<◌, ◌≤◌, Bool, true, false, cond, ◌==◌, ◌&&◌, ◌||◌, Option, Some, None, unwrap_or, is_some, List, [], ◌∷◌, ◌≢◌, refl, ap, ◌∙◌, sym, subst, arith}
+use Rattle.std.proofs.Common.{◌≡◌, inl, inr, ℕ, ◌+◌, ◌/◌, ◌%◌, ◌<◌, Bool, true, false, cond, ◌==◌, ◌&&◌, ◌||◌, Option, Some, None, unwrap_or, is_some, [], ◌≢◌, refl, ap, ◌∙◌, sym, arith}
 use Rattle.std.specs.Prelude.{not, nat_eq, nat_lt, nat_le, Result, Ok, Err, OnErr}
 use Rattle.std.specs.HashMap.{get}
-use Rattle.std.proofs.lemmas.Bool.{eq-eqb, ne_eqb, lt-ltb, le-ltb, ltb-true, ltb-false, leb-true}
+use Rattle.std.proofs.lemmas.Bool.{eq-eqb, ne_eqb, lt-ltb, le-ltb, ltb-true, ltb-false}
 use Rattle.std.proofs.lemmas.Bool.Decides.{eqb_tells}
 use Rattle.std.proofs.lemmas.Grind.{common_steps}
 use Rattle.hart_words.specs.Memory.{is_within}

@@ -1,4 +1,4 @@
-use Rattle.std.proofs.Common.{◌-◌, ◌*◌, arith, sym, ◌∙◌}
+use Rattle.std.proofs.Common.{◌-◌, ◌*◌, arith}
 use Rattle.read_footprint.proofs.Bits.{bits_are}
 use Rattle.read_footprint.proofs.block.bits_of.Goals as goal
 

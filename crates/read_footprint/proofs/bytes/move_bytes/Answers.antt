@@ -1,6 +1,5 @@
-use Rattle.std.proofs.Common.{◌+◌, ◌*◌, ap, arith, sym, ◌∙◌, subst}
+use Rattle.std.proofs.Common.{◌+◌, ◌*◌, ap, arith, sym, ◌∙◌}
 use Rattle.hart_words.specs.Spans.{is_in}
-use Rattle.read_footprint.specs.Sets.{ArePartlyMoved, has_byte}
 use Rattle.read_footprint.proofs.Places.{place_below, place_in}
 use Rattle.read_footprint.proofs.bytes.move_bytes.Goals as goal
 

@@ -1,6 +1,3 @@
-use Rattle.std.proofs.Common.{◌∙◌, ap, arith, ◌||◌, ◌&&◌, not}
-use Rattle.read_footprint.specs.Footprints.{is_written}
-use Rattle.read_footprint.specs.Sets.{is_read, has_read}
 use Rattle.read_footprint.proofs.Noting.{on_err, same_blocks, same_found}
 use Rattle.read_footprint.proofs.Rows.{row_added, added_read, added_written}
 use Rattle.read_footprint.proofs.footprint.Footprint.add.Goals as goal

@@ -1,5 +1,5 @@
 use Rattle.std.proofs.Common.{ap, ◌+◌, ◌∙◌, arith}
-use Rattle.read_footprint.proofs.Noting.{read_more, written_same, read_same, written_more}
+use Rattle.read_footprint.proofs.Noting.{read_more, written_same}
 use Rattle.read_footprint.proofs.footprint.Footprint.note_read.Goals as goal
 
 pub loop-number-preserved : goal.loop-number-preserved

@@ -1,4 +1,4 @@
-use Rattle.std.proofs.Common.{◌≡◌, ◌≤◌, ◌+◌, ◌-◌, ◌/◌, ℕ, ◌&&◌, ◌||◌}
+use Rattle.std.proofs.Common.{◌≡◌, ◌≤◌, ◌+◌, ◌/◌, ℕ, ◌&&◌, ◌||◌}
 use Rattle.std.specs.Prelude.{not, nat_lt}
 use Rattle.std.specs.HashMap.{spare}
 use Rattle.hart_words.specs.Memory.{is_within}

@@ -1,5 +1,5 @@
-use Rattle.std.proofs.Common.{◌≡◌, ◌≤◌, ◌+◌, ◌-◌, ◌/◌, ℕ, ◌&&◌, ◌||◌}
-use Rattle.std.specs.Prelude.{not, nat_lt}
+use Rattle.std.proofs.Common.{◌≡◌, ◌≤◌, ◌+◌, ◌/◌, ℕ, ◌&&◌, ◌||◌}
+use Rattle.std.specs.Prelude.{nat_lt}
 use Rattle.std.specs.HashMap.{spare}
 use Rattle.hart_words.specs.Memory.{is_within}
 use Rattle.read_footprint.specs.Sets.{has_read, has_written}
