@@ -4,6 +4,7 @@ use Rattle.std.proofs.lemmas.List.{drop_all, length-map, map-append}
 use Rattle.std.proofs.lemmas.List.Elements.{All-append, All-cons, All-nil}
 use Rattle.std.proofs.lemmas.Option.{slice_get-map}
 use Rattle.std.specs.List.{All}
+use Rattle.hart_words.specs.declared.span.Span.{Span}
 use Rattle.hart_words.specs.Memory.{Bytes}
 use Rattle.rvfi_rows.specs.declared.segment.Segment.{Segment}
 use Rattle.rvfi_rows.specs.Segments.{lines_of}
@@ -11,7 +12,7 @@ use Rattle.rvfi_rows.specs.Columns.{ColumnList}
 use Rattle.rvfi_rows.specs.Rows.{RowReading, rows_of}
 use Rattle.hart_step.specs.declared.hart.Hart.{Hart}
 use Rattle.hart_step.specs.Rows.{HartState}
-use Rattle.boundary_guess.specs.Guesses.{Passes, guess_after, guesses_of, state_of}
+use Rattle.boundary_guess.specs.Guesses.{CanStep, Passes, guess_after, guesses_of, state_of}
 
 drop_from : {A : Type 0} (xs : List A) (i : ℕ) (x : A) → Some x ≡ slice_get xs i → drop i xs ≡ x ∷ drop (suc i) xs
 drop_from [] i x is = absurd cc
@@ -64,20 +65,30 @@ segments_end columns state segments index done whole all so_far =
 lines_at : (segments : List Segment) (index : ℕ) (segment : Segment) → slice_get segments index ≡ Some segment → Some segment.lines ≡ slice_get (map lines_of segments) index
 lines_at segments index segment here = sym (slice_get-map lines_of segments index ∙ ap (λ found. option_map lines_of found) here)
 
-same_state : {M : Type 0} (bytes : M → Bytes) (one other : Hart M) → one.core ≡ other.core → bytes one.mem ≡ bytes other.mem → state_of bytes one ≡ state_of bytes other
+-- ---- the same of harts: what is kept is a copy, and a copy of that goes on
+
+pub same_state : {M : Type 0} (bytes : M → Bytes) (one other : Hart M) → one.core ≡ other.core → bytes one.mem ≡ bytes other.mem → state_of bytes one ≡ state_of bytes other
 same_state bytes one other core mem = rw (core, mem) refl
 
--- the same of harts
-pub hart_turn : {M : Type 0} (bytes : M → Bytes) (columns : ColumnList) (segments : List Segment) (index : ℕ) (segment : Segment) (hart next now : Hart M) (items : List (Hart M)) (whole : List HartState) → slice_get segments index ≡ Some segment → next.core ≡ hart.core → bytes next.mem ≡ bytes hart.mem → state_of bytes now ≡ guess_after (state_of bytes next) (rows_of columns segment.lines) → map (state_of bytes) items ++ guesses_of (state_of bytes hart) columns (drop index (map lines_of segments)) ≡ whole → map (state_of bytes) (items ++ hart ∷ []) ++ guesses_of (state_of bytes now) columns (drop (index + 1) (map lines_of segments)) ≡ whole
-hart_turn bytes columns segments index segment hart next now items whole here core mem is so_far =
-    let went : state_of bytes now ≡ guess_after (state_of bytes hart) (rows_of columns segment.lines) = is ∙ ap (λ state. guess_after state (rows_of columns segment.lines)) (same_state bytes next hart core mem) in
-    ap (λ done. done ++ guesses_of (state_of bytes now) columns (drop (index + 1) (map lines_of segments))) (map-append (state_of bytes) items (hart ∷ []))
-    ∙ segment_turn columns (state_of bytes hart) (state_of bytes now) (map lines_of segments) index segment.lines (map (state_of bytes) items) whole (lines_at segments index segment here) went so_far
+pub can_copy : {M : Type 0} (ram : M → Span) (hart other : Hart M) → other.core ≡ hart.core → ram other.mem ≡ ram hart.mem → CanStep ram hart → CanStep ram other
+can_copy ram hart other core mem can = record {
+  sound = rw core can.sound;
+  ram = mem ∙ can.ram ∙ sym (ap (λ core. core.map.ram) core);
+}
 
-pub hart_end : {M : Type 0} (bytes : M → Bytes) (columns : ColumnList) (segments : List Segment) (index : ℕ) (hart : Hart M) (items : List (Hart M)) (whole : List HartState) → length segments ≡ index + 1 → map (state_of bytes) items ++ guesses_of (state_of bytes hart) columns (drop index (map lines_of segments)) ≡ whole → map (state_of bytes) (items ++ hart ∷ []) ≡ whole
-hart_end bytes columns segments index hart items whole all so_far =
-    map-append (state_of bytes) items (hart ∷ [])
-    ∙ segments_end columns (state_of bytes hart) (map lines_of segments) index (map (state_of bytes) items) whole (length-map segments lines_of ∙ all) so_far
+kept_last : {M : Type 0} (bytes : M → Bytes) (items : List (Hart M)) (kept : Hart M) (before : HartState) → state_of bytes kept ≡ before → map (state_of bytes) (items ++ kept ∷ []) ≡ map (state_of bytes) items ++ before ∷ []
+kept_last bytes items kept before is =
+    map-append (state_of bytes) items (kept ∷ []) ∙ ap (λ state. map (state_of bytes) items ++ state ∷ []) is
+
+pub hart_turn : {M : Type 0} (bytes : M → Bytes) (columns : ColumnList) (segments : List Segment) (index : ℕ) (segment : Segment) (before : HartState) (kept now : Hart M) (items : List (Hart M)) (whole : List HartState) → slice_get segments index ≡ Some segment → state_of bytes kept ≡ before → state_of bytes now ≡ guess_after before (rows_of columns segment.lines) → map (state_of bytes) items ++ guesses_of before columns (drop index (map lines_of segments)) ≡ whole → map (state_of bytes) (items ++ kept ∷ []) ++ guesses_of (state_of bytes now) columns (drop (index + 1) (map lines_of segments)) ≡ whole
+hart_turn bytes columns segments index segment before kept now items whole here is_kept went so_far =
+    ap (λ done. done ++ guesses_of (state_of bytes now) columns (drop (index + 1) (map lines_of segments))) (kept_last bytes items kept before is_kept)
+    ∙ segment_turn columns before (state_of bytes now) (map lines_of segments) index segment.lines (map (state_of bytes) items) whole (lines_at segments index segment here) went so_far
+
+pub hart_end : {M : Type 0} (bytes : M → Bytes) (columns : ColumnList) (segments : List Segment) (index : ℕ) (before : HartState) (kept : Hart M) (items : List (Hart M)) (whole : List HartState) → length segments ≡ index + 1 → state_of bytes kept ≡ before → map (state_of bytes) items ++ guesses_of before columns (drop index (map lines_of segments)) ≡ whole → map (state_of bytes) (items ++ kept ∷ []) ≡ whole
+hart_end bytes columns segments index before kept items whole all is_kept so_far =
+    kept_last bytes items kept before is_kept
+    ∙ segments_end columns before (map lines_of segments) index (map (state_of bytes) items) whole (length-map segments lines_of ∙ all) so_far
 
 pub no_segment : {M : Type 0} (bytes : M → Bytes) (columns : ColumnList) (segments : List Segment) (state : HartState) (items : List (Hart M)) → items ≡ [] → length segments ≡ 0 → map (state_of bytes) items ≡ guesses_of state columns (map lines_of segments)
 unfolding guesses_of

@@ -12,7 +12,6 @@ use hart_step::Hart;
 use hart_words::{NoMemory, PhysMem};
 use rvfi_rows::{Columns, Reading, Row, Rows, Segment, read_rows};
 use std::alloc::Global;
-use std::mem::replace;
 
 /// For each segment the hart before it: the first is `start`, each other is guessed from the one
 /// before it and the rows between. The rows of the last segment are not looked at. Segments that
@@ -35,11 +34,13 @@ pub fn guesses<M: PhysMem + Drop>(
     let mut hart = start.copy()?;
     let mut row = Row::empty();
     for index in 0..segments.len() - 1 {
-        let next = hart.copy()?;
-        guesses.push(replace(&mut hart, next))?;
+        // Copies of a copy share its memory as a whole, so it is a copy that is kept.
+        let kept = hart.copy()?;
+        hart = kept.copy()?;
+        guesses.push(kept)?;
         pass_segment(alloc, &mut hart, columns, &segments[index], &mut row)?;
     }
-    guesses.push(hart)?;
+    guesses.push(hart.copy()?)?;
     Ok(guesses)
 }
 

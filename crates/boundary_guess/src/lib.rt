@@ -16,4 +16,8 @@ pub use cuts::cut;
 pub use guessing::guesses;
 
 #[cfg(test)]
+mod compiled;
+#[cfg(test)]
+mod compiled_tests;
+#[cfg(test)]
 mod tests;

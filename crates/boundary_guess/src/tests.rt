@@ -61,7 +61,7 @@ fn is_line(bytes: &[u8]) -> bool
     bytes.iter().all(|byte| *byte != b'\n')
 }
 
-fn put_line(lines: &mut Lines, line: &[u8]) -> Result<(), Fail> {
+pub(crate) fn put_line(lines: &mut Lines, line: &[u8]) -> Result<(), Fail> {
     if !is_line(line) {
         return Err(Fail::from("no line"));
     }
