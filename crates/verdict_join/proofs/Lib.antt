@@ -6,3 +6,4 @@ pub mod Turns
 pub mod Rests
 pub mod Looped
 pub mod Sameness
+pub mod Guessed

@@ -34,7 +34,7 @@ concludes bytes_of guess now rows judged same agree stands =
     end_over core = let state : HartState = record { core = core; bytes = now.bytes } in end_from by_hart state rows
 
 -- a verdict agrees just where there is a state behind it
-abbrev EndsWhereAgrees : {C : Type 0} → Verdict → Option C → Type 0
+abbrev pub EndsWhereAgrees : {C : Type 0} → Verdict → Option C → Type 0
 EndsWhereAgrees (Agrees rows valid) None = ⊥
 EndsWhereAgrees (Agrees rows valid) (Some core) = Unit {0}
 EndsWhereAgrees (Differs row difference) None = Unit {0}
@@ -54,7 +54,7 @@ ends_by_difference : {C : Type 0} (difference : Option Difference) (touched : To
 ends_by_difference None touched rest is = still_ends 1 1 rest.verdict rest.end is
 ends_by_difference (Some difference) touched rest is = tt
 
-judgement_ends : {C : Type 0} (judging : Judging C) (core : C) (rows : List RowReading) (bytes : Bytes) → EndsWhereAgrees (judgement_of judging core rows bytes).verdict (judgement_of judging core rows bytes).end
+pub judgement_ends : {C : Type 0} (judging : Judging C) (core : C) (rows : List RowReading) (bytes : Bytes) → EndsWhereAgrees (judgement_of judging core rows bytes).verdict (judgement_of judging core rows bytes).end
 unfolding judgement_of
 judgement_ends judging core [] bytes = tt
 judgement_ends judging core (Err fault ∷ rows) bytes = tt
@@ -73,7 +73,7 @@ mapped_ends f (Differs row difference) (Some a) is = is
 mapped_ends f (Refused row fault) None is = is
 mapped_ends f (Refused row fault) (Some a) is = is
 
-conclusion_ends : {C : Type 0} (judging : Judging C) (now : State C) (rows : List RowReading) → EndsWhereAgrees (conclusion_from judging now rows).verdict (conclusion_from judging now rows).end
+pub conclusion_ends : {C : Type 0} (judging : Judging C) (now : State C) (rows : List RowReading) → EndsWhereAgrees (conclusion_from judging now rows).verdict (conclusion_from judging now rows).end
 unfolding conclusion_from
 conclusion_ends judging now rows =
     let judgement = judgement_from judging now rows in

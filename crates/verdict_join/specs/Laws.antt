@@ -55,3 +55,10 @@ AllMet {C = C} judging [] now = Unit {0}
 AllMet {C = C} judging (segment ∷ segments) now =
     ((segment.guess ≡ now) × (is_some segment.found ≡ true))
     × ((behind : State C) → (conclusion_from judging now segment.rows).end ≡ Some behind → AllMet judging segments behind)
+
+-- each segment was judged, up to the first whose rows do not agree from its guess
+unfoldable pub AreJudgedInTurn : {C : Type 0} → Judging C → List (Candidate C) → Type 0
+AreJudgedInTurn {C = C} judging [] = Unit {0}
+AreJudgedInTurn {C = C} judging (segment ∷ segments) =
+    (is_some segment.found ≡ true)
+    × (is_some (judgement_from judging segment.guess segment.rows).end ≡ true → AreJudgedInTurn judging segments)

@@ -3,3 +3,4 @@ pub mod Laws
 pub mod Founds
 pub mod Joining
 pub mod Walks
+pub mod Guessed

@@ -2,10 +2,14 @@
 
 ghost use Rattle.std.specs.Prelude.{◌≡◌, ℕ, List, All};
 ghost use Rattle.hart_words.specs.States.{State};
+ghost use Rattle.rvfi_rows.specs.Columns.{ColumnList};
 ghost use Rattle.hart_step.specs.declared.state.Core.{Core};
-ghost use Rattle.segment_judge.specs.Judgements.{Judging};
+ghost use Rattle.hart_step.specs.Rows.{HartState};
+ghost use Rattle.segment_judge.specs.declared.found.Found.{Found};
+ghost use Rattle.segment_judge.specs.Judgements.{Judgement, Judging, by_hart};
+ghost use Rattle.verdict_join.specs.Guessed.{ShowsFrom, guessed_candidates};
 ghost use Rattle.verdict_join.specs.Joins.{Candidate, Sameness, joined};
-ghost use Rattle.verdict_join.specs.Laws.{AllMet, IsLawful, JoinsAnyGuesses, TellsApart, misses};
+ghost use Rattle.verdict_join.specs.Laws.{AllMet, AreJudgedInTurn, IsLawful, JoinsAnyGuesses, TellsApart, misses};
 
 /// Whatever was guessed, and whichever segments were judged from their guesses: the verdict of the
 /// join is that on all rows from the true state, and so is the state behind them.
@@ -23,6 +27,17 @@ pub fn guesses_cost_judging_again<C>()
     ensures none { (judging : Judging C) (same : Sameness C) (segments : List (Candidate C))
         (now : State C) → TellsApart same → AllMet judging segments now
         → misses judging same segments now ≡ 0 }
+{}
+
+/// A trace whose valid rows show what they change is judged once, whether they agree or not: up to
+/// the first segment that does not agree each guess is the true state, and none is judged again.
+pub fn true_guesses_cost_nothing()
+    ensures { (start : HartState) (columns : ColumnList) (pieces : List (List (List ℕ)))
+        (founds : List (Found (Judgement Core))) (same : Sameness Core)
+        → ShowsFrom start columns pieces → TellsApart same
+        → let segments = guessed_candidates start columns pieces founds in
+        All (IsLawful by_hart) segments → AreJudgedInTurn by_hart segments
+        → (joined by_hart same segments start).rejudged ≡ 0 }
 {}
 
 /// Some test tells the states of a hart apart, so that what holds of every such test says something.

@@ -18,4 +18,6 @@ pub use join::join_all;
 pub use joined::Joined;
 
 #[cfg(test)]
+mod random_tests;
+#[cfg(test)]
 mod tests;

@@ -16,13 +16,13 @@ use hart_step::{Core, Hart};
 use hart_words::{Difference, Map, Mode, PAGE_SIZE, PhysMem, Signal, Span};
 use line_text::Lines;
 use page_layers::MapMem;
-use rvfi_rows::{Columns, RowFault, Segment, Verdict, read_header, read_row};
+use rvfi_rows::{Columns, RowFault, Segment, Verdict, read_header};
 use segment_judge::{Found, Judged, What, judge};
 use std::alloc::Global;
 use std::process::Abort;
 use std::test::Fail;
 
-const CODE: u64 = 0x8000_0000;
+pub(crate) const CODE: u64 = 0x8000_0000;
 
 const DATA: u64 = 0x8000_1000;
 
@@ -33,7 +33,7 @@ fn is_line(bytes: &[u8]) -> bool
     bytes.iter().all(|byte| *byte != b'\n')
 }
 
-fn put_line(lines: &mut Lines, line: &[u8]) -> Result<(), Fail> {
+pub(crate) fn put_line(lines: &mut Lines, line: &[u8]) -> Result<(), Fail> {
     if !is_line(line) {
         return Err(Fail::from("no line"));
     }
@@ -57,7 +57,7 @@ fn is_place(ram: &Span, pa: u64, len: u8) -> bool
 }
 
 /// The number of so many bytes at an address.
-fn number_at(hart: &Hart<MapMem>, pa: u64, len: u8) -> Result<u64, Fail>
+pub(crate) fn number_at(hart: &Hart<MapMem>, pa: u64, len: u8) -> Result<u64, Fail>
     requires { CanStep (λ mem. mem.ram) hart.now }
 {
     if !is_place(&hart.core.map.ram, pa, len) {
@@ -79,7 +79,7 @@ fn put(mem: &mut MapMem, ram: &Span, pa: u64, len: u8, value: u64) -> Result<(),
 }
 
 /// What stands in memory, by address and length.
-type Number = (u64, u8, u64);
+pub(crate) type Number = (u64, u8, u64);
 
 /// A memory with the instructions from `CODE` on, and numbers.
 fn memory(alloc: Global, ram: Span, program: &[u32], numbers: &[Number]) -> Result<MapMem, Fail>
@@ -98,7 +98,11 @@ fn memory(alloc: Global, ram: Span, program: &[u32], numbers: &[Number]) -> Resu
 }
 
 /// The hart at reset at `CODE`, over such a memory.
-fn start(alloc: Global, program: &[u32], numbers: &[Number]) -> Result<Hart<MapMem>, Fail>
+pub(crate) fn start(
+    alloc: Global,
+    program: &[u32],
+    numbers: &[Number],
+) -> Result<Hart<MapMem>, Fail>
     ensures { IfOk result (CanStep (λ mem. mem.ram)) }
 {
     let ram = Span::new(CODE, 0x800_0000).ok_or("no range")?;
@@ -107,7 +111,7 @@ fn start(alloc: Global, program: &[u32], numbers: &[Number]) -> Result<Hart<MapM
 }
 
 /// Writes a register of control as M does.
-fn write(core: &mut Core, address: u16, value: u64) -> Result<(), Fail>
+pub(crate) fn write(core: &mut Core, address: u16, value: u64) -> Result<(), Fail>
     requires sound { IsSound core.old }
     ensures sound { IsSound core.new }
     ensures map { core.new.map ≡ core.old.map }
@@ -119,7 +123,7 @@ fn write(core: &mut Core, address: u16, value: u64) -> Result<(), Fail>
 
 /// What is made another in a guess.
 #[derive(Clone, Copy, Debug)]
-enum Damage {
+pub(crate) enum Damage {
     Register,
     Pc,
     Mscratch,
@@ -169,7 +173,7 @@ fn damage_hart(hart: &mut Hart<MapMem>, damage: Damage) -> Result<(), Fail>
 }
 
 /// Which guesses are damaged, by the numbers of their segments.
-type Damages<'a> = &'a [(usize, Damage)];
+pub(crate) type Damages<'a> = &'a [(usize, Damage)];
 
 fn damage_at(guesses: &mut [Hart<MapMem>], number: usize, damage: Damage) -> Result<(), Fail>
     requires within { number < length guesses.old }
@@ -211,12 +215,12 @@ fn are_few(segments: &[Segment]) -> bool
 
 /// A trace that is judged: its rows as one segment, and as several with a guess before each.
 #[derive(Drop)]
-struct Trial {
-    start: Hart<MapMem>,
-    columns: Columns,
+pub(crate) struct Trial {
+    pub start: Hart<MapMem>,
+    pub columns: Columns,
     whole: Segment,
-    segments: Vec<Segment>,
-    guesses: Vec<Hart<MapMem>>,
+    pub segments: Vec<Segment>,
+    pub guesses: Vec<Hart<MapMem>>,
     ghost one_each: { length guesses.items ≡ length segments.items },
     ghost few: { length segments.items < 2 ^ 32 },
     ghost few_lines: { length (flat_map lines_of segments.items) < 2 ^ 60 },
@@ -228,6 +232,42 @@ struct Trace<'a> {
     header: &'a [u8],
     lines: Lines,
     length: usize,
+}
+
+/// Lines, and the segments that they were cut into.
+#[derive(Drop)]
+pub(crate) struct CutLines {
+    pub whole: Lines,
+    pub segments: Vec<Segment>,
+}
+
+impl Trial {
+    /// With a guess before each segment, some of which are damaged.
+    pub fn of(
+        alloc: Global,
+        start: Hart<MapMem>,
+        columns: Columns,
+        lines: CutLines,
+        damages: Damages,
+    ) -> Result<Trial, Fail>
+        requires { CanStep (λ mem. mem.ram) start }
+        ensures start { IfOk result (λ trial. CanStep (λ mem. mem.ram) trial.start) }
+        ensures guesses { IfOk result (λ trial. All (CanStep (λ mem. mem.ram)) trial.guesses.items) }
+    {
+        let CutLines { whole, segments } = lines;
+        let mut guesses = guesses(alloc, &start, &columns, &segments)?;
+        damage_guesses(&mut guesses, damages)?;
+        if guesses.len() != segments.len() || !are_few(&segments) {
+            return Err(Fail::from("too many segments"));
+        }
+        Ok(Trial {
+            start,
+            columns,
+            whole: Segment::new(whole),
+            segments,
+            guesses,
+        })
+    }
 }
 
 fn prepared(
@@ -245,23 +285,16 @@ fn prepared(
         return Err(Fail::from("no length"));
     }
     let segments = cut(alloc, &trace.lines, trace.length)?;
-    let mut guesses = guesses(alloc, &start, &columns, &segments)?;
-    damage_guesses(&mut guesses, damages)?;
-    if guesses.len() != segments.len() || !are_few(&segments) {
-        return Err(Fail::from("too many segments"));
-    }
-    Ok(Trial {
-        start,
-        columns,
-        whole: Segment::new(trace.lines),
+    let lines = CutLines {
+        whole: trace.lines,
         segments,
-        guesses,
-    })
+    };
+    Trial::of(alloc, start, columns, lines, damages)
 }
 
 /// Of which segment something is found, and what.
 #[derive(Clone, Copy, Debug)]
-enum Find {
+pub(crate) enum Find {
     Judges(u32),
     Skips(u32),
 }
@@ -339,7 +372,7 @@ fn hold_same_end(
 
 /// The join comes to the verdict, and so does the judging of all rows as one segment, with the same
 /// hart behind them. How many segments were judged again.
-fn hold_joined(
+pub(crate) fn hold_joined(
     rt: &impl Abort,
     alloc: Global,
     trial: &Trial,
@@ -671,234 +704,5 @@ fn walks_page_tables_again(rt: HostRuntime) -> Result<(), Fail> {
         let trial = prepared(alloc, translated(alloc)?, trace_of(alloc, &rows)?, &[])?;
         assert_eq!(rt; join_each(&rt, alloc, &trial)?, (agrees(4), rejudged));
     }
-    Ok(())
-}
-
-/// Numbers that look random, one after another.
-#[derive(Drop)]
-struct Dice {
-    state: u64,
-}
-
-impl Dice {
-    fn roll(&mut self, sides: u64) -> u64
-        requires { 0 < sides }
-        ensures { result < sides }
-    {
-        self.state = self
-            .state
-            .wrapping_mul(0x5851_f42d_4c95_7f2d)
-            .wrapping_add(0x1405_7b7e_f767_814f);
-        (self.state >> 33) % sides
-    }
-}
-
-/// An instruction, the register that it writes, where it reads or writes memory, and the register
-/// that it stores there.
-#[derive(Clone, Copy)]
-struct Kind {
-    word: u32,
-    rd: u8,
-    place: u64,
-    stores: Option<u8>,
-}
-
-/// What x10 has.
-const PLACE: u64 = CODE + 0x80;
-
-/// ADDI x1, x1, 1; ADDI x2, x2, 3; ADD x3, x1, x2; LD x1, 0(x10); LD x2, 8(x10); SD x1, 0(x10);
-/// SD x2, 8(x10); SD x3, 0(x10).
-const KINDS: [Kind; 8] = [
-    Kind {
-        word: 0x0010_8093,
-        rd: 1,
-        place: 0,
-        stores: None,
-    },
-    Kind {
-        word: 0x0031_0113,
-        rd: 2,
-        place: 0,
-        stores: None,
-    },
-    Kind {
-        word: 0x0020_81b3,
-        rd: 3,
-        place: 0,
-        stores: None,
-    },
-    Kind {
-        word: 0x0005_3083,
-        rd: 1,
-        place: PLACE,
-        stores: None,
-    },
-    Kind {
-        word: 0x0085_3103,
-        rd: 2,
-        place: PLACE + 8,
-        stores: None,
-    },
-    Kind {
-        word: 0x0015_3023,
-        rd: 0,
-        place: PLACE,
-        stores: Some(1),
-    },
-    Kind {
-        word: 0x0025_3423,
-        rd: 0,
-        place: PLACE + 8,
-        stores: Some(2),
-    },
-    Kind {
-        word: 0x0035_3023,
-        rd: 0,
-        place: PLACE,
-        stores: Some(3),
-    },
-];
-
-const COLUMNS: &[u8] = b"insn,pc_rdata,rd_addr,rd_wdata,mem_addr,mem_wmask,mem_wdata";
-
-/// Adds a number in hexadecimal digits.
-fn put_number(line: &mut Vec<u8>, number: u64) -> Result<(), Fail> {
-    line.extend_from_slice(b"0x")?;
-    'digits: for place in 0..16u32 {
-        let digit = (number >> (60 - 4 * place)) % 16;
-        line.push(b"0123456789abcdef"[digit as usize])?;
-    }
-    Ok(())
-}
-
-/// A row that shows the instruction and its address, and nothing else yet.
-fn bare_row(alloc: Global, kind: Kind, pc: u64) -> Result<Vec<u8>, Fail> {
-    let mut line = Vec::new(alloc);
-    put_number(&mut line, u64::from(kind.word))?;
-    line.push(b',')?;
-    put_number(&mut line, pc)?;
-    Ok(line)
-}
-
-/// Adds what the hart did, or nothing; seldom another number than it wrote.
-fn put_shown(
-    line: &mut Vec<u8>,
-    hart: &Hart<MapMem>,
-    kind: Kind,
-    dice: &mut Dice,
-) -> Result<(), Fail> {
-    if dice.roll(3) == 0 {
-        line.extend_from_slice(b",,,,,")?;
-        return Ok(());
-    }
-    let wrong = if dice.roll(24) == 0 { 1 } else { 0 };
-    let written = hart.core.registers.get(kind.rd) ^ wrong;
-    let (mask, stored) = match kind.stores {
-        None => (0, 0),
-        Some(source) => (0xff, hart.core.registers.get(source)),
-    };
-    'fields: for field in [u64::from(kind.rd), written, kind.place, mask, stored] {
-        line.push(b',')?;
-        put_number(line, field)?;
-    }
-    Ok(())
-}
-
-/// The rows of the instructions, as the hart runs them.
-fn run_rows(
-    alloc: Global,
-    mut hart: Hart<MapMem>,
-    kinds: &[Kind],
-    dice: &mut Dice,
-) -> Result<Lines, Fail>
-    requires { CanStep (λ mem. mem.ram) hart }
-{
-    let columns = read_header(alloc, b"insn,pc_rdata")?;
-    let mut lines = Lines::new(alloc);
-    'kinds: for kind in kinds {
-        let mut line = bare_row(alloc, *kind, hart.core.pc)?;
-        let row = read_row(alloc, &columns, &line)?.ok_or("the row is valid")?;
-        hart.step(&row)?;
-        put_shown(&mut line, &hart, *kind, dice)?;
-        put_line(&mut lines, &line)?;
-    }
-    Ok(lines)
-}
-
-/// Two to nine instructions.
-fn roll_kinds(alloc: Global, dice: &mut Dice) -> Result<Vec<Kind>, Fail> {
-    let mut kinds = Vec::new(alloc);
-    'kinds: for _ in 0..2 + dice.roll(8) {
-        kinds.push(KINDS[dice.roll(8) as usize])?;
-    }
-    Ok(kinds)
-}
-
-/// Another damage of about every third guess.
-fn roll_damages(alloc: Global, dice: &mut Dice) -> Result<Vec<(usize, Damage)>, Fail> {
-    let damages = [
-        Damage::Register,
-        Damage::Pc,
-        Damage::Order,
-        Damage::Trapped,
-        Damage::Halted,
-        Damage::Byte(CODE + 4),
-        Damage::Byte(PLACE + 1),
-        Damage::Byte(PLACE + 8),
-    ];
-    let mut rolled = Vec::new(alloc);
-    'guesses: for number in 0..9usize {
-        if dice.roll(3) == 0 {
-            rolled.push((number, damages[dice.roll(8) as usize]))?;
-        }
-    }
-    Ok(rolled)
-}
-
-/// What is found of some segments, in any order, of some of them twice.
-fn roll_finds(alloc: Global, count: usize, dice: &mut Dice) -> Result<Vec<Find>, Fail> {
-    let mut finds = Vec::new(alloc);
-    'finds: for _ in 0..count {
-        let seg = dice.roll(9) as u32;
-        if (seg as usize) < count {
-            finds.push(Find::Judges(seg))?;
-        }
-    }
-    Ok(finds)
-}
-
-#[test]
-fn joins_as_one_hart(rt: HostRuntime) -> Result<(), Fail> {
-    let alloc = rt.alloc();
-    let mut dice = Dice { state: 1 };
-    let mut agreeing: u32 = 0;
-    let mut adopting: u32 = 0;
-    'traces: for _ in 0..300 {
-        let kinds = roll_kinds(alloc, &mut dice)?;
-        let mut words = Vec::new(alloc);
-        for kind in &kinds {
-            words.push(kind.word)?;
-        }
-        let mut hart = start(alloc, &words, &[(PLACE, 8, HELD)])?;
-        hart.core.registers.set(10, PLACE);
-        let trace = Trace {
-            header: COLUMNS,
-            lines: run_rows(alloc, hart.copy()?, &kinds, &mut dice)?,
-            length: 1 + dice.roll(5) as usize,
-        };
-        let damages = roll_damages(alloc, &mut dice)?;
-        let trial = prepared(alloc, hart, trace, &damages)?;
-        let finds = roll_finds(alloc, trial.segments.len(), &mut dice)?;
-        let (verdict, rejudged) = hold_joined(&rt, alloc, &trial, &finds)?;
-        if let Verdict::Agrees { .. } = verdict {
-            agreeing = agreeing.saturating_add(1);
-            if (rejudged as usize) < trial.segments.len() {
-                adopting = adopting.saturating_add(1);
-            }
-        }
-    }
-    // Most traces agree, some do not, and of many a segment is adopted.
-    assert!(rt; 150 < agreeing && agreeing < 300, "{agreeing}");
-    assert!(rt; 50 < adopting && adopting < agreeing, "{adopting}");
     Ok(())
 }

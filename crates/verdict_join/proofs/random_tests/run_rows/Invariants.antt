@@ -1,9 +1,9 @@
 use Rattle.std.proofs.Common.{◌≡◌}
 use Rattle.hart_step.specs.Cores.{IsSound}
-use Rattle.verdict_join.proofs.tests.run_rows.Given as goal
+use Rattle.verdict_join.proofs.random_tests.run_rows.Given as goal
 
-abbrev pub invariant-kinds : goal.invariant-kinds
-invariant-kinds l = record {
+abbrev pub invariant-rows : goal.invariant-rows
+invariant-rows l = record {
   sound : IsSound l.hart.core;
   ram : l.hart.mem.ram ≡ l.hart.core.map.ram;
 }
