@@ -3,3 +3,4 @@ pub mod Finding
 pub mod Gathering
 pub mod Seats
 pub mod Leaving
+pub mod Turns

@@ -17,7 +17,7 @@ use Rattle.verdict_board.specs.declared.view.View.{View}
 use Rattle.verdict_board.specs.Seats.{LeavesAll}
 use Rattle.verdict_join.specs.Founds.{Leaves}
 use Rattle.verdict_join.specs.Joining.{found_of, rows_in}
-use Rattle.segment_workers.specs.Runs.{IsFoundBy}
+use Rattle.segment_workers.specs.Runs.{ArePosted, FoundBelow, HasReason, IsFoundBy}
 
 -- what a run was given, and what came of it: what was found, and the view of the seat of all workers
 pub record Ran (M : Type 0) : Type 0 where
@@ -31,7 +31,10 @@ pub record Ran (M : Type 0) : Type 0 where
 pub record IsPromised {M : Type 0} (bytes_of : M → Bytes) (ram_of : M → Span) (ran : Ran M) : Type 0 where
   pub one_each : length ran.guesses ≡ length ran.segments
   pub lawful : All (IsLawfulFound bytes_of ram_of ran.columns ran.segments ran.guesses) ran.founds
+  pub once : FoundBelow (length ran.segments) ran.founds
   pub by : All (IsFoundBy ran.view) ran.founds
+  pub reasons : All (HasReason ran.view.posts) ran.founds
+  pub posted : ArePosted ran.founds ran.view.posts
 
 -- events leave what was found, as the definitions have it
 abbrev pub LeavesFounds : {M : Type 0} → (M → Bytes) → Ran M → List Event → Type 0
