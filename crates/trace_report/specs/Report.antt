@@ -1,5 +1,5 @@
 -- The text and the status that a run ends with.
-use Rattle.std.specs.Prelude.{ℕ, List, ◌++◌, codes, decimal}
+use Rattle.std.specs.Prelude.{ℕ, List, [], ◌++◌, Option, Some, None, codes, decimal}
 use Rattle.hart_words.specs.declared.signal.Signal.{Signal}
 use Rattle.hart_words.specs.declared.signal.Difference.{Difference}
 use Rattle.hart_words.specs.SignalNames.{name_of}
@@ -13,7 +13,9 @@ use Rattle.rvfi_rows.specs.declared.fault.RowFault.TheVariants as row
 use Rattle.rvfi_rows.specs.declared.verdict.Verdict.{Verdict}
 use Rattle.rvfi_rows.specs.declared.verdict.Verdict.TheVariants.{Agrees, Differs, Refused}
 use Rattle.trace_report.specs.declared.outcome.Outcome.{Outcome}
-use Rattle.trace_report.specs.declared.outcome.Outcome.TheVariants as outcomes
+use Rattle.trace_report.specs.declared.outcome.Made.{Made}
+use Rattle.trace_report.specs.declared.outcome.Ruling.{Ruling}
+use Rattle.trace_report.specs.declared.outcome.Ruling.TheVariants as rulings
 use Rattle.trace_report.specs.Numerals.{hexadecimal}
 
 -- what a fault of an image is called
@@ -65,18 +67,28 @@ verdict_text (Differs row difference) =
 verdict_text (Refused row fault) =
     codes "refused trace: row " ++ decimal row ++ row_fault_text fault
 
+-- the line for a ruling
+unfoldable pub ruling_text : Ruling → List ℕ
+ruling_text rulings.NoJob = codes "refused words\n"
+ruling_text (rulings.ImageTooLarge most) =
+    codes "refused image: more than " ++ decimal most ++ codes " bytes\n"
+ruling_text (rulings.ImageFault fault) = image_fault_text fault
+ruling_text rulings.NoHeader = codes "refused trace: no header\n"
+ruling_text (rulings.HeaderFault fault) = header_fault_text fault
+ruling_text (rulings.TooLong line) = codes "refused trace: line " ++ decimal line ++ codes " too long\n"
+ruling_text (rulings.TraceTooLarge most) =
+    codes "refused trace: more than " ++ decimal most ++ codes " bytes\n"
+ruling_text (rulings.Verdict verdict) = verdict_text verdict
+
+-- the two numbers of what was made go before the line
+abbrev pub made_text : Option Made → List ℕ
+made_text None = []
+made_text (Some made) =
+    codes "made " ++ decimal made.number ++ codes " " ++ decimal made.rows ++ codes ": "
+
 -- the one line of an outcome
 unfoldable pub report_of : Outcome → List ℕ
-report_of outcomes.NoJob = codes "refused words\n"
-report_of (outcomes.ImageTooLarge most) =
-    codes "refused image: more than " ++ decimal most ++ codes " bytes\n"
-report_of (outcomes.ImageFault fault) = image_fault_text fault
-report_of outcomes.NoHeader = codes "refused trace: no header\n"
-report_of (outcomes.HeaderFault fault) = header_fault_text fault
-report_of (outcomes.TooLong line) = codes "refused trace: line " ++ decimal line ++ codes " too long\n"
-report_of (outcomes.TraceTooLarge most) =
-    codes "refused trace: more than " ++ decimal most ++ codes " bytes\n"
-report_of (outcomes.Verdict verdict) = verdict_text verdict
+report_of outcome = made_text outcome.made ++ ruling_text outcome.ruling
 
 -- the status of a verdict
 abbrev pub verdict_status : Verdict → ℕ
@@ -85,12 +97,15 @@ verdict_status (Differs row difference) = 1
 verdict_status (Refused row fault) = 4
 
 -- 0 agrees, 1 differs, 2 refused words, 3 refused image, 4 refused trace
+abbrev pub ruling_status : Ruling → ℕ
+ruling_status rulings.NoJob = 2
+ruling_status (rulings.ImageTooLarge most) = 3
+ruling_status (rulings.ImageFault fault) = 3
+ruling_status rulings.NoHeader = 4
+ruling_status (rulings.HeaderFault fault) = 4
+ruling_status (rulings.TooLong line) = 4
+ruling_status (rulings.TraceTooLarge most) = 4
+ruling_status (rulings.Verdict verdict) = verdict_status verdict
+
 abbrev pub status_of : Outcome → ℕ
-status_of outcomes.NoJob = 2
-status_of (outcomes.ImageTooLarge most) = 3
-status_of (outcomes.ImageFault fault) = 3
-status_of outcomes.NoHeader = 4
-status_of (outcomes.HeaderFault fault) = 4
-status_of (outcomes.TooLong line) = 4
-status_of (outcomes.TraceTooLarge most) = 4
-status_of (outcomes.Verdict verdict) = verdict_status verdict
+status_of outcome = ruling_status outcome.ruling

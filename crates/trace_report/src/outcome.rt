@@ -1,14 +1,14 @@
 //! What a run of the judge comes to, and its status.
 
 ghost use Rattle.std.specs.Prelude.{◌≡◌};
-ghost use Rattle.trace_report.specs.Report.{status_of};
+ghost use Rattle.trace_report.specs.Report.{ruling_status, status_of};
 
 use image_text::ImageFault;
 use rvfi_rows::{HeaderFault, Verdict};
 
-/// What a run of the judge comes to.
+/// What is ruled of words, an image and a trace.
 #[derive(Clone, Copy, Debug, PartialEq, Eq)]
-pub enum Outcome {
+pub enum Ruling {
     /// The words are no command.
     NoJob,
     /// The image has more bytes than `most`.
@@ -27,20 +27,41 @@ pub enum Outcome {
     Verdict(Verdict),
 }
 
+/// The two numbers of an image and a trace that were made.
+#[derive(Clone, Copy, Debug, PartialEq, Eq)]
+pub struct Made {
+    pub number: u32,
+    pub rows: u32,
+}
+
+/// What a run of the judge comes to: the ruling, and of what was made, where it was.
+#[derive(Clone, Copy, Debug, PartialEq, Eq)]
+pub struct Outcome {
+    pub made: Option<Made>,
+    pub ruling: Ruling,
+}
+
 /// The status of an outcome: 0 where the trace agrees, 1 where it differs, 2 for refused words, 3
 /// for a refused image, 4 for a refused trace.
 pub fn status(outcome: &Outcome) -> u8
     ensures { result ≡ status_of outcome.now }
 {
-    match outcome {
-        Outcome::NoJob => 2,
-        Outcome::ImageTooLarge { .. } | Outcome::ImageFault(_) => 3,
-        Outcome::NoHeader
-        | Outcome::HeaderFault(_)
-        | Outcome::TooLong { .. }
-        | Outcome::TraceTooLarge { .. }
-        | Outcome::Verdict(Verdict::Refused { .. }) => 4,
-        Outcome::Verdict(Verdict::Agrees { .. }) => 0,
-        Outcome::Verdict(Verdict::Differs { .. }) => 1,
+    ruling_status(&outcome.ruling)
+}
+
+/// The status of a ruling.
+fn ruling_status(ruling: &Ruling) -> u8
+    ensures { result ≡ ruling_status ruling.now }
+{
+    match ruling {
+        Ruling::NoJob => 2,
+        Ruling::ImageTooLarge { .. } | Ruling::ImageFault(_) => 3,
+        Ruling::NoHeader
+        | Ruling::HeaderFault(_)
+        | Ruling::TooLong { .. }
+        | Ruling::TraceTooLarge { .. }
+        | Ruling::Verdict(Verdict::Refused { .. }) => 4,
+        Ruling::Verdict(Verdict::Agrees { .. }) => 0,
+        Ruling::Verdict(Verdict::Differs { .. }) => 1,
     }
 }

@@ -14,40 +14,40 @@ fn reports_outcomes(rt: HostRuntime) -> Result<(), Fail> {
         found: 0xfedc_ba98_7654_3210,
     };
     let cases = [
-        (Outcome::NoJob, 2, b"refused words\n".as_slice()),
+        (Ruling::NoJob, 2, b"refused words\n".as_slice()),
         (
-            Outcome::ImageTooLarge { most: 5 },
+            Ruling::ImageTooLarge { most: 5 },
             3,
             b"refused image: more than 5 bytes\n",
         ),
         (
-            Outcome::ImageFault(ImageFault { kind, line: 7 }),
+            Ruling::ImageFault(ImageFault { kind, line: 7 }),
             3,
             b"refused image: line 7: outside RAM\n",
         ),
-        (Outcome::NoHeader, 4, b"refused trace: no header\n"),
+        (Ruling::NoHeader, 4, b"refused trace: no header\n"),
         (
-            Outcome::HeaderFault(HeaderFault::Twice(Signal::Insn)),
+            Ruling::HeaderFault(HeaderFault::Twice(Signal::Insn)),
             4,
             b"refused trace: column insn twice\n",
         ),
         (
-            Outcome::TooLong { line: 2 },
+            Ruling::TooLong { line: 2 },
             4,
             b"refused trace: line 2 too long\n",
         ),
         (
-            Outcome::TraceTooLarge { most: u64::MAX },
+            Ruling::TraceTooLarge { most: u64::MAX },
             4,
             b"refused trace: more than 18446744073709551615 bytes\n",
         ),
         (
-            Outcome::Verdict(Verdict::Agrees { rows: 3, valid: 2 }),
+            Ruling::Verdict(Verdict::Agrees { rows: 3, valid: 2 }),
             0,
             b"agrees 2\n",
         ),
         (
-            Outcome::Verdict(Verdict::Refused {
+            Ruling::Verdict(Verdict::Refused {
                 row: 9,
                 fault: wide,
             }),
@@ -55,14 +55,32 @@ fn reports_outcomes(rt: HostRuntime) -> Result<(), Fail> {
             b"refused trace: row 9: csr_mscratch_wdata too wide\n",
         ),
         (
-            Outcome::Verdict(Verdict::Differs { row: 2, difference }),
+            Ruling::Verdict(Verdict::Differs { row: 2, difference }),
             1,
             b"differs row 2: rd_wdata expected 0x0000000000000005 found 0xfedcba9876543210\n",
         ),
     ];
-    for (outcome, number, line) in cases {
+    for (ruling, number, line) in cases {
+        let outcome = Outcome { made: None, ruling };
         assert_eq!(rt; status(&outcome), number);
         assert_eq!(rt; report(&outcome).as_slice(), line);
     }
+    Ok(())
+}
+
+#[test]
+fn reports_what_was_made(rt: HostRuntime) -> Result<(), Fail> {
+    let made = Some(Made {
+        number: u32::MAX,
+        rows: 10,
+    });
+    let ruling = Ruling::Verdict(Verdict::Agrees {
+        rows: 10,
+        valid: 10,
+    });
+    let outcome = Outcome { made, ruling };
+    assert_eq!(rt; status(&outcome), 0);
+    let line = b"made 4294967295 10: agrees 10\n".as_slice();
+    assert_eq!(rt; report(&outcome).as_slice(), line);
     Ok(())
 }

@@ -2,13 +2,17 @@
 
 ghost use Rattle.std.specs.Prelude.{◌≡◌, ◌≤◌, ◌+◌, ◌++◌, length};
 ghost use Rattle.hart_words.specs.SignalNames.{name_of};
-ghost use Rattle.trace_report.specs.Report.{report_of, kind_text, image_fault_text, header_fault_text, row_fault_text, column_text, difference_text, verdict_text};
+ghost use Rattle.trace_report.specs.declared.wording.TheConstants.{MOST_LINE};
+ghost use Rattle.trace_report.specs.Report.{report_of, made_text, ruling_text, kind_text, image_fault_text, header_fault_text, row_fault_text, column_text, difference_text, verdict_text};
 
-use crate::outcome::Outcome;
+use crate::outcome::{Made, Outcome, Ruling};
 use crate::text::Text;
 use hart_words::{Difference, Signal};
 use image_text::{FaultKind, ImageFault};
 use rvfi_rows::{HeaderFault, RowFault, Verdict};
+
+/// The most bytes of the line for a ruling; what goes before it has at most 50.
+const MOST_LINE: usize = 140;
 
 /// The text of an outcome: one line that ends in a line feed, at most 192 bytes. Values are `0x`
 /// and 16 hexadecimal digits, all other numbers decimal. It takes no memory.
@@ -17,27 +21,57 @@ pub fn report(outcome: &Outcome) -> Text
     ensures { result ≡ report_of outcome.now }
 {
     let mut text = Text::new();
-    match outcome {
-        Outcome::NoJob => text.put(b"refused words\n"),
-        Outcome::ImageTooLarge { most } => {
+    put_made(&mut text, outcome.made);
+    text.put(ruling_line(&outcome.ruling).as_slice());
+    text
+}
+
+/// Appends the two numbers of what was made.
+fn put_made(text: &mut Text, made: Option<Made>)
+    requires { length text.old ≤ 0 }
+    ensures bytes { text.new ≡ text.old ++ made_text made }
+    ensures short { length text.new ≤ 50 }
+{
+    match made {
+        None => {}
+        Some(made) => {
+            text.put(b"made ");
+            text.put_decimal(u64::from(made.number));
+            text.put(b" ");
+            text.put_decimal(u64::from(made.rows));
+            text.put(b": ");
+        }
+    }
+}
+
+/// The line for a ruling.
+#[tactic(auto, unfolding(crate::specs::Report::ruling_text))]
+fn ruling_line(ruling: &Ruling) -> Text
+    ensures text { result ≡ ruling_text ruling.now }
+    ensures short { length result ≤ MOST_LINE }
+{
+    let mut text = Text::new();
+    match ruling {
+        Ruling::NoJob => text.put(b"refused words\n"),
+        Ruling::ImageTooLarge { most } => {
             text.put(b"refused image: more than ");
             text.put_decimal(*most);
             text.put(b" bytes\n");
         }
-        Outcome::ImageFault(fault) => put_image_fault(&mut text, *fault),
-        Outcome::NoHeader => text.put(b"refused trace: no header\n"),
-        Outcome::HeaderFault(fault) => put_header_fault(&mut text, *fault),
-        Outcome::TooLong { line } => {
+        Ruling::ImageFault(fault) => put_image_fault(&mut text, *fault),
+        Ruling::NoHeader => text.put(b"refused trace: no header\n"),
+        Ruling::HeaderFault(fault) => put_header_fault(&mut text, *fault),
+        Ruling::TooLong { line } => {
             text.put(b"refused trace: line ");
             text.put_decimal(*line);
             text.put(b" too long\n");
         }
-        Outcome::TraceTooLarge { most } => {
+        Ruling::TraceTooLarge { most } => {
             text.put(b"refused trace: more than ");
             text.put_decimal(*most);
             text.put(b" bytes\n");
         }
-        Outcome::Verdict(verdict) => put_verdict(&mut text, *verdict),
+        Ruling::Verdict(verdict) => put_verdict(&mut text, *verdict),
     }
     text
 }
@@ -45,7 +79,8 @@ pub fn report(outcome: &Outcome) -> Text
 #[tactic(auto, unfolding(crate::specs::Report::image_fault_text))]
 fn put_image_fault(text: &mut Text, fault: ImageFault)
     requires { length text.old ≤ 0 }
-    ensures { text.new ≡ text.old ++ image_fault_text fault }
+    ensures text { text.new ≡ text.old ++ image_fault_text fault }
+    ensures short { length text.new ≤ MOST_LINE }
 {
     text.put(b"refused image: line ");
     text.put_decimal(fault.line);
@@ -80,7 +115,8 @@ fn put_name(text: &mut Text, signal: Signal)
 #[tactic(auto, unfolding(crate::specs::Report::header_fault_text))]
 fn put_header_fault(text: &mut Text, fault: HeaderFault)
     requires { length text.old ≤ 0 }
-    ensures { text.new ≡ text.old ++ header_fault_text fault }
+    ensures text { text.new ≡ text.old ++ header_fault_text fault }
+    ensures short { length text.new ≤ MOST_LINE }
 {
     match fault {
         HeaderFault::StrayReturn => text.put(b"refused trace: stray return in header\n"),
@@ -100,7 +136,8 @@ fn put_header_fault(text: &mut Text, fault: HeaderFault)
 #[tactic(auto, unfolding(crate::specs::Report::row_fault_text))]
 fn put_row_fault(text: &mut Text, fault: RowFault)
     requires { length text.old ≤ 40 }
-    ensures { text.new ≡ text.old ++ row_fault_text fault }
+    ensures text { text.new ≡ text.old ++ row_fault_text fault }
+    ensures short { length text.new ≤ MOST_LINE }
 {
     match fault {
         RowFault::StrayReturn => text.put(b": stray return\n"),
@@ -114,7 +151,8 @@ fn put_row_fault(text: &mut Text, fault: RowFault)
 fn put_column(text: &mut Text, signal: Signal, end: &[u8])
     requires short { length text.old ≤ 60 }
     requires end { length end.now ≤ 20 }
-    ensures { text.new ≡ text.old ++ column_text signal end.now }
+    ensures text { text.new ≡ text.old ++ column_text signal end.now }
+    ensures short { length text.new ≤ MOST_LINE }
 {
     text.put(b": ");
     put_name(text, signal);
@@ -124,7 +162,8 @@ fn put_column(text: &mut Text, signal: Signal, end: &[u8])
 #[tactic(auto, unfolding(crate::specs::Report::difference_text))]
 fn put_difference(text: &mut Text, difference: Difference)
     requires { length text.old ≤ 40 }
-    ensures { text.new ≡ text.old ++ difference_text difference }
+    ensures text { text.new ≡ text.old ++ difference_text difference }
+    ensures short { length text.new ≤ MOST_LINE }
 {
     text.put(b": ");
     put_name(text, difference.signal);
@@ -138,7 +177,8 @@ fn put_difference(text: &mut Text, difference: Difference)
 #[tactic(auto, unfolding(crate::specs::Report::verdict_text))]
 fn put_verdict(text: &mut Text, verdict: Verdict)
     requires { length text.old ≤ 0 }
-    ensures { text.new ≡ text.old ++ verdict_text verdict }
+    ensures text { text.new ≡ text.old ++ verdict_text verdict }
+    ensures short { length text.new ≤ MOST_LINE }
 {
     match verdict {
         Verdict::Agrees { valid, .. } => {
