@@ -10,12 +10,12 @@ use Rattle.clap.specs.declared.builder.command.Command.TheViews.{out-Command}
 use Rattle.clap.specs.declared.error.Error.{Error}
 use Rattle.clap.specs.declared.error.kind.ErrorKind.TheVariants.{OutOfMemory}
 use Rattle.clap.proofs.OnLiterals.{clap_on_literals}
-use Rattle.judge_words.specs.Commands.{entered_by, judge_line, unless_refused}
+use Rattle.judge_words.specs.Commands.{entered_by, command_line, unless_refused}
 
 -- clap's definition is exact of this command line
-pub judge_line-is_simple : is_simple_and_free judge_line ≡ true
-unfolding judge_line clap_on_literals
-judge_line-is_simple = refl
+pub command_line-is_simple : is_simple_and_free command_line ≡ true
+unfolding command_line clap_on_literals
+command_line-is_simple = refl
 
 -- one argument more, where none is global
 pub adds_rule : (old new : Command) (arg : Arg) (app : App) (rule : Rule) → AddsArg old arg new

@@ -1,8 +1,11 @@
 -- The command line that the judge takes, as the crate `clap` reads it.
-use Rattle.std.specs.Prelude.{List, [], ◌∷◌, Option, Some, None, true, codes, fold, if◌then◌else◌}
+use Rattle.std.specs.Prelude.{◌≡◌, List, [], ◌∷◌, Option, Some, None, true, false, codes, fold, if◌then◌else◌}
 use Rattle.std.specs.Str.{bytes_eq}
 use Rattle.clap.specs.Walk.{Row, Rule, Text}
 use Rattle.clap.specs.Simple.{App, new_app, new_rule, subcommand_of, with_rule, with_subcommand}
+use Rattle.clap.specs.Words.{app_of}
+use Rattle.clap.specs.declared.builder.command.Command.{Command}
+use Rattle.clap.specs.declared.builder.command.Command.TheViews.{out-Command}
 use Rattle.clap.specs.Faults.{fault_of}
 use Rattle.clap.specs.Kinds.{Kinds}
 
@@ -18,24 +21,49 @@ option_or name default = record (new_rule name) { long = Some name; defaults = d
 abbrev pub option_of : Text → Rule
 option_of name = record (new_rule name) { long = Some name }
 
--- what may follow the word `judge`
-abbrev pub judge_rules : List Rule
-judge_rules =
+-- how the work is shared out
+abbrev pub sharing_rules : List Rule
+sharing_rules =
+    option_or (codes "workers") (codes "4")
+    ∷ option_or (codes "segment") (codes "4096")
+    ∷ option_or (codes "window") (codes "64")
+    ∷ []
+
+-- a command with what may follow its name, and how its work is shared out
+abbrev pub with_rules : App → List Rule → App
+with_rules command rules = fold with_rule command rules
+
+-- `judge`, with the names of two files
+abbrev pub judge_command : App
+judge_command =
+    with_rules (with_rules (new_app (codes "judge")) (
     required_word (codes "image")
     ∷ required_word (codes "trace")
     ∷ option_or (codes "pc") (codes "0x80000000")
     ∷ option_or (codes "ram") (codes "0x80000000:0x8000000")
     ∷ option_of (codes "io")
     ∷ option_or (codes "max-image") (codes "0x40000000")
-    ∷ option_or (codes "max-trace") (codes "0x40000000")
-    ∷ option_or (codes "workers") (codes "4")
-    ∷ option_or (codes "segment") (codes "4096")
+    ∷ option_or (codes "max-trace") (codes "0x10000000000")
     ∷ []
+    )) sharing_rules
+
+-- `make`, with two numbers
+abbrev pub make_command : App
+make_command =
+    with_rules (with_rules (new_app (codes "make")) (
+    required_word (codes "number")
+    ∷ required_word (codes "rows")
+    ∷ []
+    )) sharing_rules
+
+-- a command in code is this one, with no option that other commands take too
+abbrev pub IsCommand : App → Command → Type 0
+IsCommand app command = (app_of command ≡ app) × ((out-Command command).has_globals ≡ false)
 
 -- the program's command line: its name, a command, what that command takes
-unfoldable pub judge_line : App
-judge_line =
-    with_subcommand (new_app (codes "rvjudge")) (fold with_rule (new_app (codes "judge")) judge_rules).top
+unfoldable pub command_line : App
+command_line =
+    with_subcommand (with_subcommand (new_app (codes "rvjudge")) judge_command.top) make_command.top
 
 -- what is found where there is no kind of error
 abbrev pub unless_refused : {X : Type 0} → Kinds → Option X → Option X

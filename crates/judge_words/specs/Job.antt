@@ -2,65 +2,100 @@
 use Rattle.std.specs.Prelude.{◌≡◌, ◌≤◌, ◌%◌, ℕ, List, Option, Some, None, Result, Ok, Err, codes, string_bytes}
 use Rattle.hart_words.specs.declared.map.Map.{Map}
 use Rattle.hart_words.specs.Map.{map_of}
+use Rattle.hart_words.specs.Spans.{span_of}
 use Rattle.clap.specs.Walk.{Row, first_of}
-use Rattle.judge_words.specs.Commands.{entered_by, given_to, judge_line}
-use Rattle.judge_words.specs.Values.{◌>>=◌, even_in, span_in, io_in, limit_in, workers_in, segment_in}
-use Rattle.judge_words.specs.declared.values.TheConstants.{MOST_BYTES, MOST_WORKERS, MOST_LINES}
+use Rattle.judge_words.specs.Commands.{command_line, entered_by, given_to}
+use Rattle.judge_words.specs.Values.{◌>>=◌, even_in, span_in, io_in, image_limit_in, trace_limit_in, workers_in, segment_in, window_in, made_number_in, made_rows_in}
+use Rattle.judge_words.specs.declared.values.TheConstants.{FIRST_PC, RAM_BASE, RAM_SIZE, MOST_IMAGE_BYTES, MOST_TRACE_BYTES, MOST_WORKERS, MOST_LINES, MOST_SEGMENTS, MOST_MADE_NUMBER, MOST_MADE_ROWS}
+use Rattle.judge_words.specs.declared.job.Sharing.{Sharing}
+use Rattle.judge_words.specs.declared.job.Texts.{Texts}
+use Rattle.judge_words.specs.declared.job.Texts.TheVariants.{Files, Made}
 use Rattle.judge_words.specs.declared.job.Job.{Job}
 use Rattle.judge_words.specs.declared.job.WordError.{WordError}
 use Rattle.judge_words.specs.declared.job.WordError.TheVariants.{NotAJob, NoMemory}
 
--- the names of two files, the address of the first instruction, the map, the most bytes of each file,
--- how many workers there are, and how many lines a segment has at most
+-- where the texts of image and trace come from, the address of the first instruction, the map, the
+-- most bytes of either text, and how the work is shared out
 pub record JobView : Type 0 where
-  pub image : List ℕ
-  pub trace : List ℕ
+  pub texts : Texts (List ℕ)
   pub pc : ℕ
   pub map : Map
   pub max_image : ℕ
   pub max_trace : ℕ
-  pub workers : ℕ
-  pub segment : ℕ
+  pub sharing : Sharing
+
+-- how the work is shared out: so many workers, lines of a segment and segments of a window
+unfoldable pub sharing_of : List Row → Option Sharing
+sharing_of given = do
+  workers ← first_of (codes "workers") given >>= workers_in
+  segment ← first_of (codes "segment") given >>= segment_in
+  window ← first_of (codes "window") given >>= window_in
+  Some (record { workers = workers; segment = segment; window = window })
 
 -- the job that is given to the command `judge`
-unfoldable pub job_from : List Row → Option JobView
-job_from given = do
+unfoldable pub files_job : List Row → Option JobView
+files_job given = do
   image ← first_of (codes "image") given
   trace ← first_of (codes "trace") given
   pc ← first_of (codes "pc") given >>= even_in
   ram ← first_of (codes "ram") given >>= span_in
   io ← io_in (first_of (codes "io") given)
   map ← map_of ram io
-  max_image ← first_of (codes "max-image") given >>= limit_in
-  max_trace ← first_of (codes "max-trace") given >>= limit_in
-  workers ← first_of (codes "workers") given >>= workers_in
-  segment ← first_of (codes "segment") given >>= segment_in
+  max_image ← first_of (codes "max-image") given >>= image_limit_in
+  max_trace ← first_of (codes "max-trace") given >>= trace_limit_in
+  sharing ← sharing_of given
   Some (record {
-    image = image;
-    trace = trace;
+    texts = Files image trace;
     pc = pc;
     map = map;
     max_image = max_image;
     max_trace = max_trace;
-    workers = workers;
-    segment = segment;
+    sharing = sharing;
   })
+
+-- the job that is given to the command `make`: over RAM as `judge` has it where nothing else is said
+unfoldable pub made_job : List Row → Option JobView
+made_job given = do
+  number ← first_of (codes "number") given >>= made_number_in
+  rows ← first_of (codes "rows") given >>= made_rows_in
+  ram ← span_of RAM_BASE RAM_SIZE
+  map ← map_of ram None
+  sharing ← sharing_of given
+  Some (record {
+    texts = Made number rows;
+    pc = FIRST_PC;
+    map = map;
+    max_image = MOST_IMAGE_BYTES;
+    max_trace = MOST_TRACE_BYTES;
+    sharing = sharing;
+  })
+
+-- the job of the command that was given anything, `judge` or `make`
+abbrev pub job_from : Option (List Row) → Option (List Row) → Option JobView
+job_from (Some given) made = files_job given
+job_from None (Some given) = made_job given
+job_from None None = None
 
 -- the job that the words of a command line ask for, the program's name first, where there is one
 unfoldable pub job_of : List (List ℕ) → Option JobView
-job_of words = given_to (codes "judge") (entered_by judge_line words) >>= job_from
+job_of words =
+    let entered = entered_by command_line words in
+    job_from (given_to (codes "judge") entered) (given_to (codes "make") entered)
+
+-- the same texts by what their names are
+abbrev pub texts_by : {N M : Type 0} → (N → M) → Texts N → Texts M
+texts_by view (Files image trace) = Files (view image) (view trace)
+texts_by view (Made number rows) = Made number rows
 
 -- a job as it is defined
 abbrev pub job_view : Job → JobView
 job_view job = record {
-  image = string_bytes job.image;
-  trace = string_bytes job.trace;
+  texts = texts_by string_bytes job.texts;
   pc = job.pc;
   map = job.map;
   max_image = job.max_image;
   max_trace = job.max_trace;
-  workers = job.workers;
-  segment = job.segment;
+  sharing = job.sharing;
 }
 
 -- a call returns the job that is meant, or none where none is meant, unless memory ran out
@@ -69,10 +104,27 @@ GivesJob meant (Ok job) = meant ≡ Some (job_view job)
 GivesJob meant (Err NotAJob) = meant ≡ None
 GivesJob meant (Err NoMemory) = Unit {0}
 
+-- what holds of every way to share work out
+pub record IsLawfulSharing (sharing : Sharing) : Type 0 where
+  pub workers : (1 ≤ sharing.workers) × (sharing.workers ≤ MOST_WORKERS)
+  pub segment : (1 ≤ sharing.segment) × (sharing.segment ≤ MOST_LINES)
+  pub window : (1 ≤ sharing.window) × (sharing.window ≤ MOST_SEGMENTS)
+
 -- what holds of every job
 pub record IsLawful (job : JobView) : Type 0 where
   pub even : job.pc % 2 ≡ 0
-  pub max_image : job.max_image ≤ MOST_BYTES
-  pub max_trace : job.max_trace ≤ MOST_BYTES
-  pub workers : (1 ≤ job.workers) × (job.workers ≤ MOST_WORKERS)
-  pub segment : (1 ≤ job.segment) × (job.segment ≤ MOST_LINES)
+  pub max_image : job.max_image ≤ MOST_IMAGE_BYTES
+  pub max_trace : job.max_trace ≤ MOST_TRACE_BYTES
+  pub sharing : IsLawfulSharing job.sharing
+
+-- what holds of every job whose texts are made: RAM, the first instruction and the most bytes of
+-- either text are those that stand where nothing else is said, and there are no devices
+pub record IsMadeJob (job : JobView) (number rows : ℕ) : Type 0 where
+  pub small : number ≤ MOST_MADE_NUMBER
+  pub few : rows ≤ MOST_MADE_ROWS
+  pub pc : job.pc ≡ FIRST_PC
+  pub base : job.map.ram.base ≡ RAM_BASE
+  pub size : job.map.ram.size ≡ RAM_SIZE
+  pub io : job.map.io ≡ None
+  pub max_image : job.max_image ≡ MOST_IMAGE_BYTES
+  pub max_trace : job.max_trace ≡ MOST_TRACE_BYTES

@@ -1,16 +1,15 @@
 -- A job before its names are copied.
 use Rattle.judge_words.specs.Job.{JobView}
 use Rattle.judge_words.specs.declared.job.Settings.{Settings}
+use Rattle.judge_words.specs.declared.job.Texts.TheVariants.{Files}
 
 -- the same job as it is defined
 abbrev pub settings_view : Settings → JobView
 settings_view settings = record {
-  image = settings.image.now;
-  trace = settings.trace.now;
+  texts = Files settings.image.now settings.trace.now;
   pc = settings.pc;
   map = settings.map;
   max_image = settings.max_image;
   max_trace = settings.max_trace;
-  workers = settings.workers;
-  segment = settings.segment;
+  sharing = settings.sharing;
 }

@@ -5,7 +5,7 @@ use Rattle.std.specs.Result.{result_ok}
 use Rattle.hart_words.specs.Numbers.{number_within}
 use Rattle.hart_words.specs.Spans.{span_of}
 use Rattle.hart_words.specs.declared.span.Span.{Span}
-use Rattle.judge_words.specs.declared.values.TheConstants.{MOST_BYTES, MOST_WORKERS, MOST_LINES}
+use Rattle.judge_words.specs.declared.values.TheConstants.{MOST_IMAGE_BYTES, MOST_TRACE_BYTES, MOST_WORKERS, MOST_LINES, MOST_SEGMENTS, MOST_MADE_NUMBER, MOST_MADE_ROWS}
 
 -- the next step at the value, where there is one
 infixl 10 ◌>>=◌
@@ -32,9 +32,13 @@ up_to most value = if nat_le 1 value && nat_le value most then Some value else N
 unfoldable pub number_up_to : ℕ → List ℕ → Option ℕ
 number_up_to most text = number_in text >>= up_to most
 
--- a number of bytes, at least one
-abbrev pub limit_in : List ℕ → Option ℕ
-limit_in text = number_up_to MOST_BYTES text
+-- a number of bytes of an image, at least one
+abbrev pub image_limit_in : List ℕ → Option ℕ
+image_limit_in text = number_up_to MOST_IMAGE_BYTES text
+
+-- a number of bytes of a trace, at least one
+abbrev pub trace_limit_in : List ℕ → Option ℕ
+trace_limit_in text = number_up_to MOST_TRACE_BYTES text
 
 -- a number of workers, at least one
 abbrev pub workers_in : List ℕ → Option ℕ
@@ -43,6 +47,26 @@ workers_in text = number_up_to MOST_WORKERS text
 -- a number of lines of a segment, at least one
 abbrev pub segment_in : List ℕ → Option ℕ
 segment_in text = number_up_to MOST_LINES text
+
+-- a number of segments of a window, at least one
+abbrev pub window_in : List ℕ → Option ℕ
+window_in text = number_up_to MOST_SEGMENTS text
+
+-- a number up to `most`
+abbrev pub at_most : ℕ → ℕ → Option ℕ
+at_most most value = if nat_le value most then Some value else None
+
+-- the number up to `most` that a text writes
+unfoldable pub number_at_most : ℕ → List ℕ → Option ℕ
+number_at_most most text = number_in text >>= at_most most
+
+-- the number of a made trace
+abbrev pub made_number_in : List ℕ → Option ℕ
+made_number_in text = number_at_most MOST_MADE_NUMBER text
+
+-- a number of rows of a made trace
+abbrev pub made_rows_in : List ℕ → Option ℕ
+made_rows_in text = number_at_most MOST_MADE_ROWS text
 
 -- the byte `:`
 abbrev pub colon : ℕ

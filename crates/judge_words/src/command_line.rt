@@ -2,7 +2,8 @@
 
 ghost use Rattle.std.specs.Prelude.{◌≡◌, IfOk, MatchResult, None, true, false, map, option_map, string_bytes};
 ghost use Rattle.clap.specs.Words.{Row, app_of, first_of, found_of, is_simple_and_free, rows_of, rule_of, subcommand_rows_of};
-ghost use Rattle.judge_words.specs.Commands.{entered_by, given_to, judge_line, option_of, option_or, required_word};
+ghost use Rattle.clap.specs.declared.builder.command.Command.TheViews.{out-Command};
+ghost use Rattle.judge_words.specs.Commands.{IsCommand, command_line, entered_by, given_to, judge_command, make_command, option_of, option_or, required_word, sharing_rules, with_rules};
 ghost use Rattle.judge_words.specs.declared.job.WordError.TheVariants.{NotAJob};
 
 use crate::job::WordError;
@@ -10,10 +11,19 @@ use clap::error::ErrorKind;
 use clap::{Arg, ArgMatches, Command};
 use std::alloc::{AllocError, Global};
 
-/// `rvjudge judge IMAGE TRACE [--pc A] [--ram B:S] [--io B:S] [--max-image M] [--max-trace M]
-/// [--workers N] [--segment K]`
-pub fn judge_line<'a>(alloc: Global) -> Result<Command<'a>, AllocError>
-    ensures { IfOk result (λ line. app_of line ≡ judge_line) }
+/// `rvjudge judge IMAGE TRACE [--pc A] [--ram B:S] [--io B:S] [--max-image M] [--max-trace M]`
+/// and `rvjudge make NUMBER ROWS`, each with `[--workers N] [--segment K] [--window W]`.
+pub fn command_line<'a>(alloc: Global) -> Result<Command<'a>, AllocError>
+    ensures { IfOk result (λ line. app_of line ≡ command_line) }
+{
+    Command::new(alloc, "rvjudge")
+        .subcommand(judge_command(alloc)?)?
+        .subcommand(make_command(alloc)?)
+}
+
+/// `judge`, with the names of two files.
+fn judge_command<'a>(alloc: Global) -> Result<Command<'a>, AllocError>
+    ensures { IfOk result (IsCommand judge_command) }
 {
     let judge = Command::new(alloc, "judge")
         .arg(required_word(alloc, "image"))?
@@ -22,10 +32,29 @@ pub fn judge_line<'a>(alloc: Global) -> Result<Command<'a>, AllocError>
         .arg(option_or(alloc, "ram", "0x80000000:0x8000000"))?
         .arg(option(alloc, "io"))?
         .arg(option_or(alloc, "max-image", "0x40000000"))?
-        .arg(option_or(alloc, "max-trace", "0x40000000"))?
+        .arg(option_or(alloc, "max-trace", "0x10000000000"))?;
+    with_sharing(alloc, judge)
+}
+
+/// `make`, with two numbers.
+fn make_command<'a>(alloc: Global) -> Result<Command<'a>, AllocError>
+    ensures { IfOk result (IsCommand make_command) }
+{
+    let make = Command::new(alloc, "make")
+        .arg(required_word(alloc, "number"))?
+        .arg(required_word(alloc, "rows"))?;
+    with_sharing(alloc, make)
+}
+
+/// The command, and the options that say how its work is shared out.
+fn with_sharing<'a>(alloc: Global, command: Command<'a>) -> Result<Command<'a>, AllocError>
+    requires { (out-Command command).has_globals ≡ false }
+    ensures { IfOk result (IsCommand (with_rules (app_of command.entry) sharing_rules)) }
+{
+    command
         .arg(option_or(alloc, "workers", "4"))?
-        .arg(option_or(alloc, "segment", "4096"))?;
-    Command::new(alloc, "rvjudge").subcommand(judge)
+        .arg(option_or(alloc, "segment", "4096"))?
+        .arg(option_or(alloc, "window", "64"))
 }
 
 /// A word that must be there.

@@ -2,37 +2,55 @@
 
 ghost use Rattle.std.specs.Prelude.{◌≡◌, ◌≤◌, ◌%◌, ◌^◌, IfOk, IfSome, map, option_map, string_bytes};
 ghost use Rattle.clap.specs.Words.{found_of, rows_of};
-ghost use Rattle.judge_words.specs.Job.{GivesJob, IsLawful, job_from, job_of, job_view};
+ghost use Rattle.judge_words.specs.Job.{GivesJob, IsLawful, IsLawfulSharing, files_job, job_of, job_view, made_job, sharing_of};
 ghost use Rattle.judge_words.specs.Settings.{settings_view};
 ghost use Rattle.judge_words.specs.declared.job.WordError.TheVariants.{NoMemory};
 
-use crate::command_line::{given_to, judge_line, parse, text_of};
-use crate::values::{read_even, read_io, read_limit, read_segment, read_span, read_workers};
+use crate::command_line::{command_line, given_to, parse, text_of};
+use crate::values::{
+    FIRST_PC, MOST_IMAGE_BYTES, MOST_TRACE_BYTES, RAM_BASE, RAM_SIZE, read_even, read_image_limit,
+    read_io, read_made_number, read_made_rows, read_segment, read_span, read_trace_limit,
+    read_window, read_workers,
+};
 use clap::ArgMatches;
-use hart_words::Map;
+use hart_words::{Map, Span};
 use std::alloc::{AllocError, Global};
 use thiserror::Error;
 
-/// What the judge is asked to do: the names of the image and of the trace, the address of the first
-/// instruction, the ranges of RAM and of devices, how many bytes either file may have, and how the
-/// work is to be shared out, which changes no answer.
+/// Where the texts of an image and a trace come from: files, or the maker of traces.
+#[derive(Debug, Drop)]
+pub enum Texts<N> {
+    /// Files of these names.
+    Files { image: N, trace: N },
+    /// They are made: those of this number, the trace with so many rows.
+    Made { number: u32, rows: u32 },
+}
+
+/// How the work of a job is shared out, which changes no answer.
+#[derive(Clone, Copy, Debug)]
+pub struct Sharing {
+    /// How many workers judge segments, from 1 to 64.
+    pub workers: u32,
+    /// The most lines of a segment, from 1 to 2^20.
+    pub segment: usize,
+    /// The most segments of a window, which is what is held of a trace at once, from 1 to 2^10.
+    pub window: usize,
+}
+
+/// What the judge is asked to do: where the texts of image and trace come from, the address of the
+/// first instruction, the ranges of RAM and of devices, how many bytes either text may have, and how
+/// the work is to be shared out.
 #[derive(Debug, Drop)]
 pub struct Job {
-    /// The name of the image's file.
-    pub image: String,
-    /// The name of the trace's file.
-    pub trace: String,
+    pub texts: Texts<String>,
     /// The address of the first instruction, even.
     pub pc: u64,
     pub map: Map,
-    /// The most bytes that the image's text may have, from 1.
+    /// The most bytes that the image's text may have, from 1 to 2^30.
     pub max_image: u64,
-    /// The most bytes that the trace may have, from 1.
+    /// The most bytes that the trace may have, from 1 to 2^40.
     pub max_trace: u64,
-    /// How many workers judge segments, from 1.
-    pub workers: u32,
-    /// The most lines of a segment, from 1.
-    pub segment: usize,
+    pub sharing: Sharing,
 }
 
 /// Why there is no job.
@@ -56,49 +74,56 @@ impl From<AllocError> for WordError {
 /// The job that the words of a command line ask for, the program's name first:
 ///
 /// `rvjudge judge IMAGE TRACE [--pc A] [--ram B:S] [--io B:S] [--max-image M] [--max-trace M]
-/// [--workers N] [--segment K]`
+/// [--workers N] [--segment K] [--window W]`
+///
+/// `rvjudge make NUMBER ROWS [--workers N] [--segment K] [--window W]`
 ///
 /// Each option stands at most once, as `--name value` or `--name=value`. Numbers are decimal, or
 /// hexadecimal after `0x`. A is even; B and S are multiples of 4,096, S at least 4,096 and B + S at
-/// most 2^56, and the two ranges have no byte in common; each M is from 1 to 2^30, N from 1 to 64,
-/// and K from 1 to 2^20.
+/// most 2^56, and the two ranges have no byte in common; the M of the image is from 1 to 2^30, that
+/// of the trace to 2^40, N from 1 to 64, K from 1 to 2^20, and W from 1 to 2^10. NUMBER is below
+/// 2^32, ROWS at most 2^18.
 ///
-/// Left out, A is 0x80000000, the B:S of RAM is 0x80000000:0x8000000, M is 2^30, N is 4, and K is
-/// 4,096; without `--io` there are no devices. All other words are no job, those that ask for help
-/// among them.
+/// Left out, A is 0x80000000, the B:S of RAM is 0x80000000:0x8000000, either M is the most that it
+/// may be, N is 4, K is 4,096, and W is 64; without `--io` there are no devices. So it is with
+/// `make` too. All other words are no job, those that ask for help among them.
 #[tactic(auto, unfolding(crate::specs::Job::job_of))]
 pub fn read_words(alloc: Global, words: &Vec<String>) -> Result<Job, WordError>
     ensures job { GivesJob (job_of (map string_bytes words.now.items)) result }
     ensures lawful { IfOk result (λ job. IsLawful (job_view job)) }
 {
-    let matches = parse(judge_line(alloc)?, words.as_slice())?;
+    let matches = parse(command_line(alloc)?, words.as_slice())?;
     match given_to(&matches, "judge") {
-        None => Err(WordError::NotAJob),
-        Some(given) => job_given(alloc, given),
+        Some(given) => files_job(alloc, given),
+        None => match given_to(&matches, "make") {
+            Some(given) => made_job(given).ok_or(WordError::NotAJob),
+            None => Err(WordError::NotAJob),
+        },
     }
 }
 
 /// The job that is given to the command `judge`.
-fn job_given(alloc: Global, given: &ArgMatches<'_>) -> Result<Job, WordError>
-    ensures job { GivesJob (job_from (rows_of (found_of given.now))) result }
+fn files_job(alloc: Global, given: &ArgMatches<'_>) -> Result<Job, WordError>
+    ensures job { GivesJob (files_job (rows_of (found_of given.now))) result }
     ensures lawful { IfOk result (λ job. IsLawful (job_view job)) }
 {
     match settings_from(given) {
         None => Err(WordError::NotAJob),
         Some(settings) => Ok(Job {
-            image: String::from_str(alloc, settings.image)?,
-            trace: String::from_str(alloc, settings.trace)?,
+            texts: Texts::Files {
+                image: String::from_str(alloc, settings.image)?,
+                trace: String::from_str(alloc, settings.trace)?,
+            },
             pc: settings.pc,
             map: settings.map,
             max_image: settings.max_image,
             max_trace: settings.max_trace,
-            workers: settings.workers,
-            segment: settings.segment,
+            sharing: settings.sharing,
         }),
     }
 }
 
-/// A job whose names are still those of the words.
+/// A job over files whose names are still those of the words.
 #[derive(Clone, Copy, Debug)]
 struct Settings<'a> {
     image: &'a str,
@@ -107,14 +132,13 @@ struct Settings<'a> {
     map: Map,
     max_image: u64,
     max_trace: u64,
-    workers: u32,
-    segment: usize,
+    sharing: Sharing,
 }
 
 /// The settings that are given, where each can be read.
-#[tactic(auto, unfolding(crate::specs::Job::job_from))]
+#[tactic(auto, unfolding(crate::specs::Job::files_job))]
 fn settings_from<'a>(given: &ArgMatches<'a>) -> Option<Settings<'a>>
-    ensures job { option_map settings_view result ≡ job_from (rows_of (found_of given.now)) }
+    ensures job { option_map settings_view result ≡ files_job (rows_of (found_of given.now)) }
     ensures lawful { IfSome result (λ settings. IsLawful (settings_view settings)) }
 {
     let ram = read_span(text_of(given, "ram")?)?;
@@ -125,9 +149,41 @@ fn settings_from<'a>(given: &ArgMatches<'a>) -> Option<Settings<'a>>
         trace: text_of(given, "trace")?,
         pc: read_even(text_of(given, "pc")?)?,
         map,
-        max_image: read_limit(text_of(given, "max-image")?)?,
-        max_trace: read_limit(text_of(given, "max-trace")?)?,
+        max_image: read_image_limit(text_of(given, "max-image")?)?,
+        max_trace: read_trace_limit(text_of(given, "max-trace")?)?,
+        sharing: sharing_of(given)?,
+    })
+}
+
+/// The job that is given to the command `make`.
+#[tactic(auto, unfolding(crate::specs::Job::made_job))]
+fn made_job(given: &ArgMatches<'_>) -> Option<Job>
+    ensures job { option_map job_view result ≡ made_job (rows_of (found_of given.now)) }
+    ensures lawful { IfSome result (λ job. IsLawful (job_view job)) }
+{
+    let map = Map::new(Span::new(RAM_BASE, RAM_SIZE)?, None)?;
+    Some(Job {
+        texts: Texts::Made {
+            number: read_made_number(text_of(given, "number")?)?,
+            rows: read_made_rows(text_of(given, "rows")?)?,
+        },
+        pc: FIRST_PC,
+        map,
+        max_image: MOST_IMAGE_BYTES,
+        max_trace: MOST_TRACE_BYTES,
+        sharing: sharing_of(given)?,
+    })
+}
+
+/// How the work is to be shared out.
+#[tactic(auto, unfolding(crate::specs::Job::sharing_of))]
+fn sharing_of(given: &ArgMatches<'_>) -> Option<Sharing>
+    ensures value { result ≡ sharing_of (rows_of (found_of given.now)) }
+    ensures lawful { IfSome result IsLawfulSharing }
+{
+    Some(Sharing {
         workers: read_workers(text_of(given, "workers")?)?,
         segment: read_segment(text_of(given, "segment")?)?,
+        window: read_window(text_of(given, "window")?)?,
     })
 }

@@ -6,9 +6,10 @@
 
 mod command_line;
 mod job;
+pub mod laws;
 mod values;
 
-pub use job::{Job, WordError, read_words};
+pub use job::{Job, Sharing, Texts, WordError, read_words};
 
 #[cfg(test)]
 mod tests;

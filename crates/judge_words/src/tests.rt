@@ -22,8 +22,13 @@ fn takes(
     numbers: Numbers,
 ) -> Result<(), Fail> {
     let job = job_at(alloc, words)??;
-    assert_eq!(rt; job.image.as_str(), files.0);
-    assert_eq!(rt; job.trace.as_str(), files.1);
+    match &job.texts {
+        Texts::Files { image, trace } => {
+            assert_eq!(rt; image.as_str(), files.0);
+            assert_eq!(rt; trace.as_str(), files.1);
+        }
+        Texts::Made { .. } => assert!(rt; false),
+    }
     assert_eq!(rt; job.pc, numbers.0);
     assert_eq!(rt; job.map.ram.base, numbers.1);
     assert_eq!(rt; job.map.ram.size, numbers.2);
@@ -38,9 +43,7 @@ fn refuses(rt: &impl Abort, alloc: Global, words: &[&str]) -> Result<(), Fail> {
     Ok(())
 }
 
-const LIMIT: u64 = 1 << 30;
-
-const DEFAULTS: Numbers = (0x8000_0000, 0x8000_0000, 0x800_0000, LIMIT, LIMIT);
+const DEFAULTS: Numbers = (0x8000_0000, 0x8000_0000, 0x800_0000, 1 << 30, 1 << 40);
 
 #[test]
 fn takes_jobs(rt: HostRuntime) -> Result<(), Fail> {
@@ -95,48 +98,67 @@ fn takes_devices(rt: HostRuntime) -> Result<(), Fail> {
     Ok(())
 }
 
+/// How the words share the work out: workers, lines of a segment, segments of a window.
+type Share = (u32, usize, usize);
+
 #[test]
-fn takes_workers(rt: HostRuntime) -> Result<(), Fail> {
-    let lines: [(&[&str], u32, usize); 7] = [
-        (&["rvjudge", "judge", "i", "t"], 4, 4096),
-        (&["rvjudge", "judge", "i", "t", "--workers", "1"], 1, 4096),
-        (&["rvjudge", "judge", "--workers=64", "i", "t"], 64, 4096),
-        (&["rvjudge", "judge", "i", "t", "--segment", "1"], 4, 1),
+fn takes_shares(rt: HostRuntime) -> Result<(), Fail> {
+    let options: [(&[&str], Share); 8] = [
+        (&[], (4, 4096, 64)),
+        (&["--workers", "1"], (1, 4096, 64)),
+        (&["--workers=64"], (64, 4096, 64)),
+        (&["--segment", "1"], (4, 1, 64)),
         (
-            &["rvjudge", "judge", "i", "--segment=1048576", "t"],
-            4,
-            1_048_576,
+            &["--segment=1048576", "--window=1024"],
+            (4, 1_048_576, 1024),
         ),
+        (&["--window", "1"], (4, 4096, 1)),
+        (&["--segment", "0X10", "--workers=0x40"], (64, 16, 64)),
         (
-            &[
-                "rvjudge",
-                "judge",
-                "--segment",
-                "0X10",
-                "i",
-                "t",
-                "--workers=0x40",
-            ],
-            64,
-            16,
-        ),
-        (
-            &[
-                "rvjudge",
-                "judge",
-                "i",
-                "t",
-                "--workers",
-                "010",
-                "--segment=010",
-            ],
-            10,
-            10,
+            &["--workers", "010", "--segment=010", "--window=010"],
+            (10, 10, 10),
         ),
     ];
-    for (words, workers, segment) in lines {
+    let alloc = rt.alloc();
+    for command in [["judge", "i", "t"], ["make", "7", "10"]] {
+        for (more, share) in options {
+            let mut words = Vec::new(alloc);
+            words.push("rvjudge")?;
+            words.extend_from_slice(command.as_slice())?;
+            words.extend_from_slice(more)?;
+            let sharing = job_at(alloc, words.as_slice())??.sharing;
+            assert_eq!(rt; (sharing.workers, sharing.segment, sharing.window), share);
+        }
+    }
+    Ok(())
+}
+
+#[test]
+fn takes_numbers_of_made_traces(rt: HostRuntime) -> Result<(), Fail> {
+    let lines: [(&[&str], u32, u32); 4] = [
+        (&["rvjudge", "make", "7", "0"], 7, 0),
+        (&["rvjudge", "make", "0x7", "010"], 7, 10),
+        (
+            &["rvjudge", "make", "4294967295", "262144"],
+            u32::MAX,
+            262_144,
+        ),
+        (&["rvjudge", "make", "0", "--segment=7", "0x3e8"], 0, 1000),
+    ];
+    for (words, wanted, wanted_rows) in lines {
         let job = job_at(rt.alloc(), words)??;
-        assert_eq!(rt; (job.workers, job.segment), (workers, segment));
+        match &job.texts {
+            Texts::Files { .. } => assert!(rt; false),
+            Texts::Made { number, rows } => {
+                assert_eq!(rt; (*number, *rows), (wanted, wanted_rows));
+            }
+        }
+        assert_eq!(rt;
+            (job.pc, job.map.ram.base, job.map.ram.size),
+            (0x8000_0000, 0x8000_0000, 0x800_0000)
+        );
+        assert_eq!(rt; (job.max_image, job.max_trace), (1 << 30, 1 << 40));
+        assert!(rt; job.map.io.is_none());
     }
     Ok(())
 }
@@ -144,7 +166,7 @@ fn takes_workers(rt: HostRuntime) -> Result<(), Fail> {
 #[test]
 fn refuses_other_words(rt: HostRuntime) -> Result<(), Fail> {
     let alloc = rt.alloc();
-    let lines: [&[&str]; 20] = [
+    let lines: [&[&str]; 29] = [
         &[],
         &["rvjudge"],
         &["rvjudge", "judge", "i"],
@@ -164,6 +186,15 @@ fn refuses_other_words(rt: HostRuntime) -> Result<(), Fail> {
         &["rvjudge", "judge", "i", "t", "--workers", "0"],
         &["rvjudge", "judge", "i", "t", "--workers=4", "--workers=4"],
         &["rvjudge", "judge", "i", "t", "--segment", "0"],
+        &["rvjudge", "make"],
+        &["rvjudge", "make", "7"],
+        &["rvjudge", "make", "7", "1", "2"],
+        &["rvjudge", "make", "4294967296", "1"],
+        &["rvjudge", "make", "1", "262145"],
+        &["rvjudge", "make", "7", "x"],
+        &["rvjudge", "make", "", "1"],
+        &["rvjudge", "make", "7", "1", "--pc=0"],
+        &["rvjudge", "make", "7", "1", "--window=0"],
         &[
             "rvjudge",
             "judge",
@@ -199,7 +230,7 @@ fn refuses_other_words(rt: HostRuntime) -> Result<(), Fail> {
         "--max-image=0",
         "--max-image=1073741825",
         "--max-trace=0",
-        "--max-trace=1073741825",
+        "--max-trace=1099511627777",
         "--workers",
         "--workers=",
         "--workers=0",
@@ -208,6 +239,9 @@ fn refuses_other_words(rt: HostRuntime) -> Result<(), Fail> {
         "--segment=0",
         "--segment=0x100001",
         "--segment=1048577",
+        "--window",
+        "--window=0",
+        "--window=1025",
     ];
     for option in options {
         refuses(&rt, alloc, &["rvjudge", "judge", "i", "t", option])?;

@@ -1,18 +1,39 @@
 //! The values of options, read from their texts.
 
 ghost use Rattle.std.specs.Prelude.{◌≡◌, ◌≤◌, ◌%◌, IfSome, option_map};
-ghost use Rattle.judge_words.specs.Values.{number_in, number_up_to, even_in, limit_in, workers_in, segment_in, span_in, io_in};
+ghost use Rattle.judge_words.specs.Values.{number_in, number_up_to, even_in, image_limit_in, trace_limit_in, workers_in, segment_in, window_in, number_at_most, made_number_in, made_rows_in, span_in, io_in};
 
 use hart_words::{Span, read_number};
 
-/// The most bytes that an image or a trace may be given.
-pub const MOST_BYTES: u64 = 1 << 30;
+/// Where the hart begins, unless a job says otherwise.
+pub const FIRST_PC: u64 = 0x8000_0000;
+
+/// Where RAM begins, unless a job says otherwise.
+pub const RAM_BASE: u64 = 0x8000_0000;
+
+/// How many bytes RAM has, unless a job says otherwise.
+pub const RAM_SIZE: u64 = 0x800_0000;
+
+/// The most bytes that an image may be given.
+pub const MOST_IMAGE_BYTES: u64 = 1 << 30;
+
+/// The most bytes that a trace may be given.
+pub const MOST_TRACE_BYTES: u64 = 1 << 40;
 
 /// The most workers.
 pub const MOST_WORKERS: u64 = 64;
 
 /// The most lines of a segment.
 pub const MOST_LINES: u64 = 1 << 20;
+
+/// The most segments of a window.
+pub const MOST_SEGMENTS: u64 = 1 << 10;
+
+/// The greatest number of a made trace.
+pub const MOST_MADE_NUMBER: u64 = 0xffff_ffff;
+
+/// The most rows of a made trace.
+pub const MOST_MADE_ROWS: u64 = 1 << 18;
 
 /// A number below 2^64.
 #[tactic(auto, unfolding(crate::specs::Values::number_in))]
@@ -46,12 +67,20 @@ fn read_up_to(text: &str, most: u64) -> Option<u64>
     }
 }
 
-/// A number of bytes, from 1 to 2^30.
-pub fn read_limit(text: &str) -> Option<u64>
-    ensures value { result ≡ limit_in text.now }
-    ensures most { IfSome result (λ value. value ≤ MOST_BYTES) }
+/// A number of bytes of an image, from 1 to 2^30.
+pub fn read_image_limit(text: &str) -> Option<u64>
+    ensures value { result ≡ image_limit_in text.now }
+    ensures most { IfSome result (λ value. value ≤ MOST_IMAGE_BYTES) }
 {
-    read_up_to(text, MOST_BYTES)
+    read_up_to(text, MOST_IMAGE_BYTES)
+}
+
+/// A number of bytes of a trace, from 1 to 2^40.
+pub fn read_trace_limit(text: &str) -> Option<u64>
+    ensures value { result ≡ trace_limit_in text.now }
+    ensures most { IfSome result (λ value. value ≤ MOST_TRACE_BYTES) }
+{
+    read_up_to(text, MOST_TRACE_BYTES)
 }
 
 /// A number of workers, from 1 to 64.
@@ -70,6 +99,41 @@ pub fn read_segment(text: &str) -> Option<usize>
 {
     let segment = read_up_to(text, MOST_LINES)?;
     Some(segment as usize)
+}
+
+/// A number of segments, from 1 to 2^10.
+pub fn read_window(text: &str) -> Option<usize>
+    ensures value { result ≡ window_in text.now }
+    ensures range { IfSome result (λ value. (1 ≤ value) × (value ≤ MOST_SEGMENTS)) }
+{
+    let window = read_up_to(text, MOST_SEGMENTS)?;
+    Some(window as usize)
+}
+
+/// A number up to `most`.
+#[tactic(auto, unfolding(crate::specs::Values::number_at_most))]
+fn read_at_most(text: &str, most: u64) -> Option<u64>
+    ensures value { result ≡ number_at_most most text.now }
+    ensures range { IfSome result (λ value. value ≤ most) }
+{
+    let value = read_u64(text)?;
+    if value <= most { Some(value) } else { None }
+}
+
+/// The number of a made trace, below 2^32.
+pub fn read_made_number(text: &str) -> Option<u32>
+    ensures { result ≡ made_number_in text.now }
+{
+    let number = read_at_most(text, MOST_MADE_NUMBER)?;
+    Some(number as u32)
+}
+
+/// A number of rows of a made trace, up to 2^18.
+pub fn read_made_rows(text: &str) -> Option<u32>
+    ensures { result ≡ made_rows_in text.now }
+{
+    let rows = read_at_most(text, MOST_MADE_ROWS)?;
+    Some(rows as u32)
 }
 
 /// A range of addresses, as `BASE:SIZE`.

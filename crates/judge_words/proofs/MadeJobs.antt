@@ -1,0 +1,139 @@
+-- Jobs whose texts are made.
+use Rattle.std.proofs.Common.{◌≡◌, ◌∙◌, ◌≤◌, ℕ, Bool, true, false, nat_le, if◌then◌else◌, List, [], ◌∷◌, Option, Some, None, codes, refl, sym, subst, ap}
+use Rattle.std.proofs.lemmas.Bool.{leb-true}
+use Rattle.std.specs.Option.{ForSome}
+use Rattle.std.specs.Prelude.{option_map}
+use Rattle.hart_words.specs.declared.span.Span.{Span}
+use Rattle.hart_words.specs.declared.map.Map.{Map}
+use Rattle.hart_words.specs.Map.{apart_none, map_of}
+use Rattle.hart_words.specs.Spans.{is_span, is_span-true, span_by, span_of, span_with}
+use Rattle.clap.proofs.OnLiterals.{clap_on_literals}
+use Rattle.clap.specs.Walk.{Row, first_of}
+use Rattle.hart_words.specs.Numbers.{digits_number, number_of, number_within}
+use Rattle.judge_words.specs.Values.{◌>>=◌, at_most, even_in, image_limit_in, io_in, made_number_in, made_rows_in, number_at_most, number_in, number_up_to, span_in, trace_limit_in}
+use Rattle.judge_words.specs.Commands.{command_line, entered_by, given_to}
+use Rattle.judge_words.specs.Job.{IsMadeJob, JobView, files_job, job_from, job_of, made_job, sharing_of}
+use Rattle.judge_words.specs.declared.job.Texts.TheVariants.{Files, Made}
+use Rattle.judge_words.specs.declared.values.TheConstants.{FIRST_PC, MOST_IMAGE_BYTES, MOST_MADE_NUMBER, MOST_MADE_ROWS, MOST_TRACE_BYTES, RAM_BASE, RAM_SIZE}
+use Rattle.judge_words.specs.declared.job.Sharing.{Sharing}
+
+-- if a job's texts are made, this holds of it
+abbrev pub IfMade : JobView → Type 0
+IfMade job = (number rows : ℕ) → job.texts ≡ Made number rows → IsMadeJob job number rows
+
+-- the job of what is made, over this map
+abbrev made_with : (number rows : ℕ) → Map → Sharing → JobView
+made_with number rows map sharing = record { texts = Made number rows; pc = FIRST_PC; map = map; max_image = MOST_IMAGE_BYTES; max_trace = MOST_TRACE_BYTES; sharing = sharing }
+
+-- what holds behind each value of a step holds behind the step
+behind : {A B : Type 0} (P : B → Type 0) (x : Option A) (f : A → Option B) → ((a : A) → x ≡ Some a → ForSome (f a) P) → ForSome (x >>= f) P
+behind P None f all y is = cc
+behind P (Some a) f all y is = all a refl y is
+
+-- a number up to `most` is no greater
+within_most : (most value : ℕ) → ForSome (at_most most value) (λ value. value ≤ most)
+within_most most value = by (nat_le value most) refl
+  where
+    by : (test : Bool) → nat_le value most ≡ test → ForSome (if test then Some value else None) (λ value. value ≤ most)
+    by true holds other is =
+        let same : value ≡ other = cc in
+        let P : ℕ → Type 0 = λ value. value ≤ most in
+        subst P same (leb-true value most holds)
+    by false holds other is = cc
+
+within : (most : ℕ) (text : Option (List ℕ)) → ForSome (text >>= number_at_most most) (λ value. value ≤ most)
+unfolding number_at_most
+within most text =
+    let Within : ℕ → Type 0 = λ value. value ≤ most in
+    behind Within text (number_at_most most) (λ text there. behind Within (number_in text) (at_most most) (λ value read. within_most most value))
+
+-- jobs over files are not made
+of_files : (job : JobView) (image trace : List ℕ) → job.texts ≡ Files image trace → ForSome (Some job) IfMade
+of_files job image trace is other same number rows made =
+    let one : job ≡ other = cc in
+    let never : Files image trace ≡ Made number rows = sym is ∙ ap (λ (job : JobView). job.texts) one ∙ made in
+    cc
+
+files_named : (given : List Row) → ForSome (files_job given) IfMade
+unfolding files_job
+files_named given =
+    behind IfMade (first_of (codes "image") given) _ (λ image e1.
+    behind IfMade (first_of (codes "trace") given) _ (λ trace e2.
+    behind IfMade (first_of (codes "pc") given >>= even_in) _ (λ pc e3.
+    behind IfMade (first_of (codes "ram") given >>= span_in) _ (λ ram e4.
+    behind IfMade (io_in (first_of (codes "io") given)) _ (λ io e5.
+    behind IfMade (map_of ram io) _ (λ map e6.
+    behind IfMade (first_of (codes "max-image") given >>= image_limit_in) _ (λ max_image e7.
+    behind IfMade (first_of (codes "max-trace") given >>= trace_limit_in) _ (λ max_trace e8.
+    behind IfMade (sharing_of given) _ (λ sharing e9.
+    of_files (record { texts = Files image trace; pc = pc; map = map; max_image = max_image; max_trace = max_trace; sharing = sharing }) image trace refl)))))))))
+
+-- a range has the base and the size that it is made of
+span_has : (base size : ℕ) → ForSome (span_of base size) (λ span. (span.base ≡ base) × (span.size ≡ size))
+unfolding span_of
+span_has base size = by (is_span base size) refl
+  where
+    by : (test : Bool) (is : is_span base size ≡ test) → ForSome (span_by base size test is) (λ span. (span.base ≡ base) × (span.size ≡ size))
+    by true is span same =
+        let one : span_with base size (is_span-true base size is) ≡ span = cc in
+        (ap (λ (span : Span). span.base) (sym one), ap (λ (span : Span). span.size) (sym one))
+    by false is span same = cc
+
+-- RAM alone is a map of it
+map_alone : (ram : Span) → ForSome (map_of ram None) (λ map. (map.ram ≡ ram) × (map.io ≡ None))
+unfolding map_of
+map_alone ram map same =
+    let one : record { ram = ram; io = None; apart = apart_none ram } ≡ map = cc in
+    (ap (λ (map : Map). map.ram) (sym one), ap (λ (map : Map). map.io) (sym one))
+
+of_made : (number rows : ℕ) (map : Map) (sharing : Sharing) → number ≤ MOST_MADE_NUMBER → rows ≤ MOST_MADE_ROWS → map.ram.base ≡ RAM_BASE → map.ram.size ≡ RAM_SIZE → map.io ≡ None
+    → ForSome (Some (made_with number rows map sharing)) IfMade
+of_made number rows map sharing small few base size io job same n r made =
+    let one : made_with number rows map sharing ≡ job = cc in
+    let texts : Made number rows ≡ Made n r = ap (λ (job : JobView). job.texts) one ∙ made in
+    let number_is : number ≡ n = cc in
+    let rows_are : rows ≡ r = cc in
+    let over : map ≡ job.map = ap (λ (job : JobView). job.map) one in
+    record {
+      small = subst (λ n. n ≤ MOST_MADE_NUMBER) number_is small;
+      few = subst (λ n. n ≤ MOST_MADE_ROWS) rows_are few;
+      pc = ap (λ (job : JobView). job.pc) (sym one);
+      base = ap (λ (map : Map). map.ram.base) (sym over) ∙ base;
+      size = ap (λ (map : Map). map.ram.size) (sym over) ∙ size;
+      io = ap (λ (map : Map). map.io) (sym over) ∙ io;
+      max_image = ap (λ (job : JobView). job.max_image) (sym one);
+      max_trace = ap (λ (job : JobView). job.max_trace) (sym one);
+    }
+
+made_given : (given : List Row) → ForSome (made_job given) IfMade
+unfolding made_job
+made_given given =
+    behind IfMade (first_of (codes "number") given >>= made_number_in) _ (λ number small.
+    behind IfMade (first_of (codes "rows") given >>= made_rows_in) _ (λ rows few.
+    behind IfMade (span_of RAM_BASE RAM_SIZE) _ (λ ram spans.
+    behind IfMade (map_of ram None) _ (λ map maps.
+    behind IfMade (sharing_of given) _ (λ sharing shared.
+    let span : (ram.base ≡ RAM_BASE) × (ram.size ≡ RAM_SIZE) = span_has RAM_BASE RAM_SIZE ram spans in
+    let alone : (map.ram ≡ ram) × (map.io ≡ None) = map_alone ram map maps in
+    of_made number rows map sharing
+    (within MOST_MADE_NUMBER (first_of (codes "number") given) number small)
+    (within MOST_MADE_ROWS (first_of (codes "rows") given) rows few)
+    (ap (λ (ram : Span). ram.base) alone.0 ∙ span.0)
+    (ap (λ (ram : Span). ram.size) alone.0 ∙ span.1)
+    alone.1)))))
+
+pub made_plain : (words : List (List ℕ)) (job : JobView) (number rows : ℕ) → job_of words ≡ Some job → job.texts ≡ Made number rows → IsMadeJob job number rows
+unfolding job_of
+made_plain words job number rows asked made =
+    let entered = entered_by command_line words in
+    go (given_to (codes "judge") entered) (given_to (codes "make") entered) job asked number rows made
+  where
+    go : (judge make : Option (List Row)) → ForSome (job_from judge make) IfMade
+    go (Some given) make = files_named given
+    go None (Some given) = made_given given
+    go None None = λ job asked. cc
+
+-- words that ask for such a job
+pub made_asked : option_map (λ job. job.texts) (job_of (codes "rvjudge" ∷ codes "make" ∷ codes "7" ∷ codes "3" ∷ [])) ≡ Some (Made 7 3)
+unfolding job_of command_line entered_by made_job sharing_of number_at_most number_up_to number_in number_within number_of digits_number span_of map_of clap_on_literals
+made_asked = refl
