@@ -1,0 +1,15 @@
+pub mod Differences
+pub mod Fetches
+pub mod Steps
+pub mod Decodes
+pub mod Images
+pub mod Accesses
+pub mod Judged
+pub mod Witness
+pub mod Headers
+pub mod PlainLines
+pub mod Numerals
+pub mod RowLines
+pub mod TraceLines
+pub mod ImageTexts
+pub mod MadeTexts
