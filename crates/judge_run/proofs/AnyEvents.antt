@@ -25,9 +25,9 @@ use Rattle.segment_judge.specs.Judged.{IsJudgement, IsUsable}
 use Rattle.segment_judge.specs.Judgements.{Judgement, by_hart}
 use Rattle.segment_judge.specs.Laws.{conclusion_from, judgement_from}
 use Rattle.verdict_join.specs.declared.joined.Joined.{Joined as JoinedSegments}
-use Rattle.verdict_join.specs.Founds.{candidates, candidates_from, judgement_found}
+use Rattle.verdict_join.specs.Founds.{candidates, judgement_found}
 use Rattle.verdict_join.specs.Joining.{JoinsThem, candidates_of, found_of, rows_in}
-use Rattle.verdict_join.specs.Joins.{Candidate, Joined, Sameness, joined}
+use Rattle.verdict_join.specs.Joins.{Candidate, Sameness, joined}
 use Rattle.verdict_join.specs.Laws.{HasVerdict, IsLawful, TellsApart, rows_through}
 use Rattle.verdict_join.specs.Walks.{judged_in}
 use Rattle.verdict_join.proofs.Sameness.{core_sameness, core_tells}
@@ -51,14 +51,14 @@ any_events start columns pieces guesses events founds one_each left same tells =
     (candidates_rows 0 rows guesses founds enough ∙ pieces_read columns pieces)
 
 -- the lines of segments
-through : (segments : List Segment) → flat_map lines_of segments ≡ lines_through (map lines_of segments)
+pub through : (segments : List Segment) → flat_map lines_of segments ≡ lines_through (map lines_of segments)
 through [] = refl
 through (segment ∷ segments) =
     flat_map-cons lines_of segment segments
     ∙ ap (λ rest. segment.lines ++ rest) (through segments)
     ∙ sym (flat_map-cons (λ piece. piece) segment.lines (map lines_of segments))
 
-read_twice : (columns : ColumnList) (segments : List Segment) → map (rows_in columns) segments ≡ map (rows_of columns) (map lines_of segments)
+pub read_twice : (columns : ColumnList) (segments : List Segment) → map (rows_in columns) segments ≡ map (rows_of columns) (map lines_of segments)
 read_twice columns [] = refl
 read_twice columns (segment ∷ segments) = ap (λ rest. rows_of columns segment.lines ∷ rest) (read_twice columns segments)
 

@@ -1,8 +1,8 @@
 -- What is found of segments is lawful, and the rows of all are those of the lines.
-use Rattle.std.proofs.Common.{◌≡◌, ℕ, zero, suc, ◌+◌, ◌<◌, ◌≤◌, ◌==◌, Bool, true, false, List, [], ◌∷◌, ◌++◌, length, map, slice_get, if◌then◌else◌, Option, Some, None, option_map, refl, sym, ap, ◌∙◌, subst, arith, All, IfSome}
+use Rattle.std.proofs.Common.{◌≡◌, ℕ, suc, ◌+◌, ◌==◌, Bool, true, false, List, [], ◌∷◌, ◌++◌, length, map, slice_get, if◌then◌else◌, Option, Some, refl, sym, ap, ◌∙◌, subst, arith, All, IfSome}
 use Rattle.std.specs.List.{flat_map}
 use Rattle.std.proofs.lemmas.Bool.{eqb-true}
-use Rattle.std.proofs.lemmas.List.{length-map, map-append}
+use Rattle.std.proofs.lemmas.List.{map-append}
 use Rattle.std.proofs.lemmas.List.Concat.{flat_map-cons}
 use Rattle.std.proofs.lemmas.List.Elements.{All-cons, All-head, All-nil, All-tail}
 use Rattle.board_core.specs.declared.event.Event.{Event}
@@ -15,7 +15,7 @@ use Rattle.segment_judge.specs.declared.found.What.TheVariants.{Judged, Skipped}
 use Rattle.segment_judge.specs.Judgements.{Judgement, Judging}
 use Rattle.segment_judge.specs.Laws.{judgement_from}
 use Rattle.boundary_guess.specs.Cuts.{lines_through}
-use Rattle.verdict_join.specs.Founds.{IsLeftBy, IsTheirs, Leaves, WasFoundSo, candidates_from, judgement_found, judgement_of_segment}
+use Rattle.verdict_join.specs.Founds.{IsLeftBy, Leaves, WasFoundSo, candidates_from, judgement_found, judgement_of_segment}
 use Rattle.verdict_join.specs.Joins.{Candidate}
 use Rattle.verdict_join.specs.Laws.{IsLawful, rows_through}
 

@@ -1,7 +1,11 @@
 pub mod Memories
+pub mod Taking
+pub mod Passing
 pub mod Endings
 pub mod Steps
 pub mod Written
 pub mod Runs
 pub mod Lawful
 pub mod AnyEvents
+pub mod Once
+pub mod MadeAnswers

@@ -11,57 +11,55 @@ use Rattle.image_text.specs.declared.fault.ImageError.{ImageError}
 use Rattle.image_text.specs.declared.fault.ImageError.TheVariants as errors
 use Rattle.hart_words.specs.Results.{FailsAs}
 use Rattle.image_text.specs.Image.{image_of, image_fault}
-use Rattle.trace_report.specs.declared.outcome.Outcome.TheVariants as outcomes
+use Rattle.trace_report.specs.declared.outcome.Ruling.TheVariants as rulings
 use Rattle.hart_words.specs.Results.{◌>>=◌}
 use Rattle.page_image.specs.Bytes.{filled}
 use Rattle.judge_run.specs.declared.stop.Stop.{Stop}
-use Rattle.judge_run.specs.Answer.{file_memory, as_memory, memory_of, there}
+use Rattle.judge_run.specs.Answer.{text_memory, as_memory, memory_of, outcome_of, there}
 use Rattle.judge_run.specs.declared.stop.Stop.TheVariants.{Known, ReadFault, NoMemory}
 use Rattle.judge_run.specs.Stops.{MeantBy, MeantTold, LacksFile, image_stop}
 
-pub too_large : (job : JobView) (file : List ℕ) (front : Front) → HasFront file job.max_image front → front.more ≡ true → file_memory job file ≡ Err (Some (outcomes.ImageTooLarge job.max_image))
-unfolding file_memory
+pub too_large : (job : JobView) (file : List ℕ) (front : Front) → HasFront file job.max_image front → front.more ≡ true → text_memory job file ≡ Err (Some (outcome_of job (rulings.ImageTooLarge job.max_image)))
+unfolding text_memory
 too_large job file front is more = let over : nat_lt job.max_image (length file) ≡ true = sym is.more ∙ more in rw over refl
 
 -- a file that was read whole
-whole : (job : JobView) (file : List ℕ) (front : Front) → HasFront file job.max_image front → front.more ≡ false → file_memory job file ≡ as_memory (image_of job.map.ram front.bytes.items)
-unfolding file_memory
+whole : (job : JobView) (file : List ℕ) (front : Front) → HasFront file job.max_image front → front.more ≡ false → text_memory job file ≡ as_memory job (image_of job.map.ram front.bytes.items)
+unfolding text_memory
 whole job file front is more =
     let under : nat_lt job.max_image (length file) ≡ false = sym is.more ∙ more in
     let all : front.bytes.items ≡ file = is.bytes ∙ take_all job.max_image file (ltb-false job.max_image (length file) under) in
-    rw under (ap (λ text. as_memory (image_of job.map.ram text)) (sym all))
+    rw under (ap (λ text. as_memory job (image_of job.map.ram text)) (sym all))
 
 -- what the text describes is the memory
-pub pieces_read : {X : Type 0} (bytes : X → ℕ → Option ℕ) (pieces : X) (read : Result (ℕ → Option ℕ) ImageFault) → read ≡ Ok (bytes pieces) → as_memory read ≡ Ok (filled (bytes pieces))
-pieces_read bytes pieces read is = ap as_memory is
+pub pieces_read : {X : Type 0} (job : JobView) (bytes : X → ℕ → Option ℕ) (pieces : X) (read : Result (ℕ → Option ℕ) ImageFault) → read ≡ Ok (bytes pieces) → as_memory job read ≡ Ok (filled (bytes pieces))
+pieces_read job bytes pieces read is = ap (as_memory job) is
 
-pub pieces_refused : {X : Type 0} (view : X → ℕ → ℕ) (error : ImageError) (read : Result (ℕ → Option ℕ) ImageFault) → FailsAs (image_fault error) read → MeantBy view (Err (image_stop error)) (as_memory read)
-pieces_refused view (errors.Fault fault) read refused = ap as_memory refused
-pieces_refused view errors.NoMemory read refused = tt
+pub pieces_refused : {X : Type 0} (job : JobView) (view : X → ℕ → ℕ) (error : ImageError) (read : Result (ℕ → Option ℕ) ImageFault) → FailsAs (image_fault error) read → MeantBy view (Err (image_stop job error)) (as_memory job read)
+pieces_refused job view (errors.Fault fault) read refused = ap (as_memory job) refused
+pieces_refused job view errors.NoMemory read refused = tt
 
 -- what stops the reading of a whole file stops the run
-pub whole_refused : {X Y : Type 0} (pieces : Y → ℕ → ℕ) (view : X → ℕ → ℕ) (job : JobView) (file : List ℕ) (front : Front) (stop : Stop) → HasFront file job.max_image front → front.more ≡ false → MeantBy pieces (Err stop) (as_memory (image_of job.map.ram front.bytes.items)) → MeantBy view (Err stop) (file_memory job file)
+pub whole_refused : {X Y : Type 0} (pieces : Y → ℕ → ℕ) (view : X → ℕ → ℕ) (job : JobView) (file : List ℕ) (front : Front) (stop : Stop) → HasFront file job.max_image front → front.more ≡ false → MeantBy pieces (Err stop) (as_memory job (image_of job.map.ram front.bytes.items)) → MeantBy view (Err stop) (text_memory job file)
 whole_refused pieces view job file front (Known outcome) is more meant = whole job file front is more ∙ meant
 whole_refused pieces view job file front ReadFault is more meant = tt
 whole_refused pieces view job file front NoMemory is more meant = tt
 
-pub whole_built : (job : JobView) (file : List ℕ) (front : Front) (read memory : ℕ → ℕ) → HasFront file job.max_image front → front.more ≡ false → as_memory (image_of job.map.ram front.bytes.items) ≡ Ok read → memory ≡ read → file_memory job file ≡ Ok memory
+pub whole_built : (job : JobView) (file : List ℕ) (front : Front) (read memory : ℕ → ℕ) → HasFront file job.max_image front → front.more ≡ false → as_memory job (image_of job.map.ram front.bytes.items) ≡ Ok read → memory ≡ read → text_memory job file ≡ Ok memory
 whole_built job file front read memory is more meant same = whole job file front is more ∙ meant ∙ ap (λ m. Ok m) (sym same)
 
 -- the memory of a told file by its front
-pub memory_told : {X : Type 0} (view : X → ℕ → ℕ) (told : Option Files) (name : List ℕ) (job : JobView) (front : Front) (result : Result X Stop) → name ≡ job.image → IsThere told name → IsFront (file_of told name) job.max_image front → ((file : List ℕ) → HasFront file job.max_image front → MeantBy view result (file_memory job file)) → MeantTold told view result (λ files. memory_of job files)
+pub memory_told : {X : Type 0} (view : X → ℕ → ℕ) (told : Option Files) (name : List ℕ) (job : JobView) (front : Front) (result : Result X Stop) → IsThere told name → IsFront (file_of told name) job.max_image front → ((file : List ℕ) → HasFront file job.max_image front → MeantBy view result (text_memory job file)) → MeantTold told view result (λ files. memory_of job (files name))
 unfolding memory_of
-memory_told view None name job front result same is front_is meant = tt
-memory_told view (Some files) name job front result same is front_is meant = of (files name) refl is front_is
+memory_told view None name job front result is front_is meant = tt
+memory_told view (Some files) name job front result is front_is meant = of (files name) refl is front_is
   where
-    of : (file : Option (List ℕ)) → files name ≡ file → IsSome file → IsFront file job.max_image front → MeantBy view result (there (files job.image) >>= λ text. file_memory job text)
+    of : (file : Option (List ℕ)) → files name ≡ file → IsSome file → IsFront file job.max_image front → MeantBy view result (there (files name) >>= λ text. text_memory job text)
     of None e is front_is = cc
-    of (Some file) e is front_is =
-        let here : files job.image ≡ Some file = ap files (sym same) ∙ e in
-        rw here (meant file front_is)
+    of (Some file) e is front_is = rw e (meant file front_is)
 
 -- a file that is missed is one that the memory lacks
-pub memory_lacks : (told : Option Files) (name : List ℕ) (job : JobView) → name ≡ job.image → IsMissing told name → LacksFile told (λ files. memory_of job files)
+pub memory_lacks : (told : Option Files) (name : List ℕ) (job : JobView) → IsMissing told name → LacksFile told (λ files. memory_of job (files name))
 unfolding memory_of
-memory_lacks None name job same missing = missing
-memory_lacks (Some files) name job same missing = let here : files job.image ≡ None = ap files (sym same) ∙ missing in rw here refl
+memory_lacks None name job missing = missing
+memory_lacks (Some files) name job missing = rw missing refl

@@ -1,31 +1,34 @@
 -- How a run ends, and what follows for its status and its bytes.
-use Rattle.std.proofs.Common.{◌≡◌, ℕ, ◌<◌, ◌≤◌, ◌⊎◌, ◌↔◌, inl, inr, false, List, Option, Some, None, is_none, Ok, Err, refl, sym, ap, ◌∙◌, arith}
+use Rattle.std.proofs.Common.{◌≡◌, ℕ, ◌<◌, ◌≤◌, ◌⊎◌, ◌↔◌, inl, inr, Bool, true, false, List, Option, Some, None, is_none, Ok, Err, refl, sym, ap, ◌∙◌, arith}
 use Rattle.outside_ports.specs.Counts.{Rose}
 use Rattle.outside_ports.specs.Ports.{Files}
 use Rattle.judge_words.specs.Job.{JobView, job_of}
 use Rattle.rvfi_rows.specs.declared.verdict.Verdict.{Verdict}
 use Rattle.rvfi_rows.specs.declared.verdict.Verdict.TheVariants.{Agrees, Differs, Refused}
 use Rattle.trace_report.specs.declared.outcome.Outcome.{Outcome}
-use Rattle.trace_report.specs.declared.outcome.Outcome.TheVariants as outcomes
-use Rattle.trace_report.specs.Report.{status_of}
+use Rattle.trace_report.specs.declared.outcome.Ruling.{Ruling}
+use Rattle.trace_report.specs.declared.outcome.Ruling.TheVariants as rulings
+use Rattle.trace_report.specs.Report.{ruling_status, status_of}
 use Rattle.judge_run.specs.declared.stop.Stop.TheVariants.{Known}
-use Rattle.judge_run.specs.Answer.{answer, judged, settled}
-use Rattle.judge_run.specs.Stops.{MeantTold, LacksFile, WordsTell, is_no_job}
+use Rattle.judge_run.specs.Answer.{answer, is_made, judged, settled}
+use Rattle.judge_run.specs.Stops.{MeantBy, MeantTold, LacksFile, WordsTell, is_no_job_ruling}
 use Rattle.judge_run.specs.Ends.{Moment, IsOutcome, Ends, Writes, IsAnswer}
 
 -- an outcome that the steps come to is the answer
-pub found : (told : Option Files) (words : List (List ℕ)) (outcome : Outcome) → MeantTold told (λ outcome. outcome) (Ok outcome) (λ files. judged words files) → WordsTell (job_of words) (Ok outcome) → IsOutcome told words outcome
+pub found : (told : Option Files) (words : List (List ℕ)) (outcome : Outcome) → MeantTold told (λ outcome. outcome) (Ok outcome) (λ files. judged words files) → (is_made words ≡ true → (files : Files) → MeantBy (λ outcome. outcome) (Ok outcome) (judged words files)) → WordsTell (job_of words) (Ok outcome) → IsOutcome told words outcome
 unfolding answer
-found told words outcome meant tell = record { job = tell; answered = λ files is. of told meant files is }
+found told words outcome meant made tell =
+    record { job = tell; answered = λ files is. of told meant files is; made = λ is files. ap settled (made is files) }
   where
     of : (told : Option Files) → MeantTold told (λ outcome. outcome) (Ok outcome) (λ files. judged words files) → (files : Files) → told ≡ Some files → answer words files ≡ Some outcome
     of None meant files is = cc
     of (Some here) meant files is = let same : here ≡ files = cc in rw (← same) (ap settled meant)
 
 -- one that is known before the last step too
-pub known : (told : Option Files) (words : List (List ℕ)) (outcome : Outcome) → MeantTold {X = Outcome} told (λ outcome. outcome) (Err (Known outcome)) (λ files. judged words files) → WordsTell (job_of words) (Err (Known outcome)) → IsOutcome told words outcome
+pub known : (told : Option Files) (words : List (List ℕ)) (outcome : Outcome) → MeantTold {X = Outcome} told (λ outcome. outcome) (Err (Known outcome)) (λ files. judged words files) → (is_made words ≡ true → (files : Files) → MeantBy {X = Outcome} (λ outcome. outcome) (Err (Known outcome)) (judged words files)) → WordsTell (job_of words) (Err (Known outcome)) → IsOutcome told words outcome
 unfolding answer
-known told words outcome meant tell = record { job = tell; answered = λ files is. of told meant files is }
+known told words outcome meant made tell =
+    record { job = tell; answered = λ files is. of told meant files is; made = λ is files. ap settled (made is files) }
   where
     of : (told : Option Files) → MeantTold {X = Outcome} told (λ outcome. outcome) (Err (Known outcome)) (λ files. judged words files) → (files : Files) → told ≡ Some files → answer words files ≡ Some outcome
     of None meant files is = cc
@@ -42,26 +45,33 @@ unfolding answer
 lacking None words lacks = absurd lacks
 lacking (Some files) words lacks = (files, refl, ap settled lacks)
 
-pub ends_unread : (told : Option Files) (words : List (List ℕ)) (before now : Moment) → now.held ≡ before.held → now.sink_faults ≡ before.sink_faults → Rose before.faults now.faults → (before.misses < now.misses → LacksFile told (λ files. judged words files)) → Ends told words before now 5
-ends_unread told words before now held calm rose misses =
-    inr (inr (inl (record { own = refl; held = held; sink_faults = calm; rose = rose; lacks = λ rise. lacking told words (misses rise) })))
+pub ends_unread : (told : Option Files) (words : List (List ℕ)) (before now : Moment) → now.held ≡ before.held → now.sink_faults ≡ before.sink_faults → Rose before.faults now.faults → (is_made words ≡ true → ⊥) → (before.misses < now.misses → LacksFile told (λ files. judged words files)) → Ends told words before now 5
+ends_unread told words before now held calm rose made misses =
+    inr (inr (inl (record { own = refl; held = held; sink_faults = calm; rose = rose; files = not_made (is_made words) made; lacks = λ rise. lacking told words (misses rise) })))
+  where
+    not_made : (made : Bool) → (made ≡ true → ⊥) → made ≡ false
+    not_made true never = absurd (never refl)
+    not_made false never = refl
 
 -- ---- what follows
 
-verdict_small : (verdict : Verdict) → status_of (outcomes.Verdict verdict) ≤ 4
+verdict_small : (verdict : Verdict) → ruling_status (rulings.Verdict verdict) ≤ 4
 verdict_small (Agrees rows valid) = omega arith
 verdict_small (Differs row difference) = omega arith
 verdict_small (Refused row fault) = omega arith
 
+ruling_small : (ruling : Ruling) → ruling_status ruling ≤ 4
+ruling_small rulings.NoJob = omega arith
+ruling_small (rulings.ImageTooLarge most) = omega arith
+ruling_small (rulings.ImageFault fault) = omega arith
+ruling_small rulings.NoHeader = omega arith
+ruling_small (rulings.HeaderFault fault) = omega arith
+ruling_small (rulings.TooLong line) = omega arith
+ruling_small (rulings.TraceTooLarge most) = omega arith
+ruling_small (rulings.Verdict verdict) = verdict_small verdict
+
 small : (outcome : Outcome) → status_of outcome ≤ 4
-small outcomes.NoJob = omega arith
-small (outcomes.ImageTooLarge most) = omega arith
-small (outcomes.ImageFault fault) = omega arith
-small outcomes.NoHeader = omega arith
-small (outcomes.HeaderFault fault) = omega arith
-small (outcomes.TooLong line) = omega arith
-small (outcomes.TraceTooLarge most) = omega arith
-small (outcomes.Verdict verdict) = verdict_small verdict
+small outcome = ruling_small outcome.ruling
 
 pub headline : (told : Option Files) (words : List (List ℕ)) (before now : Moment) (status : ℕ) → Ends told words before now status → (files : Files) → told ≡ Some files → ¬ Rose before.faults now.faults → ¬ Rose before.sink_faults now.sink_faults → IsAnswer (answer words files) status before.held now.held ⊎ ((status ≡ 6) × (now.held ≡ before.held))
 headline told words before now status (inl wrote) files is calm quiet = inl (rw (wrote.is.answered files is) (wrote.own, wrote.held))
@@ -90,7 +100,7 @@ misses told words before now status (inr (inr (inl unread))) more = unread.lacks
 misses told words before now status (inr (inr (inr memory))) more = absurd (omega (arith, ap (λ moment. moment.misses) memory.same))
 
 -- only the outcome of words that ask for no job has status 2
-refused_verdict : (verdict : Verdict) → status_of (outcomes.Verdict verdict) ≡ 2 → ⊥
+refused_verdict : (verdict : Verdict) → ruling_status (rulings.Verdict verdict) ≡ 2 → ⊥
 refused_verdict (Agrees rows valid) two = omega arith
 refused_verdict (Differs row difference) two = omega arith
 refused_verdict (Refused row fault) two = omega arith
@@ -99,20 +109,20 @@ apart : (job : Option JobView) → false ≡ is_none job → job ≡ None → �
 apart None same none = cc
 apart (Some job) same none = cc
 
-refused : (outcome : Outcome) (job : Option JobView) → is_no_job outcome ≡ is_none job → (status_of outcome ≡ 2) ↔ (job ≡ None)
-refused outcomes.NoJob None same = (λ _. refl, λ _. refl)
-refused outcomes.NoJob (Some job) same = absurd cc
-refused (outcomes.ImageTooLarge most) job same = (λ two. absurd (omega arith), λ none. absurd (apart job same none))
-refused (outcomes.ImageFault fault) job same = (λ two. absurd (omega arith), λ none. absurd (apart job same none))
-refused outcomes.NoHeader job same = (λ two. absurd (omega arith), λ none. absurd (apart job same none))
-refused (outcomes.HeaderFault fault) job same = (λ two. absurd (omega arith), λ none. absurd (apart job same none))
-refused (outcomes.TooLong line) job same = (λ two. absurd (omega arith), λ none. absurd (apart job same none))
-refused (outcomes.TraceTooLarge most) job same = (λ two. absurd (omega arith), λ none. absurd (apart job same none))
-refused (outcomes.Verdict verdict) job same = (λ two. absurd (refused_verdict verdict two), λ none. absurd (apart job same none))
+refused : (ruling : Ruling) (job : Option JobView) → is_no_job_ruling ruling ≡ is_none job → (ruling_status ruling ≡ 2) ↔ (job ≡ None)
+refused rulings.NoJob None same = (λ _. refl, λ _. refl)
+refused rulings.NoJob (Some job) same = absurd cc
+refused (rulings.ImageTooLarge most) job same = (λ two. absurd (omega arith), λ none. absurd (apart job same none))
+refused (rulings.ImageFault fault) job same = (λ two. absurd (omega arith), λ none. absurd (apart job same none))
+refused rulings.NoHeader job same = (λ two. absurd (omega arith), λ none. absurd (apart job same none))
+refused (rulings.HeaderFault fault) job same = (λ two. absurd (omega arith), λ none. absurd (apart job same none))
+refused (rulings.TooLong line) job same = (λ two. absurd (omega arith), λ none. absurd (apart job same none))
+refused (rulings.TraceTooLarge most) job same = (λ two. absurd (omega arith), λ none. absurd (apart job same none))
+refused (rulings.Verdict verdict) job same = (λ two. absurd (refused_verdict verdict two), λ none. absurd (apart job same none))
 
 pub words_decide : (told : Option Files) (words : List (List ℕ)) (before now : Moment) (status : ℕ) → Ends told words before now status → status ≤ 4 → (status ≡ 2) ↔ (job_of words ≡ None)
 words_decide told words before now status (inl wrote) few =
-    let both = refused wrote.outcome (job_of words) wrote.is.job in
+    let both = refused wrote.outcome.ruling (job_of words) wrote.is.job in
     (λ two. both.0 (sym wrote.own ∙ two), λ none. wrote.own ∙ both.1 none)
 words_decide told words before now status (inr (inl cut)) few = absurd (omega (arith, cut.own))
 words_decide told words before now status (inr (inr (inl unread))) few = absurd (omega (arith, unread.own))
@@ -129,3 +139,16 @@ range told words before now status (inl wrote) = omega (arith, wrote.own, small 
 range told words before now status (inr (inl cut)) = omega (arith, cut.own)
 range told words before now status (inr (inr (inl unread))) = omega (arith, unread.own)
 range told words before now status (inr (inr (inr memory))) = omega (arith, memory.own)
+
+-- what is made takes no file
+pub made_counts : (told : Option Files) (words : List (List ℕ)) (before now : Moment) (status : ℕ) → Ends told words before now status → is_made words ≡ true → (now.faults ≡ before.faults) × (now.misses ≡ before.misses)
+made_counts told words before now status (inl wrote) made = (wrote.faults, wrote.misses)
+made_counts told words before now status (inr (inl cut)) made = (cut.faults, cut.misses)
+made_counts told words before now status (inr (inr (inl unread))) made = let never : true ≡ false = sym made ∙ unread.files in cc
+made_counts told words before now status (inr (inr (inr memory))) made = (ap (λ moment. moment.faults) memory.same, ap (λ moment. moment.misses) memory.same)
+
+pub made_answer : (told : Option Files) (words : List (List ℕ)) (before now : Moment) (status : ℕ) → Ends told words before now status → is_made words ≡ true → (files : Files) → ¬ Rose before.sink_faults now.sink_faults → IsAnswer (answer words files) status before.held now.held ⊎ ((status ≡ 6) × (now.held ≡ before.held))
+made_answer told words before now status (inl wrote) made files quiet = inl (rw (wrote.is.made made files) (wrote.own, wrote.held))
+made_answer told words before now status (inr (inl cut)) made files quiet = absurd (quiet cut.rose)
+made_answer told words before now status (inr (inr (inl unread))) made files quiet = let never : true ≡ false = sym made ∙ unread.files in absurd cc
+made_answer told words before now status (inr (inr (inr memory))) made files quiet = inr (memory.own, ap (λ moment. moment.held) memory.same)

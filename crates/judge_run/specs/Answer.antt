@@ -1,7 +1,10 @@
 -- The answer of a run: what the words, the image and the trace come to.
-use Rattle.std.specs.Prelude.{ℕ, nat_lt, if◌then◌else◌, List, [], ◌∷◌, drop, length, Option, Some, None, Result, Ok, Err, unwrap_or}
+use Rattle.std.specs.Prelude.{ℕ, Bool, nat_lt, if◌then◌else◌, List, [], ◌∷◌, drop, length, Option, Some, None, is_some, option_and_then, Result, Ok, Err, unwrap_or}
 use Rattle.outside_ports.specs.Ports.{Files}
 use Rattle.judge_words.specs.Job.{JobView, job_of}
+use Rattle.judge_words.specs.declared.job.Texts.{Texts}
+use Rattle.judge_words.specs.declared.job.Texts.TheVariants.{Files as FilesOf, Made as MadeOf}
+use Rattle.trace_maker.specs.Texts.{made_image, made_trace}
 use Rattle.image_text.specs.declared.fault.ImageFault.{ImageFault}
 use Rattle.image_text.specs.Image.{image_of}
 use Rattle.trace_lines.specs.declared.piece.Ending.{Ending}
@@ -13,8 +16,10 @@ use Rattle.rvfi_rows.specs.declared.verdict.Verdict.TheVariants.{Agrees, Differs
 use Rattle.rvfi_rows.specs.Columns.{ColumnList, header_columns}
 use Rattle.rvfi_rows.specs.Rows.{RowReading, rows_of}
 use Rattle.hart_words.specs.Results.{◌>>=◌}
+use Rattle.trace_report.specs.declared.outcome.Made.{Made}
 use Rattle.trace_report.specs.declared.outcome.Outcome.{Outcome}
-use Rattle.trace_report.specs.declared.outcome.Outcome.TheVariants as outcomes
+use Rattle.trace_report.specs.declared.outcome.Ruling.{Ruling}
+use Rattle.trace_report.specs.declared.outcome.Ruling.TheVariants as rulings
 use Rattle.hart_step.specs.Cores.{core_at_reset}
 use Rattle.segment_judge.specs.Judgements.{by_hart, judgement_of}
 
@@ -22,58 +27,77 @@ use Rattle.segment_judge.specs.Judgements.{by_hart, judgement_of}
 abbrev pub Step : Type 0 → Type 0
 Step A = Result A (Option Outcome)
 
--- a file that has to be there
+-- a text that has to be there
 abbrev pub there : Option (List ℕ) → Step (List ℕ)
 there None = Err None
-there (Some file) = Ok file
+there (Some text) = Ok text
+
+-- the texts of a job's image and of its trace: files, where they are there, or what is made
+abbrev pub image_in : Texts (List ℕ) → Files → Option (List ℕ)
+image_in (FilesOf image trace) files = files image
+image_in (MadeOf number rows) files = Some (made_image number)
+
+abbrev pub trace_in : Texts (List ℕ) → Files → Option (List ℕ)
+trace_in (FilesOf image trace) files = files trace
+trace_in (MadeOf number rows) files = Some (made_trace number rows)
+
+-- the two numbers of what is made
+abbrev pub made_of : {N : Type 0} → Texts N → Option Made
+made_of (FilesOf image trace) = None
+made_of (MadeOf number rows) = Some (record { number = number; rows = rows })
+
+-- a ruling on a job
+abbrev pub outcome_of : JobView → Ruling → Outcome
+outcome_of job ruling = record { made = made_of job.texts; ruling = ruling }
 
 abbrev pub wanted : Option JobView → Step JobView
-wanted None = Err (Some outcomes.NoJob)
+wanted None = Err (Some (record { made = None; ruling = rulings.NoJob }))
 wanted (Some job) = Ok job
 
 -- the memory is the image, and 0 elsewhere
-abbrev pub as_memory : Result (ℕ → Option ℕ) ImageFault → Step (ℕ → ℕ)
-as_memory (Err fault) = Err (Some (outcomes.ImageFault fault))
-as_memory (Ok bytes) = Ok (λ address. unwrap_or (bytes address) 0)
+abbrev pub as_memory : JobView → Result (ℕ → Option ℕ) ImageFault → Step (ℕ → ℕ)
+as_memory job (Err fault) = Err (Some (outcome_of job (rulings.ImageFault fault)))
+as_memory job (Ok bytes) = Ok (λ address. unwrap_or (bytes address) 0)
 
 -- a text of too many bytes is refused before anything else in it
-unfoldable pub file_memory : JobView → List ℕ → Step (ℕ → ℕ)
-file_memory job text =
-    if nat_lt job.max_image (length text) then Err (Some (outcomes.ImageTooLarge job.max_image)) else as_memory (image_of job.map.ram text)
+unfoldable pub text_memory : JobView → List ℕ → Step (ℕ → ℕ)
+text_memory job text =
+    if nat_lt job.max_image (length text) then Err (Some (outcome_of job (rulings.ImageTooLarge job.max_image)))
+    else as_memory job (image_of job.map.ram text)
 
-unfoldable pub memory_of : JobView → Files → Step (ℕ → ℕ)
-memory_of job files = do
-  text ← there (files job.image)
-  file_memory job text
+unfoldable pub memory_of : JobView → Option (List ℕ) → Step (ℕ → ℕ)
+memory_of job image = do
+  text ← there image
+  text_memory job text
 
--- a trace without a line; the lines of a whole file never end in `More` (trace_lines says so in
+-- a trace without a line; the lines of a whole text never end in `More` (trace_lines says so in
 -- `laws::pieces_are_the_file`), so its cases here and below never come
-abbrev pub without_header : JobView → Ending → Outcome
-without_header job (endings.TooLong line) = outcomes.TooLong line
-without_header job endings.TooLarge = outcomes.TraceTooLarge job.max_trace
-without_header job endings.End = outcomes.NoHeader
-without_header job endings.More = outcomes.NoHeader
+abbrev pub without_header : JobView → Ending → Ruling
+without_header job (endings.TooLong line) = rulings.TooLong line
+without_header job endings.TooLarge = rulings.TraceTooLarge job.max_trace
+without_header job endings.End = rulings.NoHeader
+without_header job endings.More = rulings.NoHeader
 
 -- rows that agree stand only where the whole trace was read
-abbrev pub ended : JobView → Ending → Verdict → Outcome
-ended job (endings.TooLong line) (Agrees rows valid) = outcomes.TooLong line
-ended job endings.TooLarge (Agrees rows valid) = outcomes.TraceTooLarge job.max_trace
-ended job endings.End (Agrees rows valid) = outcomes.Verdict (Agrees rows valid)
-ended job endings.More (Agrees rows valid) = outcomes.Verdict (Agrees rows valid)
-ended job ending (Differs row difference) = outcomes.Verdict (Differs row difference)
-ended job ending (Refused row fault) = outcomes.Verdict (Refused row fault)
+abbrev pub ended : JobView → Ending → Verdict → Ruling
+ended job (endings.TooLong line) (Agrees rows valid) = rulings.TooLong line
+ended job endings.TooLarge (Agrees rows valid) = rulings.TraceTooLarge job.max_trace
+ended job endings.End (Agrees rows valid) = rulings.Verdict (Agrees rows valid)
+ended job endings.More (Agrees rows valid) = rulings.Verdict (Agrees rows valid)
+ended job ending (Differs row difference) = rulings.Verdict (Differs row difference)
+ended job ending (Refused row fault) = rulings.Verdict (Refused row fault)
 
-abbrev pub as_columns : Result ColumnList HeaderFault → Step ColumnList
-as_columns (Err fault) = Err (Some (outcomes.HeaderFault fault))
-as_columns (Ok columns) = Ok columns
+abbrev pub as_columns : JobView → Result ColumnList HeaderFault → Step ColumnList
+as_columns job (Err fault) = Err (Some (outcome_of job (rulings.HeaderFault fault)))
+as_columns job (Ok columns) = Ok columns
 
 -- the columns that the first line names; where there is no line, the ending decides
 unfoldable pub columns_in : JobView → Left → Step ColumnList
 columns_in job left = by_first left.lines
   where
     by_first : List (List ℕ) → Step ColumnList
-    by_first [] = Err (Some (without_header job left.ending))
-    by_first (header ∷ rows) = as_columns (header_columns header)
+    by_first [] = Err (Some (outcome_of job (without_header job left.ending)))
+    by_first (header ∷ rows) = as_columns job (header_columns header)
 
 -- the verdict on rows, by which a hart is stepped from reset over the memory
 abbrev pub verdict_on : JobView → (ℕ → ℕ) → List RowReading → Verdict
@@ -84,19 +108,24 @@ unfoldable pub lines_outcome : JobView → (ℕ → ℕ) → Left → Step Outco
 lines_outcome job memory left = do
   columns ← columns_in job left
   let verdict = verdict_on job memory (rows_of columns (drop 1 left.lines))
-  Ok (ended job left.ending verdict)
+  Ok (outcome_of job (ended job left.ending verdict))
 
-unfoldable pub trace_outcome : JobView → (ℕ → ℕ) → Files → Step Outcome
-trace_outcome job memory files = do
-  file ← there (files job.trace)
-  lines_outcome job memory (lines_of job.max_trace file)
+unfoldable pub trace_outcome : JobView → (ℕ → ℕ) → Option (List ℕ) → Step Outcome
+trace_outcome job memory trace = do
+  text ← there trace
+  lines_outcome job memory (lines_of job.max_trace text)
 
--- words, then the image, then the trace
+-- the image, then the trace
+unfoldable pub job_outcome : JobView → Option (List ℕ) → Option (List ℕ) → Step Outcome
+job_outcome job image trace = do
+  memory ← memory_of job image
+  trace_outcome job memory trace
+
+-- words, then image and trace
 unfoldable pub judged : List (List ℕ) → Files → Step Outcome
 judged words files = do
   job ← wanted (job_of words)
-  memory ← memory_of job files
-  trace_outcome job memory files
+  job_outcome job (image_in job.texts files) (trace_in job.texts files)
 
 abbrev pub settled : Step Outcome → Option Outcome
 settled (Ok outcome) = Some outcome
@@ -105,3 +134,7 @@ settled (Err stop) = stop
 -- the outcome of these words over these files; none where a file that it takes is missing
 unfoldable pub answer : List (List ℕ) → Files → Option Outcome
 answer words files = settled (judged words files)
+
+-- the words ask for a made trace, and so for no file
+abbrev pub is_made : List (List ℕ) → Bool
+is_made words = is_some (option_and_then (λ job. made_of job.texts) (job_of words))

@@ -1,11 +1,11 @@
 -- How a run of the judge ends.
-use Rattle.std.specs.Prelude.{◌≡◌, ℕ, ◌<◌, ◌⊎◌, List, ◌++◌, take, Option, Some, None, option_map, is_none}
+use Rattle.std.specs.Prelude.{◌≡◌, ℕ, ◌<◌, ◌⊎◌, true, false, List, ◌++◌, take, Option, Some, None, option_map, is_none}
 use Rattle.outside_ports.specs.Counts.{Rose}
 use Rattle.outside_ports.specs.Ports.{Files}
 use Rattle.judge_words.specs.Job.{job_of}
 use Rattle.trace_report.specs.declared.outcome.Outcome.{Outcome}
 use Rattle.trace_report.specs.Report.{report_of, status_of}
-use Rattle.judge_run.specs.Answer.{answer}
+use Rattle.judge_run.specs.Answer.{answer, is_made}
 use Rattle.judge_run.specs.Stops.{is_no_job}
 
 -- what contracts see of the outside at one moment: the shelf's faults and misses, what the sink holds, its faults
@@ -15,10 +15,12 @@ pub record Moment : Type 0 where
   pub held : Option (List ℕ)
   pub sink_faults : ℕ
 
--- the outcome is the answer where files are told; for every shelf the words alone decide whether there is a job
+-- the outcome is the answer where files are told, and where the trace is made, whatever files there are; for every shelf
+-- the words alone decide whether there is a job
 pub record IsOutcome (told : Option Files) (words : List (List ℕ)) (outcome : Outcome) : Type 0 where
   pub job : is_no_job outcome ≡ is_none (job_of words)
   pub answered : (files : Files) → told ≡ Some files → answer words files ≡ Some outcome
+  pub made : is_made words ≡ true → (files : Files) → answer words files ≡ Some outcome
 
 -- the text of an outcome was written whole, and the status is its own
 pub record Wrote (told : Option Files) (words : List (List ℕ)) (before now : Moment) (status : ℕ) : Type 0 where
@@ -41,12 +43,14 @@ pub record Cut (told : Option Files) (words : List (List ℕ)) (before now : Mom
   pub misses : now.misses ≡ before.misses
   pub rose : Rose before.sink_faults now.sink_faults
 
--- the shelf failed, and nothing was written; it missed a file only where the answer lacks a told one
+-- the shelf, which what is made does not take, failed, and nothing was written; it missed a file only where the answer
+-- lacks a told one
 pub record Unread (told : Option Files) (words : List (List ℕ)) (before now : Moment) (status : ℕ) : Type 0 where
   pub own : status ≡ 5
   pub held : now.held ≡ before.held
   pub sink_faults : now.sink_faults ≡ before.sink_faults
   pub rose : Rose before.faults now.faults
+  pub files : is_made words ≡ false
   pub lacks : before.misses < now.misses → (files : Files) × (told ≡ Some files) × (answer words files ≡ None)
 
 -- memory was refused, and nothing changed

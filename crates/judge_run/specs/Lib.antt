@@ -2,3 +2,5 @@ pub mod Answer
 pub mod Stops
 pub mod Ends
 pub mod Events
+pub mod Taking
+pub mod Windows

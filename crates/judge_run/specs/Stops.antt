@@ -8,10 +8,11 @@ use Rattle.image_text.specs.declared.fault.ImageError.TheVariants as errors
 use Rattle.trace_lines.specs.declared.piece.LineError.{LineError}
 use Rattle.trace_lines.specs.declared.piece.LineError.TheVariants as lines
 use Rattle.trace_report.specs.declared.outcome.Outcome.{Outcome}
-use Rattle.trace_report.specs.declared.outcome.Outcome.TheVariants as outcomes
+use Rattle.trace_report.specs.declared.outcome.Ruling.{Ruling}
+use Rattle.trace_report.specs.declared.outcome.Ruling.TheVariants as rulings
 use Rattle.judge_run.specs.declared.stop.Stop.{Stop}
 use Rattle.judge_run.specs.declared.stop.Stop.TheVariants.{Known, ReadFault, NoMemory}
-use Rattle.judge_run.specs.Answer.{Step}
+use Rattle.judge_run.specs.Answer.{Step, outcome_of}
 
 -- what a call returned, seen by `view`, is the step that is meant, unless a read failed or memory ran out
 abbrev pub MeantBy : {X Y : Type 0} → (X → Y) → Result X Stop → Step Y → Type 0
@@ -44,9 +45,12 @@ MissesStop (Err NoMemory) told meant before now = now ≡ before
 MissesStop (Err ReadFault) told meant before now = before < now → LacksFile told meant
 
 -- the outcome of words that ask for no job
+abbrev pub is_no_job_ruling : Ruling → Bool
+is_no_job_ruling rulings.NoJob = true
+is_no_job_ruling _ = false
+
 abbrev pub is_no_job : Outcome → Bool
-is_no_job outcomes.NoJob = true
-is_no_job _ = false
+is_no_job outcome = is_no_job_ruling outcome.ruling
 
 -- an outcome of a job is not that of words that ask for none
 abbrev pub IsJobs : {X : Type 0} → Result X Stop → Type 0
@@ -70,9 +74,9 @@ IsJobsOutcome (Err ReadFault) = Unit {0}
 IsJobsOutcome (Err NoMemory) = Unit {0}
 
 -- how an image that cannot be read stops the run
-abbrev pub image_stop : ImageError → Stop
-image_stop (errors.Fault fault) = Known (outcomes.ImageFault fault)
-image_stop errors.NoMemory = NoMemory
+abbrev pub image_stop : JobView → ImageError → Stop
+image_stop job (errors.Fault fault) = Known (outcome_of job (rulings.ImageFault fault))
+image_stop job errors.NoMemory = NoMemory
 
 -- how a trace whose lines cannot be taken stops the run
 abbrev pub line_stop : LineError → Stop

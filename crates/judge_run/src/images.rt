@@ -6,31 +6,36 @@ ghost use Rattle.image_text.specs.Bytes.{byte_at};
 ghost use Rattle.image_text.specs.Image.{image_of};
 ghost use Rattle.page_image.specs.Bytes.{byte_of, filled};
 ghost use Rattle.judge_words.specs.Job.{job_view, IsLawful};
-ghost use Rattle.judge_run.specs.Answer.{as_memory, file_memory, memory_of};
+ghost use Rattle.judge_run.specs.Answer.{as_memory, text_memory, memory_of};
 ghost use Rattle.judge_run.specs.Stops.{MeantBy, MeantTold, CountsStop, MissesStop, IsJobs, WasRead, image_stop};
 
+use crate::outcomes::outcome_of;
 use crate::stop::Stop;
-use hart_words::Span;
 use image_text::{ImageError, Pieces, read_image};
 use judge_words::Job;
 use outside_ports::{Front, ReadError, Shelf, read_front};
 use page_image::PageImage;
 use std::alloc::Global;
-use trace_report::Outcome;
+use trace_report::Ruling;
 
-/// Reads the image of a job.
-pub fn read_memory<H: Shelf>(alloc: Global, job: &Job, shelf: &mut H) -> Result<PageImage, Stop>
+/// Reads the image of a job, a file of this name.
+pub fn read_memory<H: Shelf>(
+    alloc: Global,
+    job: &Job,
+    name: &str,
+    shelf: &mut H,
+) -> Result<PageImage, Stop>
     requires { IsLawful (job_view job.now) }
     ensures told { H.told shelf.new ≡ H.told shelf.old }
     ensures meant { MeantTold (H.told shelf.old) (λ image. byte_of image) result
-        (λ files. memory_of (job_view job.now) files) }
+        (λ files. memory_of (job_view job.now) (files name.now)) }
     ensures ram { IfOk result (λ image. image.ram ≡ job.now.map.ram) }
     ensures jobs { IsJobs result }
     ensures faults { CountsStop result (H.faults shelf.old) (H.faults shelf.new) }
     ensures misses { MissesStop result (H.told shelf.old)
-        (λ files. memory_of (job_view job.now) files) (H.misses shelf.old) (H.misses shelf.new) }
+        (λ files. memory_of (job_view job.now) (files name.now)) (H.misses shelf.old) (H.misses shelf.new) }
 {
-    match read_front(alloc, shelf, job.image.as_str(), job.max_image) {
+    match read_front(alloc, shelf, name, job.max_image) {
         Ok(front) => memory_in(alloc, job, &front),
         Err(ReadError::ReadFault) => Err(Stop::ReadFault),
         Err(ReadError::NoMemory) => Err(Stop::NoMemory),
@@ -41,17 +46,18 @@ pub fn read_memory<H: Shelf>(alloc: Global, job: &Job, shelf: &mut H) -> Result<
 fn memory_in(alloc: Global, job: &Job, front: &Front) -> Result<PageImage, Stop>
     requires { IsLawful (job_view job.now) }
     ensures meant { (file : List ℕ) → HasFront file (job_view job.now).max_image front.now
-        → MeantBy (λ image. byte_of image) result (file_memory (job_view job.now) file) }
+        → MeantBy (λ image. byte_of image) result (text_memory (job_view job.now) file) }
     ensures ram { IfOk result (λ image. image.ram ≡ job.now.map.ram) }
     ensures jobs { IsJobs result }
     ensures read { WasRead result }
 {
     if front.more {
-        return Err(Stop::Known(Outcome::ImageTooLarge {
+        let ruling = Ruling::ImageTooLarge {
             most: job.max_image,
-        }));
+        };
+        return Err(Stop::Known(outcome_of(job, ruling)));
     }
-    let pieces = match pieces_in(alloc, &front.bytes, job.map.ram) {
+    let pieces = match pieces_in(alloc, job, &front.bytes) {
         Ok(pieces) => pieces,
         Err(stop) => return Err(stop),
     };
@@ -63,24 +69,24 @@ fn memory_in(alloc: Global, job: &Job, front: &Front) -> Result<PageImage, Stop>
 
 /// The pieces of an image's text.
 #[tactic(auto, using(crate::proofs::Memories::pieces_read, crate::proofs::Memories::pieces_refused))]
-fn pieces_in(alloc: Global, text: &[u8], ram: Span) -> Result<Pieces, Stop>
+fn pieces_in(alloc: Global, job: &Job, text: &[u8]) -> Result<Pieces, Stop>
     ensures meant { MeantBy (λ pieces. filled (byte_at pieces)) result
-        (as_memory (image_of ram text.now)) }
+        (as_memory (job_view job.now) (image_of job.now.map.ram text.now)) }
     ensures jobs { IsJobs result }
     ensures read { WasRead result }
 {
-    match read_image(alloc, text, ram) {
+    match read_image(alloc, text, job.map.ram) {
         Ok(pieces) => Ok(pieces),
-        Err(error) => Err(stop_of(error)),
+        Err(error) => Err(stop_of(job, error)),
     }
 }
 
 /// Why an image that cannot be read stops the run.
-fn stop_of(error: ImageError) -> Stop
-    ensures { result ≡ image_stop error }
+fn stop_of(job: &Job, error: ImageError) -> Stop
+    ensures { result ≡ image_stop (job_view job.now) error }
 {
     match error {
-        ImageError::Fault(fault) => Stop::Known(Outcome::ImageFault(fault)),
+        ImageError::Fault(fault) => Stop::Known(outcome_of(job, Ruling::ImageFault(fault))),
         ImageError::NoMemory => Stop::NoMemory,
     }
 }

@@ -1,10 +1,10 @@
 //! The judge's one call.
 
-ghost use Rattle.std.specs.Prelude.{◌≡◌, ◌≤◌, ◌<◌, ◌↔◌, ◌⊎◌, Some, None, map, string_bytes};
+ghost use Rattle.std.specs.Prelude.{◌≡◌, ◌≤◌, ◌<◌, ◌↔◌, ◌⊎◌, Some, None, true, map, string_bytes};
 ghost use Rattle.outside_ports.specs.Counts.{Rose};
 ghost use Rattle.outside_ports.specs.Ports.{Files};
 ghost use Rattle.judge_words.specs.Job.{job_of};
-ghost use Rattle.judge_run.specs.Answer.{answer};
+ghost use Rattle.judge_run.specs.Answer.{answer, is_made};
 ghost use Rattle.judge_run.specs.Ends.{Ends, IsAnswer, Writes};
 
 use crate::outcomes::find_outcome;
@@ -60,6 +60,14 @@ where
         ⊎ (O.faults out.old < O.faults out.new) → result ≡ 5 }
     ensures fault { result ≡ 5 → Rose (H.faults shelf.old) (H.faults shelf.new)
         ⊎ Rose (O.faults out.old) (O.faults out.new) }
+    // What is made is judged without the shelf: for every one the line is that of the answer.
+    ensures made { is_made (map string_bytes words.now.items) ≡ true
+        → (H.faults shelf.new ≡ H.faults shelf.old) × (H.misses shelf.new ≡ H.misses shelf.old) }
+    ensures made_answer { is_made (map string_bytes words.now.items) ≡ true → (files : Files)
+        → ¬ Rose (O.faults out.old) (O.faults out.new)
+        → IsAnswer (answer (map string_bytes words.now.items) files) result
+        (O.held out.old) (O.held out.new)
+        ⊎ ((result ≡ 6) × (O.held out.new ≡ O.held out.old)) }
     ensures misses { H.misses shelf.old < H.misses shelf.new
         → (files : Files) × (H.told shelf.old ≡ Some files)
         × (answer (map string_bytes words.now.items) files ≡ None) }

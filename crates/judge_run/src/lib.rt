@@ -13,6 +13,8 @@ mod output;
 mod segments;
 mod stop;
 mod traces;
+mod window;
+mod windows;
 mod workers;
 
 pub use judgement::judge;

@@ -21,6 +21,7 @@ use rvfi_rows::{Columns, Segment, Verdict, read_header};
 use std::alloc::Global;
 use std::test::Fail;
 use std::thread::Threads;
+use trace_maker::make;
 
 const CODE: u64 = 0x8000_0000;
 
@@ -84,9 +85,9 @@ fn lines_with(alloc: Global, rows: &[&[u8]]) -> Result<Lines, Fail> {
 
 /// Whether no segment has many lines.
 fn are_short(segments: &[Segment]) -> bool
-    ensures { IsTrue result → All (λ segment. length segment.lines < 1000) segments.now }
+    ensures { IsTrue result → All (λ segment. length segment.lines < 2000) segments.now }
 {
-    segments.iter().all(|segment| segment.lines.len() < 1000)
+    segments.iter().all(|segment| segment.lines.len() < 2000)
 }
 
 /// Whether there are few segments, and few lines in them.
@@ -112,6 +113,7 @@ fn judge_few<R: Threads + Sync>(
     }
     let workers = Workers {
         rt,
+        alloc,
         gate: &OpenGate,
         count: 2,
     };
@@ -119,11 +121,12 @@ fn judge_few<R: Threads + Sync>(
     Ok((joined.verdict, joined.rejudged))
 }
 
-/// The same of a trace that is cut into segments of so many lines.
+/// The same of rows under a header over an image, cut into segments of so many lines.
 fn judge_cut<R: Threads + Sync>(
     rt: &R,
     alloc: Global,
-    trace: &Trace,
+    image: &[u8],
+    lines: (&[u8], &Lines),
     most: usize,
 ) -> Result<(Verdict, u32), Fail> {
     if most == 0 {
@@ -131,11 +134,11 @@ fn judge_cut<R: Threads + Sync>(
     }
     let ram = Span::new(CODE, 0x800_0000).ok_or("no range")?;
     let map = Map::new(ram, None).ok_or("no map")?;
-    let pieces = read_image(alloc, IMAGE, map.ram).map_err(|_| Fail::from("no image"))?;
+    let pieces = read_image(alloc, image, map.ram).map_err(|_| Fail::from("no image"))?;
     let image = PageImage::build(alloc, &pieces, map.ram)?;
     let start = Hart::reset(Layered::over(alloc, &image), CODE, map);
-    let columns = read_header(alloc, trace.header)?;
-    let mut segments = cut(alloc, &lines_with(alloc, trace.rows)?, most)?;
+    let columns = read_header(alloc, lines.0)?;
+    let mut segments = cut(alloc, lines.1, most)?;
     judge_few(rt, alloc, start, &columns, &mut segments)
 }
 
@@ -151,11 +154,36 @@ fn judges_again_where_guesses_are_wrong(rt: HostRuntime) -> Result<(), Fail> {
         (&SILENT, 2, 2),
         (&SILENT, 5, 0),
     ];
+    let alloc = rt.alloc();
     'cases: for (trace, most, rejudged) in cases {
-        assert_eq!(rt;
-            judge_cut(&rt, rt.alloc(), trace, most)?,
-            (agrees, rejudged)
-        );
+        let lines = lines_with(alloc, trace.rows)?;
+        let found = judge_cut(&rt, alloc, IMAGE, (trace.header, &lines), most)?;
+        assert_eq!(rt; found, (agrees, rejudged));
+    }
+    Ok(())
+}
+
+/// A made trace shows all that changes, so that no segment of it is judged again.
+#[test]
+fn judges_made_traces_once(rt: HostRuntime) -> Result<(), Fail> {
+    let alloc = rt.alloc();
+    let (image, trace) = make(alloc, 7, 1000)?;
+    let mut lines = Lines::new(alloc);
+    let mut header = trace.as_slice();
+    'lines: for (number, line) in trace.split(|byte| *byte == b'\n').enumerate() {
+        if number == 0 {
+            header = line;
+        } else if !line.is_empty() {
+            put_line(&mut lines, line)?;
+        }
+    }
+    for most in [7, 64, 1000] {
+        let found = judge_cut(&rt, alloc, &image, (header, &lines), most)?;
+        let agrees = Verdict::Agrees {
+            rows: 1000,
+            valid: 1000,
+        };
+        assert_eq!(rt; found, (agrees, 0));
     }
     Ok(())
 }

@@ -1,13 +1,16 @@
 //! Judging a trace in segments.
 
-ghost use Rattle.std.specs.Prelude.{◌≡◌, ◌<◌, ◌^◌, IfOk, length, option_map};
+ghost use Rattle.std.specs.Prelude.{◌≡◌, ◌<◌, ◌^◌, IfOk, IfSome, length, option_map};
 ghost use Rattle.std.specs.List.{All, flat_map};
 ghost use Rattle.hart_step.specs.Harts.{CanStep, state_of};
 ghost use Rattle.rvfi_rows.specs.Rows.{rows_of};
 ghost use Rattle.rvfi_rows.specs.Segments.{lines_of};
+ghost use Rattle.boundary_guess.specs.Truth.{HoldsWords, ShowChanges};
 ghost use Rattle.segment_judge.specs.Founds.{IsLawfulFound};
 ghost use Rattle.segment_judge.specs.Judgements.{by_hart};
 ghost use Rattle.segment_judge.specs.Laws.{conclusion_from};
+ghost use Rattle.verdict_join.specs.Joining.{candidates_of};
+ghost use Rattle.verdict_join.specs.Laws.{AreJudgedInTurn};
 ghost use Rattle.judge_run.specs.Events.{AreLeft};
 
 use crate::workers::Workers;
@@ -44,6 +47,11 @@ where
     ensures end { IfOk result (λ joined. option_map (state_of M.bytes) joined.end
         ≡ (conclusion_from by_hart (state_of M.bytes start)
         (rows_of columns.now (flat_map lines_of segments.old))).end) }
+    ensures can_step { IfOk result (λ joined. IfSome joined.end (CanStep M.ram)) }
+    // Where the valid rows show what they change, each segment is judged once.
+    ensures once { HoldsWords (state_of M.bytes start)
+        → ShowChanges (rows_of columns.now (flat_map lines_of segments.old))
+        → IfOk result (λ joined. joined.rejudged ≡ 0) }
 {
     read_segments(workers.rt, alloc, workers.count as usize, columns, segments)?;
     join_guessed(workers, alloc, start, columns, segments)
@@ -68,6 +76,10 @@ where
     ensures end { IfOk result (λ joined. option_map (state_of M.bytes) joined.end
         ≡ (conclusion_from by_hart (state_of M.bytes start)
         (rows_of columns.now (flat_map lines_of segments.now))).end) }
+    ensures can_step { IfOk result (λ joined. IfSome joined.end (CanStep M.ram)) }
+    ensures once { HoldsWords (state_of M.bytes start)
+        → ShowChanges (rows_of columns.now (flat_map lines_of segments.now))
+        → IfOk result (λ joined. joined.rejudged ≡ 0) }
 {
     let guesses = guesses(alloc, &start, columns, segments)?;
     let founds = find_by_workers(workers, alloc, &guesses, columns, segments)?;
@@ -75,7 +87,8 @@ where
 }
 
 /// What the workers find of segments, from the guesses before them. Some list of events on the board
-/// leaves that, so that what is said of all such lists holds of it.
+/// leaves that, so that what is said of all such lists holds of it. Up to the first that does not
+/// agree from its guess, each is judged.
 fn find_by_workers<R, G: Gate, M: PhysMem + Drop + Send + Sync>(
     workers: &Workers<R, G>,
     alloc: Global,
@@ -92,6 +105,8 @@ where
         (IsLawfulFound M.bytes M.ram columns.now segments.now guesses.now) founds.items) }
     ensures events { IfOk result (λ founds.
         AreLeft M.bytes columns.now segments.now guesses.now founds.items) }
+    ensures judged { IfOk result (λ founds. AreJudgedInTurn by_hart
+        (candidates_of M.bytes columns.now segments.now guesses.now founds.items)) }
 {
     let (board, seats) = Board::open(alloc, segments.len() as u32, workers.count)?;
     let (founds, seat) = run(

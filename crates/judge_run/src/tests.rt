@@ -54,24 +54,26 @@ const SIX_TRACE: &[u8] = b"insn,pc_rdata,rd_addr,rd_wdata
 /// How many bytes a read gives at most, less one.
 const DRIPS: [u16; 6] = [0, 1, 2, 6, 4095, 65535];
 
-/// Most lines of a segment, and workers.
-const SHARES: [(&str, &str); 6] = [
-    ("1", "1"),
-    ("1", "4"),
-    ("2", "64"),
-    ("3", "2"),
-    ("5", "3"),
-    ("1048576", "64"),
+/// Most lines of a segment, most segments of a window, and workers.
+const SHARES: [[&str; 3]; 8] = [
+    ["1", "1", "1"],
+    ["1", "1", "4"],
+    ["1", "64", "4"],
+    ["2", "2", "64"],
+    ["3", "1", "2"],
+    ["1", "3", "3"],
+    ["5", "2", "3"],
+    ["1048576", "1024", "64"],
 ];
 
 /// The words, and behind them the options that share the work out so.
-fn shared(alloc: Global, words: &[&str], share: (&str, &str)) -> Result<Vec<String>, AllocError> {
-    let (most, workers) = share;
+fn shared(alloc: Global, words: &[&str], share: [&str; 3]) -> Result<Vec<String>, AllocError> {
     let mut list = list(alloc, words)?;
-    list.push(String::from_str(alloc, "--segment")?)?;
-    list.push(String::from_str(alloc, most)?)?;
-    list.push(String::from_str(alloc, "--workers")?)?;
-    list.push(String::from_str(alloc, workers)?)?;
+    let names = ["--segment", "--window", "--workers"];
+    for (name, value) in names.iter().zip(share) {
+        list.push(String::from_str(alloc, *name)?)?;
+        list.push(String::from_str(alloc, value)?)?;
+    }
     Ok(list)
 }
 
@@ -509,5 +511,81 @@ fn judges_side_by_side(rt: HostRuntime) -> Result<(), Fail> {
     assert_eq!(rt; sink.held.as_slice(), b"agrees 6\n".as_slice());
     assert_eq!(rt; (gate.befores(), gate.afters()), (6, 6));
     assert!(rt; !gate.gave_up());
+    Ok(())
+}
+
+/// What is made is judged without the shelf, of which each read here would fail.
+#[test]
+fn judges_what_is_made(rt: HostRuntime) -> Result<(), Fail> {
+    let alloc = rt.alloc();
+    let cases: [(&[&str], u8, &[u8]); 9] = [
+        (&["rvjudge", "make", "7", "0"], 0, b"made 7 0: agrees 0\n"),
+        (
+            &["rvjudge", "make", "2048", "5"],
+            0,
+            b"made 2048 5: agrees 5\n",
+        ),
+        (
+            &["rvjudge", "make", "7", "1000"],
+            0,
+            b"made 7 1000: agrees 1000\n",
+        ),
+        (
+            &[
+                "rvjudge",
+                "make",
+                "7",
+                "1000",
+                "--segment",
+                "1",
+                "--workers",
+                "3",
+            ],
+            0,
+            b"made 7 1000: agrees 1000\n",
+        ),
+        (
+            &["rvjudge", "make", "7", "1000", "--segment=3", "--window=5"],
+            0,
+            b"made 7 1000: agrees 1000\n",
+        ),
+        (
+            &["rvjudge", "make", "0x7", "010"],
+            0,
+            b"made 7 10: agrees 10\n",
+        ),
+        (
+            &["rvjudge", "make", "4294967295", "3000"],
+            0,
+            b"made 4294967295 3000: agrees 3000\n",
+        ),
+        (&["rvjudge", "make", "1", "262145"], 2, b"refused words\n"),
+        (
+            &["rvjudge", "make", "4294967296", "1"],
+            2,
+            b"refused words\n",
+        ),
+    ];
+    for (words, status, text) in cases {
+        let failing = Vec::from_slice(alloc, &[1, 2, 3, 4, 5, 6])?;
+        let mut shelf = FailShelf::new(MemShelf::new(Vec::new(alloc)), failing);
+        let mut sink = MemSink::new(alloc);
+        let words = list(alloc, words)?;
+        let found = judge(&rt, alloc, &words, &mut shelf, &mut sink, &OpenGate);
+        assert_eq!(rt; found, status);
+        assert_eq!(rt; sink.held.as_slice(), text);
+        assert_eq!(rt; (shelf.calls, shelf.faults), (0, 0));
+    }
+    let words = list(alloc, &["rvjudge", "make", "7", "10"])?;
+    let mut shelf = MemShelf::new(Vec::new(alloc));
+    let mut sink = FailSink::new(alloc, 5)?;
+    assert_eq!(rt;
+        judge(&rt, alloc, &words, &mut shelf, &mut sink, &OpenGate),
+        5
+    );
+    assert_eq!(rt;
+        (sink.held.as_slice(), shelf.misses),
+        (b"made ".as_slice(), 0)
+    );
     Ok(())
 }

@@ -2,10 +2,14 @@
 
 ghost use Rattle.std.specs.Prelude.{◌≤◌};
 
-/// So many workers, the threads that they run in, and the gate that each passes at a segment.
+use std::alloc::Global;
+
+/// So many workers, the threads and the memory that they run in, and the gate that each passes at a
+/// segment.
 #[derive(Drop)]
 pub(crate) struct Workers<'a, R, G> {
     pub rt: &'a R,
+    pub alloc: Global,
     pub gate: &'a G,
     pub count: u32,
     ghost some: { 1 ≤ count },

@@ -1,3 +1,4 @@
+use Rattle.std.proofs.Common.{Some, Err, ap, sym, ◌∙◌}
 use Rattle.judge_words.specs.Job.{job_view}
 use Rattle.image_text.specs.Bytes.{byte_at}
 use Rattle.page_image.specs.Bytes.{byte_of, filled}
@@ -5,7 +6,9 @@ use Rattle.judge_run.proofs.Memories.{too_large, whole_refused, whole_built}
 use Rattle.judge_run.proofs.images.memory_in.Goals as goal
 
 pub returns-then-front-clause-meant : goal.returns-then-front-clause-meant
-returns-then-front-clause-meant c = λ file is. too_large (job_view c.args.job.now) file c.args.front.now is c.if-front.true
+returns-then-front-clause-meant c = λ file is.
+    too_large (job_view c.args.job.now) file c.args.front.now is c.if-front.true
+    ∙ ap (λ outcome. Err (Some outcome)) (sym c.outcome_of.ensures.outcome)
 
 pub returns-in-Err-clause-meant : goal.returns-in-Err-clause-meant
 returns-in-Err-clause-meant c =

@@ -1,5 +1,5 @@
 use Rattle.std.proofs.Common.{map, string_bytes}
-use Rattle.judge_run.proofs.Runs.{headline, counted, fault, misses, words_decide, out_of_memory, range}
+use Rattle.judge_run.proofs.Runs.{headline, counted, fault, made_answer, made_counts, misses, words_decide, out_of_memory, range}
 use Rattle.judge_run.proofs.judgement.judge.Goals as goal
 
 pub returns-clause-headline : goal.returns-clause-headline
@@ -22,3 +22,9 @@ returns-clause-out_of_memory g c = out_of_memory (g.H.Shelf.told c.args.shelf.no
 
 pub returns-clause-range : goal.returns-clause-range
 returns-clause-range g c = range (g.H.Shelf.told c.args.shelf.now) (map string_bytes c.args.words.now.items) _ _ c.run.result c.run.ensures.ends
+
+pub returns-clause-made : goal.returns-clause-made
+returns-clause-made g c = made_counts (g.H.Shelf.told c.args.shelf.now) (map string_bytes c.args.words.now.items) _ _ c.run.result c.run.ensures.ends
+
+pub returns-clause-made_answer : goal.returns-clause-made_answer
+returns-clause-made_answer g c = made_answer (g.H.Shelf.told c.args.shelf.now) (map string_bytes c.args.words.now.items) _ _ c.run.result c.run.ensures.ends

@@ -8,13 +8,13 @@ use Rattle.rvfi_rows.specs.Segments.{lines_of}
 use Rattle.judge_run.proofs.segment_tests.are_few.Goals as goal
 
 abbrev IsShort : Segment → Type 0
-IsShort segment = length segment.lines < 1000
+IsShort segment = length segment.lines < 2000
 
 -- segments of few lines each have few lines
-few_lines : (segments : List Segment) → All (λ segment. length segment.lines < 1000) segments → length (flat_map lines_of segments) ≤ 1000 * length segments
+few_lines : (segments : List Segment) → All (λ segment. length segment.lines < 2000) segments → length (flat_map lines_of segments) ≤ 2000 * length segments
 few_lines [] short = omega arith
 few_lines (segment ∷ segments) short =
-    let here : length segment.lines < 1000 = All-head IsShort segment segments short in
+    let here : length segment.lines < 2000 = All-head IsShort segment segments short in
     let rest = few_lines segments (All-tail IsShort segment segments short) in
     rw (flat_map-cons lines_of segment segments, length-append segment.lines (flat_map lines_of segments)) (omega (arith, here, rest))
 

@@ -1,8 +1,7 @@
-use Rattle.std.proofs.Common.{◌≡◌, ◌<◌, ◌∙◌, IfOk, ap, arith, length, option_map, subst, sym}
-use Rattle.std.specs.List.{flat_map}
+use Rattle.std.proofs.Common.{◌≡◌, IfOk, ap, arith, length, option_map, subst, sym}
 use Rattle.hart_step.specs.Harts.{state_of}
 use Rattle.rvfi_rows.specs.Rows.{rows_of}
-use Rattle.rvfi_rows.specs.Segments.{lines_of}
+use Rattle.boundary_guess.specs.Truth.{ShowChanges}
 use Rattle.segment_judge.specs.Judgements.{by_hart}
 use Rattle.segment_judge.specs.Laws.{conclusion_from}
 use Rattle.judge_run.proofs.AnyEvents.{same_lines}
@@ -22,3 +21,8 @@ pub returns-clause-end : goal.returns-clause-end
 returns-clause-end g c =
     subst (λ lines. IfOk c.join_guessed.result (λ joined. option_map (state_of g.M.PhysMem.bytes) joined.end ≡ (conclusion_from by_hart (state_of g.M.PhysMem.bytes c.args.start) (rows_of c.args.columns.now lines)).end))
     (same_lines _ _ c.in_ok-read_segments.ensures.lines) c.join_guessed.ensures.end
+
+pub returns-clause-once : goal.returns-clause-once
+returns-clause-once g c = λ words shows.
+    c.join_guessed.ensures.once words
+    (subst (λ lines. ShowChanges (rows_of c.args.columns.now lines)) (sym (same_lines _ _ c.in_ok-read_segments.ensures.lines)) shows)

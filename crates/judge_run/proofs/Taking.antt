@@ -1,0 +1,183 @@
+-- Lines that are taken for a window, segment by segment.
+use Rattle.std.proofs.Common.{◌≡◌, ℕ, ◌+◌, ◌-◌, ◌*◌, ◌<◌, ◌≤◌, Bool, true, false, List, [], ◌∷◌, ◌++◌, length, take, drop, nat_le, if◌then◌else◌, Option, Some, None, IsSome, refl, sym, ap, ap₂, subst, ◌∙◌, arith, append-nil, string_bytes, take-add}
+use Rattle.std.specs.List.{flat_map}
+use Rattle.std.proofs.lemmas.Bool.{leb-true, leb-false, le-leb}
+use Rattle.std.proofs.Math.Nat.{add-mul}
+use Rattle.std.proofs.lemmas.Nat.{mul-le}
+use Rattle.std.proofs.lemmas.List.{drop-drop, length-drop, length-take-le, take-append-drop}
+use Rattle.std.proofs.lemmas.List.Concat.{flat_map-append, flat_map-cons}
+use Rattle.outside_ports.specs.Ports.{Files, IsThere, file_of}
+use Rattle.rvfi_rows.specs.declared.segment.Segment.{Segment}
+use Rattle.rvfi_rows.specs.Segments.{lines_of}
+use Rattle.trace_lines.specs.declared.piece.Ending.{Ending}
+use Rattle.trace_lines.specs.declared.piece.Ending.TheVariants as endings
+use Rattle.trace_lines.specs.declared.line_taker.LineTaker.{LineTaker}
+use Rattle.trace_lines.specs.declared.piece.Piece.{Piece}
+use Rattle.trace_lines.specs.Lines.{Left}
+use Rattle.trace_lines.specs.Pieces.{FitsAsked, FitsEnding, back_of, front_of}
+use Rattle.trace_lines.specs.Takers.{TakesTold, left_of}
+use Rattle.judge_run.specs.Taking.{TakesLines, TakesLinesTold, TakesSoFar, TakesSoFarTold}
+
+-- before any call
+pub none_taken : (file : Option (List ℕ)) (taker : LineTaker) → TakesSoFarTold file 0 taker [] taker
+unfolding back_of
+none_taken None taker = tt
+none_taken (Some file) taker = record { enough = omega arith; lines = refl; left = refl; name = refl }
+
+-- a call whose lines are as many as were asked for found so many
+front_more : (asked : ℕ) (left : Left) (lines : List (List ℕ)) → record { lines = lines; ending = endings.More } ≡ front_of asked left → length lines ≡ asked → (asked ≤ length left.lines) × (lines ≡ take asked left.lines)
+unfolding front_of
+front_more asked left lines front count = by (nat_le asked (length left.lines)) refl front
+  where
+    by : (test : Bool) → nat_le asked (length left.lines) ≡ test → record { lines = lines; ending = endings.More } ≡ (if test then record { lines = take asked left.lines; ending = endings.More } else left) → (asked ≤ length left.lines) × (lines ≡ take asked left.lines)
+    by true e is = (leb-true _ _ e, ap (λ view. view.lines) is)
+    by false e is =
+        let fewer = leb-false _ _ e in
+        let same : length lines ≡ length left.lines = ap (λ view. length view.lines) is in
+        absurd (omega (arith, fewer, same, count))
+
+-- one with fewer lines took all that was left
+front_last : (asked : ℕ) (left piece : Left) → piece ≡ front_of asked left → length piece.lines < asked → piece ≡ left
+unfolding front_of
+front_last asked left piece front few = by (nat_le asked (length left.lines)) refl front
+  where
+    by : (test : Bool) → nat_le asked (length left.lines) ≡ test → piece ≡ (if test then record { lines = take asked left.lines; ending = endings.More } else left) → piece ≡ left
+    by true e is =
+        let enough : asked ≤ length left.lines = leb-true _ _ e in
+        let many : length piece.lines ≡ asked = ap (λ view. length view.lines) is ∙ length-take-le asked left.lines enough in
+        absurd (omega (arith, many, few))
+    by false e is = is
+
+-- the back of a back
+back_twice : (first next : ℕ) (left : Left) → back_of next (back_of first left) ≡ back_of (first + next) left
+unfolding back_of
+back_twice first next left = ap (λ lines. record { lines = lines; ending = left.ending }) (drop-drop next first left.lines)
+
+back_lines : (asked : ℕ) (left : Left) → (back_of asked left).lines ≡ drop asked left.lines
+unfolding back_of
+back_lines asked left = refl
+
+back_ending : (asked : ℕ) (left : Left) → (back_of asked left).ending ≡ left.ending
+unfolding back_of
+back_ending asked left = refl
+
+-- one more call, behind which more may follow
+take_on : (file : List ℕ) (first next : ℕ) (before middle after : LineTaker) (lines more : List (List ℕ)) → TakesSoFar file first before lines middle → record { lines = more; ending = endings.More } ≡ front_of next (left_of file middle) → left_of file after ≡ back_of next (left_of file middle) → after.name ≡ middle.name → length more ≡ next → TakesSoFar file (first + next) before (lines ++ more) after
+take_on file first next before middle after lines more taken front back name count =
+    let left = left_of file before in
+    let found = front_more next (left_of file middle) more front count in
+    let behind : (left_of file middle).lines ≡ drop first left.lines = ap (λ view. view.lines) taken.left ∙ back_lines first left in
+    let room : length (left_of file middle).lines ≡ length left.lines - first = ap length behind ∙ length-drop first left.lines in
+    record {
+      enough = omega (arith, found.0, room, taken.enough);
+      lines = ap₂ (λ one other. one ++ other) taken.lines (found.1 ∙ ap (take next) behind) ∙ sym (take-add first next left.lines);
+      left = back ∙ ap (back_of next) taken.left ∙ back_twice first next left;
+      name = name ∙ taken.name;
+    }
+
+pub take_on_told : (file : Option (List ℕ)) (first next : ℕ) (before middle after : LineTaker) (lines : List (List ℕ)) (piece : Piece) → TakesSoFarTold file first before lines middle → TakesTold file next middle piece after → piece.ending ≡ endings.More → FitsAsked next piece → TakesSoFarTold file (first + next) before (lines ++ piece.lines) after
+take_on_told None first next before middle after lines piece taken takes more fits = tt
+take_on_told (Some file) first next before middle after lines piece taken takes more fits =
+    let count : length piece.lines ≡ next = subst (λ ending. FitsEnding ending next (length piece.lines)) more fits in
+    let front = ap (λ ending. record { lines = piece.lines; ending = ending }) (sym more) ∙ takes.taken in
+    take_on file first next before middle after lines piece.lines taken front takes.left takes.name count
+
+-- as many as a window has
+front_whole : (asked : ℕ) (left : Left) → asked ≤ length left.lines → record { lines = take asked left.lines; ending = endings.More } ≡ front_of asked left
+unfolding front_of
+front_whole asked left enough = let some : nat_le asked (length left.lines) ≡ true = le-leb _ _ enough in rw some refl
+
+pub takes_whole : (file : Option (List ℕ)) (asked : ℕ) (before after : LineTaker) (lines : List (List ℕ)) → TakesSoFarTold file asked before lines after → TakesLinesTold file asked before lines endings.More after
+takes_whole None asked before after lines taken = tt
+takes_whole (Some file) asked before after lines taken = record {
+  taken = ap (λ text. record { lines = text; ending = endings.More }) taken.lines ∙ front_whole asked (left_of file before) taken.enough;
+  left = λ more. taken.left;
+  name = taken.name;
+}
+
+-- a call with fewer lines than were asked for ends the window
+front_fewer : (asked : ℕ) (left : Left) → length left.lines < asked → left ≡ front_of asked left
+unfolding front_of
+front_fewer asked left fewer = let none : nat_le asked (length left.lines) ≡ false = not_enough (nat_le asked (length left.lines)) refl in rw none refl
+  where
+    not_enough : (test : Bool) → nat_le asked (length left.lines) ≡ test → nat_le asked (length left.lines) ≡ false
+    not_enough true e = let enough = leb-true asked (length left.lines) e in absurd (omega (arith, enough, fewer))
+    not_enough false e = e
+
+take_last : (file : List ℕ) (first next asked : ℕ) (before middle after : LineTaker) (lines more : List (List ℕ)) (ending : Ending) → TakesSoFar file first before lines middle → record { lines = more; ending = ending } ≡ front_of next (left_of file middle) → after.name ≡ middle.name → length more < next → first + next ≤ asked → (ending ≡ endings.More → ⊥) → TakesLines file asked before (lines ++ more) ending after
+take_last file first next asked before middle after lines more ending taken front name few within last =
+    let left = left_of file before in
+    let all : record { lines = more; ending = ending } ≡ back_of first left = front_last next (left_of file middle) (record { lines = more; ending = ending }) front few ∙ taken.left in
+    let rest : more ≡ drop first left.lines = ap (λ view. view.lines) all ∙ back_lines first left in
+    let same : ending ≡ left.ending = ap (λ view. view.ending) all ∙ back_ending first left in
+    let whole : lines ++ more ≡ left.lines = ap₂ (λ one other. one ++ other) taken.lines rest ∙ take-append-drop first left.lines in
+    let count : length more ≡ length left.lines - first = ap length rest ∙ length-drop first left.lines in
+    record {
+      taken = ap₂ (λ text end. record { lines = text; ending = end }) whole same ∙ front_fewer asked left (omega (arith, count, few, within, taken.enough));
+      left = λ more. absurd (last more);
+      name = name ∙ taken.name;
+    }
+
+pub take_last_told : (file : Option (List ℕ)) (first next asked : ℕ) (before middle after : LineTaker) (lines : List (List ℕ)) (piece : Piece) → TakesSoFarTold file first before lines middle → TakesTold file next middle piece after → FitsAsked next piece → (piece.ending ≡ endings.More → ⊥) → first + next ≤ asked → TakesLinesTold file asked before (lines ++ piece.lines) piece.ending after
+take_last_told None first next asked before middle after lines piece taken takes fits last within = tt
+take_last_told (Some file) first next asked before middle after lines piece taken takes fits last within =
+    take_last file first next asked before middle after lines piece.lines piece.ending taken takes.taken takes.name (fewer piece.ending fits last) within last
+  where
+    fewer : (ending : Ending) → FitsEnding ending next (length piece.lines) → (ending ≡ endings.More → ⊥) → length piece.lines < next
+    fewer endings.More fits last = absurd (last refl)
+    fewer endings.End fits last = fits
+    fewer (endings.TooLong line) fits last = fits
+    fewer endings.TooLarge fits last = fits
+
+-- how many lines there are
+pub fits_last : (first next asked : ℕ) (ending : Ending) (count more : ℕ) → count ≡ first → FitsEnding ending next more → (ending ≡ endings.More → ⊥) → first + next ≤ asked → FitsEnding ending asked (count + more)
+fits_last first next asked endings.More count more so_far fits last within = absurd (last refl)
+fits_last first next asked endings.End count more so_far fits last within = omega (arith, so_far, fits, within)
+fits_last first next asked (endings.TooLong line) count more so_far fits last within = omega (arith, so_far, fits, within)
+fits_last first next asked endings.TooLarge count more so_far fits last within = omega (arith, so_far, fits, within)
+
+-- a file that is there stays there, as calls go on
+pub there_behind : (told : Option Files) (before after : LineTaker) (asked : ℕ) (lines : List (List ℕ)) → IsThere told (string_bytes before.name) → TakesSoFarTold (file_of told (string_bytes before.name)) asked before lines after → IsThere told (string_bytes after.name)
+there_behind None before after asked lines there taken = tt
+there_behind (Some files) before after asked lines there taken = by (files (string_bytes before.name)) refl there taken
+  where
+    by : (file : Option (List ℕ)) → files (string_bytes before.name) ≡ file → IsSome file → TakesSoFarTold file asked before lines after → IsSome (files (string_bytes after.name))
+    by None e there taken = absurd cc
+    by (Some file) e there taken =
+        let again : files (string_bytes after.name) ≡ Some file = ap (λ text. files (string_bytes text)) taken.name ∙ e in
+        subst IsSome (sym again) refl
+
+-- a call of a taker that stands further on in the same file
+pub takes_on : (told : Option Files) (before middle after : LineTaker) (asked next : ℕ) (lines : List (List ℕ)) (piece : Piece) → IsThere told (string_bytes before.name) → TakesSoFarTold (file_of told (string_bytes before.name)) asked before lines middle → TakesTold (file_of told (string_bytes middle.name)) next middle piece after → TakesTold (file_of told (string_bytes before.name)) next middle piece after
+takes_on None before middle after asked next lines piece there taken takes = tt
+takes_on (Some files) before middle after asked next lines piece there taken takes = by (files (string_bytes before.name)) refl there taken
+  where
+    by : (file : Option (List ℕ)) → files (string_bytes before.name) ≡ file → IsSome file → TakesSoFarTold file asked before lines middle → TakesTold file next middle piece after
+    by None e there taken = absurd cc
+    by (Some file) e there taken =
+        let again : files (string_bytes middle.name) ≡ Some file = ap (λ text. files (string_bytes text)) taken.name ∙ e in
+        subst (λ told. TakesTold told next middle piece after) again takes
+
+-- one segment more, where a piece has lines, and none where it has not
+pub one_segment_more : (segments : List Segment) (segment : Segment) → flat_map lines_of (segments ++ segment ∷ []) ≡ flat_map lines_of segments ++ segment.lines
+one_segment_more segments segment =
+    flat_map-append lines_of segments (segment ∷ []) ∙ ap (λ rest. flat_map lines_of segments ++ rest) (flat_map-cons lines_of segment [] ∙ append-nil segment.lines)
+
+-- one segment more than so many, which are fewer than a window has
+pub next_lines_are : (count segment : ℕ) → (count + 1) * segment ≡ count * segment + segment
+next_lines_are count segment =
+    let one : 1 * segment ≡ segment = omega arith in
+    add-mul count 1 segment ∙ ap (λ more. count * segment + more) one
+
+pub next_within : (count window segment : ℕ) → count < window → count * segment + segment ≤ window * segment
+next_within count window segment fewer =
+    let whole : (count + 1) * segment ≤ window * segment = mul-le (count + 1) segment window segment (omega (arith, fewer)) (omega arith) in
+    let next = next_lines_are count segment in
+    omega (arith, whole, next)
+
+-- before any segment
+pub begins : (file : Option (List ℕ)) (taker : LineTaker) (segment : ℕ) (items : List Segment) → items ≡ [] → TakesSoFarTold file (0 * segment) taker (flat_map lines_of items) taker
+begins file taker segment items none = let nothing : 0 * segment ≡ 0 = omega arith in rw (none, nothing) (none_taken file taker)
+
+pub no_lines : (segment : ℕ) (items : List Segment) → items ≡ [] → length (flat_map lines_of items) ≡ 0 * segment
+no_lines segment items none = let nothing : 0 * segment ≡ 0 = omega arith in rw (none, nothing) refl

@@ -1,0 +1,96 @@
+use Rattle.std.proofs.Common.{◌≡◌, ◌∙◌, ◌+◌, ◌*◌, ◌++◌, false, true, ap, arith, length, refl, string_bytes, subst, sym}
+use Rattle.std.specs.List.{flat_map}
+use Rattle.std.proofs.lemmas.List.{length-append}
+use Rattle.judge_words.specs.Job.{job_view}
+use Rattle.outside_ports.specs.Ports.{file_of}
+use Rattle.rvfi_rows.specs.Segments.{lines_of}
+use Rattle.trace_lines.specs.declared.piece.Ending.TheVariants.{More}
+use Rattle.trace_lines.specs.Pieces.{FitsEnding}
+use Rattle.trace_lines.specs.Takers.{TakesTold}
+use Rattle.judge_run.specs.Taking.{TakesLinesTold, TakesSoFarTold, window_lines}
+use Rattle.judge_run.proofs.Taking.{begins, fits_last, next_lines_are, next_within, no_lines, take_last_told, take_on_told, takes_on, takes_whole, there_behind}
+use Rattle.judge_run.proofs.window.take_window.Goals as goal
+
+pub segments-init : goal.segments-init
+segments-init g c =
+    let none = c.new-segments.ensures.items in
+    let count = no_lines c.args.job.now.sharing.segment c.new-segments.result.items none in
+    let nothing : 0 * c.args.job.now.sharing.segment ≡ 0 = omega arith in
+    record {
+      told = refl;
+      faults = refl;
+      misses = refl;
+      there = c.requires.there;
+      taken = begins (file_of (g.H.Shelf.told c.args.shelf.now) (string_bytes c.args.taker.name)) c.args.taker c.args.job.now.sharing.segment c.new-segments.result.items none;
+      count = count;
+      few = omega (arith, ap length none);
+      room = omega (arith, count, nothing);
+    }
+
+pub returns-then-not-is_more-clause-takes : goal.returns-then-not-is_more-clause-takes
+returns-then-not-is_more-clause-takes g c =
+    let told = g.H.Shelf.told c.args.shelf.now in
+    let file = file_of told (string_bytes c.args.taker.name) in
+    let segment = c.args.job.now.sharing.segment in
+    let first = c.segments.counter * segment in
+    let middle = c.segments.taker in
+    let piece = c.in-Ok.taken.0 in
+    let after = c.in-Ok.taken.1 in
+    let lines = flat_map lines_of c.segments.segments.items in
+    let inv = c.segments.invariant in
+    let here : TakesTold (file_of told (string_bytes middle.name)) segment middle piece after = subst (λ told. TakesTold (file_of told (string_bytes middle.name)) segment middle piece after) inv.told c.in-Ok.ensures.takes in
+    let takes = takes_on told c.args.taker middle after first segment lines piece c.requires.there inv.taken here in
+    let within = next_within c.segments.counter c.args.job.now.sharing.window segment c.segments-test.true in
+    subst (λ text. TakesLinesTold file (window_lines (job_view c.args.job.now)) c.args.taker text piece.ending after) (sym c.in-Ok-push_lines.ensures.lines)
+    (take_last_told file first segment (window_lines (job_view c.args.job.now)) c.args.taker middle after lines piece inv.taken takes c.in-Ok.ensures.counts
+    (λ more. let never : c.is_more.result ≡ true = c.is_more.ensures.1 more in let other : false ≡ true = sym c.if-not-is_more.true ∙ never in cc) within)
+
+pub returns-then-not-is_more-clause-counts : goal.returns-then-not-is_more-clause-counts
+returns-then-not-is_more-clause-counts g c =
+    let segment = c.args.job.now.sharing.segment in
+    let piece = c.in-Ok.taken.0 in
+    let lines = flat_map lines_of c.segments.segments.items in
+    let within = next_within c.segments.counter c.args.job.now.sharing.window segment c.segments-test.true in
+    let many = ap length c.in-Ok-push_lines.ensures.lines ∙ length-append lines piece.lines in
+    subst (λ count. FitsEnding piece.ending (window_lines (job_view c.args.job.now)) count) (sym many)
+    (fits_last (c.segments.counter * segment) segment (window_lines (job_view c.args.job.now)) piece.ending (length lines) (length piece.lines) c.segments.invariant.count c.in-Ok.ensures.counts
+    (λ more. let never : c.is_more.result ≡ true = c.is_more.ensures.1 more in let other : false ≡ true = sym c.if-not-is_more.true ∙ never in cc) within)
+
+pub segments-preserved : goal.segments-preserved
+segments-preserved g c =
+    let told = g.H.Shelf.told c.args.shelf.now in
+    let file = file_of told (string_bytes c.args.taker.name) in
+    let segment = c.args.job.now.sharing.segment in
+    let first = c.segments.counter * segment in
+    let middle = c.segments.taker in
+    let piece = c.in-Ok.taken.0 in
+    let after = c.in-Ok.taken.1 in
+    let lines = flat_map lines_of c.segments.segments.items in
+    let inv = c.segments.invariant in
+    let here : TakesTold (file_of told (string_bytes middle.name)) segment middle piece after = subst (λ told. TakesTold (file_of told (string_bytes middle.name)) segment middle piece after) inv.told c.in-Ok.ensures.takes in
+    let takes = takes_on told c.args.taker middle after first segment lines piece c.requires.there inv.taken here in
+    let more : piece.ending ≡ More = c.is_more.ensures.0 c.if-not-is_more.false in
+    let whole : length piece.lines ≡ segment = subst (λ ending. FitsEnding ending segment (length piece.lines)) more c.in-Ok.ensures.counts in
+    let taken = take_on_told file first segment c.args.taker middle after lines piece inv.taken takes more c.in-Ok.ensures.counts in
+    let next = next_lines_are c.segments.counter segment in
+    let many = ap length c.in-Ok-push_lines.ensures.lines ∙ length-append lines piece.lines in
+    record {
+      told = c.in-Ok.ensures.told ∙ inv.told;
+      faults = c.in-Ok.ensures.faults ∙ inv.faults;
+      misses = c.in-Ok.ensures.misses ∙ inv.misses;
+      there = there_behind told c.args.taker after (first + segment) (lines ++ piece.lines) c.requires.there taken;
+      taken = subst (λ text. TakesSoFarTold file ((c.segments.counter + 1) * segment) c.args.taker text after) (sym c.in-Ok-push_lines.ensures.lines)
+          (subst (λ asked. TakesSoFarTold file asked c.args.taker (lines ++ piece.lines) after) (sym next) taken);
+      count = omega (arith, many, inv.count, whole, next);
+      few = omega (arith, c.in-Ok-push_lines.ensures.few, inv.few);
+      room = omega (arith, many, inv.room, c.in-Ok.ensures.room);
+    }
+
+pub returns-clause-takes : goal.returns-clause-takes
+returns-clause-takes g c =
+    let file = file_of (g.H.Shelf.told c.args.shelf.now) (string_bytes c.args.taker.name) in
+    let segment = c.args.job.now.sharing.segment in
+    let lines = flat_map lines_of c.segments.segments.items in
+    let all : c.segments.counter ≡ c.args.job.now.sharing.window = omega (arith, c.segments-test.false, c.segments.auto.counter-end) in
+    subst (λ count. TakesLinesTold file (count * segment) c.args.taker lines More c.segments.taker) all
+    (takes_whole file (c.segments.counter * segment) c.args.taker c.segments.taker lines c.segments.invariant.taken)

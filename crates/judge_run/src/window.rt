@@ -1,0 +1,95 @@
+//! Taking the rows of a window.
+
+ghost use Rattle.std.specs.Prelude.{◌≡◌, ◌≤◌, ◌+◌, ◌++◌, Decides, IfOk, IfErr, OnOk, false, length, string_bytes};
+ghost use Rattle.std.specs.List.{flat_map};
+ghost use Rattle.judge_words.specs.Job.{IsLawful, job_view};
+ghost use Rattle.outside_ports.specs.Faults.{CountsFault, CountsMiss};
+ghost use Rattle.outside_ports.specs.Ports.{IsThere, file_of};
+ghost use Rattle.rvfi_rows.specs.Segments.{lines_of};
+ghost use Rattle.trace_lines.specs.Errors.{is_read_fault};
+ghost use Rattle.trace_lines.specs.Pieces.{FitsEnding};
+ghost use Rattle.trace_lines.specs.declared.piece.Ending.TheVariants.{More};
+ghost use Rattle.trace_lines.specs.Takers.{room_of};
+ghost use Rattle.judge_run.specs.Taking.{TakesLinesTold, lines_in, window_lines};
+
+use judge_words::Job;
+use line_text::Lines;
+use outside_ports::Shelf;
+use rvfi_rows::Segment;
+use std::alloc::Global;
+use trace_lines::{Ending, LineError, LineTaker, Piece};
+
+/// The rows that are held at once, in segments of which none is empty, and what follows them.
+#[derive(Drop)]
+pub(crate) struct Window {
+    pub segments: Vec<Segment>,
+    pub ending: Ending,
+}
+
+/// Takes the next window: as many segments as it has, each of as many lines, or all that is left
+/// where that is less.
+pub fn take_window<H: Shelf>(
+    alloc: Global,
+    job: &Job,
+    taker: LineTaker,
+    shelf: &mut H,
+) -> Result<(Window, LineTaker), LineError>
+    requires lawful { IsLawful (job_view job.now) }
+    requires there { IsThere (H.told shelf.old) (string_bytes taker.name) }
+    ensures told { H.told shelf.new ≡ H.told shelf.old }
+    ensures takes { let file = file_of (H.told shelf.old) (string_bytes taker.name) in
+        IfOk result (λ taken. TakesLinesTold file (window_lines (job_view job.now)) taker
+        (lines_in taken.0) taken.0.ending taken.1) }
+    ensures counts { IfOk result (λ taken. FitsEnding taken.0.ending
+        (window_lines (job_view job.now)) (length (lines_in taken.0))) }
+    ensures few { IfOk result (λ taken.
+        length taken.0.segments.items ≤ job.now.sharing.window) }
+    ensures room { IfOk result (λ taken.
+        length (lines_in taken.0) + room_of taken.1 ≤ room_of taker) }
+    ensures faults { CountsFault is_read_fault result (H.faults shelf.old) (H.faults shelf.new) }
+    ensures misses { CountsMiss is_read_fault result (H.told shelf.old) (string_bytes taker.name)
+        (H.misses shelf.old) (H.misses shelf.new) }
+{
+    let mut taker = taker;
+    let mut segments = Vec::new(alloc);
+    'segments: for _ in 0..job.sharing.window {
+        let (piece, next) = match taker.next_lines(shelf, job.sharing.segment) {
+            Ok(taken) => taken,
+            Err(error) => return Err(error),
+        };
+        taker = next;
+        let Piece { lines, ending } = piece;
+        match push_lines(&mut segments, lines) {
+            Ok(()) => {}
+            Err(error) => return Err(error),
+        }
+        if !is_more(ending) {
+            return Ok((Window { segments, ending }, taker));
+        }
+    }
+    let ending = Ending::More;
+    Ok((Window { segments, ending }, taker))
+}
+
+/// Puts lines behind the others, as a segment of their own, unless there are none.
+fn push_lines(segments: &mut Vec<Segment>, lines: Lines) -> Result<(), LineError>
+    ensures lines { OnOk result (flat_map lines_of segments.new.items
+        ≡ flat_map lines_of segments.old.items ++ lines) }
+    ensures few { OnOk result (length segments.new.items ≤ length segments.old.items + 1) }
+    ensures memory { IfErr result (λ error. is_read_fault error ≡ false) }
+{
+    if lines.len() == 0 {
+        return Ok(());
+    }
+    match segments.push(Segment::new(lines)) {
+        Ok(()) => Ok(()),
+        Err(_) => Err(LineError::NoMemory),
+    }
+}
+
+/// Whether more lines may follow.
+fn is_more(ending: Ending) -> bool
+    ensures { Decides result (ending ≡ More) }
+{
+    matches!(ending, Ending::More)
+}
