@@ -2,11 +2,13 @@
 """Alters single fields of a trace and holds a program to foretold answers.
 
     alter_fields.py IMAGE TRACE [PROGRAM] [--io BASE:SIZE] [--count N] [--seed S] [--jobs J] [--keep FOLDER]
+        [--cut MOST]
 
 Each of the N altered traces is the front of TRACE up to some rows behind the altered one, with one field
 altered; rows well before it do not show the registers. The whole answer is foretold by judge.py, which goes
 on from a state before the altered row; then PROGRAM judges the altered trace from its beginning, and must
-print that answer and end with its status. Without PROGRAM the answers are only foretold. The status is 1
+print that answer and end with its status; with --cut, in segments of up to MOST rows and windows of up to
+MOST segments, both drawn for each trace. Without PROGRAM the answers are only foretold. The status is 1
 where an answer is not as foretold, where the unaltered trace does not agree, or where too few alterations
 are of bits that are compared.
 """
@@ -233,14 +235,18 @@ class Alterations:
             yield found
 
 
-def judged(program, image, trace, folder, io, alteration):
+def judged(options, trace, folder, alteration):
     """What the program prints and its status."""
+    command = [options.program, "judge", options.image]
+    if options.io:
+        command += ["--io", options.io]
+    if options.cut:
+        chance = Random(f"{options.seed} {alteration}")
+        for name, most in (("segment", options.cut), ("window", options.cut), ("workers", 3)):
+            command.append(f"--{name}={chance.randint(1, most)}")
     with tempfile.NamedTemporaryFile(dir=folder) as file:
         trace.write_altered(file.name, alteration)
-        command = [program, "judge", image, file.name]
-        if io:
-            command += ["--io", io]
-        run = subprocess.run(command, stdout=subprocess.PIPE, check=False)
+        run = subprocess.run([*command, file.name], stdout=subprocess.PIPE, check=False)
     return run.stdout.decode("utf-8", "replace").strip(), run.returncode
 
 
@@ -250,7 +256,7 @@ def compare(trace, altered, options):
     with tempfile.TemporaryDirectory() as folder, ThreadPoolExecutor(options.jobs) as pool:
 
         def run(alteration):
-            return judged(options.program, options.image, trace, folder, options.io, alteration)
+            return judged(options, trace, folder, alteration)
 
         for place, (alteration, (said, status)) in enumerate(zip(altered, pool.map(run, altered))):
             due_status = 1 if alteration.makes_difference() else 0
@@ -277,6 +283,7 @@ def main():
     parser.add_argument("--seed", type=number, default=1)
     parser.add_argument("--jobs", type=number, default=os.cpu_count())
     parser.add_argument("--keep", type=Path, help="where to put the traces with a wrong answer")
+    parser.add_argument("--cut", type=number, help="the most rows of a segment, and segments of a window")
     options = parser.parse_args()
     devices = span(options.io) if options.io else range(0)
     trace = Trace(options.trace, Judge(Hart(Memory(read_image(options.image)), devices=devices)))
