@@ -1,6 +1,6 @@
 //! Lines kept as one text.
 
-ghost use Rattle.std.specs.Prelude.{◌≡◌, ◌≤◌, ◌<◌, ◌+◌, ◌-◌, ◌^◌, ◌++◌, ◌∷◌, ◌==◌, [], ℕ, List, length, take, drop, slice_get, option_copied, OnOk, OnErr};
+ghost use Rattle.std.specs.Prelude.{◌≡◌, ◌≤◌, ◌<◌, ◌+◌, ◌-◌, ◌^◌, ◌++◌, ◌∷◌, ◌==◌, [], ℕ, List, length, take, drop, slice_get, option_copied, IfOk, OnOk, OnErr};
 ghost use Rattle.line_text.specs.Lines.{IsLine, lines_in, start_in};
 
 use std::alloc::{AllocError, Global};
@@ -35,6 +35,16 @@ impl Lines {
             text: Vec::new(alloc),
             ends: Vec::new(alloc),
         }
+    }
+
+    /// No lines; so many of them, of so many bytes with their line feeds, take no further memory.
+    pub fn with_capacity(alloc: Global, lines: usize, bytes: usize) -> Result<Lines, AllocError>
+        ensures { IfOk result (λ lines. lines ≡ []) }
+    {
+        Ok(Lines {
+            text: Vec::with_capacity(alloc, bytes)?,
+            ends: Vec::with_capacity(alloc, lines)?,
+        })
     }
 
     /// How many lines there are; memory bounds their number.

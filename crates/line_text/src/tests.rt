@@ -22,3 +22,14 @@ fn keeps_lines(rt: HostRuntime) -> Result<(), Fail> {
     assert_eq!(rt; lines.text(), b"ab\n\nc\r\n".as_slice());
     Ok(())
 }
+
+#[test]
+fn grows_past_its_capacity(rt: HostRuntime) -> Result<(), Fail> {
+    let mut lines = Lines::with_capacity(rt.alloc(), 1, 3)?;
+    check(&rt, &lines, &[]);
+    lines.push(b"ab")?;
+    check(&rt, &lines, &[b"ab"]);
+    lines.push(b"cde")?;
+    check(&rt, &lines, &[b"ab", b"cde"]);
+    Ok(())
+}

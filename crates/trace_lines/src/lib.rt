@@ -6,6 +6,7 @@
 //! followed here.
 #![tactic(auto)]
 
+mod capacity;
 mod finding;
 pub mod laws;
 mod line_cursor;

@@ -5,6 +5,7 @@ ghost use Rattle.line_text.specs.Lines.{IsLine};
 ghost use Rattle.trace_lines.specs.Lines.{has_mark};
 ghost use Rattle.trace_lines.specs.declared.next.TheConstants.{LONGEST};
 
+use crate::capacity::Capacity;
 use crate::next::{Next, push_line};
 use crate::piece::{Ending, LineError, Piece};
 use line_text::Lines;
@@ -89,13 +90,15 @@ impl LineCursor {
     }
 
     #[tactic(auto, using(crate::proofs::Fronts::counts_short))]
-    /// Takes so many lines that are not blank, or all that are left where they are fewer.
+    /// Takes so many lines that are not blank, or all that are left where they are fewer. They are
+    /// given so much memory at once.
     pub fn take_lines<H: Shelf>(
         &mut self,
         alloc: Global,
         shelf: &mut H,
         name: &str,
         asked: usize,
+        capacity: Capacity,
     ) -> Result<Piece, LineError>
         ensures told { H.told shelf.new ≡ H.told shelf.old }
         ensures piece { IfOk result (λ piece. ForFile (file_of (H.told shelf.old) name.now)
@@ -111,7 +114,7 @@ impl LineCursor {
             CountsMiss is_read_fault result told name.now (H.misses shelf.old)
             (H.misses shelf.new) }
     {
-        let mut lines = Lines::new(alloc);
+        let mut lines = capacity.new_lines(alloc, asked)?;
         'taking: while lines.len() < asked {
             let end = self.take_next(shelf, name, &mut lines)?;
             match end {

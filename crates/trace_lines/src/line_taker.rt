@@ -5,6 +5,7 @@ ghost use Rattle.outside_ports.specs.Faults.{CountsFault, CountsMiss};
 ghost use Rattle.outside_ports.specs.Ports.{file_of, IsThere};
 ghost use Rattle.trace_lines.specs.Errors.{is_read_fault};
 
+use crate::capacity::Capacity;
 use crate::line_cursor::LineCursor;
 use crate::piece::{LineError, Piece};
 use outside_ports::Shelf;
@@ -21,6 +22,8 @@ pub struct LineTaker {
     pub alloc: Global,
     /// Where the next line begins, once something was read.
     pub cursor: Option<LineCursor>,
+    /// What the next piece is given at once: as much as the last one took.
+    pub capacity: Capacity,
     ghost bounded: { most < 2 ^ 62 },
 }
 
@@ -40,6 +43,7 @@ impl LineTaker {
             most: max,
             alloc,
             cursor: None,
+            capacity: Capacity { lines: 0, bytes: 0 },
         })
     }
 
@@ -69,12 +73,14 @@ impl LineTaker {
             most,
             alloc,
             cursor,
+            capacity,
         } = self;
         let mut cursor = match cursor {
             Some(cursor) => cursor,
             None => LineCursor::open(alloc, shelf, name.as_str(), most)?,
         };
-        let piece = cursor.take_lines(alloc, shelf, name.as_str(), lines)?;
+        let piece = cursor.take_lines(alloc, shelf, name.as_str(), lines, capacity)?;
+        let capacity = Capacity::after(&piece.lines);
         Ok((
             piece,
             LineTaker {
@@ -82,6 +88,7 @@ impl LineTaker {
                 most,
                 alloc,
                 cursor: Some(cursor),
+                capacity,
             },
         ))
     }
