@@ -1,9 +1,9 @@
 -- Which operations the words of plain rows mean: none of SYSTEM, and none that is atomic.
-use Rattle.std.proofs.Common.{◌≡◌, ℕ, ◌+◌, ◌*◌, ◌/◌, ◌%◌, ◌^◌, ◌<◌, Bool, true, false, ◌&&◌, List, [], ◌∷◌, Option, None, Some, bit_and, ◌==◌, refl, sym, ◌∙◌, ap, subst, arith, if◌then◌else◌, lit<, ◌-◌}
+use Rattle.std.proofs.Common.{◌≡◌, ℕ, ◌/◌, ◌%◌, ◌^◌, ◌<◌, Bool, true, false, not, ◌&&◌, List, [], ◌∷◌, Option, None, Some, bit_and, ◌==◌, refl, sym, ◌∙◌, ap, subst, arith, if◌then◌else◌, lit<, ◌-◌}
 use Rattle.std.specs.Prelude.{◌||◌}
 use Rattle.std.specs.List.{list_all, find}
 use Rattle.std.specs.Option.{option_map, option_and_then}
-use Rattle.std.proofs.lemmas.Nat.{and_mod, and_mask}
+use Rattle.std.proofs.lemmas.Nat.{and_mask}
 use Rattle.std.proofs.lemmas.Bool.{eqb-true}
 use Rattle.std.proofs.lemmas.Bool.Decides.{nat_tests}
 use Rattle.rv_decode.specs.declared.operation.Op.{Op}
@@ -15,11 +15,10 @@ use Rattle.rv_decode.specs.Fields.{operation_of}
 use Rattle.rv_decode.specs.Operands.{destination_of}
 use Rattle.rv_decode.specs.Table.{opcodes, all_rows, meets, decoded_by, decoded}
 use Rattle.rv_compressed.specs.declared.compressed_op.CompressedOp.{CompressedOp}
-use Rattle.rv_compressed.specs.declared.compressed_op.CompressedOp.TheVariants as c
 use Rattle.rv_compressed.specs.declared.patterns.Pattern.{Pattern as Parcel}
-use Rattle.rv_compressed.specs.Formats.{r_format, i_format, s_format, b_format, u_format, j_format}
 use Rattle.rv_compressed.specs.Patterns.{holds, meets as meets_parcel}
 use Rattle.hart_step.specs.Instructions.{op_of}
+use Rattle.hart_step.proofs.WordOpcodes.{both, opcode_met, opcode_of, word_opcode}
 use Rattle.rv_compressed.specs.Table.{table, word_of, expansion_by, expansion_of, expanded}
 
 -- neither of SYSTEM nor atomic
@@ -106,10 +105,6 @@ of_form (forms.LoadReserved width) word = refl
 of_form (forms.StoreConditional width) word = refl
 of_form (forms.Amo op width) word = refl
 
-both : (a b : Bool) → (a && b) ≡ true → (a ≡ true) × (b ≡ true)
-both true b h = (refl, h)
-both false b h = cc
-
 -- the opcode is SYSTEM or AMO
 abbrev is_special : ℕ → Bool
 is_special code = code == 0x73 || code == 0x2f
@@ -117,13 +112,6 @@ is_special code = code == 0x73 || code == 0x2f
 -- the row's form is plain, or the row fixes one of those opcodes
 abbrev is_told : Pattern → Bool
 is_told row = is_plain_form row.form || ((row.mask % 128 == 127) && is_special (row.bits % 128))
-
-opcode_met : (mask bits word : ℕ) → mask % 128 ≡ 127 → bit_and word mask ≡ bits → bits % 128 ≡ word % 128
-opcode_met mask bits word all met =
-    let split : bit_and word mask % 128 ≡ bit_and (word % 128) (mask % 128) = and_mod word mask 7 in
-    let kept : bit_and (word % 128) 127 ≡ word % 128 % 128 = and_mask (word % 128) 7 in
-    let here : bits % 128 ≡ bit_and (word % 128) 127 = cc in
-    omega arith
 
 told_by : (plain : Bool) (row : Pattern) (word : ℕ) → (plain || ((row.mask % 128 == 127) && is_special (row.bits % 128))) ≡ true → meets row word ≡ true → is_special (word % 128) ≡ false → plain ≡ true
 told_by true row word told met other = refl
@@ -157,89 +145,16 @@ plain_decoded word op other is = plain_among (all_rows opcodes) word op refl oth
 
 -- ---- compressed instructions: none but C.EBREAK expands to such a word
 
-low_r : (opcode funct3 funct7 rd rs1 rs2 : ℕ) → opcode < 128 → r_format opcode funct3 funct7 rd rs1 rs2 % 128 ≡ opcode
-unfolding r_format
-low_r opcode funct3 funct7 rd rs1 rs2 below = omega arith
+common_word : (op : CompressedOp) (parcel : ℕ) → is_special (opcode_of op) ≡ false → is_special (word_of op parcel % 128) ≡ false
+common_word op parcel other = ap is_special (word_opcode op parcel) ∙ other
 
-low_i : (opcode funct3 rd rs1 immediate : ℕ) → opcode < 128 → i_format opcode funct3 rd rs1 immediate % 128 ≡ opcode
-unfolding i_format
-low_i opcode funct3 rd rs1 immediate below = omega arith
-
-low_s_by : (opcode funct3 rs2 rs1 a b : ℕ) → opcode < 128 → (a * 2 ^ 25 + rs2 * 2 ^ 20 + rs1 * 2 ^ 15 + funct3 * 2 ^ 12 + b * 2 ^ 7 + opcode) % 128 ≡ opcode
-low_s_by opcode funct3 rs2 rs1 a b below = omega arith
-
-low_s : (opcode funct3 rs2 rs1 offset : ℕ) → opcode < 128 → s_format opcode funct3 rs2 rs1 offset % 128 ≡ opcode
-unfolding s_format
-low_s opcode funct3 rs2 rs1 offset below = low_s_by opcode funct3 rs2 rs1 _ _ below
-
-low_b_by : (opcode funct3 rs1 rs2 a b c d : ℕ) → opcode < 128 → (a * 2 ^ 31 + b * 2 ^ 25 + rs2 * 2 ^ 20 + rs1 * 2 ^ 15 + funct3 * 2 ^ 12 + c * 2 ^ 8 + d * 2 ^ 7 + opcode) % 128 ≡ opcode
-low_b_by opcode funct3 rs1 rs2 a b c d below = omega arith
-
-low_b : (opcode funct3 rs1 rs2 offset : ℕ) → opcode < 128 → b_format opcode funct3 rs1 rs2 offset % 128 ≡ opcode
-unfolding b_format
-low_b opcode funct3 rs1 rs2 offset below = low_b_by opcode funct3 rs1 rs2 _ _ _ _ below
-
-low_u : (opcode rd upper : ℕ) → opcode < 128 → u_format opcode rd upper % 128 ≡ opcode
-unfolding u_format
-low_u opcode rd upper below = omega arith
-
-low_j_by : (opcode rd a b c d : ℕ) → opcode < 128 → (a * 2 ^ 31 + b * 2 ^ 21 + c * 2 ^ 20 + d * 2 ^ 12 + rd * 2 ^ 7 + opcode) % 128 ≡ opcode
-low_j_by opcode rd a b c d below = omega arith
-
-low_j : (opcode rd offset : ℕ) → opcode < 128 → j_format opcode rd offset % 128 ≡ opcode
-unfolding j_format
-low_j opcode rd offset below = low_j_by opcode rd _ _ _ _ below
-
-special_none : (word opcode : ℕ) → is_special opcode ≡ false → word % 128 ≡ opcode → is_special (word % 128) ≡ false
-special_none word opcode none is = ap is_special is ∙ none
-
--- the compressed instruction is not C.EBREAK
-abbrev is_no_ebreak : CompressedOp → Bool
-is_no_ebreak c.Ebreak = false
-is_no_ebreak _ = true
-
-common_word : (op : CompressedOp) (parcel : ℕ) → is_no_ebreak op ≡ true → is_special (word_of op parcel % 128) ≡ false
-unfolding word_of
-common_word c.Addi4spn parcel is = special_none _ 0x13 refl (low_i 0x13 _ _ _ _ (lit< tt))
-common_word c.Lw parcel is = special_none _ 0x03 refl (low_i 0x03 _ _ _ _ (lit< tt))
-common_word c.Ld parcel is = special_none _ 0x03 refl (low_i 0x03 _ _ _ _ (lit< tt))
-common_word c.Sw parcel is = special_none _ 0x23 refl (low_s 0x23 _ _ _ _ (lit< tt))
-common_word c.Sd parcel is = special_none _ 0x23 refl (low_s 0x23 _ _ _ _ (lit< tt))
-common_word c.Addi parcel is = special_none _ 0x13 refl (low_i 0x13 _ _ _ _ (lit< tt))
-common_word c.Addiw parcel is = special_none _ 0x1b refl (low_i 0x1b _ _ _ _ (lit< tt))
-common_word c.Li parcel is = special_none _ 0x13 refl (low_i 0x13 _ _ _ _ (lit< tt))
-common_word c.Addi16sp parcel is = special_none _ 0x13 refl (low_i 0x13 _ _ _ _ (lit< tt))
-common_word c.Lui parcel is = special_none _ 0x37 refl (low_u 0x37 _ _ (lit< tt))
-common_word c.Srli parcel is = special_none _ 0x13 refl (low_i 0x13 _ _ _ _ (lit< tt))
-common_word c.Srai parcel is = special_none _ 0x13 refl (low_i 0x13 _ _ _ _ (lit< tt))
-common_word c.Andi parcel is = special_none _ 0x13 refl (low_i 0x13 _ _ _ _ (lit< tt))
-common_word c.Sub parcel is = special_none _ 0x33 refl (low_r 0x33 _ _ _ _ _ (lit< tt))
-common_word c.Xor parcel is = special_none _ 0x33 refl (low_r 0x33 _ _ _ _ _ (lit< tt))
-common_word c.Or parcel is = special_none _ 0x33 refl (low_r 0x33 _ _ _ _ _ (lit< tt))
-common_word c.And parcel is = special_none _ 0x33 refl (low_r 0x33 _ _ _ _ _ (lit< tt))
-common_word c.Subw parcel is = special_none _ 0x3b refl (low_r 0x3b _ _ _ _ _ (lit< tt))
-common_word c.Addw parcel is = special_none _ 0x3b refl (low_r 0x3b _ _ _ _ _ (lit< tt))
-common_word c.J parcel is = special_none _ 0x6f refl (low_j 0x6f _ _ (lit< tt))
-common_word c.Beqz parcel is = special_none _ 0x63 refl (low_b 0x63 _ _ _ _ (lit< tt))
-common_word c.Bnez parcel is = special_none _ 0x63 refl (low_b 0x63 _ _ _ _ (lit< tt))
-common_word c.Slli parcel is = special_none _ 0x13 refl (low_i 0x13 _ _ _ _ (lit< tt))
-common_word c.Lwsp parcel is = special_none _ 0x03 refl (low_i 0x03 _ _ _ _ (lit< tt))
-common_word c.Ldsp parcel is = special_none _ 0x03 refl (low_i 0x03 _ _ _ _ (lit< tt))
-common_word c.Jr parcel is = special_none _ 0x67 refl (low_i 0x67 _ _ _ _ (lit< tt))
-common_word c.Mv parcel is = special_none _ 0x33 refl (low_r 0x33 _ _ _ _ _ (lit< tt))
-common_word c.Ebreak parcel is = absurd cc
-common_word c.Jalr parcel is = special_none _ 0x67 refl (low_i 0x67 _ _ _ _ (lit< tt))
-common_word c.Add parcel is = special_none _ 0x33 refl (low_r 0x33 _ _ _ _ _ (lit< tt))
-common_word c.Swsp parcel is = special_none _ 0x23 refl (low_s 0x23 _ _ _ _ (lit< tt))
-common_word c.Sdsp parcel is = special_none _ 0x23 refl (low_s 0x23 _ _ _ _ (lit< tt))
-
--- the row's instruction is another, or the row fixes the whole parcel
+-- the row's word has another opcode, or the row fixes the whole parcel
 abbrev is_told_parcel : Parcel → Bool
-is_told_parcel row = is_no_ebreak row.op || ((row.mask == 2 ^ 16 - 1) && (row.bits == 0x9002))
+is_told_parcel row = not (is_special (opcode_of row.op)) || ((row.mask == 2 ^ 16 - 1) && (row.bits == 0x9002))
 
-parcel_told : (common : Bool) (row : Parcel) (parcel : ℕ) → (common || ((row.mask == 2 ^ 16 - 1) && (row.bits == 0x9002))) ≡ true → meets_parcel row parcel ≡ true → parcel < 2 ^ 16 → (parcel == 0x9002) ≡ false → common ≡ true
-parcel_told true row parcel told met short other = refl
-parcel_told false row parcel told met short other =
+parcel_told : (special : Bool) (row : Parcel) (parcel : ℕ) → (not special || ((row.mask == 2 ^ 16 - 1) && (row.bits == 0x9002))) ≡ true → meets_parcel row parcel ≡ true → parcel < 2 ^ 16 → (parcel == 0x9002) ≡ false → special ≡ false
+parcel_told false row parcel told met short other = refl
+parcel_told true row parcel told met short other =
     let parts = both (row.mask == 2 ^ 16 - 1) (row.bits == 0x9002) told in
     let here = both (bit_and parcel row.mask == row.bits) (holds row.condition parcel) met in
     let fixed : bit_and parcel row.mask ≡ row.bits = eqb-true _ _ here.0 in
@@ -254,7 +169,7 @@ common_by : (test : Bool) (row : Parcel) (rest : Option Parcel) (parcel word : �
     → option_map (λ row. word_of row.op parcel) (if test then Some row else rest) ≡ Some word → is_special (word % 128) ≡ false
 common_by true row rest parcel word told met short other more is =
     let same : word_of row.op parcel ≡ word = some_same _ _ is in
-    ap (λ w. is_special (w % 128)) (sym same) ∙ common_word row.op parcel (parcel_told (is_no_ebreak row.op) row parcel told met short other)
+    ap (λ w. is_special (w % 128)) (sym same) ∙ common_word row.op parcel (parcel_told (is_special (opcode_of row.op)) row parcel told met short other)
 common_by false row rest parcel word told met short other more is = more is
 
 common_among : (rows : List Parcel) (parcel word : ℕ) → list_all is_told_parcel rows ≡ true → parcel < 2 ^ 16 → (parcel == 0x9002) ≡ false

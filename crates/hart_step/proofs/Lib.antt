@@ -11,3 +11,5 @@ pub mod Granted
 pub mod Rows
 pub mod Alike
 pub mod ShownBytes
+pub mod WordOpcodes
+pub mod StoreWords

@@ -1,7 +1,8 @@
 //! The rows that show all that their instructions change, and the state after one.
 
-ghost use Rattle.std.specs.Prelude.{◌≡◌, ◌⊎◌, ◌<◌, ◌%◌, ◌^◌, Option};
+ghost use Rattle.std.specs.Prelude.{◌≡◌, ◌⊎◌, ◌<◌, ◌%◌, ◌^◌, Option, true};
 ghost use Rattle.rvfi_rows.specs.Cells.{shown_in};
+ghost use Rattle.hart_step.specs.Instructions.{op_of};
 ghost use Rattle.hart_step.specs.PlainRows.{bits_of, insn_shown, is_plain, is_store, is_system_or_atomic, is_undisturbed, length_of, shows_bytes, shows_store, translates_data};
 
 use crate::choices::row_shows;
@@ -11,7 +12,7 @@ use crate::state::Core;
 use hart_words::{PhysMem, Signal};
 use mem_access::{data_mode, is_translated};
 use rv_decode::Op;
-use rv_decode::opcodes::{AMO, SYSTEM};
+use rv_decode::opcodes::{AMO, STORE, SYSTEM};
 use rvfi_rows::Row;
 
 /// C.EBREAK, all of whose bits are fixed: funct4 is 1001, both registers are 0, the quadrant is 2.
@@ -112,7 +113,20 @@ pub(crate) fn shows_store(row: &Row) -> bool
     ensures { result ≡ shows_store (shown_in row.now) }
 {
     let word = insn_shown(row);
-    is_store(op_of(bits_of(word), length_of(word)))
+    may_store(word) && is_store(op_of(bits_of(word), length_of(word)))
+}
+
+/// Whether a word may begin with a store: by its opcode, or by its quadrant and the upper two bits
+/// of its funct3. So few words are decoded.
+#[tactic(auto, using(crate::proofs::StoreWords::store_opcode, crate::proofs::StoreWords::store_parcel))]
+fn may_store(word: u64) -> bool
+    ensures { is_store (op_of (bits_of word) (length_of word)) ≡ true → result ≡ true }
+{
+    if word % 4 == 3 {
+        (word % 128) as u32 == STORE
+    } else {
+        word % 4 != 1 && word / (1 << 14) % 4 == 3
+    }
 }
 
 /// Whether an operation is a store.
