@@ -5,7 +5,7 @@ pub mod Endings
 pub mod Steps
 pub mod Written
 pub mod Runs
-pub mod Lawful
 pub mod AnyEvents
-pub mod Once
+pub mod Settled
+pub mod Parted
 pub mod MadeAnswers

@@ -4,3 +4,4 @@ pub mod Ends
 pub mod Events
 pub mod Taking
 pub mod Windows
+pub mod Settling

@@ -10,14 +10,18 @@ mod judgement;
 pub mod laws;
 mod outcomes;
 mod output;
+mod parts;
+mod rounds;
 mod segments;
 mod stop;
+mod tally;
 mod traces;
 mod window;
 mod windows;
 mod workers;
 
 pub use judgement::judge;
+pub use rounds::settle;
 
 #[cfg(test)]
 mod program_tests;

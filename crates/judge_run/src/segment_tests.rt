@@ -1,24 +1,29 @@
-//! A small trace in segments, and how many of these are judged again.
+//! Small traces that are settled in rounds: how many segments are judged again, and who passes the
+//! gate in how many rounds.
 
-ghost use Rattle.std.specs.Prelude.{◌<◌, ◌^◌, IsTrue, length};
+ghost use Rattle.std.specs.Prelude.{◌≡◌, ◌≤◌, ◌<◌, ◌^◌, IsTrue, length};
 ghost use Rattle.std.specs.List.{All, flat_map};
 ghost use Rattle.hart_step.specs.Harts.{CanStep};
 ghost use Rattle.line_text.specs.Lines.{IsLine};
 ghost use Rattle.page_layers.specs.Memories.{layered_ram};
 ghost use Rattle.rvfi_rows.specs.Segments.{lines_of};
 
-use crate::segments::judge_segments;
-use crate::workers::Workers;
+use crate::settle;
 use boundary_guess::cut;
 use hart_step::Hart;
 use hart_words::{Map, Span};
 use image_text::read_image;
 use line_text::Lines;
-use outside_ports::OpenGate;
+use outside_ports::Gate;
 use page_image::PageImage;
 use page_layers::Layered;
 use rvfi_rows::{Columns, Segment, Verdict, read_header};
+use segment_workers::Steps;
 use std::alloc::Global;
+use std::marker::Brand;
+use std::sync::atomic::AtomicU64;
+use std::sync::atomic::Ordering::SeqCst;
+use std::sync::ledger::{Blank, Ledger};
 use std::test::Fail;
 use std::thread::Threads;
 use trace_maker::make;
@@ -31,6 +36,7 @@ const IMAGE: &[u8] = b"@80000000
 ";
 
 /// A header and rows.
+#[derive(Drop)]
 struct Trace {
     header: &'static [u8],
     rows: &'static [&'static [u8]],
@@ -59,6 +65,61 @@ const SILENT: Trace = Trace {
         b"0x00118213,0x80000010",
     ],
 };
+
+/// ADDI x1, x0, 5; ADDI x2, x1, 1; ADDI x3, x0, 3; ADDI x4, x0, 4.
+const FOUR: &[u8] = b"@80000000 93 00 50 00 13 81 10 00 93 01 30 00 13 02 40 00";
+
+/// The second row shows what it reads, so that it differs from a guess that has no x1.
+const READ: Trace = Trace {
+    header: b"insn,pc_rdata,rs1_rdata",
+    rows: &[
+        b"0x00500093,0x80000000,",
+        b"0x00108113,0x80000004,5",
+        b"0x00300193,0x80000008,",
+        b"0x00400213,0x8000000c,",
+    ],
+};
+
+/// A gate that counts who passes it. Segments are numbered from 0 in each round, so segment 0 passes
+/// it as often as there are rounds.
+#[derive(Drop)]
+struct CountGate {
+    firsts: AtomicU64,
+    befores: AtomicU64,
+    afters: AtomicU64,
+}
+
+impl CountGate {
+    fn new() -> Self {
+        CountGate {
+            firsts: AtomicU64::new(0),
+            befores: AtomicU64::new(0),
+            afters: AtomicU64::new(0),
+        }
+    }
+
+    /// How many rounds there were, and how often segments went in and out.
+    fn counts(&self) -> (u64, u64, u64) {
+        (
+            self.firsts.load(SeqCst),
+            self.befores.load(SeqCst),
+            self.afters.load(SeqCst),
+        )
+    }
+}
+
+impl Gate for CountGate {
+    fn before(&self, _worker: u32, seg: u32) {
+        self.befores.fetch_add(1, SeqCst);
+        if seg == 0 {
+            self.firsts.fetch_add(1, SeqCst);
+        }
+    }
+
+    fn after(&self, _worker: u32, _seg: u32) {
+        self.afters.fetch_add(1, SeqCst);
+    }
+}
 
 /// Whether no line feed stands in the bytes.
 fn is_line(bytes: &[u8]) -> bool
@@ -98,37 +159,45 @@ fn are_few(segments: &[Segment]) -> bool
     segments.len() < 1000 && are_short(segments)
 }
 
-/// The verdict on segments, and how many of them were judged again.
-fn judge_few<R: Threads + Sync>(
+/// What is told of segments: the verdict, how many of them were judged again, in how many rounds, and
+/// how often segments went in and out at the gate.
+type Told = (Verdict, u32, (u64, u64, u64));
+
+/// Settles segments by so many workers.
+fn settle_few<R: Threads + Sync, L: Ledger>(
     rt: &R,
-    alloc: Global,
-    start: Hart<Layered>,
+    start: (Global, Hart<Layered>),
     columns: &Columns,
-    segments: &mut [Segment],
-) -> Result<(Verdict, u32), Fail>
-    requires { CanStep layered_ram start }
+    segments: &[Segment],
+    workers: u32,
+    blank: Blank,
+) -> Result<Told, Fail>
+    requires can_step { CanStep layered_ram start.1 }
+    requires name { blank.name ≡ L.name }
+    requires parts { blank.parts ≡ L.parts }
+    requires some { 0 < blank.parts }
 {
-    if !are_few(segments) {
-        return Err(Fail::from("too many segments"));
+    if !are_few(segments) || workers < 1 || 64 < workers {
+        return Err(Fail::from("too many segments or workers"));
     }
-    let workers = Workers {
-        rt,
-        alloc,
-        gate: &OpenGate,
-        count: 2,
-    };
-    let joined = judge_segments(&workers, alloc, start, columns, segments)?;
-    Ok((joined.verdict, joined.rejudged))
+    let (alloc, start) = start;
+    let gate = CountGate::new();
+    let mut steps = Steps::<L>::new(blank);
+    let joined = settle(
+        rt, alloc, start, columns, segments, workers, &gate, &mut steps,
+    )?;
+    Ok((joined.verdict, joined.rejudged, gate.counts()))
 }
 
 /// The same of rows under a header over an image, cut into segments of so many lines.
-fn judge_cut<R: Threads + Sync>(
+fn settle_cut<R: Threads + Sync>(
     rt: &R,
     alloc: Global,
     image: &[u8],
     lines: (&[u8], &Lines),
-    most: usize,
-) -> Result<(Verdict, u32), Fail> {
+    cuts: (usize, u32),
+) -> Result<Told, Fail> {
+    let (most, workers) = cuts;
     if most == 0 {
         return Err(Fail::from("no length"));
     }
@@ -136,36 +205,78 @@ fn judge_cut<R: Threads + Sync>(
     let map = Map::new(ram, None).ok_or("no map")?;
     let pieces = read_image(alloc, image, map.ram).map_err(|_| Fail::from("no image"))?;
     let image = PageImage::build(alloc, &pieces, map.ram)?;
-    let start = Hart::reset(Layered::over(alloc, &image), CODE, map);
+    let start = (alloc, Hart::reset(Layered::over(alloc, &image), CODE, map));
     let columns = read_header(alloc, lines.0)?;
-    let mut segments = cut(alloc, lines.1, most)?;
-    judge_few(rt, alloc, start, &columns, &mut segments)
+    let segments = cut(alloc, lines.1, most)?;
+    settle_few::<R, Brand>(rt, start, &columns, &segments, workers, Blank::new(1))
 }
 
-/// No segment is judged again where rows show what changes; where they do not, each is whose guess
-/// is wrong, and the verdict is the same.
+/// A trace over an image, cut into segments of so many lines for so many workers, and what is told
+/// of it.
+#[derive(Drop)]
+struct Settled<'a> {
+    image: &'a [u8],
+    trace: &'a Trace,
+    cuts: (usize, u32),
+    told: Told,
+}
+
+/// No segment is judged again where rows show what changes. Where they do not, a round ends with the
+/// first whose guess is wrong, and those behind it are guessed anew from the true state; the verdict
+/// is the same.
 #[test]
-fn judges_again_where_guesses_are_wrong(rt: HostRuntime) -> Result<(), Fail> {
-    let agrees = Verdict::Agrees { rows: 5, valid: 5 };
+fn settles_in_rounds(rt: HostRuntime) -> Result<(), Fail> {
+    let four = Verdict::Agrees { rows: 4, valid: 4 };
+    let five = Verdict::Agrees { rows: 5, valid: 5 };
+    let of = |image, trace, cuts, told| Settled {
+        image,
+        trace,
+        cuts,
+        told,
+    };
     let cases = [
-        (&SHOWN, 1, 0),
-        (&SHOWN, 2, 0),
-        (&SILENT, 1, 4),
-        (&SILENT, 2, 2),
-        (&SILENT, 5, 0),
+        of(FOUR, &READ, (1, 2), (four, 2, (2, 6, 6))),
+        of(IMAGE, &SHOWN, (1, 2), (five, 0, (1, 5, 5))),
+        of(IMAGE, &SHOWN, (2, 64), (five, 0, (1, 3, 3))),
+        of(IMAGE, &SILENT, (1, 2), (five, 2, (2, 8, 8))),
+        of(IMAGE, &SILENT, (2, 2), (five, 1, (2, 4, 4))),
+        of(IMAGE, &SILENT, (5, 1), (five, 0, (1, 1, 1))),
     ];
     let alloc = rt.alloc();
-    'cases: for (trace, most, rejudged) in cases {
-        let lines = lines_with(alloc, trace.rows)?;
-        let found = judge_cut(&rt, alloc, IMAGE, (trace.header, &lines), most)?;
-        assert_eq!(rt; found, (agrees, rejudged));
+    'cases: for case in cases {
+        let lines = lines_with(alloc, case.trace.rows)?;
+        let told = settle_cut(
+            &rt,
+            alloc,
+            case.image,
+            (case.trace.header, &lines),
+            case.cuts,
+        )?;
+        assert_eq!(rt; told, case.told);
     }
     Ok(())
 }
 
-/// A made trace shows all that changes, so that no segment of it is judged again.
+/// Where there is no segment there is no round.
 #[test]
-fn judges_made_traces_once(rt: HostRuntime) -> Result<(), Fail> {
+fn settles_nothing_without_a_round(rt: HostRuntime) -> Result<(), Fail> {
+    let alloc = rt.alloc();
+    let told = settle_cut(
+        &rt,
+        alloc,
+        IMAGE,
+        (SHOWN.header, &Lines::new(alloc)),
+        (1, 2),
+    )?;
+    let agrees = Verdict::Agrees { rows: 0, valid: 0 };
+    assert_eq!(rt; told, (agrees, 0, (0, 0, 0)));
+    Ok(())
+}
+
+/// A made trace shows all that changes, so that it takes one round, and no segment of it is judged
+/// again.
+#[test]
+fn settles_made_traces_in_one_round(rt: HostRuntime) -> Result<(), Fail> {
     let alloc = rt.alloc();
     let (image, trace) = make(alloc, 7, 1000)?;
     let mut lines = Lines::new(alloc);
@@ -177,13 +288,13 @@ fn judges_made_traces_once(rt: HostRuntime) -> Result<(), Fail> {
             put_line(&mut lines, line)?;
         }
     }
-    for most in [7, 64, 1000] {
-        let found = judge_cut(&rt, alloc, &image, (header, &lines), most)?;
-        let agrees = Verdict::Agrees {
-            rows: 1000,
-            valid: 1000,
-        };
-        assert_eq!(rt; found, (agrees, 0));
+    let agrees = Verdict::Agrees {
+        rows: 1000,
+        valid: 1000,
+    };
+    for (most, segments) in [(7, 143), (64, 16), (1000, 1)] {
+        let told = settle_cut(&rt, alloc, &image, (header, &lines), (most, 2))?;
+        assert_eq!(rt; told, (agrees, 0, (1, segments, segments)));
     }
     Ok(())
 }

@@ -1,6 +1,6 @@
 //! Judging a trace in segments.
 
-ghost use Rattle.std.specs.Prelude.{◌≡◌, ◌<◌, ◌^◌, IfOk, IfSome, length, option_map};
+ghost use Rattle.std.specs.Prelude.{◌≡◌, ◌+◌, ◌<◌, ◌^◌, IfOk, IfSome, length, option_map};
 ghost use Rattle.std.specs.List.{All, flat_map};
 ghost use Rattle.hart_step.specs.Harts.{CanStep, state_of};
 ghost use Rattle.rvfi_rows.specs.Rows.{rows_of};
@@ -12,7 +12,9 @@ ghost use Rattle.segment_judge.specs.Laws.{conclusion_from};
 ghost use Rattle.verdict_join.specs.Joining.{candidates_of};
 ghost use Rattle.verdict_join.specs.Laws.{AreJudgedInTurn};
 ghost use Rattle.judge_run.specs.Events.{AreLeft};
+ghost use Rattle.judge_run.specs.Settling.{IsRoundOver};
 
+use crate::parts::settle_parts;
 use crate::workers::Workers;
 use boundary_guess::guesses;
 use hart_step::Hart;
@@ -20,18 +22,16 @@ use hart_words::{NoMemory, PhysMem};
 use outside_ports::Gate;
 use rvfi_rows::{Columns, Segment, read_segments};
 use segment_judge::{Found, Judged};
-use segment_workers::run;
-use std::alloc::Global;
+use segment_workers::{Steps, run};
+use std::sync::ledger::Ledger;
 use std::thread::Threads;
 use verdict_board::Board;
-use verdict_join::{Joined, join_all};
+use verdict_join::{Joined, Round, join_round};
 
 /// The verdict on the lines of segments, each a row under these columns, and the hart behind them
-/// where they agree. All are read first; then the hart before each segment is guessed, workers
-/// judge them from these guesses side by side, and the verdicts are joined from the true state.
+/// where they agree. All are read first, once; then they are settled, part by part.
 pub fn judge_segments<R, G: Gate, M: PhysMem + Drop + Send + Sync>(
     workers: &Workers<R, G>,
-    alloc: Global,
     start: Hart<M>,
     columns: &Columns,
     segments: &mut [Segment],
@@ -53,48 +53,46 @@ where
         → ShowChanges (rows_of columns.now (flat_map lines_of segments.old))
         → IfOk result (λ joined. joined.rejudged ≡ 0) }
 {
-    read_segments(workers.rt, alloc, workers.count as usize, columns, segments)?;
-    join_guessed(workers, alloc, start, columns, segments)
+    let count = workers.count as usize;
+    read_segments(workers.rt, workers.alloc, count, columns, segments)?;
+    settle_parts(workers, start, columns, segments)
 }
 
-/// The same of segments that were read.
-fn join_guessed<R, G: Gate, M: PhysMem + Drop + Send + Sync>(
+/// A round over segments that were read: from guesses made of the state before the first, up to the
+/// first that does not agree or has to be judged again.
+pub fn judge_round<R, G: Gate, M: PhysMem + Drop + Send + Sync, L: Ledger>(
     workers: &Workers<R, G>,
-    alloc: Global,
     start: Hart<M>,
     columns: &Columns,
     segments: &[Segment],
-) -> Result<Joined<M>, NoMemory>
+    steps: &mut Steps<L>,
+) -> Result<Round<M>, NoMemory>
 where
     R: Threads + Sync,
     requires can_step { CanStep M.ram start }
     requires few { length segments.now < 2 ^ 32 }
     requires lines { length (flat_map lines_of segments.now) < 2 ^ 60 }
-    ensures verdict { IfOk result (λ joined. joined.verdict
-        ≡ (conclusion_from by_hart (state_of M.bytes start)
-        (rows_of columns.now (flat_map lines_of segments.now))).verdict) }
-    ensures end { IfOk result (λ joined. option_map (state_of M.bytes) joined.end
-        ≡ (conclusion_from by_hart (state_of M.bytes start)
-        (rows_of columns.now (flat_map lines_of segments.now))).end) }
-    ensures can_step { IfOk result (λ joined. IfSome joined.end (CanStep M.ram)) }
-    ensures once { HoldsWords (state_of M.bytes start)
-        → ShowChanges (rows_of columns.now (flat_map lines_of segments.now))
-        → IfOk result (λ joined. joined.rejudged ≡ 0) }
+    ensures over { IfOk result
+        (IsRoundOver M.bytes M.ram columns.now segments.now (state_of M.bytes start)) }
+    ensures steps { IfOk result (λ round. steps.new ≡ steps.old + 1) }
 {
-    let guesses = guesses(alloc, &start, columns, segments)?;
-    let founds = find_by_workers(workers, alloc, &guesses, columns, segments)?;
-    join_all(alloc, start, columns, segments, &guesses, founds)
+    // Pages that were written so far are shared from here on, so that no later copy has to copy
+    // their bytes again.
+    let start = start.copy()?;
+    let guesses = guesses(workers.alloc, &start, columns, segments)?;
+    let founds = find_by_workers(workers, &guesses, columns, segments, steps)?;
+    join_round(workers.alloc, start, columns, segments, &guesses, founds)
 }
 
 /// What the workers find of segments, from the guesses before them. Some list of events on the board
 /// leaves that, so that what is said of all such lists holds of it. Up to the first that does not
 /// agree from its guess, each is judged.
-fn find_by_workers<R, G: Gate, M: PhysMem + Drop + Send + Sync>(
+fn find_by_workers<R, G: Gate, M: PhysMem + Drop + Send + Sync, L: Ledger>(
     workers: &Workers<R, G>,
-    alloc: Global,
     guesses: &[Hart<M>],
     columns: &Columns,
     segments: &[Segment],
+    steps: &mut Steps<L>,
 ) -> Result<Vec<Found<Judged<M>>>, NoMemory>
 where
     R: Threads + Sync,
@@ -107,17 +105,20 @@ where
         AreLeft M.bytes columns.now segments.now guesses.now founds.items) }
     ensures judged { IfOk result (λ founds. AreJudgedInTurn by_hart
         (candidates_of M.bytes columns.now segments.now guesses.now founds.items)) }
+    ensures steps { IfOk result (λ founds. steps.new ≡ steps.old + 1) }
 {
-    let (board, seats) = Board::open(alloc, segments.len() as u32, workers.count)?;
+    let n = segments.len() as u32;
+    let (board, seats) = Board::open(workers.alloc, n, workers.count)?;
     let (founds, seat) = run(
         workers.rt,
-        alloc,
+        workers.alloc,
         &board,
         seats,
         guesses,
         columns,
         segments,
         workers.gate,
+        steps,
     )?;
     let _closed = board.close(seat);
     Ok(founds)

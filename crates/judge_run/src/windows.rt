@@ -168,14 +168,11 @@ where
     ensures can_step { IfOk result (λ joined. IfSome joined.end (CanStep M.ram)) }
 {
     let mut segments = segments;
-    // Pages that the rows so far wrote are shared from here on, so that no later copy has to copy
-    // their bytes again.
-    let start = start.copy()?;
-    judge_segments(workers, workers.alloc, start, columns, &mut segments)
+    judge_segments(workers, start, columns, &mut segments)
 }
 
 /// A verdict behind so many rows, and so many valid ones among these.
-fn counted_on(rows: u64, valid: u64, verdict: Verdict) -> Verdict
+pub(crate) fn counted_on(rows: u64, valid: u64, verdict: Verdict) -> Verdict
     requires few { rows < 2 ^ 62 }
     requires valid { valid ≤ rows }
     requires within { IsWithinRows (2 ^ 62) verdict }

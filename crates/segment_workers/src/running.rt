@@ -1,6 +1,6 @@
 //! A worker for each seat.
 
-ghost use Rattle.std.specs.Prelude.{◌≡◌, ◌<◌, ◌≤◌, ◌^◌, IfOk, length, map, vec_len};
+ghost use Rattle.std.specs.Prelude.{◌≡◌, ◌+◌, ◌<◌, ◌≤◌, ◌^◌, IfOk, length, map, vec_len};
 ghost use Rattle.std.specs.List.{All};
 ghost use Rattle.hart_step.specs.Harts.{CanStep};
 ghost use Rattle.segment_judge.specs.Founds.{IsLawfulFound};
@@ -9,6 +9,7 @@ ghost use Rattle.verdict_board.specs.Views.{IsWhole};
 ghost use Rattle.segment_workers.specs.Runs.{AreAllSeats, ArePosted, DrewEach, FoundBelow, HasReason, IsFoundBy};
 ghost use Rattle.segment_workers.specs.Works.{HaveDone, IsFreshSeat, seat_of};
 
+use crate::steps::Steps;
 use crate::task::Task;
 use crate::work::{Work, Worker};
 use hart_step::Hart;
@@ -17,13 +18,14 @@ use outside_ports::Gate;
 use rvfi_rows::{Columns, Segment};
 use segment_judge::{Found, Judged};
 use std::alloc::Global;
+use std::sync::ledger::Ledger;
 use std::thread::{Threads, map_vec};
 use verdict_board::{Board, Seat};
 
 /// Judges segments from the guesses before them, by one worker for each seat of a board: what was
 /// found of them, in any order, and the seats as one. A segment is skipped where one before it was
-/// posted. Where memory is refused nothing is handed back.
-pub fn run<R: Threads + Sync, M: PhysMem + Drop + Send + Sync, G: Gate>(
+/// posted. Where memory is refused nothing is handed back. The call counts one on `steps`.
+pub fn run<R: Threads + Sync, M: PhysMem + Drop + Send + Sync, G: Gate, L: Ledger>(
     rt: &R,
     alloc: Global,
     board: &Board,
@@ -32,6 +34,7 @@ pub fn run<R: Threads + Sync, M: PhysMem + Drop + Send + Sync, G: Gate>(
     columns: &Columns,
     segments: &[Segment],
     gate: &G,
+    steps: &mut Steps<L>,
 ) -> Result<(Vec<Found<Judged<M>>>, Seat), NoMemory>
     requires seats { AreAllSeats (length segments.now) board.now seats.items }
     requires one_each { length guesses.now ≡ length segments.now }
@@ -48,7 +51,9 @@ pub fn run<R: Threads + Sync, M: PhysMem + Drop + Send + Sync, G: Gate>(
     ensures posted { IfOk result (λ done. ArePosted done.0.items (view_of done.1).posts) }
     ensures at { IfOk result (λ done. IsAt board.now done.1) }
     ensures whole { IfOk result (λ done. IsWhole (view_of done.1)) }
+    ensures steps { steps.new ≡ steps.old + 1 }
 {
+    steps.count();
     let workers = workers_at(alloc, seats)?;
     let task = Task {
         alloc,

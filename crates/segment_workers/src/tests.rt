@@ -1,4 +1,4 @@
-ghost use Rattle.std.specs.Prelude.{◌≡◌, ◌≤◌, ◌%◌, IfOk, IsTrue};
+ghost use Rattle.std.specs.Prelude.{◌≡◌, ◌<◌, ◌≤◌, ◌%◌, IfOk, IsTrue};
 ghost use Rattle.std.specs.List.{All};
 ghost use Rattle.hart_step.specs.Harts.{CanStep};
 ghost use Rattle.hart_words.specs.Memory.{IsPlace};
@@ -13,7 +13,9 @@ use page_layers::MapMem;
 use rvfi_rows::{Segment, Verdict, read_header};
 use segment_judge::{Found, Judged, What};
 use std::alloc::Global;
+use std::marker::Brand;
 use std::process::Abort;
+use std::sync::ledger::{Blank, Ledger};
 use std::test::Fail;
 use std::thread::Threads;
 use verdict_board::Board;
@@ -181,6 +183,21 @@ fn hold_run<R: Threads + Sync + Abort, G: Gate>(
 ) -> Result<(), Fail>
     requires { (1 ≤ case.now.seats) × (case.now.seats ≤ 64) }
 {
+    hold_counted::<R, G, Brand>(rt, alloc, case, gate, Blank::new(1))
+}
+
+fn hold_counted<R: Threads + Sync + Abort, G: Gate, L: Ledger>(
+    rt: &R,
+    alloc: Global,
+    case: &Case,
+    gate: &G,
+    blank: Blank,
+) -> Result<(), Fail>
+    requires seats { (1 ≤ case.now.seats) × (case.now.seats ≤ 64) }
+    requires name { blank.name ≡ L.name }
+    requires parts { blank.parts ≡ L.parts }
+    requires some { 0 < blank.parts }
+{
     let columns = read_header(alloc, HEADER)?;
     let segments = segments_of(alloc, case.rows)?;
     let guesses = guesses_of(alloc, case.rows)?;
@@ -189,7 +206,10 @@ fn hold_run<R: Threads + Sync + Abort, G: Gate>(
     }
     let n = u32::try_from(segments.len()).ok().ok_or("too many")?;
     let (board, all) = Board::open(alloc, n, case.seats)?;
-    let (founds, seat) = run(rt, alloc, &board, all, &guesses, &columns, &segments, gate)?;
+    let mut steps = Steps::<L>::new(blank);
+    let (founds, seat) = run(
+        rt, alloc, &board, all, &guesses, &columns, &segments, gate, &mut steps,
+    )?;
     let (drawn, least) = board.close(seat);
     hold_told(rt, &founds, case.told);
     assert_eq!(rt; (drawn, least), (case.drawn, case.least));

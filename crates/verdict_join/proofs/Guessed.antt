@@ -61,7 +61,7 @@ ends_truly (Ok (Some shown) ∷ rows) state behind is =
 
 -- ---- rows before others
 
-show_parts : (front back : List RowReading) → ShowChanges (front ++ back) → ShowChanges front × ShowChanges back
+pub show_parts : (front back : List RowReading) → ShowChanges (front ++ back) → ShowChanges front × ShowChanges back
 unfolding ShowChanges
 show_parts [] back show = (tt, show)
 show_parts (Err fault ∷ front) back show = show_parts front back show

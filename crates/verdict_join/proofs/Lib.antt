@@ -7,3 +7,6 @@ pub mod Rests
 pub mod Looped
 pub mod Sameness
 pub mod Guessed
+pub mod Lawful
+pub mod Rounds
+pub mod Coded

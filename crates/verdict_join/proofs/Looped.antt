@@ -1,5 +1,6 @@
--- One turn of the join's loop.
-use Rattle.std.proofs.Common.{◌≡◌, ℕ, zero, suc, ◌+◌, ◌≤◌, ◌<◌, List, [], ◌∷◌, slice_index_or, length, map, drop, slice_get, if◌then◌else◌, Option, Some, None, option_map, option_copied, refl, sym, ap, ◌∙◌, subst, add-one, arith, All, IfSome}
+-- One turn of the loop over segments.
+use Rattle.std.proofs.Common.{◌≡◌, ℕ, zero, suc, ◌+◌, ◌≤◌, ◌<◌, Bool, true, false, List, [], ◌∷◌, slice_index_or, length, map, drop, slice_get, if◌then◌else◌, Option, Some, None, option_map, option_copied, refl, sym, ap, ◌∙◌, subst, add-one, arith, All, IfSome}
+use Rattle.std.specs.Prelude.{◌&&◌}
 use Rattle.std.specs.Borrow.{Bor}
 use Rattle.std.specs.Option.{is_none}
 use Rattle.std.proofs.lemmas.Option.{slice_get-map}
@@ -10,6 +11,7 @@ use Rattle.hart_words.specs.declared.span.Span.{Span}
 use Rattle.hart_words.specs.Memory.{Bytes}
 use Rattle.rvfi_rows.specs.declared.segment.Segment.{Segment}
 use Rattle.rvfi_rows.specs.declared.verdict.Verdict.{Verdict}
+use Rattle.rvfi_rows.specs.declared.verdict.Verdict.TheVariants.{Agrees}
 use Rattle.rvfi_rows.specs.Columns.{ColumnList}
 use Rattle.rvfi_rows.specs.Segments.{lines_of}
 use Rattle.rvfi_rows.specs.Rows.{RowReading}
@@ -25,11 +27,12 @@ use Rattle.segment_judge.specs.Judgements.{Judgement, by_hart}
 use Rattle.segment_judge.specs.Laws.{judgement_from}
 use Rattle.verdict_join.specs.declared.walk.Walk.{Walk}
 use Rattle.verdict_join.specs.Founds.{candidates, judgement_found}
-use Rattle.verdict_join.specs.Joining.{IsJoin, candidates_of, found_of, rows_in}
-use Rattle.verdict_join.specs.Joins.{Candidate, Joined, Sameness, adopted_from, joined}
+use Rattle.verdict_join.specs.Joining.{candidates_of, found_of, round_of, rows_in}
+use Rattle.verdict_join.specs.Joins.{Candidate, Joined, Sameness, adopted_from, nothing_from, walk}
 use Rattle.verdict_join.specs.Laws.{TellsApart, miss}
 use Rattle.verdict_join.specs.Walks.{ArePlaced, IsMissedAs, IsRest, Passes, judged_in}
-use Rattle.verdict_join.proofs.Rests.{turn_ends, turn_on}
+use Rattle.verdict_join.proofs.Rests.{nothing_left, turn_ends, turn_on}
+use Rattle.verdict_join.proofs.Walks.{behind_segment}
 use Rattle.verdict_join.proofs.Turns.{candidate_at, candidate_lawful, found_is, lawful_at}
 
 -- what stands under a number is the judgement of its segment
@@ -45,19 +48,34 @@ mapped_copy : {A B : Type 0} (b : B) (x : Option (Bor A)) → option_map (λ any
 mapped_copy b None = refl
 mapped_copy b (Some a) = refl
 
+-- the rest, or nothing, where the round ends with the segment
+abbrev pub left_or_none : Sameness Core → Bool → Bool → List (Candidate Core) → HartState → Joined Core
+left_or_none same once true later state = nothing_from state
+left_or_none same once false later state = walk by_hart same once later state
+
+behind_by : {A : Type 0} (same : Sameness Core) (once : Bool) (later : List (Candidate Core)) (found : Option (Judgement Core)) (adopted : Option A) (state : HartState) → miss found ≡ (if is_none adopted then 1 else 0) → behind_segment once found (λ behind. walk by_hart same once later behind) state ≡ left_or_none same once (once && is_none adopted) later state
+behind_by same true later None None state is = refl
+behind_by same false later None None state is = refl
+behind_by same true later (Some judgement) (Some a) state is = refl
+behind_by same false later (Some judgement) (Some a) state is = refl
+behind_by same once later None (Some a) state is = absurd (omega (arith, is))
+behind_by same once later (Some judgement) None state is = absurd (omega (arith, is))
+
 -- what a turn leads to: the rest, or the end
-abbrev pub Turned : {M : Type 0} → (M → Bytes) → Sameness Core → Walk M → List (Candidate Core) → Joined Core → Option Verdict → Type 0
-Turned bytes_of same now later whole None = IsRest now (joined by_hart same later (state_of bytes_of now.hart)) whole
-Turned bytes_of same now later whole (Some last) = IsJoin bytes_of (record { verdict = last; end = None; rejudged = now.rejudged }) whole
+abbrev pub Turned : {M : Type 0} → (M → Bytes) → Sameness Core → Bool → Bool → Walk M → ℕ → List (Candidate Core) → Joined Core → Option Verdict → Type 0
+Turned bytes_of same once last now number later whole None = IsRest now (number + 1) (left_or_none same once last later (state_of bytes_of now.hart)) whole
+Turned bytes_of same once last now number later whole (Some verdict) = round_of bytes_of (record { verdict = verdict; end = None; settled = number + 1; rejudged = now.rejudged }) ≡ whole
 
-turned : {M : Type 0} (bytes_of : M → Bytes) (same : Sameness Core) → TellsApart same → (before now : Walk M) (rows : List RowReading) (guess : HartState) (found : Option (Judgement Core)) {A : Type 0} (x : Option A) (later : List (Candidate Core)) (whole : Joined Core) (end : Option Verdict) → found ≡ option_map (λ any. judgement_from by_hart guess rows) x → now.rejudged ≡ before.rejudged + miss (adopted_from same guess (state_of bytes_of before.hart) found) → Passes bytes_of before now rows end → IsRest before (joined by_hart same (record { rows = rows; guess = guess; found = found } ∷ later) (state_of bytes_of before.hart)) whole → Turned bytes_of same now later whole end
-turned bytes_of same tells before now rows guess found x later whole None is misses passes so_far =
-    turn_on bytes_of same tells before now (record { rows = rows; guess = guess; found = found }) later whole (candidate_lawful rows guess found x is) misses passes so_far
-turned bytes_of same tells before now rows guess found x later whole (Some last) is misses passes so_far =
-    turn_ends bytes_of same tells before now (record { rows = rows; guess = guess; found = found }) later whole last (candidate_lawful rows guess found x is) misses passes so_far
+turned : {M : Type 0} (bytes_of : M → Bytes) (same : Sameness Core) → TellsApart same → (once : Bool) (before now : Walk M) (number : ℕ) (rows : List RowReading) (guess : HartState) (found : Option (Judgement Core)) {A B : Type 0} (x : Option A) (y : Option B) (later : List (Candidate Core)) (whole : Joined Core) (end : Option Verdict) → found ≡ option_map (λ any. judgement_from by_hart guess rows) x → miss (adopted_from same guess (state_of bytes_of before.hart) found) ≡ (if is_none y then 1 else 0) → now.rejudged ≡ before.rejudged + miss (adopted_from same guess (state_of bytes_of before.hart) found) → Passes bytes_of before now rows end → IsRest before number (walk by_hart same once (record { rows = rows; guess = guess; found = found } ∷ later) (state_of bytes_of before.hart)) whole → Turned bytes_of same once (once && is_none y) now number later whole end
+turned bytes_of same tells once before now number rows guess found x y later whole None is missed misses passes so_far =
+    let candidate : Candidate Core = record { rows = rows; guess = guess; found = found } in
+    let rest = turn_on bytes_of same tells once before now number candidate later whole (candidate_lawful rows guess found x is) misses passes so_far in
+    subst (λ rest. IsRest now (number + 1) rest whole) (behind_by same once later (adopted_from same guess (state_of bytes_of before.hart) found) y (state_of bytes_of now.hart) missed) rest
+turned bytes_of same tells once before now number rows guess found x y later whole (Some last) is missed misses passes so_far =
+    turn_ends bytes_of same tells once before now number (record { rows = rows; guess = guess; found = found }) later whole last (candidate_lawful rows guess found x is) misses passes so_far
 
-pub loop_turn : {M : Type 0} (bytes_of : M → Bytes) (columns : ColumnList) (segments : List Segment) (guesses : List (Hart M)) (founds : List (Found (JudgedSegment M))) (number : ℕ) (segment : Segment) (guess : Hart M) (place adopted : Option (Bor (JudgedSegment M))) (before now : Walk M) (end : Option Verdict) (whole : Joined Core) (same : Sameness Core) → TellsApart same → slice_get segments number ≡ Some segment → slice_get guesses number ≡ Some guess → option_copied place ≡ judged_in founds number → IsMissedAs same (state_of bytes_of guess) (state_of bytes_of before.hart) (rows_in columns segment) place adopted → now.rejudged ≡ before.rejudged + (if is_none adopted then 1 else 0) → Passes bytes_of before now (rows_in columns segment) end → IsRest before (joined by_hart same (drop number (candidates_of bytes_of columns segments guesses founds)) (state_of bytes_of before.hart)) whole → Turned bytes_of same now (drop (number + 1) (candidates_of bytes_of columns segments guesses founds)) whole end
-loop_turn bytes_of columns segments guesses founds number segment guess place adopted before now end whole same tells here there placed missed again passes so_far =
+pub loop_turn : {M : Type 0} (bytes_of : M → Bytes) (once : Bool) (columns : ColumnList) (segments : List Segment) (guesses : List (Hart M)) (founds : List (Found (JudgedSegment M))) (number : ℕ) (segment : Segment) (guess : Hart M) (place adopted : Option (Bor (JudgedSegment M))) (before now : Walk M) (end : Option Verdict) (whole : Joined Core) (same : Sameness Core) → TellsApart same → slice_get segments number ≡ Some segment → slice_get guesses number ≡ Some guess → option_copied place ≡ judged_in founds number → IsMissedAs same (state_of bytes_of guess) (state_of bytes_of before.hart) (rows_in columns segment) place adopted → now.rejudged ≡ before.rejudged + (if is_none adopted then 1 else 0) → Passes bytes_of before now (rows_in columns segment) end → IsRest before number (walk by_hart same once (drop number (candidates_of bytes_of columns segments guesses founds)) (state_of bytes_of before.hart)) whole → Turned bytes_of same once (once && is_none adopted) now number (drop (number + 1) (candidates_of bytes_of columns segments guesses founds)) whole end
+loop_turn bytes_of once columns segments guesses founds number segment guess place adopted before now end whole same tells here there placed missed again passes so_far =
     let rows : List (List RowReading) = map (rows_in columns) segments in
     let states : List HartState = map (state_of bytes_of) guesses in
     let all = map (found_of rows states) founds in
@@ -70,13 +88,24 @@ loop_turn bytes_of columns segments guesses founds number segment guess place ad
     let found = judgement_found all (0 + number) in
     let is : found ≡ option_map (λ any. judged) (judged_in founds number) = ap (judgement_found all) number_is ∙ found_is rows states founds number mine state row_here state_there in
     let by_place : found ≡ option_map (λ any. judged) place = is ∙ ap (option_map (λ any. judged)) (sym placed) ∙ mapped_copy judged place in
+    let miss_is : miss (adopted_from same state (state_of bytes_of before.hart) found) ≡ (if is_none adopted then 1 else 0) =
+    ap (λ found. miss (adopted_from same state (state_of bytes_of before.hart) found)) by_place ∙ missed in
     let misses : now.rejudged ≡ before.rejudged + miss (adopted_from same state (state_of bytes_of before.hart) found) =
-    again ∙ ap (λ n. before.rejudged + n) (sym missed ∙ ap (λ found. miss (adopted_from same state (state_of bytes_of before.hart) found)) (sym by_place)) in
+    again ∙ ap (λ n. before.rejudged + n) (sym miss_is) in
     let left = candidate_at 0 number rows states all mine state row_here state_there in
     let later = drop (suc number) (candidates rows states all) in
-    let done : Turned bytes_of same now later whole end = turned bytes_of same tells before now mine state found place later whole end by_place misses passes
-    (subst (λ left. IsRest before (joined by_hart same left (state_of bytes_of before.hart)) whole) left so_far) in
-    subst (λ n. Turned bytes_of same now (drop n (candidates rows states all)) whole end) (sym (add-one number)) done
+    let done : Turned bytes_of same once (once && is_none adopted) now number later whole end = turned bytes_of same tells once before now number mine state found place adopted later whole end by_place miss_is misses passes
+    (subst (λ left. IsRest before number (walk by_hart same once left (state_of bytes_of before.hart)) whole) left so_far) in
+    subst (λ n. Turned bytes_of same once (once && is_none adopted) now number (drop n (candidates rows states all)) whole end) (sym (add-one number)) done
+
+-- the walk goes on behind a segment that is not the last
+pub goes_behind : {M : Type 0} (same : Sameness Core) (once result last : Bool) (later : List (Candidate Core)) (whole : Joined Core) (state : HartState) (now : Walk M) (count : ℕ) → result ≡ false → result ≡ last → IsRest now count (left_or_none same once last later state) whole → IsRest now count (walk by_hart same once later state) whole
+goes_behind same once result last later whole state now count not_last is rest =
+    subst (λ last. IsRest now count (left_or_none same once last later state) whole) (sym is ∙ not_last) rest
+
+pub stops_behind : {M : Type 0} (bytes_of : M → Bytes) (same : Sameness Core) (once result last : Bool) (later : List (Candidate Core)) (whole : Joined Core) (now : Walk M) (count : ℕ) → result ≡ true → result ≡ last → IsRest now count (left_or_none same once last later (state_of bytes_of now.hart)) whole → round_of bytes_of (record { verdict = Agrees now.rows now.valid; end = Some now.hart; settled = count; rejudged = now.rejudged }) ≡ whole
+stops_behind bytes_of same once result last later whole now count is_last is rest =
+    nothing_left bytes_of now count whole (subst (λ last. IsRest now count (left_or_none same once last later (state_of bytes_of now.hart)) whole) (sym is ∙ is_last) rest)
 
 same_default : {A : Type 0} (xs : List A) (number : ℕ) (one other : A) → number < length xs → slice_index_or xs number one ≡ slice_index_or xs number other
 same_default [] number one other within = absurd (omega (arith, within))

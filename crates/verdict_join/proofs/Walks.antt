@@ -1,5 +1,5 @@
 -- Walks over segments, whatever was guessed.
-use Rattle.std.proofs.Common.{◌≡◌, ℕ, ◌+◌, Bool, true, false, List, [], ◌∷◌, Option, Some, None, option_map, refl, sym, ap, ◌∙◌, subst, All, IfSome, arith}
+use Rattle.std.proofs.Common.{◌≡◌, ℕ, ◌+◌, Bool, true, false, if◌then◌else◌, List, [], ◌∷◌, Option, Some, None, option_map, refl, sym, ap, ◌∙◌, subst, All, IfSome, arith}
 use Rattle.std.specs.Option.{is_some}
 use Rattle.std.proofs.lemmas.Bool.{and_from, and_parts}
 use Rattle.std.proofs.lemmas.List.Concat.{flat_map-cons}
@@ -14,7 +14,7 @@ use Rattle.segment_judge.specs.Judgements.{Judgement, Judging, judgement_of}
 use Rattle.segment_judge.specs.Laws.{Conclusion, behind_end, bytes_behind, conclusion_from, judgement_from, verdict_behind}
 use Rattle.segment_judge.proofs.Framed.{framed}
 use Rattle.segment_judge.proofs.Parts.{in_parts}
-use Rattle.verdict_join.specs.Joins.{Candidate, Joined, Sameness, adopted, adopted_from, adopted_if, is_met, joined_by, joined_with, moved_conclusion, walk, walk_on}
+use Rattle.verdict_join.specs.Joins.{Candidate, Joined, Sameness, adopted, adopted_from, adopted_if, is_met, joined_by, joined_with, moved_conclusion, nothing_from, walk, walk_on}
 use Rattle.verdict_join.specs.Laws.{AllMet, IsLawful, JoinsAnyGuesses, TellsApart, miss, misses, misses_behind, rows_through}
 
 -- the conclusion of a judgement over a memory
@@ -68,8 +68,20 @@ walked_segment {C = C} judging same segment now next tells lawful = by (adopted 
     by None is = refl
     by (Some judgement) is = ap (λ first. joined_with first 0 next) (adopted_conclusion judging same segment now judgement tells lawful is)
 
+-- what comes behind a segment: with `once` nothing, where it had to be judged again
+abbrev pub behind_segment : {C : Type 0} → Bool → Option (Judgement C) → (State C → Joined C) → State C → Joined C
+behind_segment once (Some judgement) next = next
+behind_segment once None next = if once then nothing_from else next
+
+pub walked_segment_once : {C : Type 0} (judging : Judging C) (same : Sameness C) (once : Bool) (segment : Candidate C) (now : State C) (next : State C → Joined C) → TellsApart same → IsLawful judging segment → walk_on judging (adopted same segment now) once segment now next ≡ joined_with (conclusion_from judging now segment.rows) (miss (adopted same segment now)) (behind_segment once (adopted same segment now) next)
+walked_segment_once {C = C} judging same once segment now next tells lawful = by (adopted same segment now) refl
+  where
+    by : (found : Option (Judgement C)) → adopted same segment now ≡ found → walk_on judging found once segment now next ≡ joined_with (conclusion_from judging now segment.rows) (miss found) (behind_segment once found next)
+    by None is = refl
+    by (Some judgement) is = ap (λ first. joined_with first 0 next) (adopted_conclusion judging same segment now judgement tells lawful is)
+
 -- the verdict and the end of a join
-abbrev conclusion_of : {C : Type 0} → Joined C → Conclusion C
+abbrev pub conclusion_of : {C : Type 0} → Joined C → Conclusion C
 conclusion_of joined = record { verdict = joined.verdict; end = joined.end }
 
 joined_concludes : {C : Type 0} (end : Option (State C)) (verdict : Verdict) (again : ℕ) (next : State C → Joined C) (rest : State C → Conclusion C) → ((state : State C) → end ≡ Some state → conclusion_of (next state) ≡ rest state) → conclusion_of (joined_by end verdict again next) ≡ behind_end end (record { verdict = verdict; end = end }) rest

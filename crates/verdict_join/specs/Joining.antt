@@ -1,5 +1,5 @@
 -- What the join in code gives, beside the join of the definitions.
-use Rattle.std.specs.Prelude.{◌≡◌, List, map, Option, Some, option_map, slice_get}
+use Rattle.std.specs.Prelude.{◌≡◌, Bool, List, map, Option, Some, option_map, slice_get}
 use Rattle.hart_words.specs.Memory.{Bytes}
 use Rattle.rvfi_rows.specs.declared.segment.Segment.{Segment}
 use Rattle.rvfi_rows.specs.Columns.{ColumnList}
@@ -15,7 +15,8 @@ use Rattle.segment_judge.specs.declared.judged.Judged.{Judged as JudgedSegment}
 use Rattle.segment_judge.specs.Judgements.{Judgement, by_hart}
 use Rattle.segment_judge.specs.Laws.{judgement_from}
 use Rattle.verdict_join.specs.declared.joined.Joined.{Joined as JoinedSegments}
-use Rattle.verdict_join.specs.Joins.{Candidate, Joined, Sameness, joined}
+use Rattle.verdict_join.specs.declared.joined.Round.{Round}
+use Rattle.verdict_join.specs.Joins.{Candidate, Joined, Sameness, joined, walk}
 use Rattle.verdict_join.specs.Laws.{TellsApart}
 use Rattle.verdict_join.specs.Founds.{candidates}
 
@@ -52,3 +53,17 @@ pub record IsJoin {M : Type 0} (bytes_of : M → Bytes) (joined : JoinedSegments
 abbrev pub JoinsThem : {M : Type 0} → (M → Bytes) → List (Candidate Core) → HartState → JoinedSegments M → Type 0
 JoinsThem bytes_of segments start result =
     (same : Sameness Core) → TellsApart same → IsJoin bytes_of result (joined by_hart same segments start)
+
+-- a round, as the definitions have it
+abbrev pub round_of : {M : Type 0} → (M → Bytes) → Round M → Joined Core
+round_of bytes_of round = record {
+  verdict = round.verdict;
+  end = option_map (state_of bytes_of) round.end;
+  settled = round.settled;
+  rejudged = round.rejudged;
+}
+
+-- the walk of the definitions, whichever test tells states apart
+abbrev pub WalksThem : {M : Type 0} → (M → Bytes) → Bool → List (Candidate Core) → HartState → Round M → Type 0
+WalksThem bytes_of once segments start result =
+    (same : Sameness Core) → TellsApart same → round_of bytes_of result ≡ walk by_hart same once segments start

@@ -4,3 +4,4 @@ pub mod Founds
 pub mod Joining
 pub mod Walks
 pub mod Guessed
+pub mod Rounds

@@ -78,8 +78,9 @@ pub record ArePlaced {M : Type 0} (count : ℕ) (founds : List (Found (JudgedSeg
   pub all : length places ≡ count
   pub each : (number : ℕ) → number < count → option_copied (slice_index_or places number None) ≡ judged_in founds number
 
--- the rest of a join, behind what was walked
-pub record IsRest {M : Type 0} (walk : Walk M) (rest whole : Joined Core) : Type 0 where
+-- the rest of a join or of a round, behind so many segments that were walked
+pub record IsRest {M : Type 0} (walk : Walk M) (walked : ℕ) (rest whole : Joined Core) : Type 0 where
   pub verdict : counted_on walk.rows walk.valid rest.verdict ≡ whole.verdict
   pub end : rest.end ≡ whole.end
+  pub settled : walked + rest.settled ≡ whole.settled
   pub rejudged : walk.rejudged + rest.rejudged ≡ whole.rejudged

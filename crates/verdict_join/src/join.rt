@@ -1,20 +1,21 @@
-//! The join of all segments.
+//! The join of segments: of all of them, or of a round.
 
-ghost use Rattle.std.specs.Prelude.{◌≡◌, ◌<◌, ◌^◌, IfOk, IfSome, length};
+ghost use Rattle.std.specs.Prelude.{◌≡◌, ◌≤◌, ◌<◌, ◌^◌, IfOk, IfSome, false, length, option_map, take, true};
 ghost use Rattle.std.specs.List.{All, flat_map};
 ghost use Rattle.hart_step.specs.Harts.{CanStep, state_of};
+ghost use Rattle.rvfi_rows.specs.Rows.{rows_of};
 ghost use Rattle.rvfi_rows.specs.Segments.{lines_of};
 ghost use Rattle.segment_judge.specs.Founds.{IsLawfulFound};
-ghost use Rattle.verdict_join.specs.Joining.{JoinsThem, candidates_of};
-ghost use Rattle.verdict_join.specs.Walks.{ArePlaced};
+ghost use Rattle.segment_judge.specs.Judgements.{by_hart};
+ghost use Rattle.segment_judge.specs.Laws.{conclusion_from};
+ghost use Rattle.verdict_join.specs.Joining.{JoinsThem, WalksThem, candidates_of};
 
-use crate::adoption::adopted;
-use crate::joined::Joined;
-use crate::walk::Walk;
+use crate::guessed_segments::GuessedSegments;
+use crate::joined::{Joined, Round};
 use hart_step::Hart;
 use hart_words::{NoMemory, PhysMem};
-use rvfi_rows::{Columns, Segment, Verdict};
-use segment_judge::{Found, Judged, What};
+use rvfi_rows::{Columns, Segment};
+use segment_judge::{Found, Judged};
 use std::alloc::Global;
 
 /// Joins the verdicts of segments, from the hart before the first. What was found of them may stand
@@ -42,53 +43,62 @@ pub fn join_all<M: PhysMem + Drop>(
     ensures ram { IfOk result (λ joined.
         IfSome joined.end (λ hart. M.ram hart.mem ≡ M.ram start.mem)) }
 {
-    let places = judged_segments(alloc, segments.len(), &founds)?;
-    let mut walk = Walk {
-        hart: start,
-        rows: 0,
-        valid: 0,
-        rejudged: 0,
+    let guessed = GuessedSegments {
+        columns,
+        segments,
+        guesses,
     };
-    for number in 0..segments.len() {
-        let judged = adopted(&walk.hart, &guesses[number], places[number]);
-        match walk.pass(alloc, columns, &segments[number], judged)? {
-            None => {}
-            Some(verdict) => {
-                return Ok(Joined {
-                    verdict,
-                    end: None,
-                    rejudged: walk.rejudged,
-                });
-            }
-        }
-    }
+    let Round {
+        verdict,
+        end,
+        rejudged,
+        ..
+    } = guessed.walk(alloc, start, founds, false)?;
     Ok(Joined {
-        verdict: Verdict::Agrees {
-            rows: walk.rows,
-            valid: walk.valid,
-        },
-        end: Some(walk.hart),
-        rejudged: walk.rejudged,
+        verdict,
+        end,
+        rejudged,
     })
 }
 
-/// How each of so many segments was judged, where it was.
-fn judged_segments<'a, M: PhysMem + Drop>(
+/// The same of a round: the walk ends behind the first segment that has to be judged again, so that
+/// the guesses behind it can be made anew from the true state there. The verdict and the hart
+/// behind it are those of the segments that were settled, which are one at least where there is any.
+pub fn join_round<M: PhysMem + Drop>(
     alloc: Global,
-    count: usize,
-    founds: &'a [Found<Judged<M>>],
-) -> Result<Vec<Option<&'a Judged<M>>>, NoMemory>
-    requires below { All (λ found. found.seg < count) founds.now }
-    ensures { IfOk result (λ places. ArePlaced count founds.now places.items) }
+    start: Hart<M>,
+    columns: &Columns,
+    segments: &[Segment],
+    guesses: &[Hart<M>],
+    founds: Vec<Found<Judged<M>>>,
+) -> Result<Round<M>, NoMemory>
+    requires can_step { CanStep M.ram start }
+    requires one_each { length guesses.now ≡ length segments.now }
+    requires guesses { All (CanStep M.ram) guesses.now }
+    requires lawful { All
+        (IsLawfulFound M.bytes M.ram columns.now segments.now guesses.now) founds.items }
+    requires segments { length segments.now < 2 ^ 32 }
+    requires lines { length (flat_map lines_of segments.now) < 2 ^ 60 }
+    ensures round { IfOk result (λ round. WalksThem M.bytes true
+        (candidates_of M.bytes columns.now segments.now guesses.now founds.items)
+        (state_of M.bytes start) round) }
+    ensures settled { IfOk result (λ round. round.settled ≤ length segments.now) }
+    ensures some { IfOk result (λ round. 0 < length segments.now → 0 < round.settled) }
+    ensures again { IfOk result (λ round. round.rejudged ≤ 1) }
+    ensures verdict { IfOk result (λ round. round.verdict
+        ≡ (conclusion_from by_hart (state_of M.bytes start)
+        (rows_of columns.now (flat_map lines_of (take round.settled segments.now)))).verdict) }
+    ensures end { IfOk result (λ round. option_map (state_of M.bytes) round.end
+        ≡ (conclusion_from by_hart (state_of M.bytes start)
+        (rows_of columns.now (flat_map lines_of (take round.settled segments.now)))).end) }
+    ensures can_step { IfOk result (λ round. IfSome round.end (CanStep M.ram)) }
+    ensures ram { IfOk result (λ round.
+        IfSome round.end (λ hart. M.ram hart.mem ≡ M.ram start.mem)) }
 {
-    let mut places = Vec::with_capacity(alloc, count)?;
-    for _ in 0..count {
-        places.push(None)?;
-    }
-    for found in founds {
-        if let What::Judged(judged) = &found.what {
-            places[found.seg as usize] = Some(judged);
-        }
-    }
-    Ok(places)
+    let guessed = GuessedSegments {
+        columns,
+        segments,
+        guesses,
+    };
+    guessed.walk(alloc, start, founds, true)
 }

@@ -3,7 +3,7 @@
 use hart_step::Hart;
 use rvfi_rows::Verdict;
 
-/// What segments come to together.
+/// What all segments come to together.
 #[derive(Drop)]
 pub struct Joined<M> {
     /// The verdict on their rows, which are numbered from 1 through all segments.
@@ -11,5 +11,18 @@ pub struct Joined<M> {
     /// The hart behind them, where they agree.
     pub end: Option<Hart<M>>,
     /// How many of them were judged again, from the true state.
+    pub rejudged: u32,
+}
+
+/// What the first segments come to together, up to one that had to be judged again.
+#[derive(Drop)]
+pub struct Round<M> {
+    /// The verdict on their rows, which are numbered from 1 through these segments.
+    pub verdict: Verdict,
+    /// The hart behind them, where they agree.
+    pub end: Option<Hart<M>>,
+    /// How many segments they are.
+    pub settled: usize,
+    /// How many of them were judged again, from the true state: 0 or 1.
     pub rejudged: u32,
 }

@@ -1,6 +1,6 @@
 //! What holds of every join.
 
-ghost use Rattle.std.specs.Prelude.{◌≡◌, ℕ, List, All};
+ghost use Rattle.std.specs.Prelude.{◌≡◌, ℕ, List, All, true};
 ghost use Rattle.hart_words.specs.States.{State};
 ghost use Rattle.rvfi_rows.specs.Columns.{ColumnList};
 ghost use Rattle.hart_step.specs.declared.state.Core.{Core};
@@ -8,8 +8,9 @@ ghost use Rattle.hart_step.specs.Rows.{HartState};
 ghost use Rattle.segment_judge.specs.declared.found.Found.{Found};
 ghost use Rattle.segment_judge.specs.Judgements.{Judgement, Judging, by_hart};
 ghost use Rattle.verdict_join.specs.Guessed.{ShowsFrom, guessed_candidates};
-ghost use Rattle.verdict_join.specs.Joins.{Candidate, Sameness, joined};
+ghost use Rattle.verdict_join.specs.Joins.{Candidate, Joined, Sameness, joined, walk};
 ghost use Rattle.verdict_join.specs.Laws.{AllMet, AreJudgedInTurn, IsLawful, JoinsAnyGuesses, TellsApart, misses};
+ghost use Rattle.verdict_join.specs.Rounds.{AreRounds, SettleAll, SettlesSome, rejudged_in};
 
 /// Whatever was guessed, and whichever segments were judged from their guesses: the verdict of the
 /// join is that on all rows from the true state, and so is the state behind them.
@@ -38,6 +39,27 @@ pub fn true_guesses_cost_nothing()
         → let segments = guessed_candidates start columns pieces founds in
         All (IsLawful by_hart) segments → AreJudgedInTurn by_hart segments
         → (joined by_hart same segments start).rejudged ≡ 0 }
+{}
+
+/// A walk that ends behind the first segment which it has to judge again settles one at least, and
+/// has the verdict on the rows of those that it settled, and the state behind them.
+pub fn a_round_settles_some<C>()
+    ensures { (judging : Judging C) (same : Sameness C) (segments : List (Candidate C))
+        (now : State C) → TellsApart same → All (IsLawful judging) segments
+        → SettlesSome judging segments now (walk judging same true segments now) }
+{}
+
+/// Rounds, each made anew from the true state behind the one before, come to the verdict on all
+/// lines: there are as many as segments that are judged again, or one more, at least one where there
+/// is a segment, and no more than segments. Where the valid rows show what they change, no segment
+/// is judged again.
+pub fn rounds_settle_all()
+    ensures all { (start : HartState) (columns : ColumnList) (pieces : List (List (List ℕ)))
+        (rounds : List (Joined Core)) → AreRounds start columns pieces rounds
+        → SettleAll start columns pieces rounds }
+    ensures none { (start : HartState) (columns : ColumnList) (pieces : List (List (List ℕ)))
+        (rounds : List (Joined Core)) → AreRounds start columns pieces rounds
+        → ShowsFrom start columns pieces → rejudged_in rounds ≡ 0 }
 {}
 
 /// Some test tells the states of a hart apart, so that what holds of every such test says something.

@@ -1,14 +1,16 @@
 //! How far segments were walked.
 
-ghost use Rattle.std.specs.Prelude.{◌≡◌, ◌≤◌, ◌<◌, ◌+◌, ◌^◌, ℕ, IfOk, OnOk, IfSome, length, if◌then◌else◌};
+ghost use Rattle.std.specs.Prelude.{◌≡◌, ◌≤◌, ◌<◌, ◌+◌, ◌^◌, ℕ, IfOk, OnOk, IfSome, None, Some, length, if◌then◌else◌};
 ghost use Rattle.std.specs.Option.{is_none};
 ghost use Rattle.hart_step.specs.Harts.{CanStep, state_of};
+ghost use Rattle.rvfi_rows.specs.declared.verdict.Verdict.TheVariants.{Agrees};
 ghost use Rattle.rvfi_rows.specs.Rows.{rows_of};
 ghost use Rattle.segment_judge.specs.Judged.{IsUsable, moved_end};
 ghost use Rattle.segment_judge.specs.Judgements.{by_hart};
 ghost use Rattle.segment_judge.specs.Laws.{conclusion_from};
 ghost use Rattle.verdict_join.specs.Walks.{Concludes, CountsOn, IsCountedAlike, IsReached, IsWithinRows, Passes};
 
+use crate::joined::Round;
 use hart_step::Hart;
 use hart_words::{NoMemory, PhysMem};
 use rvfi_rows::{Columns, Segment, Verdict};
@@ -26,6 +28,43 @@ pub(crate) struct Walk<M> {
 }
 
 impl<M: PhysMem + Drop> Walk<M> {
+    /// So many segments that were walked, and agree.
+    pub fn agreed(self, settled: usize) -> Round<M>
+        ensures { result ≡ record {
+          verdict = Agrees self.rows self.valid;
+          end = Some self.hart;
+          settled = settled;
+          rejudged = self.rejudged;
+        } }
+    {
+        Round {
+            verdict: Verdict::Agrees {
+                rows: self.rows,
+                valid: self.valid,
+            },
+            end: Some(self.hart),
+            settled,
+            rejudged: self.rejudged,
+        }
+    }
+
+    /// So many segments that were walked, to this verdict on the last.
+    pub fn ended(self, settled: usize, verdict: Verdict) -> Round<M>
+        ensures { result ≡ record {
+          verdict = verdict;
+          end = None;
+          settled = settled;
+          rejudged = self.rejudged;
+        } }
+    {
+        Round {
+            verdict,
+            end: None,
+            settled,
+            rejudged: self.rejudged,
+        }
+    }
+
     /// Passes the rows of a segment: as they were judged from a guess that is met, or by judging
     /// them again from the true state. `Some` where the walk ends with them.
     pub fn pass(

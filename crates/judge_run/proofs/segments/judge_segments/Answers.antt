@@ -7,22 +7,22 @@ use Rattle.segment_judge.specs.Laws.{conclusion_from}
 use Rattle.judge_run.proofs.AnyEvents.{same_lines}
 use Rattle.judge_run.proofs.segments.judge_segments.Goals as goal
 
-pub join_guessed-requires-clause-lines : goal.join_guessed-requires-clause-lines
-join_guessed-requires-clause-lines g c = λ κs lives.
+pub settle_parts-requires-clause-lines : goal.settle_parts-requires-clause-lines
+settle_parts-requires-clause-lines g c = λ κs lives.
     let same = ap length (same_lines _ _ c.in_ok-read_segments.ensures.lines) in
     omega (arith, same, c.requires.lines)
 
 pub returns-clause-verdict : goal.returns-clause-verdict
 returns-clause-verdict g c =
-    subst (λ lines. IfOk c.join_guessed.result (λ joined. joined.verdict ≡ (conclusion_from by_hart (state_of g.M.PhysMem.bytes c.args.start) (rows_of c.args.columns.now lines)).verdict))
-    (same_lines _ _ c.in_ok-read_segments.ensures.lines) c.join_guessed.ensures.verdict
+    subst (λ lines. IfOk c.settle_parts.result (λ joined. joined.verdict ≡ (conclusion_from by_hart (state_of g.M.PhysMem.bytes c.args.start) (rows_of c.args.columns.now lines)).verdict))
+    (same_lines _ _ c.in_ok-read_segments.ensures.lines) c.settle_parts.ensures.verdict
 
 pub returns-clause-end : goal.returns-clause-end
 returns-clause-end g c =
-    subst (λ lines. IfOk c.join_guessed.result (λ joined. option_map (state_of g.M.PhysMem.bytes) joined.end ≡ (conclusion_from by_hart (state_of g.M.PhysMem.bytes c.args.start) (rows_of c.args.columns.now lines)).end))
-    (same_lines _ _ c.in_ok-read_segments.ensures.lines) c.join_guessed.ensures.end
+    subst (λ lines. IfOk c.settle_parts.result (λ joined. option_map (state_of g.M.PhysMem.bytes) joined.end ≡ (conclusion_from by_hart (state_of g.M.PhysMem.bytes c.args.start) (rows_of c.args.columns.now lines)).end))
+    (same_lines _ _ c.in_ok-read_segments.ensures.lines) c.settle_parts.ensures.end
 
 pub returns-clause-once : goal.returns-clause-once
 returns-clause-once g c = λ words shows.
-    c.join_guessed.ensures.once words
+    c.settle_parts.ensures.once words
     (subst (λ lines. ShowChanges (rows_of c.args.columns.now lines)) (sym (same_lines _ _ c.in_ok-read_segments.ensures.lines)) shows)

@@ -1,6 +1,6 @@
 use Rattle.std.proofs.Common.{◌≡◌, ◌<◌, ℕ, length, slice_index_or, take, None, option_copied}
 use Rattle.verdict_join.specs.Walks.{judged_in}
-use Rattle.verdict_join.proofs.join.judged_segments.Given as goal
+use Rattle.verdict_join.proofs.guessed_segments.judged_segments.Given as goal
 
 -- so many places were made, and nothing stands in them
 abbrev pub invariant-loop : goal.invariant-loop

@@ -14,7 +14,9 @@ use Rattle.segment_judge.specs.declared.found.What.{What}
 use Rattle.segment_judge.specs.declared.found.What.TheVariants.{Judged, Skipped}
 use Rattle.segment_judge.specs.Judgements.{Judgement, Judging}
 use Rattle.segment_judge.specs.Laws.{judgement_from}
+use Rattle.hart_step.specs.Rows.{HartState}
 use Rattle.boundary_guess.specs.Cuts.{lines_through}
+use Rattle.boundary_guess.specs.Guesses.{guess_after, guesses_of}
 use Rattle.verdict_join.specs.Founds.{IsLeftBy, Leaves, WasFoundSo, candidates_from, judgement_found, judgement_of_segment}
 use Rattle.verdict_join.specs.Joins.{Candidate}
 use Rattle.verdict_join.specs.Laws.{IsLawful, rows_through}
@@ -84,3 +86,9 @@ pieces_read columns (piece ∷ pieces) =
     ∙ ap (λ rest. rows_of columns piece ++ rest) (pieces_read columns pieces)
     ∙ sym (map-append (row_of_line columns) piece (lines_through pieces))
     ∙ ap (rows_of columns) (sym (flat_map-cons (λ piece. piece) piece pieces))
+
+-- there is a guess for each segment
+pub guess_for_each : (state : HartState) (columns : ColumnList) (segments : List (List (List ℕ))) → length (guesses_of state columns segments) ≡ length segments
+unfolding guesses_of
+guess_for_each state columns [] = refl
+guess_for_each state columns (lines ∷ segments) = ap suc (guess_for_each (guess_after state (rows_of columns lines)) columns segments)

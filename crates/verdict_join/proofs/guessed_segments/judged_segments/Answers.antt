@@ -4,8 +4,8 @@ use Rattle.std.proofs.lemmas.List.{take_all}
 use Rattle.std.proofs.lemmas.Option.{slice_get_read}
 use Rattle.verdict_join.specs.Walks.{judged_in}
 use Rattle.verdict_join.proofs.Placed.{none_pushed, passed_turn, placed_turn}
-use Rattle.verdict_join.proofs.join.judged_segments.Goals as goal
-use Rattle.verdict_join.proofs.join.judged_segments.Goals.{in-Judged, in_default}
+use Rattle.verdict_join.proofs.guessed_segments.judged_segments.Goals as goal
+use Rattle.verdict_join.proofs.guessed_segments.judged_segments.Goals.{in-Judged, in_default}
 
 pub loop-preserved : goal.loop-preserved
 loop-preserved g c = record {

@@ -1,0 +1,28 @@
+use Rattle.std.proofs.lemmas.Result.{IfOk-weaker}
+use Rattle.hart_step.specs.Harts.{state_of}
+use Rattle.judge_run.proofs.Settled.{come_to, none_rejudged}
+use Rattle.judge_run.proofs.rounds.settle.Goals as goal
+
+pub returns-clause-verdict : goal.returns-clause-verdict
+returns-clause-verdict g c =
+    IfOk-weaker c.settle_by.result _ _ (λ joined settles. (come_to g.M.PhysMem.bytes c.args.columns.now c.args.segments.now (state_of g.M.PhysMem.bytes c.args.start) c.args.steps.now c.settle_by.new.steps joined settles).verdict) c.settle_by.ensures.rounds
+
+pub returns-clause-end : goal.returns-clause-end
+returns-clause-end g c =
+    IfOk-weaker c.settle_by.result _ _ (λ joined settles. (come_to g.M.PhysMem.bytes c.args.columns.now c.args.segments.now (state_of g.M.PhysMem.bytes c.args.start) c.args.steps.now c.settle_by.new.steps joined settles).end) c.settle_by.ensures.rounds
+
+pub returns-clause-few : goal.returns-clause-few
+returns-clause-few g c =
+    IfOk-weaker c.settle_by.result _ _ (λ joined settles. (come_to g.M.PhysMem.bytes c.args.columns.now c.args.segments.now (state_of g.M.PhysMem.bytes c.args.start) c.args.steps.now c.settle_by.new.steps joined settles).few) c.settle_by.ensures.rounds
+
+pub returns-clause-some : goal.returns-clause-some
+returns-clause-some g c = λ some.
+    IfOk-weaker c.settle_by.result _ _ (λ joined settles. (come_to g.M.PhysMem.bytes c.args.columns.now c.args.segments.now (state_of g.M.PhysMem.bytes c.args.start) c.args.steps.now c.settle_by.new.steps joined settles).some some) c.settle_by.ensures.rounds
+
+pub returns-clause-count : goal.returns-clause-count
+returns-clause-count g c =
+    IfOk-weaker c.settle_by.result _ _ (λ joined settles. (come_to g.M.PhysMem.bytes c.args.columns.now c.args.segments.now (state_of g.M.PhysMem.bytes c.args.start) c.args.steps.now c.settle_by.new.steps joined settles).count) c.settle_by.ensures.rounds
+
+pub returns-clause-none : goal.returns-clause-none
+returns-clause-none g c = λ words shows.
+    IfOk-weaker c.settle_by.result _ _ (λ joined settles. none_rejudged g.M.PhysMem.bytes c.args.columns.now c.args.segments.now (state_of g.M.PhysMem.bytes c.args.start) c.args.steps.now c.settle_by.new.steps joined c.requires.can_step.sound words shows settles) c.settle_by.ensures.rounds

@@ -1,0 +1,52 @@
+use Rattle.std.proofs.Common.{◌∙◌, IfOk, ap, length, map, subst, sym}
+use Rattle.std.specs.List.{All}
+use Rattle.hart_step.specs.Cores.{IsSound}
+use Rattle.hart_step.specs.Harts.{CanStep, state_of}
+use Rattle.segment_judge.specs.Founds.{IsLawfulFound}
+use Rattle.segment_judge.specs.Judgements.{by_hart}
+use Rattle.verdict_join.specs.Joining.{candidates_of}
+use Rattle.verdict_join.specs.Laws.{AreJudgedInTurn}
+use Rattle.judge_run.specs.Events.{AreLeft}
+use Rattle.judge_run.specs.Settling.{IsRoundOver}
+use Rattle.judge_run.proofs.AnyEvents.{guesses_for_each}
+use Rattle.judge_run.proofs.Passing.{same_state}
+use Rattle.judge_run.proofs.Settled.{round_over}
+use Rattle.judge_run.proofs.segments.judge_round.Goals as goal
+
+pub find_by_workers-requires-clause-one_each : goal.find_by_workers-requires-clause-one_each
+find_by_workers-requires-clause-one_each g c = λ κs lives.
+    ap length c.deref.ensures.value ∙ guesses_for_each g.M.PhysMem.bytes _ c.args.columns.now c.args.segments.now c.in_ok-guesses.guesses.items c.in_ok-guesses.ensures.guesses
+
+pub join_round-requires-clause-can_step : goal.join_round-requires-clause-can_step
+join_round-requires-clause-can_step g c = record {
+  sound = subst IsSound (sym c.in_ok-start.ensures.core) c.requires.can_step.sound;
+  ram = c.in_ok-start.ensures.ram ∙ c.requires.can_step.ram ∙ sym (ap (λ core. core.map.ram) c.in_ok-start.ensures.core);
+}
+
+pub join_round-requires-clause-one_each : goal.join_round-requires-clause-one_each
+join_round-requires-clause-one_each g c =
+    ap length c.deref-2.ensures.value ∙ guesses_for_each g.M.PhysMem.bytes _ c.args.columns.now c.args.segments.now c.in_ok-guesses.guesses.items c.in_ok-guesses.ensures.guesses
+
+pub join_round-requires-clause-guesses : goal.join_round-requires-clause-guesses
+join_round-requires-clause-guesses g c = subst (λ guesses. All (CanStep g.M.PhysMem.ram) guesses) (sym c.deref-2.ensures.value) c.in_ok-guesses.ensures.can_step
+
+pub join_round-requires-clause-lawful : goal.join_round-requires-clause-lawful
+join_round-requires-clause-lawful g c =
+    subst (λ guesses. All (IsLawfulFound g.M.PhysMem.bytes g.M.PhysMem.ram c.args.columns.now c.args.segments.now guesses) c.in_ok-founds.founds.items)
+    (c.deref.ensures.value ∙ sym c.deref-2.ensures.value) c.in_ok-founds.ensures.lawful
+
+pub returns-clause-over : goal.returns-clause-over
+returns-clause-over g c =
+    let bytes_of = g.M.PhysMem.bytes in
+    let columns = c.args.columns.now in
+    let segments = c.args.segments.now in
+    let founds = c.in_ok-founds.founds.items in
+    let start = state_of bytes_of c.in_ok-start.start in
+    let same = same_state bytes_of c.in_ok-start.start c.args.start c.in_ok-start.ensures.core c.in_ok-start.ensures.bytes in
+    let guessed = ap (map (state_of bytes_of)) c.deref-2.ensures.value ∙ c.in_ok-guesses.ensures.guesses in
+    let alike = c.deref.ensures.value ∙ sym c.deref-2.ensures.value in
+    let left = subst (λ guesses. AreLeft bytes_of columns segments guesses founds) alike c.in_ok-founds.ensures.events in
+    let judged = subst (λ guesses. AreJudgedInTurn by_hart (candidates_of bytes_of columns segments guesses founds)) alike c.in_ok-founds.ensures.judged in
+    let round = c.join_round.ensures in
+    subst (λ start. IfOk c.join_round.result (IsRoundOver bytes_of g.M.PhysMem.ram columns segments start)) same
+    (round_over bytes_of g.M.PhysMem.ram columns segments c.deref-2.result.now founds start c.join_round.result guessed left judged round.round round.settled round.some round.again round.verdict round.end round.can_step)

@@ -1,0 +1,107 @@
+//! Walking segments from the true state before the first.
+
+ghost use Rattle.std.specs.Prelude.{◌≡◌, ◌<◌, ◌^◌, ◌&&◌, IfOk, length};
+ghost use Rattle.std.specs.Option.{is_none};
+ghost use Rattle.std.specs.List.{All, flat_map};
+ghost use Rattle.rvfi_rows.specs.Segments.{lines_of};
+ghost use Rattle.verdict_join.specs.Walks.{ArePlaced};
+
+use crate::adoption::adopted;
+use crate::joined::Round;
+use crate::walk::Walk;
+use hart_step::Hart;
+use hart_words::{NoMemory, PhysMem};
+use rvfi_rows::{Columns, Segment};
+use segment_judge::{Found, Judged, What};
+use std::alloc::Global;
+
+/// Segments, each with a guess of the hart before it.
+#[derive(Drop)]
+pub(crate) struct GuessedSegments<'a, M: PhysMem> {
+    pub columns: &'a Columns,
+    pub segments: &'a [Segment],
+    pub guesses: &'a [Hart<M>],
+    ghost one_each: { length guesses.now ≡ length segments.now },
+    ghost few: { length segments.now < 2 ^ 32 },
+    ghost lines: { length (flat_map lines_of segments.now) < 2 ^ 60 },
+}
+
+impl<'a, M: PhysMem + Drop> GuessedSegments<'a, M> {
+    ghost use Rattle.std.specs.Prelude.{IfSome};
+    ghost use Rattle.hart_step.specs.Harts.{CanStep, state_of};
+    ghost use Rattle.segment_judge.specs.Founds.{IsLawfulFound};
+    ghost use Rattle.verdict_join.specs.Joining.{WalksThem, candidates_of};
+
+    /// Walks the segments in order, from the hart before the first, by what was found of them: to
+    /// the first that does not agree, and with `once` no further than the first that has to be
+    /// judged again.
+    pub fn walk(
+        &self,
+        alloc: Global,
+        start: Hart<M>,
+        founds: Vec<Found<Judged<M>>>,
+        once: bool,
+    ) -> Result<Round<M>, NoMemory>
+        requires can_step { CanStep M.ram start }
+        requires guesses { All (CanStep M.ram) self.now.guesses.now }
+        requires lawful { All (IsLawfulFound M.bytes M.ram self.now.columns.now
+            self.now.segments.now self.now.guesses.now) founds.items }
+        ensures walks { IfOk result (λ round. WalksThem M.bytes once
+            (candidates_of M.bytes self.now.columns.now self.now.segments.now
+            self.now.guesses.now founds.items) (state_of M.bytes start) round) }
+        ensures can_step { IfOk result (λ round. IfSome round.end (CanStep M.ram)) }
+        ensures ram { IfOk result (λ round.
+            IfSome round.end (λ hart. M.ram hart.mem ≡ M.ram start.mem)) }
+    {
+        let segments = self.segments;
+        let guesses = self.guesses;
+        let places = judged_segments(alloc, segments.len(), &founds)?;
+        let mut walk = Walk {
+            hart: start,
+            rows: 0,
+            valid: 0,
+            rejudged: 0,
+        };
+        for number in 0..segments.len() {
+            let judged = adopted(&walk.hart, &guesses[number], places[number]);
+            let is_last = is_last(once, judged);
+            match walk.pass(alloc, self.columns, &segments[number], judged)? {
+                None => {
+                    if is_last {
+                        return Ok(walk.agreed(number + 1));
+                    }
+                }
+                Some(verdict) => return Ok(walk.ended(number + 1, verdict)),
+            }
+        }
+        Ok(walk.agreed(segments.len()))
+    }
+}
+
+/// Whether a walk ends behind a segment of which this was adopted.
+fn is_last<M: PhysMem>(once: bool, adopted: Option<&Judged<M>>) -> bool
+    ensures { result ≡ (once && is_none adopted.entry) }
+{
+    once && adopted.is_none()
+}
+
+/// How each of so many segments was judged, where it was.
+fn judged_segments<'a, M: PhysMem + Drop>(
+    alloc: Global,
+    count: usize,
+    founds: &'a [Found<Judged<M>>],
+) -> Result<Vec<Option<&'a Judged<M>>>, NoMemory>
+    requires below { All (λ found. found.seg < count) founds.now }
+    ensures { IfOk result (λ places. ArePlaced count founds.now places.items) }
+{
+    let mut places = Vec::with_capacity(alloc, count)?;
+    for _ in 0..count {
+        places.push(None)?;
+    }
+    for found in founds {
+        if let What::Judged(judged) = &found.what {
+            places[found.seg as usize] = Some(judged);
+        }
+    }
+    Ok(places)
+}
