@@ -1,0 +1,242 @@
+#!/usr/bin/env python3
+"""Turns the log of Spike into a trace that rvjudge judges.
+
+    spike -l --log-commits --log=run.log --isa=rv64imac program.elf
+    spike_log.py run.log -o run.csv
+
+-l lists each instruction as it is fetched, and each trap and interrupt; --log-commits lists what
+each instruction that retired has written. Both are needed. Without LOG, or with - for it, standard
+input is read. A row is written for each instruction that retired or trapped, from the first at --pc
+on; what the log does not show stays an empty field. Memory use does not grow with the log.
+
+What is not said on a row: the mode of an instruction that traps, what a load found in memory, and
+registers that have no column. The last are counted on standard error.
+"""
+import argparse
+import re
+import sys
+from collections import Counter
+
+CSRS = (
+    "mstatus", "misa", "medeleg", "mideleg", "mie", "mtvec", "mscratch", "mepc", "mcause", "mtval",
+    "mip", "satp", "sstatus", "sie", "sip", "stvec", "sscratch", "sepc", "scause", "stval",
+    "pmpcfg0", "pmpcfg2",
+)
+COLUMNS = (
+    "intr", "pc_rdata", "mode", "trap", "insn", "rd_addr", "rd_wdata", "pc_wdata", "mem_addr",
+    "mem_wmask", "mem_wdata", "csr_mip_rmask", "csr_mip_rdata",
+    *(f"csr_{name}_wdata" for name in CSRS),
+)
+# The instruction's bits are not known where these were raised.
+FETCHES = (
+    "trap_instruction_address_misaligned", "trap_instruction_access_fault",
+    "trap_instruction_page_fault",
+)
+LINE = re.compile(r"core +(\d+): *(.*)")
+LISTED = re.compile(r"0x([0-9a-f]+) \(0x([0-9a-f]+)\) ?(.*)")
+COMMITTED = re.compile(r"([0-3]) 0x([0-9a-f]+) \(0x([0-9a-f]+)\)(.*)")
+RAISED = re.compile(r"exception (.+), epc 0x([0-9a-f]+)")
+INTERRUPT = re.compile(r"interrupt #(\d+)")
+PASSED_OVER = re.compile(r">>>> |Executed \d+ times|tval 0x|$")
+
+
+class Refused(Exception):
+    """The log cannot be turned into a trace."""
+
+
+def number(text):
+    try:
+        return int(text, 0)
+    except ValueError:
+        raise argparse.ArgumentTypeError(f"{text} is no number") from None
+
+
+def address(digits):
+    if len(digits) != 16:
+        raise Refused(f"0x{digits} has not the 16 digits of a hart of 64 bits")
+    return int(digits, 16)
+
+
+class Converter:
+    """Rows from lines. A row is held until the line behind it says where the program goes on."""
+
+    def __init__(self, start, hart, write):
+        self.start = start
+        self.hart = hart
+        self.write = write
+        self.held = None
+        self.listed = None  # address and bits of the last instruction that -l listed
+        self.interrupt = None  # the code of one that was entered, until its handler's first row
+        self.rows = self.before = 0
+        self.without_column = Counter()
+        self.others = Counter()  # lines of other harts
+
+    def take(self, line):
+        found = LINE.fullmatch(line)
+        if not found:
+            raise Refused(f"no line of Spike's log (grep '^core' drops such): {line[:60]!r}")
+        hart, text = found.groups()
+        if int(hart) != self.hart:
+            self.others[hart] += 1
+        elif found := COMMITTED.fullmatch(text):
+            self.commit(*found.groups())
+        elif found := LISTED.fullmatch(text):
+            self.listed = address(found[1]), int(found[2], 16)
+        elif found := RAISED.fullmatch(text):
+            self.raised(*found.groups())
+        elif not PASSED_OVER.match(text):
+            raise Refused(f"no line of Spike's log: {line[:60]!r}")
+
+    def commit(self, mode, pc, insn, written):
+        if self.listed is None:
+            raise Refused("an instruction that -l has not listed: Spike was run without -l")
+        row = {
+            "pc_rdata": address(pc), "insn": int(insn, 16), "mode": int(mode), "trap": 0,
+            "rd_addr": 0, "rd_wdata": 0, "mem_wmask": 0,
+        }
+        self.add_written(row, iter(written.split()))
+        self.hold(row)
+
+    def add_written(self, row, words):
+        """What stands behind an instruction: registers and values, and the accesses to memory."""
+        access = None  # a mem whose next word may be the data of a store
+        for word in words:
+            if word == "mem":
+                access = next(words, "")
+                shown = address(access.removeprefix("0x"))
+                if row.setdefault("mem_addr", shown) != shown:
+                    raise Refused("more than one access to memory in one instruction")
+            elif word.startswith("0x") and access:
+                self.add_store(row, word.removeprefix("0x"))
+                access = None
+            else:
+                self.add_register(row, word, next(words, ""))
+
+    def add_store(self, row, digits):
+        if row["mem_wmask"]:
+            raise Refused("more than one store in one instruction")
+        length = max(1, len(digits) // 2)  # a byte may have one digit
+        row["mem_wmask"], row["mem_wdata"] = (1 << length) - 1, int(digits, 16)
+
+    def add_register(self, row, name, value):
+        if not value.startswith("0x"):
+            raise Refused(f"{name!r} where a register and its value are awaited")
+        if re.fullmatch(r"x\d+", name):
+            if row["rd_addr"]:
+                raise Refused("more than one of x1 to x31 written by one instruction")
+            row["rd_addr"], row["rd_wdata"] = int(name[1:]), int(value, 16)
+        elif found := re.fullmatch(r"c\d+_(\w+)", name):
+            if found[1] in CSRS:
+                row[f"csr_{found[1]}_wdata"] = int(value, 16)
+            elif self.is_begun():
+                self.without_column[found[1]] += 1
+        else:
+            raise Refused(f"a write of {name!r}, which is no register of the judge's hart")
+
+    def raised(self, name, pc):
+        pc = address(pc)
+        if found := INTERRUPT.fullmatch(name):
+            self.go_on(pc)
+            self.interrupt = int(found[1])
+        elif name in FETCHES:
+            self.hold({"pc_rdata": pc, "insn": 0, "trap": 1})
+        elif self.listed is None or self.listed[0] != pc:
+            raise Refused(f"{name} at 0x{pc:x}, where -l has listed no instruction")
+        else:
+            self.hold({"pc_rdata": pc, "insn": self.listed[1], "trap": 1})
+
+    def is_begun(self):
+        return self.held is not None or self.rows > 0
+
+    def hold(self, row):
+        if not self.is_begun() and row["pc_rdata"] != self.start:
+            self.before += 1
+            self.interrupt = None
+            return
+        self.go_on(row["pc_rdata"])
+        row["intr"] = int(self.interrupt is not None)
+        if self.interrupt is not None:
+            row["csr_mip_rmask"] = row["csr_mip_rdata"] = 1 << self.interrupt
+        self.interrupt = None
+        self.held = row
+
+    def go_on(self, pc):
+        """Writes the row that is held, behind which the program goes on at pc."""
+        if self.held:
+            if not self.held["trap"] and pc is not None:
+                self.held.setdefault("pc_wdata", pc)
+            self.write(self.held)
+            self.held = None
+            self.rows += 1
+
+    def tell(self):
+        """What standard error gets of a log that was read."""
+        yield f"{self.rows} rows"
+        if self.before:
+            yield f"{self.before} rows before 0x{self.start:x} are left out"
+        for hart, lines in sorted(self.others.items()):
+            yield f"{lines} lines of core {hart} are left out"
+        for name, writes in sorted(self.without_column.items()):
+            yield f"{writes} writes of {name}, which has no column, are left out"
+
+
+def arguments():
+    first, _, rest = __doc__.partition("\n")
+    parser = argparse.ArgumentParser(
+        description=first, epilog=rest, formatter_class=argparse.RawDescriptionHelpFormatter
+    )
+    parser.add_argument("log", nargs="?", default="-", metavar="LOG")
+    parser.add_argument("-o", metavar="FILE", help="the trace (default: standard output)")
+    parser.add_argument("--pc", type=number, default=0x80000000, metavar="A",
+                        help="address of the first row, as the judge's --pc (default 0x80000000)")
+    parser.add_argument("--hart", type=number, default=0, metavar="N",
+                        help="the core whose rows are written (default 0)")
+    parser.add_argument("--without", default="", metavar="COLUMN,..",
+                        help="columns to leave out, as csr_medeleg_wdata")
+    words = parser.parse_args()
+    words.without = words.without.split(",") if words.without else []
+    for name in words.without:
+        if name not in COLUMNS or name in ("insn", "pc_rdata"):
+            parser.error(f"--without {name}: there is no such column to leave out")
+    return words
+
+
+def convert(lines, words, out):
+    """Writes the trace of a log's lines, and says on standard error what was left out."""
+    columns = [name for name in COLUMNS if name not in words.without]
+
+    def write(row):
+        shown = ("" if row.get(name) is None else f"0x{row[name]:x}" for name in columns)
+        out.write(",".join(shown) + "\n")
+
+    out.write(",".join(columns) + "\n")
+    converter, at = Converter(words.pc, words.hart, write), 0
+    try:
+        for at, line in enumerate(lines, 1):
+            converter.take(line.rstrip())
+        converter.go_on(None)
+        if not converter.rows:
+            raise Refused(f"no instruction at 0x{words.pc:x}")
+    except Refused as fault:
+        raise Refused(f"{words.log}: line {at}: {fault}") from None
+    for text in converter.tell():
+        print(f"spike_log.py: {text}", file=sys.stderr)
+
+
+def main():
+    words = arguments()
+    source, target = words.log, words.o
+    try:
+        with (
+            open(0 if source == "-" else source, encoding="utf-8", errors="replace") as lines,
+            open(1 if target is None else target, "w", encoding="ascii") as out,
+        ):
+            convert(lines, words, out)
+    except (Refused, OSError) as fault:
+        print(f"spike_log.py: {fault}", file=sys.stderr)
+        return 1
+    return 0
+
+
+if __name__ == "__main__":
+    sys.exit(main())

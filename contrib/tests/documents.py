@@ -1,0 +1,69 @@
+#!/usr/bin/env python3
+"""Holds the documents to the judge: documents.py PROGRAM.
+
+A line of a document that is indented by four blanks, begins with bin/rvjudge judge and names files
+in folders is run, in the top folder, and the line behind it must be what the judge prints. Each
+image and trace in examples/ must be named. Behind a paragraph that ends in `FILE`: the whole text
+of that file must stand, indented by four blanks. Prints how many lines were run; the status is 1
+where anything is not so.
+"""
+import subprocess
+import sys
+from pathlib import Path
+
+TOP = Path(__file__).resolve().parents[2]
+DOCUMENTS = ("README.md", "docs/TRACES.md", "contrib/README.md")
+COMMAND = "    bin/rvjudge judge "
+EXAMPLES = "contrib/tests/examples"
+
+
+def runs(text):
+    """The words of each command and the line that stands behind it."""
+    lines = text.split("\n")
+    return [(line.split()[1:], after.strip()) for line, after in zip(lines, lines[1:])
+            if line.startswith(COMMAND) and all("/" in word for word in line.split()[2:4])]
+
+
+def shown_files(text):
+    """Each file that is named before its text, and that text."""
+    blocks = text.split("\n\n")
+    for name, block in zip(blocks, blocks[1:]):
+        file = name.split("`")[-2] if name.endswith("`:") else ""
+        if "/" in file and block.startswith("    "):
+            yield file, "".join(line[4:] + "\n" for line in block.split("\n"))
+
+
+def faults(program, name):
+    """What does not hold in a document, and how many lines were run in it."""
+    text, found = (TOP / name).read_text(encoding="utf-8"), []
+    commands = runs(text)
+    for words, wanted in commands:
+        ran = subprocess.run([program, *words], cwd=TOP, capture_output=True, text=True)
+        if ran.stdout != wanted + "\n":
+            found.append(f"{name}: {' '.join(words)}: {wanted!r} there, printed is {ran.stdout!r}")
+    for file, shown in shown_files(text):
+        path = TOP / file
+        if not path.is_file() or path.read_text(encoding="utf-8") != shown:
+            found.append(f"{name}: the text of {file} is not that of the file")
+    return found, len(commands)
+
+
+def main():
+    program, found, count = str(Path(sys.argv[1]).resolve()), [], 0
+    for name in DOCUMENTS:
+        these, ran = faults(program, name)
+        found, count = found + these, count + ran
+    said = "".join((TOP / name).read_text(encoding="utf-8") for name in DOCUMENTS)
+    for path in sorted((TOP / EXAMPLES).iterdir()):
+        if f"{EXAMPLES}/{path.name}" not in said:
+            found.append(f"{path.name} is in no document")
+    for text in found:
+        print(f"documents: {text}", file=sys.stderr)
+    if not count:
+        print("documents: no line is run", file=sys.stderr)
+    print(f"documents: {count} lines as they are printed")
+    return 1 if found or not count else 0
+
+
+if __name__ == "__main__":
+    sys.exit(main())
