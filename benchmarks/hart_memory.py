@@ -48,14 +48,15 @@ STORE = Kind(WRITE, PTE_W, 6, 7, 15)
 class Memory:
     """RAM: the pages that have a byte of the image or were written; all else is 0."""
 
-    def __init__(self, image=()):
+    def __init__(self, image=(), ram=RAM):
+        self.ram = ram
         self.pages = {}
         self.own = set()  # the numbers of the pages that no copy has too
         for address, byte in image:
             self.write(address, 1, byte)
 
     def copy(self):
-        memory = Memory()
+        memory = Memory(ram=self.ram)
         memory.pages = dict(self.pages)
         self.own.clear()
         return memory
@@ -99,7 +100,7 @@ def translate(csrs, memory, kind, mode, address):
     for level in reversed(range(LEVELS)):
         size = PAGE << VPN_BITS * level  # of the page, where this level has the leaf
         place = table + ENTRY * (address // size % (1 << VPN_BITS))
-        if place not in RAM or not csrs.allows(S, place, ENTRY, READ):
+        if place not in memory.ram or not csrs.allows(S, place, ENTRY, READ):
             raise Trap(kind.access_fault, address)
         entry = memory.read(place, ENTRY)
         named = (entry >> PTE_PPN_AT) * PAGE

@@ -1,18 +1,23 @@
 #!/usr/bin/env python3
-"""Judges a trace by the hart of reference_hart.py: judge.py IMAGE TRACE [--io BASE:SIZE].
+"""Judges a trace by the hart of reference_hart.py.
 
-Prints `agrees N` or `differs row R: SIGNAL expected E found F`. The rules of comparison are those that
-docs/REFERENCE.md describes, written here a second time after riscv-formal's description of RVFI. Traces are
-taken to be well formed: commas, no quotes, numbers that fit their columns.
+    judge.py IMAGE TRACE [--pc A] [--ram B:S] [--io B:S] [--max-image M] [--max-trace M]
+
+Prints the line that `rvjudge judge` prints for an image and a trace, and ends with its status. The
+rules of comparison are those that docs/REFERENCE.md describes, written here a second time after
+riscv-formal's description of RVFI; those of the texts stand in trace_text.py. Of the words it knows
+what these options say, and none of their limits.
 """
 import argparse
 import sys
+from pathlib import Path
 from typing import NamedTuple
 
 from hart_instructions import MASK
-from hart_memory import Memory, read_image
+from hart_memory import RAM, Memory
 from hart_registers import LINES, M
 from reference_hart import BREAKPOINT, CALL_FROM_U, Core, Hart
+from trace_text import Refused, read_image, read_rows
 
 # the columns with their bits, in the order of comparison; halt is never compared
 PLAIN = {
@@ -28,6 +33,7 @@ CSRS = (
 WIDTHS = PLAIN | {
     f"csr_{name}_{part}": 64 for name in CSRS for part in ("rmask", "wmask", "rdata", "wdata")
 }
+CSR_DATA = [(name, f"csr_{name}_rdata", f"csr_{name}_wdata") for name in CSRS]
 
 # what a row does not tell of a register after the row: bits of lines, which may have moved
 UNTOLD_AFTER = {"mip": LINES, "sip": 1 << 9}
@@ -55,17 +61,10 @@ def number(text):
 
 
 def read_row(columns, line):
-    """The signals that a line shows."""
+    """The signals that a line shows which has neither quotes nor blanks nor anything to refuse."""
     return {
         column: number(field) for column, field in zip(columns, line.rstrip("\n").split(","), strict=True) if field
     }
-
-
-def read_trace(text):
-    """The rows of an open trace."""
-    columns = [name.removeprefix("rvfi_") for name in text.readline().rstrip("\n").split(",")]
-    for line in text:
-        yield read_row(columns, line)
 
 
 def csr_shown(row, name, part):
@@ -148,9 +147,10 @@ class Judge:
                 return  # that differs
             hart.take_interrupt(code)
         mode, registers = hart.mode, list(hart.registers)
-        before = self.csr_values()
+        shown = [name for name, before, after in CSR_DATA if before in row or after in row]
+        before = self.csr_values(shown)
         retired = hart.step()
-        after = self.csr_values()
+        after = self.csr_values(shown)
         self.trapped_last, self.halted = retired.trap is not None, row.get("halt") == 1
         yield from expect_head(retired, mode)
         if not retired.trap:
@@ -158,8 +158,8 @@ class Judge:
             yield from expect_memory(retired.access, row)
         yield from expect_csrs(row, before, after)
 
-    def csr_values(self):
-        return {name: self.hart.csrs.read(name, self.hart.core.up) for name in CSRS}
+    def csr_values(self, names):
+        return {name: self.hart.csrs.read(name, self.hart.core.up) for name in names}
 
 
 def expect_head(retired, mode):
@@ -214,7 +214,7 @@ def expect_memory(access, row):
 
 def expect_csrs(row, before, after):
     """The registers before the instruction and after it, under the row's masks."""
-    for name in CSRS:
+    for name in before:
         told = MASK
         if name == "sip" and not csr_shown(row, "mip", "r") & 1 << 9:
             told ^= 1 << 9  # whether the line is up is not known
@@ -236,22 +236,52 @@ def answer(judge, rows, seen=0, valid=0):
     return f"agrees {valid}"
 
 
+class Setting(NamedTuple):
+    """What the options of a command say of the hart, and how many bytes its files may have."""
+
+    pc: int = RAM.start
+    ram: range = RAM
+    devices: range = range(0)
+    most_image: int = 1 << 30
+    most_trace: int = 1 << 40
+
+
+STATUS = {"agrees": 0, "differs": 1, "refused image:": 3, "refused trace:": 4}
+
+
+def foretell(image, trace, setting):
+    """The line and the status for the bytes of an image and of a trace."""
+    try:
+        memory = Memory(read_image(image, setting.most_image, setting.ram).items(), setting.ram)
+        judge = Judge(Hart(memory, devices=setting.devices, pc=setting.pc))
+        said = answer(judge, read_rows(trace, setting.most_trace, WIDTHS))
+    except Refused as refused:
+        said = f"refused {refused}"
+    return said, next(status for front, status in STATUS.items() if said.startswith(front))
+
+
 def span(text):
     base, size = text.split(":")
     return range(number(base), number(base) + number(size))
 
 
 def main():
-    parser = argparse.ArgumentParser(description=__doc__)
-    parser.add_argument("image")
-    parser.add_argument("trace")
-    parser.add_argument("--io", type=span, default=range(0))
+    default = Setting()
+    parser = argparse.ArgumentParser(
+        description=__doc__, formatter_class=argparse.RawDescriptionHelpFormatter
+    )
+    parser.add_argument("image", type=Path)
+    parser.add_argument("trace", type=Path)
+    parser.add_argument("--pc", type=number, default=default.pc)
+    parser.add_argument("--ram", type=span, default=default.ram)
+    parser.add_argument("--io", type=span, default=default.devices)
+    parser.add_argument("--max-image", type=number, default=default.most_image)
+    parser.add_argument("--max-trace", type=number, default=default.most_trace)
     options = parser.parse_args()
-    judge = Judge(Hart(Memory(read_image(options.image)), devices=options.io))
-    with open(options.trace, encoding="ascii") as text:
-        said = answer(judge, read_trace(text))
+    setting = Setting(options.pc, options.ram, options.io, options.max_image, options.max_trace)
+    said, status = foretell(options.image.read_bytes(), options.trace.read_bytes(), setting)
     print(said)
-    return 0 if said.startswith("agrees") else 1
+    return status
 
 
 if __name__ == "__main__":

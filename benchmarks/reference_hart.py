@@ -77,12 +77,12 @@ class Core:
 class Hart:
     """The registers, pc, the mode, memory, and the reservation, which is the number of a block or None."""
 
-    def __init__(self, memory, core=None, devices=range(0)):
+    def __init__(self, memory, core=None, devices=range(0), pc=RAM.start):
         self.memory = memory
         self.core = core or Core()
         self.devices = devices
         self.registers = [0] * 32
-        self.pc = RAM.start
+        self.pc = pc
         self.mode = M
         self.csrs = ControlRegisters()
         self.reserved = None
@@ -110,7 +110,7 @@ class Hart:
 
     def fetch_half(self, address):
         place = translate(self.csrs, self.memory, FETCH, self.mode, address)
-        if not self.csrs.allows(self.mode, place, 2, FETCH.right) or place not in RAM:
+        if not self.csrs.allows(self.mode, place, 2, FETCH.right) or place not in self.memory.ram:
             raise Trap(FETCH.access_fault, address)
         return self.memory.read(place, 2)
 
@@ -125,7 +125,7 @@ class Hart:
             raise Trap(kind.misaligned, address)
         mode = self.data_mode()
         place = translate(self.csrs, self.memory, kind, mode, address)
-        answered = place in RAM or (place in self.devices and not atomic)
+        answered = place in self.memory.ram or (place in self.devices and not atomic)
         if not answered or not self.csrs.allows(mode, place, length, kind.right):
             raise Trap(kind.access_fault, address)
         return place
@@ -191,7 +191,7 @@ class Hart:
     def execute_load(self, loaded_as, address, after):
         length, by_sign = loaded_as
         place = self.place(address, length, LOAD)
-        if place in RAM:
+        if place in self.memory.ram:
             loaded = self.memory.read(place, length)
         else:
             loaded = self.core.device_load(address, place, length)
@@ -201,7 +201,7 @@ class Hart:
     def execute_store(self, length, address, source2, after):
         stored = source2 & ((1 << 8 * length) - 1)
         place = self.place(address, length, STORE)
-        if place in RAM:
+        if place in self.memory.ram:
             self.memory.write(place, length, stored)
         else:
             self.core.device_store(place, length, stored)

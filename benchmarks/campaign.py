@@ -1,0 +1,173 @@
+#!/usr/bin/env python3
+"""Holds a program to the answers of judge.py on random images and traces.
+
+    campaign.py PROGRAM [--first N] [--count M] [--seed S] [--jobs J] [--keep FOLDER] [--part]
+
+Each case, which its number and the seed decide, is a program that is made up while a hart runs
+through it, a trace of that run with columns drawn by chance, and options. In half of the cases one
+thing is altered in the trace or in the image. The line and the status that are due are those of
+judge.py, which reads the same texts. What the cases reached is counted and printed. The status is 1
+where an answer is not the one due, where a trace in which nothing is altered does not agree, or,
+without --part, where one of the things that campaign_reach.py lists was not reached. With --keep
+the files of each wrong answer are put into a folder.
+"""
+import argparse
+import os
+import re
+import select
+import signal
+import sys
+import tempfile
+import time
+from collections import Counter
+from multiprocessing import Pool
+from pathlib import Path
+
+from campaign_case import make_case
+from campaign_reach import all_to_reach
+from judge import foretell, number
+
+CHUNK = 250  # cases that a process takes at once
+PATIENCE = 60  # seconds for one answer
+WRONG_SHOWN = 20
+
+
+def answer_of(program, words):
+    """What a program prints, and its status; by a signal below 0."""
+    reads, writes = os.pipe()
+    try:
+        process = os.posix_spawn(program, [program, *words], os.environ, file_actions=[
+            (os.POSIX_SPAWN_DUP2, writes, 1), (os.POSIX_SPAWN_CLOSE, reads),
+        ])
+    finally:
+        os.close(writes)
+    said = b""
+    with open(reads, "rb", buffering=0) as pipe:
+        while True:
+            if not select.select([pipe], [], [], PATIENCE)[0]:
+                os.kill(process, signal.SIGKILL)
+                said += b"(no end)"
+            piece = pipe.read(1 << 16)
+            if not piece:
+                break
+            said += piece
+    _, status = os.waitpid(process, 0)
+    return said.decode("latin-1"), os.waitstatus_to_exitcode(status)
+
+
+def kind_of(said):
+    """The kind of a line and its name, under which it is counted."""
+    words = said.split()
+    if words[0] == "agrees":
+        return "verdict", "agrees"
+    if words[0] == "differs":
+        return "differs", words[3]
+    what = said.partition(": ")[2]
+    what = re.sub(r"^(row \d+|line \d+(?=:)): ", "", what)
+    what = re.sub(r"\d+(?= bytes)", "M", re.sub(r"^line \d+ ", "line L ", what))
+    what = re.sub(r"^(no column|column) \S+", r"\1 C", what)
+    what = re.sub(r"^\S+ (?=empty|not a number|too wide)", "C ", what)
+    return f"refused {words[1].rstrip(':')}", what
+
+
+def keep(folder, at, case, said, due):
+    """Puts the files of a wrong answer into a folder, with the command and both answers."""
+    folder.mkdir(parents=True, exist_ok=True)
+    (folder / f"{at}.hex").write_bytes(case.image)
+    (folder / f"{at}.csv").write_bytes(case.trace)
+    command = " ".join(case.words).replace("IMAGE", f"{at}.hex").replace("TRACE", f"{at}.csv")
+    text = f"{command}\naltered: {case.altered}\ndue: {due}\nsaid: {said}\n"
+    (folder / f"{at}.txt").write_text(text, encoding="utf-8")
+
+
+def judge_cases(options, first, last):
+    """What the cases from first up to last reached, and the wrong answers among them."""
+    reached, wrong = Counter(), []
+    with tempfile.TemporaryDirectory(dir=options.folder) as folder:
+        image, trace = f"{folder}/image", f"{folder}/trace"
+        for at in range(first, last):
+            case = make_case(options.seed, at, reached)
+            said, status = foretell(case.image, case.trace, case.setting)
+            due = f"{said}\n", status
+            reached[kind_of(said)] += 1
+            reached["altered", case.altered or "nothing"] += 1
+            Path(image).write_bytes(case.image)
+            Path(trace).write_bytes(case.trace)
+            words = [{"IMAGE": image, "TRACE": trace}.get(word, word) for word in case.words]
+            found = answer_of(options.program, words) if options.program else due
+            should_agree = case.altered is None and status not in (0, 3, 4)
+            if found == due and not should_agree:
+                continue
+            wrong.append((at, found, due))
+            if options.keep:
+                keep(options.keep, at, case, found, due)
+    return reached, wrong
+
+
+def chunk(task):
+    return judge_cases(*task)
+
+
+def run_all(options):
+    """What all cases reached, and the wrong answers, from several processes."""
+    reached, wrong, begun = Counter(), [], time.monotonic()
+    end = options.first + options.count
+    tasks = [(options, at, min(at + CHUNK, end)) for at in range(options.first, end, CHUNK)]
+    with Pool(options.jobs) as pool:
+        for done, (more, found) in enumerate(pool.imap_unordered(chunk, tasks), 1):
+            reached += more
+            wrong += found
+            for at, said, due in found[: max(0, WRONG_SHOWN - len(wrong) + len(found))]:
+                why = "nothing is altered, so that it should agree" if said == due else "not as due"
+                print(f"case {at}, {why}:\n  due:  {due}\n  said: {said}", flush=True)
+            if done % 40 == 0:
+                seconds = time.monotonic() - begun
+                print(f"... {done * CHUNK} cases, {len(wrong)} wrong, {seconds:.0f} s", flush=True)
+    return reached, wrong
+
+
+def summary(reached):
+    """Prints how often each thing was reached, kind by kind."""
+    kinds = {}
+    for key, count in reached.items():
+        if isinstance(key, tuple):
+            kinds.setdefault(key[0], []).append((key[1], count))
+    for kind, counts in sorted(kinds.items()):
+        print(f"{kind}:")
+        print("   ", ", ".join(f"{name} {count}" for name, count in sorted(counts)))
+
+
+def parse():
+    parser = argparse.ArgumentParser(
+        description=__doc__, formatter_class=argparse.RawDescriptionHelpFormatter
+    )
+    parser.add_argument("program", nargs="?", help="without it the answers are only foretold")
+    parser.add_argument("--first", type=number, default=0)
+    parser.add_argument("--count", type=number, default=200_000)
+    parser.add_argument("--seed", default="1")
+    parser.add_argument("--jobs", type=number, default=os.cpu_count())
+    parser.add_argument("--keep", type=Path, help="where to put the files of wrong answers")
+    parser.add_argument("--part", action="store_true", help="do not fail for what was not reached")
+    parser.add_argument("--folder", help="where the files of the cases are for a while")
+    return parser.parse_args()
+
+
+def main():
+    options = parse()
+    if options.program and not os.access(options.program, os.X_OK):
+        sys.exit(f"campaign: there is no program {options.program}")
+    begun = time.monotonic()
+    reached, wrong = run_all(options)
+    summary(reached)
+    missed = [what for what in all_to_reach() if not reached[what]]
+    for kind, name in missed:
+        print(f"not reached: {kind}: {name}")
+    altered = options.count - reached["altered", "nothing"]
+    print(f"{options.count} traces, {reached['rows']} rows, {altered} altered")
+    print(f"things not reached: {len(missed)}")
+    print(f"wrong answers: {len(wrong)}; {time.monotonic() - begun:.0f} s")
+    return 1 if wrong or (missed and not options.part) else 0
+
+
+if __name__ == "__main__":
+    sys.exit(main())

@@ -1,0 +1,207 @@
+#!/usr/bin/env python3
+"""Refuses memory to the program, one call after the other: refused_memory.py [PROGRAM].
+
+Each run below is made again and again, with the first of its calls for memory refused, the second,
+and so on until it makes no such call; then so again with the call and all later ones refused. Every
+answer must be the usual line and status, or status 6 with nothing written; but for one call for the
+name of each file, which is refused as the file would be: status 5, with nothing written. Calls are
+those of malloc and its kin (tests/refuse_memory.c, loaded by LD_PRELOAD) from main on; the
+program's allocator has no other way, which its dynamic symbols tell. What the loader and the C
+library take before main is let through: it is theirs, and the program has not begun. At last each
+run is made under valgrind, which must find neither an error nor a byte that is still held at the
+end.
+
+PROGRAM is the built one where it is left out. Without gcc nothing is tried, and that is said;
+without valgrind what it would show is left out, and that is said."""
+import os
+import shutil
+import subprocess
+import sys
+import tempfile
+from concurrent.futures import ThreadPoolExecutor
+from pathlib import Path
+
+HERE = Path(__file__).resolve().parent
+TOP = HERE.parent
+NOT_READ, OUT_OF_MEMORY = (5, ""), (6, "")
+ALLOCATORS = {"malloc", "calloc", "realloc", "memalign", "aligned_alloc", "posix_memalign"}
+NOT_COUNTED = {"mmap", "mmap64", "mremap", "brk", "sbrk", "valloc", "pvalloc"}
+PAGED = [str(HERE / "refused_memory" / name) for name in ("paged.hex", "paged.csv")]
+PAGED += ["--pc=2907778182", "--ram=2907750400:65536"]
+
+REGISTER_ROWS = """insn,pc_rdata,trap,rd_wdata,csr_mscratch_wdata,csr_mtvec_rdata,csr_mcause_wdata
+0xfff00093,0x80000000,0,0xffffffffffffffff,0,0,0
+0x34009173,0x80000004,0,0,0xffffffffffffffff,0,0
+0x340021f3,0x80000008,0,0xffffffffffffffff,0xffffffffffffffff,0,0
+0x340ff273,0x8000000c,0,0xffffffffffffffff,0xffffffffffffffe0,0,0
+0x00000297,0x80000010,0,0x80000010,0xffffffffffffffe0,0,0
+0x30529373,0x80000014,0,0,0xffffffffffffffe0,0,0
+0x00000073,0x80000018,1,,0xffffffffffffffe0,0x80000010,11
+0x00000297,0x80000010,0,0x80000010,0xffffffffffffffe0,0x80000010,11
+"""
+
+FILES = {
+    "one.hex": "@80000000 93 00 50 00",
+    "one.csv": "insn,pc_rdata,rd_addr,rd_wdata,pc_wdata\n0x00500093,0x80000000,1,5,0x80000004\n",
+    "other.csv": "insn,pc_rdata,rd_addr,rd_wdata,pc_wdata\n0x00500093,0x80000000,1,6,0x80000004\n",
+    "broken.csv": "insn,pc_rdata\n0x00500093,0x80000000\nzz,0x80000004\n",
+    # ADDI x1, x0, -1; CSRRW x2, mscratch, x1; CSRRS x3, mscratch, x0; CSRRCI x4, mscratch, 31;
+    # AUIPC x5, 0; CSRRW x6, mtvec, x5; ECALL, whose handler is the AUIPC
+    "registers.hex": "@80000000 93 00 f0 ff 73 91 00 34 f3 21 00 34 73 f2 0f 34 97 02 00 00"
+    " 73 93 52 30 73 00 00 00",
+    "registers.csv": REGISTER_ROWS,
+    # the registers are not shown, so that each guess behind the first segment is wrong
+    "hidden.csv": """insn,pc_rdata
+0xfff00093,0x80000000
+0x34009173,0x80000004
+0x340021f3,0x80000008
+0x340ff273,0x8000000c
+0x00000297,0x80000010
+0x30529373,0x80000014
+0x00000073,0x80000018
+0x00000297,0x80000010
+""",
+}
+
+WORKERS = ("--workers=1", "--workers=4")
+REGISTERS = ["judge", "registers.hex", "registers.csv"]
+# each: the words, the status and the line that are usual
+RUNS = [
+    (["judge", "one.hex", "one.csv"], 0, "agrees 1"),
+    (["judge", "one.hex", "other.csv"], 1,
+     "differs row 1: rd_wdata expected 0x0000000000000005 found 0x0000000000000006"),
+    (["judge", "one.hex", "broken.csv"], 4, "refused trace: row 2: insn not a number"),
+    (["make", "7", "50"], 0, "made 7 50: agrees 50"),
+    (["make", "7", "50", "--segment=3", "--window=2"], 0, "made 7 50: agrees 50"),
+    (REGISTERS, 0, "agrees 8"),
+    ([*REGISTERS, "--segment=1", "--window=1"], 0, "agrees 8"),
+    (["judge", "registers.hex", "hidden.csv", "--segment=2"], 0, "agrees 8"),
+    (["judge", *PAGED], 0, "agrees 39"),
+    (["judge", *PAGED, "--segment=1", "--window=1"], 0, "agrees 39"),
+    (["judge", *PAGED, "--segment=5", "--window=3"], 0, "agrees 39"),
+]
+
+
+def answer(command, **how):
+    """The status and what a command writes to standard output."""
+    ran = subprocess.run(command, stdout=subprocess.PIPE, check=False, timeout=60, **how)
+    return ran.returncode, ran.stdout.decode("latin-1")
+
+
+def refused(command, library, call, later):
+    """The answer with this call refused, and whether there was such a call."""
+    reads, writes = os.pipe()
+    environment = {"LD_PRELOAD": library, "REFUSE_CALL": str(call), "REFUSE_TO": str(writes)}
+    if later:
+        environment["REFUSE_LATER"] = "1"
+    try:
+        found = answer(command, env=os.environ | environment, pass_fds=(writes,))
+    finally:
+        os.close(writes)
+    with open(reads, "rb") as pipe:
+        return found, bool(pipe.read())
+
+
+class Count:
+    """How many calls were refused, what came of it, and what went wrong."""
+
+    def __init__(self):
+        self.refused = self.out_of_memory = self.wrong = 0
+
+    def fail(self, words, text):
+        self.wrong += 1
+        print(f"rvjudge {' '.join(words)}: {text}", file=sys.stderr)
+
+
+def refuse_each(program, library, words, usual, count):
+    """Refuses each call of a run in turn, alone and with all later ones."""
+    files = 2 if words[0] == "judge" else 0
+    for later in (False, True):
+        call, was_made, not_read = 0, True, 0
+        while was_made:
+            call += 1
+            found, was_made = refused([program, *words], library, call, later)
+            count.refused += was_made
+            count.out_of_memory += found == OUT_OF_MEMORY
+            not_read += found == NOT_READ
+            lawful = (usual, OUT_OF_MEMORY, NOT_READ) if was_made else (usual,)
+            if found not in lawful:
+                count.fail(words, f"call {call}{' and later' if later else ''} refused: {found}")
+        if call == 1:
+            count.fail(words, "no call was refused")
+        if not_read != files:
+            count.fail(words, f"status 5 came for {not_read} calls, and it has {files} files")
+
+
+def look_for_leaks(program, words, usual, count):
+    """Makes a run under valgrind."""
+    kinds = ["--show-leak-kinds=all", "--errors-for-leak-kinds=all", "--error-exitcode=99"]
+    command = ["valgrind", "-q", "--leak-check=full", *kinds, program, *words]
+    with tempfile.TemporaryFile() as log:
+        found = answer(command, stderr=log)
+        log.seek(0)
+        if found != usual:
+            count.fail(words, f"under valgrind {found}:\n{log.read().decode()}")
+
+
+def check_symbols(program, count):
+    """Holds the program to the allocators that the library counts."""
+    _, text = answer(["nm", "-D", "--undefined-only", program])
+    names = {line.split()[-1].partition("@")[0] for line in text.splitlines() if line}
+    if not names & ALLOCATORS or names & NOT_COUNTED:
+        count.fail(["(symbols)"], f"takes memory by {sorted(names & (ALLOCATORS | NOT_COUNTED))}")
+
+
+def built():
+    """The built program."""
+    subprocess.run([TOP / "bin" / "rvjudge"], stdout=subprocess.DEVNULL, check=False)
+    return str(TOP / "crates" / "rvjudge" / "out" / "rvjudge")
+
+
+def try_run(program, library, words, usual, count):
+    refuse_each(program, library, words, usual, count)
+    if shutil.which("valgrind"):
+        look_for_leaks(program, words, usual, count)
+
+
+def try_all(program, folder, count):
+    """Tries every run, some side by side."""
+    library = f"{folder}/refuse.so"
+    source = HERE / "refuse_memory.c"
+    flags = ["-shared", "-fPIC", "-O2", "-Wall"]
+    subprocess.run(["gcc", *flags, "-o", library, source, "-ldl"], check=True)
+    for name, text in FILES.items():
+        (Path(folder) / name).write_text(text, encoding="ascii")
+    os.chdir(folder)
+    with ThreadPoolExecutor(os.cpu_count()) as pool:
+        tried = [
+            pool.submit(try_run, program, library, [*words, workers], (status, f"{line}\n"), count)
+            for words, status, line in RUNS for workers in WORKERS
+        ]
+        for one in tried:
+            one.result()
+    os.chdir(HERE)
+
+
+def main():
+    if not shutil.which("gcc"):
+        print("refused_memory: not tried, since gcc, which makes the library, is missing")
+        return 0
+    program = os.path.abspath(sys.argv[1]) if len(sys.argv) > 1 else built()
+    if not os.access(program, os.X_OK):
+        sys.exit(f"refused_memory: there is no program {program}")
+    count = Count()
+    check_symbols(program, count)
+    with tempfile.TemporaryDirectory() as folder:
+        try_all(program, folder, count)
+    if not shutil.which("valgrind"):
+        print("refused_memory: leaks were not looked for, since valgrind is missing")
+    print(
+        f"refused_memory: {count.refused} calls refused, {count.out_of_memory} times status 6, "
+        f"{count.wrong} answers wrong"
+    )
+    return 1 if count.wrong else 0
+
+
+if __name__ == "__main__":
+    sys.exit(main())
