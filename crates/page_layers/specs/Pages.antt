@@ -4,7 +4,7 @@ use Rattle.std.specs.HashMap.{get}
 use Rattle.page_image.specs.declared.page.Page.{Page}
 use Rattle.page_layers.specs.declared.held.Held.{Held}
 use Rattle.page_layers.specs.declared.table.Table.{Table}
-use Rattle.page_layers.specs.declared.table.TheConstants.{TABLE_PAGES}
+use Rattle.page_layers.specs.declared.entries.TheConstants.{TABLE_PAGES}
 use Rattle.page_layers.specs.declared.pages.Pages.{Pages}
 use Rattle.page_layers.specs.Held.{held_value, entry_value, is_owned, is_entry_owned}
 use Rattle.page_layers.specs.Bytes.{bytes_in}

@@ -1,8 +1,9 @@
 //! The memory of a hart over an image.
 
+use crate::entries::TABLE_PAGES;
 use crate::held::Held;
 use crate::pages::Pages;
-use crate::table::{TABLE_PAGES, Table};
+use crate::table::Table;
 use hart_words::{NoMemory, PAGE_SIZE, PhysMem};
 use page_image::{Page, PageImage};
 use std::alloc::Global;

@@ -5,6 +5,7 @@
 //! bytes they have stands in `specs/Memories.antt`.
 #![tactic(auto)]
 
+mod entries;
 mod held;
 mod layered;
 mod map_mem;

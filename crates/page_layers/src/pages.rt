@@ -3,8 +3,9 @@
 ghost use Rattle.std.specs.Prelude.{◌≡◌};
 ghost use Rattle.page_layers.specs.Pages.{first_of};
 
+use crate::entries::TABLE_PAGES;
 use crate::held::Held;
-use crate::table::{TABLE_PAGES, Table};
+use crate::table::Table;
 use hart_words::{NoMemory, PAGE_SIZE};
 use page_image::Page;
 use std::alloc::{AllocError, Global};
@@ -81,13 +82,13 @@ impl Pages {
     }
 
     /// A table with the pages that are there.
-    fn copy_table(&self, number: u64) -> Result<Table, AllocError>
+    fn copy_table(&self, alloc: Global, number: u64) -> Result<Table, AllocError>
         ensures { IfOk result (λ table. (q : ℕ) → first_of q ≡ first_of number
             → page_in table q ≡ page_at self.now q) }
     {
         match self.tables.get(&first_of(number)) {
             Some(held) => held.value().clone(),
-            None => Ok(Table::none()),
+            None => Ok(Table::none(alloc)),
         }
     }
 
@@ -100,7 +101,7 @@ impl Pages {
         if self.is_table_own(number) {
             return Ok(());
         }
-        let table = Box::new(alloc, self.copy_table(number)?)?;
+        let table = Box::new(alloc, self.copy_table(alloc, number)?)?;
         self.tables.insert(first_of(number), Held::Own(table))?;
         Ok(())
     }

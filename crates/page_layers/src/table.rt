@@ -1,28 +1,25 @@
 //! Tables of pages.
 
-ghost use Rattle.std.specs.Prelude.{◌≡◌, ◌≤◌, ◌<◌, ◌+◌, ◌/◌, ◌%◌, ◌^◌, ℕ, length, if◌then◌else◌};
-ghost use Rattle.hart_words.specs.declared.span.TheConstants.{PAGE_SIZE};
-ghost use Rattle.hart_words.specs.Memory.{stored};
-ghost use Rattle.page_layers.specs.Held.{entry_value, is_entry_owned};
-ghost use Rattle.page_layers.specs.Bytes.{bytes_in, over};
-ghost use Rattle.page_layers.specs.declared.table.TheConstants.{TABLE_PAGES};
+ghost use Rattle.page_layers.specs.declared.entries.TheConstants.{TABLE_PAGES};
 
+use crate::entries::{Entries, TABLE_PAGES};
 use crate::held::Held;
 use hart_words::PAGE_SIZE;
 use page_image::Page;
-use std::alloc::AllocError;
-use std::array;
+use std::alloc::{AllocError, Global};
+use std::sync::Arc;
 
-/// How many pages a table has.
-pub const TABLE_PAGES: u64 = 64;
-/// The same as a count of elements.
-const TABLE_ENTRIES: usize = 64;
+/// How many pages a table takes to be written before its copy gets all of them anew.
+const MOST_WRITTEN: usize = 15;
 
-/// The pages whose numbers, divided by 64, give the same. A table does not know what.
+/// The pages whose numbers, divided by 64, give the same. A table does not know what. Those that
+/// were written stand by themselves, over entries that copies share: so a copy of it costs what was
+/// written, and not 64 pages.
 #[derive(Drop)]
 pub struct Table {
-    pages: [Option<Held<Page>>; TABLE_ENTRIES],
-    ghost full: { length pages ≡ TABLE_PAGES },
+    alloc: Global,
+    shared: Option<Arc<Entries>>,
+    written: Entries,
 }
 
 impl Clone for Table {
@@ -32,24 +29,69 @@ impl Clone for Table {
     ghost is_clone = { λ table other. page_in other ≡ page_in table };
 
     fn clone(&self) -> Result<Table, AllocError> {
-        let pages = self.pages.clone()?;
-        Ok(Table { pages })
+        if self.written.count() > MOST_WRITTEN {
+            return self.shared_whole();
+        }
+        Ok(Table {
+            alloc: self.alloc,
+            shared: self.share()?,
+            written: self.written.clone()?,
+        })
     }
 }
 
 impl Table {
-    ghost use Rattle.std.specs.Prelude.{◌≡◌, ◌≤◌, ◌<◌, ◌+◌, ◌/◌, ◌%◌, ◌^◌, ◌==◌, ℕ, None, Some, IsTrue, option_copied, if◌then◌else◌};
+    ghost use Rattle.std.specs.Prelude.{◌≡◌, ◌≤◌, ◌<◌, ◌+◌, ◌/◌, ◌%◌, ◌^◌, ◌==◌, ℕ, None, Some, IfOk, IsTrue, option_copied, option_map, if◌then◌else◌};
     ghost use Rattle.hart_words.specs.declared.span.TheConstants.{PAGE_SIZE};
     ghost use Rattle.hart_words.specs.Memory.{stored};
     ghost use Rattle.page_layers.specs.Bytes.{bytes_in, over};
-    ghost use Rattle.page_layers.specs.Tables.{owns_in, page_in};
+    ghost use Rattle.page_layers.specs.Entries.{page_among};
+    ghost use Rattle.page_layers.specs.Tables.{owns_in, page_in, shared_page};
 
     /// No page.
-    pub fn none() -> Table
+    #[tactic(auto, unfolding(crate::specs::Tables::page_in))]
+    pub fn none(alloc: Global) -> Table
         ensures { (number : ℕ) → page_in result number ≡ None }
     {
-        let pages = array::repeat(None);
-        Table { pages }
+        Table {
+            alloc,
+            shared: None,
+            written: Entries::none(),
+        }
+    }
+
+    /// The entries that are shared, once more.
+    fn share(&self) -> Result<Option<Arc<Entries>>, AllocError>
+        ensures { IfOk result (λ shared. option_map (λ entries. entries.value) shared
+            ≡ option_map (λ entries. entries.value) self.now.shared) }
+    {
+        match &self.shared {
+            Some(shared) => Ok(Some(shared.clone()?)),
+            None => Ok(None),
+        }
+    }
+
+    /// The same pages, of which none is written.
+    fn shared_whole(&self) -> Result<Table, AllocError>
+        ensures { IfOk result (λ other. page_in other ≡ page_in self.now) }
+    {
+        let mut all = self.shared_entries()?;
+        all.put_all(&self.written)?;
+        Ok(Table {
+            alloc: self.alloc,
+            shared: Some(Arc::new(self.alloc, all)?),
+            written: Entries::none(),
+        })
+    }
+
+    /// The entries that are shared, for a table by themselves.
+    fn shared_entries(&self) -> Result<Entries, AllocError>
+        ensures { IfOk result (λ entries. page_among entries ≡ shared_page self.now) }
+    {
+        match &self.shared {
+            Some(shared) => (**shared).clone(),
+            None => Ok(Entries::none()),
+        }
     }
 
     /// The page of a number, if it is there.
@@ -57,21 +99,20 @@ impl Table {
     pub fn page(&self, number: u64) -> Option<&Page>
         ensures { option_copied result ≡ page_in self.now number }
     {
-        match &self.pages[(number % TABLE_PAGES) as usize] {
-            Some(held) => Some(held.value()),
-            None => None,
+        match self.written.page(number) {
+            Some(page) => Some(page),
+            None => match &self.shared {
+                Some(shared) => shared.page(number),
+                None => None,
+            },
         }
     }
 
     /// Whether a page is there that no copy shares.
-    #[tactic(auto, unfolding(crate::specs::Tables::owns_in))]
     pub fn is_own(&self, number: u64) -> bool
         ensures { result ≡ owns_in self.now number }
     {
-        match &self.pages[(number % TABLE_PAGES) as usize] {
-            Some(held) => held.is_own(),
-            None => false,
-        }
+        self.written.is_own(number)
     }
 
     /// Sets the page of a number, to be its own.
@@ -81,7 +122,7 @@ impl Table {
         ensures owned { IsTrue (owns_in self.new number) }
         ensures keeps { (q : ℕ) → IsTrue (owns_in self.old q) → IsTrue (owns_in self.new q) }
     {
-        self.pages[(number % TABLE_PAGES) as usize] = Some(Held::Own(page));
+        self.written.set(number, page);
     }
 
     /// Puts the low `len` bytes of a number at an address, within a page that is its own. Where
@@ -98,12 +139,7 @@ impl Table {
             then stored pa len value (over (bytes_in (page_in self.old)) base) at
             else over (bytes_in (page_in self.old)) base at) }
     {
-        put_in(
-            &mut self.pages[(pa / PAGE_SIZE % TABLE_PAGES) as usize],
-            pa,
-            len,
-            value,
-        )
+        self.written.put(pa, len, value)
     }
 }
 
@@ -153,23 +189,5 @@ impl Held<Table> {
             Held::Own(table) => table.put(pa, len, value),
             Held::Version(_) => false,
         }
-    }
-}
-
-/// Puts the low `len` bytes of a number at an address within a page, if it is there and own.
-fn put_in(entry: &mut Option<Held<Page>>, pa: u64, len: u8, value: u64) -> bool
-    requires few { len ≤ 8 }
-    requires inside { pa + len < 2 ^ 64 }
-    requires page { pa % PAGE_SIZE + len ≤ PAGE_SIZE }
-    ensures own { result ≡ is_entry_owned entry.old }
-    ensures stays { is_entry_owned entry.new ≡ is_entry_owned entry.old }
-    ensures bytes { (base : ℕ → ℕ) (at : ℕ) → at / PAGE_SIZE ≡ pa / PAGE_SIZE
-        → over (bytes_in (λ _. entry_value entry.new)) base at ≡ (if result
-        then stored pa len value (over (bytes_in (λ _. entry_value entry.old)) base) at
-        else over (bytes_in (λ _. entry_value entry.old)) base at) }
-{
-    match entry {
-        Some(held) => held.put(pa, len, value),
-        None => false,
     }
 }

@@ -1,11 +1,5 @@
-use Rattle.std.proofs.Common.{inl, inr}
-use Rattle.page_layers.proofs.TableChanges.{entry_cloned}
+use Rattle.page_layers.proofs.TableChanges.{table_cloned}
 use Rattle.page_layers.proofs.table.TableClone.clone.Goals as goal
 
 pub returns : goal.returns
-returns c = record {
-  cases = entry_cloned c.args.self.now _ c.in_ok-pages.ensures.cases
-      (λ x y same. elim same [ inl e ↦ e | inr e ↦ e ])
-      (λ x same. same)
-      (λ y same. same);
-}
+returns c = record { cases = table_cloned c.args.self.now _ c.in_ok-share.ensures c.in_ok-clone.ensures.cases }
