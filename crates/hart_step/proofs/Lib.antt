@@ -11,5 +11,6 @@ pub mod Granted
 pub mod Rows
 pub mod Alike
 pub mod ShownBytes
+pub mod WholeStores
 pub mod WordOpcodes
 pub mod StoreWords

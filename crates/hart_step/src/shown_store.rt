@@ -1,14 +1,13 @@
 //! The bytes that a row shows a store to put into memory.
 
-ghost use Rattle.std.specs.Prelude.{◌≡◌, ◌<◌, ◌≤◌, ◌/◌, ℕ, IsOk, IsTrue, OnErr, OnOk, true, unwrap_or};
-ghost use Rattle.hart_words.specs.declared.span.TheConstants.{PAGE_SIZE};
-ghost use Rattle.hart_words.specs.Memory.{IsPlace};
+ghost use Rattle.std.specs.Prelude.{◌≡◌, ◌<◌, ◌≤◌, ◌-◌, ◌/◌, ◌^◌, ℕ, IfSome, IsOk, IsTrue, OnErr, OnOk, true, unwrap_or};
+ghost use Rattle.hart_words.specs.Memory.{Bytes, IsPlace, stored};
 ghost use Rattle.hart_words.specs.Spans.{is_in};
 ghost use Rattle.rvfi_rows.specs.Cells.{shown_in};
 
 use crate::choices::moved_down;
 use csr_file::has_bit;
-use hart_words::{NoMemory, PhysMem, Signal, Span};
+use hart_words::{NoMemory, PAGE_SIZE, PhysMem, Signal, Span};
 use rvfi_rows::Row;
 
 /// Where a store's bytes go, which of eight bytes do, and the eight, the lowest first.
@@ -35,10 +34,37 @@ impl ShownStore {
         }
     }
 
-    /// Puts the bytes that lie in RAM at their places. Without memory no byte changes: the pages are
-    /// made ready first.
-    #[tactic(auto, unfolding(crate::specs::PlainRows::bytes_put))]
+    /// Puts the bytes that lie in RAM at their places. Without memory no byte changes.
     pub fn put<M: PhysMem>(&self, mem: &mut M, ram: &Span) -> Result<(), NoMemory>
+        requires ram { M.ram mem.old ≡ ram.now }
+        ensures ok { OnOk result (M.bytes mem.new ≡ bytes_put ram.now self.now 8 (M.bytes mem.old)) }
+        ensures err { OnErr result (M.bytes mem.new ≡ M.bytes mem.old) }
+        ensures ram_stays { M.ram mem.new ≡ M.ram mem.old }
+    {
+        match self.len_at_once(ram) {
+            Some(len) => mem.write(self.place, len, self.value),
+            None => self.put_bytes(mem, ram),
+        }
+    }
+
+    /// How many bytes one write puts, where it puts all that are stored: they are the low ones, and
+    /// lie in one page of RAM. Most stores are such, and one write costs less than eight.
+    #[tactic(auto, using(crate::proofs::WholeStores::put_at_once))]
+    fn len_at_once(&self, ram: &Span) -> Option<u8>
+        ensures place { IfSome result (λ len. IsPlace ram.now self.now.place len) }
+        ensures whole { IfSome result (λ len. (bytes : Bytes) → bytes_put ram.now self.now 8 bytes
+            ≡ stored self.now.place len self.now.value bytes) }
+    {
+        match len_of_mask(self.mask) {
+            Some(len) if is_place(ram, self.place, len) => Some(len),
+            _ => None,
+        }
+    }
+
+    /// Puts the bytes one by one. Their pages are made ready first, so that none is put where a
+    /// later one is refused.
+    #[tactic(auto, unfolding(crate::specs::PlainRows::bytes_put))]
+    fn put_bytes<M: PhysMem>(&self, mem: &mut M, ram: &Span) -> Result<(), NoMemory>
         requires ram { M.ram mem.old ≡ ram.now }
         ensures ok { OnOk result (M.bytes mem.new ≡ bytes_put ram.now self.now 8 (M.bytes mem.old)) }
         ensures err { OnErr result (M.bytes mem.new ≡ M.bytes mem.old) }
@@ -119,6 +145,30 @@ fn place_shown(physical: Option<u64>, address: Option<u64>) -> u64
         Some(place) => place,
         None => address.unwrap_or(0),
     }
+}
+
+/// How many bytes a mask has, where these are the low 1, 2, 4 or 8.
+fn len_of_mask(mask: u64) -> Option<u8>
+    ensures mask { IfSome result (λ len. mask ≡ 2 ^ len - 1) }
+    ensures some { IfSome result (λ len. 1 ≤ len) }
+    ensures few { IfSome result (λ len. len ≤ 8) }
+{
+    match mask {
+        0x01 => Some(1),
+        0x03 => Some(2),
+        0x0f => Some(4),
+        0xff => Some(8),
+        _ => None,
+    }
+}
+
+/// Whether `len` bytes from an address on lie in one page of RAM.
+fn is_place(ram: &Span, pa: u64, len: u8) -> bool
+    requires some { 1 ≤ len }
+    requires few { len ≤ 8 }
+    ensures { IsTrue result → IsPlace ram.now pa len }
+{
+    ram.holds(pa, len) && pa % PAGE_SIZE + u64::from(len) <= PAGE_SIZE
 }
 
 /// Whether the byte at an address is one of RAM.

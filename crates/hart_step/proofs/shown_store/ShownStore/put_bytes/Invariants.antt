@@ -1,6 +1,6 @@
 use Rattle.std.proofs.Common.{◌≡◌}
 use Rattle.hart_step.specs.PlainRows.{AreReady, bytes_put}
-use Rattle.hart_step.proofs.shown_store.ShownStore.put.Given as goal
+use Rattle.hart_step.proofs.shown_store.ShownStore.put_bytes.Given as goal
 
 abbrev pub invariant-loop-number : goal.invariant-loop-number
 invariant-loop-number g l = record {
