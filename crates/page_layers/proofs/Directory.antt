@@ -81,12 +81,12 @@ pub renewed_table : (before after : Pages) (key : ℕ) (held : Held Table) → S
 unfolding owns_table
 renewed_table before after key held sets own = ap is_entry_owned (set_here _ _ (first_of key) (first_of key) held sets refl) ∙ own
 
-in_table : (q key : ℕ) → first_of key ≡ first_of q → q / 64 ≡ key / 64
+in_table : (q key : ℕ) → first_of key ≡ first_of q → q / 32 ≡ key / 32
 in_table q key same = grind arith
 
 -- a page of a table is set
 pub page_put : (before after : Pages) (key : ℕ) (old new : Held Table) (page : Page) → SetsTable before after key new → table_of before key ≡ Some old
-    → ((q : ℕ) → q / 64 ≡ key / 64 → page_in (held_value new) q ≡ (if q == key then Some page else page_in (held_value old) q))
+    → ((q : ℕ) → q / 32 ≡ key / 32 → page_in (held_value new) q ≡ (if q == key then Some page else page_in (held_value old) q))
     → (q : ℕ) → page_at after q ≡ (if q == key then Some page else page_at before q)
 page_put before after key old new page sets was puts = by_table (λ q. page_at after q ≡ (if q == key then Some page else page_at before q)) key
     (λ q here. page_inside before after key new sets q here ∙ puts q (in_table q key here)
@@ -127,7 +127,7 @@ owned_stays before after key old new sets was own pages = fun_ext (by_table (λ 
 -- a number is put in a page of a table
 pub number_put : (done : Bool) (before after : Pages) (old new : Held Table) (base : Bytes) (pa len value : ℕ) → pa % 4096 + len ≤ 4096
     → SetsTable before after (pa / 4096) new → table_of before (pa / 4096) ≡ Some old
-    → ((at : ℕ) → at / 4096 / 64 ≡ pa / 4096 / 64 → over (bytes_in (page_in (held_value new))) base at ≡ (if done then stored pa len value (over (bytes_in (page_in (held_value old))) base) at else over (bytes_in (page_in (held_value old))) base at))
+    → ((at : ℕ) → at / 4096 / 32 ≡ pa / 4096 / 32 → over (bytes_in (page_in (held_value new))) base at ≡ (if done then stored pa len value (over (bytes_in (page_in (held_value old))) base) at else over (bytes_in (page_in (held_value old))) base at))
     → over (own_byte after) base ≡ (if done then stored pa len value (over (own_byte before) base) else over (own_byte before) base)
 number_put done before after old new base pa len value inside sets was puts = put_all done (over (own_byte before) base) (over (own_byte after) base) (stored pa len value (over (own_byte before) base)) (λ at.
     elim (cases_eq (first_of (pa / 4096)) (first_of (at / 4096))) [

@@ -55,14 +55,14 @@ all_done P rest is q (inr done) = done
 all_done P rest is q (inl left) = let never : false ≡ true = ap (λ keys. is_member nat_eq keys q) (sym is) ∙ left in cc
 
 -- the pages of a table, up to the k-th
-placed : (number first k sum : ℕ) → first < 2 ^ 64 → first_of number ≡ first → number % 64 ≡ k → sum ≡ (first + k) % 2 ^ 64 → sum ≡ number
+placed : (number first k sum : ℕ) → first < 2 ^ 64 → first_of number ≡ first → number % 32 ≡ k → sum ≡ (first + k) % 2 ^ 64 → sum ≡ number
 placed number first k sum small is at total = grind arith
 
 pub one_more_page : (one other : Layered) (first k sum : ℕ) → first < 2 ^ 64 → sum ≡ (first + k) % 2 ^ 64
     → IsSamePage one other sum
-    → ((number : ℕ) → first_of number ≡ first → number % 64 < k → IsSamePage one other number)
-    → (number : ℕ) → first_of number ≡ first → number % 64 < k + 1 → IsSamePage one other number
-one_more_page one other first k sum small total here before number is below = elim (cases_eq (number % 64) k) [
+    → ((number : ℕ) → first_of number ≡ first → number % 32 < k → IsSamePage one other number)
+    → (number : ℕ) → first_of number ≡ first → number % 32 < k + 1 → IsSamePage one other number
+one_more_page one other first k sum small total here before number is below = elim (cases_eq (number % 32) k) [
   | inl at ↦ subst (IsSamePage one other) (placed number first k sum small is at total) here
   | inr apart ↦ before number is (omega (arith, below, apart))
 ]

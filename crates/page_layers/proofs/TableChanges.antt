@@ -1,5 +1,5 @@
 -- What changes of the entries that were written do to a table.
-use Rattle.std.proofs.Common.{◌≡◌, ℕ, ◌/◌, ◌%◌, ◌+◌, ◌<◌, ◌≤◌, true, false, Bool, Option, Some, None, option_map, unwrap_or, refl, sym, ap, ◌∙◌, if◌then◌else◌}
+use Rattle.std.proofs.Common.{◌≡◌, ℕ, ◌/◌, true, false, Bool, Option, Some, None, option_map, unwrap_or, refl, sym, ap, ◌∙◌, if◌then◌else◌}
 use Rattle.std.specs.Prelude.{◌==◌, option_and_then}
 use Rattle.std.specs.declared.sync.Arc.{Arc}
 use Rattle.std.specs.declared.alloc.Global.{Global}
@@ -29,17 +29,17 @@ if_other false page other was = refl
 
 -- a page is set among those that were written
 pub page_written : (before after : Table) (key : ℕ) (page : Page) → after.shared ≡ before.shared
-    → ((q : ℕ) → q / 64 ≡ key / 64 → page_among after.written q ≡ (if q == key then Some page else page_among before.written q))
-    → (q : ℕ) → q / 64 ≡ key / 64 → page_in after q ≡ (if q == key then Some page else page_in before q)
+    → ((q : ℕ) → q / 32 ≡ key / 32 → page_among after.written q ≡ (if q == key then Some page else page_among before.written q))
+    → (q : ℕ) → q / 32 ≡ key / 32 → page_in after q ≡ (if q == key then Some page else page_in before q)
 unfolding page_in
 page_written before after key page stays sets q here =
     rw (sets q here, stays) (if_other (q == key) (Some page) (shared_page before q) (page_among before.written q))
 
 -- a number is put in a page among those that were written
 pub number_written : (done : Bool) (before after : Table) (pa len value : ℕ) → after.shared ≡ before.shared
-    → ((base : Bytes) (at : ℕ) → at / 4096 / 64 ≡ pa / 4096 / 64 → over (bytes_in (page_among after.written)) base at
+    → ((base : Bytes) (at : ℕ) → at / 4096 / 32 ≡ pa / 4096 / 32 → over (bytes_in (page_among after.written)) base at
     ≡ (if done then stored pa len value (over (bytes_in (page_among before.written)) base) at else over (bytes_in (page_among before.written)) base at))
-    → (base : Bytes) (at : ℕ) → at / 4096 / 64 ≡ pa / 4096 / 64 → over (bytes_in (page_in after)) base at
+    → (base : Bytes) (at : ℕ) → at / 4096 / 32 ≡ pa / 4096 / 32 → over (bytes_in (page_in after)) base at
     ≡ (if done then stored pa len value (over (bytes_in (page_in before)) base) at else over (bytes_in (page_in before)) base at)
 number_written done before after pa len value stays puts base at here =
     let shared : over (bytes_in (shared_page after)) base ≡ over (bytes_in (shared_page before)) base = rw stays refl in

@@ -14,11 +14,11 @@ use std::alloc::AllocError;
 use std::array;
 
 /// How many pages a table has.
-pub const TABLE_PAGES: u64 = 64;
+pub const TABLE_PAGES: u64 = 32;
 /// The same as a count of elements.
-const TABLE_ENTRIES: usize = 64;
+const TABLE_ENTRIES: usize = 32;
 
-/// Pages whose numbers, divided by 64, give the same. What that is they do not know.
+/// Pages whose numbers, divided by 32, give the same. What that is they do not know.
 #[derive(Drop)]
 pub struct Entries {
     pages: [Option<Held<Page>>; TABLE_ENTRIES],
@@ -38,7 +38,7 @@ impl Clone for Entries {
 }
 
 impl Entries {
-    ghost use Rattle.std.specs.Prelude.{◌≡◌, ◌≤◌, ◌<◌, ◌+◌, ◌/◌, ◌%◌, ◌^◌, ◌==◌, ℕ, None, Some, IsTrue, OnOk, option_copied, if◌then◌else◌};
+    ghost use Rattle.std.specs.Prelude.{◌≡◌, ◌≤◌, ◌<◌, ◌+◌, ◌/◌, ◌%◌, ◌^◌, ◌==◌, ℕ, None, Some, IsTrue, OnOk, filter, is_some, length, option_copied, if◌then◌else◌};
     ghost use Rattle.hart_words.specs.declared.span.TheConstants.{PAGE_SIZE};
     ghost use Rattle.hart_words.specs.Memory.{stored};
     ghost use Rattle.page_layers.specs.Bytes.{bytes_in, over};
@@ -75,7 +75,9 @@ impl Entries {
     }
 
     /// How many pages are there.
-    pub fn count(&self) -> usize {
+    pub fn count(&self) -> usize
+        ensures { result ≡ length (filter is_some self.now.pages) }
+    {
         self.pages.iter().filter(|entry| entry.is_some()).count()
     }
 

@@ -10,11 +10,11 @@ use std::alloc::{AllocError, Global};
 use std::sync::Arc;
 
 /// How many pages a table takes to be written before its copy gets all of them anew.
-const MOST_WRITTEN: usize = 15;
+const MOST_WRITTEN: usize = 7;
 
-/// The pages whose numbers, divided by 64, give the same. A table does not know what. Those that
+/// The pages whose numbers, divided by 32, give the same. A table does not know what. Those that
 /// were written stand by themselves, over entries that copies share: so a copy of it costs what was
-/// written, and not 64 pages.
+/// written, and not 32 pages.
 #[derive(Drop)]
 pub struct Table {
     alloc: Global,

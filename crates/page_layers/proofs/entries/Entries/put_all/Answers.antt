@@ -1,4 +1,3 @@
-use Rattle.std.proofs.Common.{refl}
 use Rattle.page_layers.proofs.EntryChanges.{entries_put, entries_left}
 use Rattle.page_layers.proofs.entries.Entries.put_all.Goals as goal
 

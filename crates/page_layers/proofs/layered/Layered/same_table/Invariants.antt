@@ -5,4 +5,4 @@ use Rattle.page_layers.proofs.layered.Layered.same_table.Given as goal
 
 -- the first k pages are the same
 abbrev pub invariant-loop-k : goal.invariant-loop-k
-invariant-loop-k l = (number : ℕ) → first_of number ≡ l.first → number % 64 < l.k → IsSamePage l.self l.other number
+invariant-loop-k l = (number : ℕ) → first_of number ≡ l.first → number % 32 < l.k → IsSamePage l.self l.other number
