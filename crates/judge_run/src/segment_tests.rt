@@ -19,8 +19,9 @@ use page_image::PageImage;
 use page_layers::Layered;
 use rvfi_rows::{Columns, Segment, Verdict, read_header};
 use segment_workers::Steps;
-use std::alloc::Global;
+use std::alloc::{AllocError, Global};
 use std::marker::Brand;
+use std::process::Abort;
 use std::sync::atomic::AtomicU64;
 use std::sync::atomic::Ordering::SeqCst;
 use std::sync::ledger::{Blank, Ledger};
@@ -80,44 +81,58 @@ const READ: Trace = Trace {
     ],
 };
 
-/// A gate that counts who passes it. Segments are numbered from 0 in each round, so segment 0 passes
-/// it as often as there are rounds.
+/// A gate that does nothing but count how often each segment passes it. Segments are numbered from
+/// 0 in each round, so segment 0 passes it as often as there are rounds.
 #[derive(Drop)]
 struct CountGate {
-    firsts: AtomicU64,
-    befores: AtomicU64,
-    afters: AtomicU64,
+    befores: Vec<AtomicU64>,
+    afters: Vec<AtomicU64>,
+    /// How often a number passed that no segment has.
+    others: AtomicU64,
+}
+
+fn zeros(alloc: Global, count: usize) -> Result<Vec<AtomicU64>, AllocError> {
+    let mut zeros = Vec::new(alloc);
+    for _ in 0..count {
+        zeros.push(AtomicU64::new(0))?;
+    }
+    Ok(zeros)
 }
 
 impl CountGate {
-    fn new() -> Self {
-        CountGate {
-            firsts: AtomicU64::new(0),
-            befores: AtomicU64::new(0),
-            afters: AtomicU64::new(0),
-        }
+    /// A gate for so many segments.
+    fn new(alloc: Global, segments: usize) -> Result<Self, AllocError> {
+        Ok(CountGate {
+            befores: zeros(alloc, segments)?,
+            afters: zeros(alloc, segments)?,
+            others: AtomicU64::new(0),
+        })
     }
 
-    /// How many rounds there were, and how often segments went in and out.
-    fn counts(&self) -> (u64, u64, u64) {
-        (
-            self.firsts.load(SeqCst),
-            self.befores.load(SeqCst),
-            self.afters.load(SeqCst),
-        )
+    fn count(&self, counts: &[AtomicU64], seg: u32) {
+        let count = counts.get(seg as usize).unwrap_or(&self.others);
+        count.fetch_add(1, SeqCst);
+    }
+
+    /// How often each segment went in and out, and then how often others did either.
+    fn passes(&self, alloc: Global) -> Result<Vec<(u64, u64)>, AllocError> {
+        let mut passes = Vec::new(alloc);
+        for (before, after) in self.befores.iter().zip(self.afters.iter()) {
+            passes.push((before.load(SeqCst), after.load(SeqCst)))?;
+        }
+        let others = self.others.load(SeqCst);
+        passes.push((others, others))?;
+        Ok(passes)
     }
 }
 
 impl Gate for CountGate {
     fn before(&self, _worker: u32, seg: u32) {
-        self.befores.fetch_add(1, SeqCst);
-        if seg == 0 {
-            self.firsts.fetch_add(1, SeqCst);
-        }
+        self.count(&self.befores, seg);
     }
 
-    fn after(&self, _worker: u32, _seg: u32) {
-        self.afters.fetch_add(1, SeqCst);
+    fn after(&self, _worker: u32, seg: u32) {
+        self.count(&self.afters, seg);
     }
 }
 
@@ -159,9 +174,27 @@ fn are_few(segments: &[Segment]) -> bool
     segments.len() < 1000 && are_short(segments)
 }
 
-/// What is told of segments: the verdict, how many of them were judged again, in how many rounds, and
-/// how often segments went in and out at the gate.
-type Told = (Verdict, u32, (u64, u64, u64));
+/// What is told of segments: the verdict, how many of them were judged again, and how often each
+/// went in and out at the gate.
+#[derive(Drop)]
+struct Told {
+    verdict: Verdict,
+    rejudged: u32,
+    passes: Vec<(u64, u64)>,
+}
+
+/// The same of segments that each went out as often as in.
+type Wanted<'a> = (Verdict, u32, &'a [u64]);
+
+fn hold_told(rt: &impl Abort, told: &Told, wanted: Wanted) {
+    let (verdict, rejudged, passes) = wanted;
+    assert_eq!(rt; (told.verdict, told.rejudged), (verdict, rejudged));
+    assert_eq!(rt; told.passes.len(), passes.len().saturating_add(1));
+    'segments: for (number, found) in told.passes.iter().enumerate() {
+        let wanted = passes.get(number).copied().unwrap_or(0);
+        assert_eq!(rt; *found, (wanted, wanted), "segment {number}");
+    }
+}
 
 /// Settles segments by so many workers.
 fn settle_few<R: Threads + Sync, L: Ledger>(
@@ -181,12 +214,16 @@ fn settle_few<R: Threads + Sync, L: Ledger>(
         return Err(Fail::from("too many segments or workers"));
     }
     let (alloc, start) = start;
-    let gate = CountGate::new();
+    let gate = CountGate::new(alloc, segments.len())?;
     let mut steps = Steps::<L>::new(blank);
     let joined = settle(
         rt, alloc, start, columns, segments, workers, &gate, &mut steps,
     )?;
-    Ok((joined.verdict, joined.rejudged, gate.counts()))
+    Ok(Told {
+        verdict: joined.verdict,
+        rejudged: joined.rejudged,
+        passes: gate.passes(alloc)?,
+    })
 }
 
 /// The same of rows under a header over an image, cut into segments of so many lines.
@@ -218,12 +255,12 @@ struct Settled<'a> {
     image: &'a [u8],
     trace: &'a Trace,
     cuts: (usize, u32),
-    told: Told,
+    told: Wanted<'a>,
 }
 
-/// No segment is judged again where rows show what changes. Where they do not, a round ends with the
-/// first whose guess is wrong, and those behind it are guessed anew from the true state; the verdict
-/// is the same.
+/// No segment is judged again where rows show what changes. Where they do not, a round ends with
+/// the first whose guess is wrong, and those behind it are guessed anew from the true state; the
+/// verdict is the same. Each segment of a round passes the gate once.
 #[test]
 fn settles_in_rounds(rt: HostRuntime) -> Result<(), Fail> {
     let four = Verdict::Agrees { rows: 4, valid: 4 };
@@ -235,12 +272,14 @@ fn settles_in_rounds(rt: HostRuntime) -> Result<(), Fail> {
         told,
     };
     let cases = [
-        of(FOUR, &READ, (1, 2), (four, 2, (2, 6, 6))),
-        of(IMAGE, &SHOWN, (1, 2), (five, 0, (1, 5, 5))),
-        of(IMAGE, &SHOWN, (2, 64), (five, 0, (1, 3, 3))),
-        of(IMAGE, &SILENT, (1, 2), (five, 2, (2, 8, 8))),
-        of(IMAGE, &SILENT, (2, 2), (five, 1, (2, 4, 4))),
-        of(IMAGE, &SILENT, (5, 1), (five, 0, (1, 1, 1))),
+        of(FOUR, &READ, (1, 2), (four, 2, &[2, 2, 1, 1])),
+        of(IMAGE, &SHOWN, (1, 2), (five, 0, &[1, 1, 1, 1, 1])),
+        of(IMAGE, &SHOWN, (2, 1), (five, 0, &[1, 1, 1])),
+        of(IMAGE, &SHOWN, (2, 64), (five, 0, &[1, 1, 1])),
+        of(IMAGE, &SILENT, (1, 2), (five, 2, &[2, 2, 2, 1, 1])),
+        of(IMAGE, &SILENT, (1, 64), (five, 2, &[2, 2, 2, 1, 1])),
+        of(IMAGE, &SILENT, (2, 2), (five, 1, &[2, 1, 1])),
+        of(IMAGE, &SILENT, (5, 1), (five, 0, &[1])),
     ];
     let alloc = rt.alloc();
     'cases: for case in cases {
@@ -252,7 +291,7 @@ fn settles_in_rounds(rt: HostRuntime) -> Result<(), Fail> {
             (case.trace.header, &lines),
             case.cuts,
         )?;
-        assert_eq!(rt; told, case.told);
+        hold_told(&rt, &told, case.told);
     }
     Ok(())
 }
@@ -269,7 +308,7 @@ fn settles_nothing_without_a_round(rt: HostRuntime) -> Result<(), Fail> {
         (1, 2),
     )?;
     let agrees = Verdict::Agrees { rows: 0, valid: 0 };
-    assert_eq!(rt; told, (agrees, 0, (0, 0, 0)));
+    hold_told(&rt, &told, (agrees, 0, &[]));
     Ok(())
 }
 
@@ -292,9 +331,10 @@ fn settles_made_traces_in_one_round(rt: HostRuntime) -> Result<(), Fail> {
         rows: 1000,
         valid: 1000,
     };
+    let once = [1; 143];
     for (most, segments) in [(7, 143), (64, 16), (1000, 1)] {
         let told = settle_cut(&rt, alloc, &image, (header, &lines), (most, 2))?;
-        assert_eq!(rt; told, (agrees, 0, (1, segments, segments)));
+        hold_told(&rt, &told, (agrees, 0, &once[..segments]));
     }
     Ok(())
 }
