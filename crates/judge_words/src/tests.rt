@@ -98,6 +98,63 @@ fn takes_devices(rt: HostRuntime) -> Result<(), Fail> {
     Ok(())
 }
 
+/// The last page below 2^56, where a range may end.
+const LAST: u64 = (1 << 56) - 0x1000;
+
+/// Each number at both ends of what is taken.
+#[test]
+fn takes_numbers_at_their_ends(rt: HostRuntime) -> Result<(), Fail> {
+    let (pc, base, size, most, more) = DEFAULTS;
+    let options: [(&str, Numbers); 13] = [
+        ("--pc=0", (0, base, size, most, more)),
+        (
+            "--pc=18446744073709551614",
+            (u64::MAX - 1, base, size, most, more),
+        ),
+        (
+            "--pc=0xfffffffffffffffe",
+            (u64::MAX - 1, base, size, most, more),
+        ),
+        ("--ram=0:4096", (pc, 0, 4096, most, more)),
+        (
+            "--ram=0xfffffffffff000:0x1000",
+            (pc, LAST, 4096, most, more),
+        ),
+        ("--ram=0:0x100000000000000", (pc, 0, 1 << 56, most, more)),
+        ("--ram=0:72057594037927936", (pc, 0, 1 << 56, most, more)),
+        ("--max-image=1", (pc, base, size, 1, more)),
+        ("--max-image=1073741824", (pc, base, size, 1 << 30, more)),
+        ("--max-image=0x40000000", (pc, base, size, 1 << 30, more)),
+        ("--max-trace=1", (pc, base, size, most, 1)),
+        ("--max-trace=1099511627776", (pc, base, size, most, 1 << 40)),
+        ("--max-trace=0x10000000000", (pc, base, size, most, 1 << 40)),
+    ];
+    for (option, numbers) in options {
+        let words = ["rvjudge", "judge", "i", "t", option];
+        takes(&rt, rt.alloc(), &words, ("i", "t"), numbers)?;
+    }
+    Ok(())
+}
+
+/// The range of devices may lie from 0 on, end at 2^56, and touch RAM on both sides.
+#[test]
+fn takes_devices_at_their_ends(rt: HostRuntime) -> Result<(), Fail> {
+    let options = [
+        ("--io=0:4096", (0, 4096)),
+        ("--io=0:0x80000000", (0, 0x8000_0000)),
+        ("--io=0xfffffffffff000:0x1000", (LAST, 4096)),
+        (
+            "--io=0x88000000:0xffffff78000000",
+            (0x8800_0000, (1 << 56) - 0x8800_0000),
+        ),
+    ];
+    for (option, devices) in options {
+        let job = job_at(rt.alloc(), &["rvjudge", "judge", "i", "t", option])??;
+        assert_eq!(rt; job.map.io.map(|io| (io.base, io.size)), Some(devices));
+    }
+    Ok(())
+}
+
 /// How the words share the work out: workers, lines of a segment, segments of a window.
 type Share = (u32, usize, usize);
 
@@ -135,7 +192,13 @@ fn takes_shares(rt: HostRuntime) -> Result<(), Fail> {
 
 #[test]
 fn takes_numbers_of_made_traces(rt: HostRuntime) -> Result<(), Fail> {
-    let lines: [(&[&str], u32, u32); 4] = [
+    let lines: [(&[&str], u32, u32); 6] = [
+        (&["rvjudge", "make", "0", "0"], 0, 0),
+        (
+            &["rvjudge", "make", "0xffffffff", "0x40000"],
+            u32::MAX,
+            262_144,
+        ),
         (&["rvjudge", "make", "7", "0"], 7, 0),
         (&["rvjudge", "make", "0x7", "010"], 7, 10),
         (
@@ -166,7 +229,7 @@ fn takes_numbers_of_made_traces(rt: HostRuntime) -> Result<(), Fail> {
 #[test]
 fn refuses_other_words(rt: HostRuntime) -> Result<(), Fail> {
     let alloc = rt.alloc();
-    let lines: [&[&str]; 29] = [
+    let lines: [&[&str]; 31] = [
         &[],
         &["rvjudge"],
         &["rvjudge", "judge", "i"],
@@ -191,6 +254,8 @@ fn refuses_other_words(rt: HostRuntime) -> Result<(), Fail> {
         &["rvjudge", "make", "7", "1", "2"],
         &["rvjudge", "make", "4294967296", "1"],
         &["rvjudge", "make", "1", "262145"],
+        &["rvjudge", "make", "0x100000000", "1"],
+        &["rvjudge", "make", "1", "0x40001"],
         &["rvjudge", "make", "7", "x"],
         &["rvjudge", "make", "", "1"],
         &["rvjudge", "make", "7", "1", "--pc=0"],
@@ -208,43 +273,74 @@ fn refuses_other_words(rt: HostRuntime) -> Result<(), Fail> {
     for words in lines {
         refuses(&rt, alloc, words)?;
     }
-    let options = [
-        "--pc=",
-        "--pc=0x",
-        "--pc=1",
-        "--pc=2=3",
-        "--pc=18446744073709551616",
-        "--origin=x",
-        "--ram=4096",
-        "--ram=0:0",
-        "--ram=1:4096",
-        "--ram=0:4097",
-        "--ram=0:4096:0",
-        "--ram=0x100000000000000:4096",
-        "--io",
-        "--io=",
-        "--io=1:4096",
-        "--io=0x80000000:0x1000",
-        "--io=0x7ffff000:0x2000",
-        "--io=0x87fff000:0x1000",
-        "--max-image=0",
-        "--max-image=1073741825",
-        "--max-trace=0",
-        "--max-trace=1099511627777",
-        "--workers",
-        "--workers=",
-        "--workers=0",
-        "--workers=65",
-        "--workers=4294967297",
-        "--segment=0",
-        "--segment=0x100001",
-        "--segment=1048577",
-        "--window",
-        "--window=0",
-        "--window=1025",
-    ];
-    for option in options {
+    Ok(())
+}
+
+/// No number, a number of no range, or one past a range.
+const OPTIONS: [&str; 36] = [
+    "--pc=",
+    "--pc=0x",
+    "--pc=1",
+    "--pc=2=3",
+    "--pc=18446744073709551615",
+    "--pc=18446744073709551616",
+    "--pc=0x10000000000000000",
+    "--origin=x",
+    "--ram=4096",
+    "--ram=0:0",
+    "--ram=1:4096",
+    "--ram=0:4095",
+    "--ram=0:4097",
+    "--ram=4095:4096",
+    "--ram=0:4096:0",
+    "--ram=0x100000000000000:4096",
+    "--ram=0xfffffffffff000:0x2000",
+    "--ram=0:0x100000000001000",
+    "--ram=0xfffffffffffff000:4096",
+    "--ram=4096:0xfffffffffffff000",
+    "--io",
+    "--io=",
+    "--io=1:4096",
+    "--io=0:0",
+    "--io=0:4095",
+    "--io=0:4097",
+    "--io=0x100000000000000:4096",
+    "--io=0xfffffffffff000:0x2000",
+    "--io=0:0x80001000",
+    "--io=0x80000000:0x1000",
+    "--io=0x7ffff000:0x2000",
+    "--io=0x87fff000:0x1000",
+    "--max-image=0",
+    "--max-image=1073741825",
+    "--max-trace=0",
+    "--max-trace=1099511627777",
+];
+
+/// The same of the options that both commands take.
+const SHARES: [&str; 12] = [
+    "--workers",
+    "--workers=",
+    "--workers=0",
+    "--workers=65",
+    "--workers=4294967297",
+    "--segment=0",
+    "--segment=0x100001",
+    "--segment=1048577",
+    "--window",
+    "--window=0",
+    "--window=1025",
+    "--window=0x401",
+];
+
+#[test]
+fn refuses_other_numbers(rt: HostRuntime) -> Result<(), Fail> {
+    let alloc = rt.alloc();
+    for option in OPTIONS {
         refuses(&rt, alloc, &["rvjudge", "judge", "i", "t", option])?;
+    }
+    for share in SHARES {
+        refuses(&rt, alloc, &["rvjudge", "judge", "i", "t", share])?;
+        refuses(&rt, alloc, &["rvjudge", "make", "7", "10", share])?;
     }
     Ok(())
 }
