@@ -24,6 +24,10 @@ pub use judgement::judge;
 pub use rounds::settle;
 
 #[cfg(test)]
+mod failure_tests;
+#[cfg(test)]
+mod limit_tests;
+#[cfg(test)]
 mod program_tests;
 #[cfg(test)]
 mod segment_tests;

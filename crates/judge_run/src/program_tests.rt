@@ -47,12 +47,12 @@ const SHORT_TRACE: &[u8] = b"insn,pc_rdata,rd_addr,rd_wdata,pc_wdata,mem_addr,me
 
 /// A call to a handler that returns behind the call, as the manual has each instruction: ECALL in
 /// M stacks MIE and the mode, and MRET takes them off.
-const CALL_IMAGE: &[u8] = b"@80000000
+pub const CALL_IMAGE: &[u8] = b"@80000000
     97 02 00 00 93 82 82 01 73 90 52 30 73 00 00 00 13 03 10 00 13 00 00 00
     f3 23 10 34 93 83 43 00 73 90 13 34 73 00 20 30
 ";
 
-const CALL_TRACE: &[u8] =
+pub const CALL_TRACE: &[u8] =
     b"insn,pc_rdata,mode,trap,rd_wdata,pc_wdata,csr_mcause_wdata,csr_mepc_wdata,csr_mstatus_wdata
 0x00000297,0x80000000,3,0,0x80000000,0x80000004,0,0,0xa00000000
 0x01828293,0x80000004,3,0,0x80000018,0x80000008,0,0,0xa00000000

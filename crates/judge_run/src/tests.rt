@@ -7,12 +7,12 @@ use std::process::Abort;
 use std::test::Fail;
 use std::thread::Threads;
 
-const IMAGE: &[u8] = b"@80000000 93 00 50 00";
+pub const IMAGE: &[u8] = b"@80000000 93 00 50 00";
 
-const TRACE: &[u8] =
+pub const TRACE: &[u8] =
     b"order,insn,pc_rdata,rd_addr,rd_wdata,pc_wdata\n0,0x00500093,0x80000000,1,5,0x80000004\n";
 
-fn list(alloc: Global, words: &[&str]) -> Result<Vec<String>, AllocError> {
+pub fn list(alloc: Global, words: &[&str]) -> Result<Vec<String>, AllocError> {
     let mut list = Vec::new(alloc);
     for word in words {
         list.push(String::from_str(alloc, *word)?)?;
@@ -20,7 +20,7 @@ fn list(alloc: Global, words: &[&str]) -> Result<Vec<String>, AllocError> {
     Ok(list)
 }
 
-fn named(alloc: Global, name: &str, bytes: &[u8]) -> Result<NamedFile, AllocError> {
+pub fn named(alloc: Global, name: &str, bytes: &[u8]) -> Result<NamedFile, AllocError> {
     let name = String::from_str(alloc, name)?;
     let bytes = Vec::from_slice(alloc, bytes)?;
     Ok(NamedFile { name, bytes })
@@ -395,99 +395,6 @@ fn judges_odd_lines(rt: HostRuntime) -> Result<(), Fail> {
     Ok(())
 }
 
-/// Each limit that is below the length of a trace refuses it, unless a row before the limit decides.
-#[test]
-fn limits_a_trace(rt: HostRuntime) -> Result<(), Fail> {
-    let alloc = rt.alloc();
-    let trace = b"\xef\xbb\xbfinsn,pc_rdata\n\n0x00500093,0x80000000\r\nzz\n5";
-    for limit in 1..48u64 {
-        let number = format!(in alloc; "{limit}")?;
-        let words = ["rvjudge", "judge", "i", "t", "--max-trace", number.as_str()];
-        let (status, sink) = judged(&rt, alloc, &words, IMAGE, trace)?;
-        assert_eq!(rt; status, 4);
-        if limit < 44 {
-            assert!(rt; sink.held.starts_with(b"refused trace: more than "));
-            assert!(rt; sink.held.ends_with(b" bytes\n"));
-        } else {
-            let text = b"refused trace: row 2: wrong number of fields\n".as_slice();
-            assert_eq!(rt; sink.held.as_slice(), text);
-        }
-    }
-    Ok(())
-}
-
-/// A header, and a line of so many letters.
-fn long_line(alloc: Global, letters: u32) -> Result<Vec<u8>, AllocError> {
-    let mut trace = Vec::from_slice(alloc, b"insn,pc_rdata\n")?;
-    for _ in 0..letters {
-        trace.push(b'a')?;
-    }
-    trace.push(b'\n')?;
-    Ok(trace)
-}
-
-#[test]
-fn bounds_a_line(rt: HostRuntime) -> Result<(), Fail> {
-    let cases = [
-        (
-            65536,
-            b"refused trace: row 1: wrong number of fields\n".as_slice(),
-        ),
-        (65537, b"refused trace: line 2 too long\n"),
-    ];
-    for (letters, text) in cases {
-        let trace = long_line(rt.alloc(), letters)?;
-        let (_, sink) = judged(
-            &rt,
-            rt.alloc(),
-            &["rvjudge", "judge", "i", "t"],
-            IMAGE,
-            &trace,
-        )?;
-        assert_eq!(rt; sink.held.as_slice(), text);
-    }
-    Ok(())
-}
-
-#[test]
-fn ends_with_each_fault(rt: HostRuntime) -> Result<(), Fail> {
-    let alloc = rt.alloc();
-    let words = list(alloc, &["rvjudge", "judge", "i", "t"])?;
-    // The image takes two reads, and so does the trace.
-    for (call, status) in [(1, 5), (2, 5), (3, 5), (4, 5), (5, 0)] {
-        let failing = Vec::from_slice(alloc, &[call])?;
-        let mut shelf = FailShelf::new(files(alloc, IMAGE, TRACE)?, failing);
-        let mut sink = MemSink::new(alloc);
-        assert_eq!(rt;
-            judge(&rt, alloc, &words, &mut shelf, &mut sink, &OpenGate),
-            status
-        );
-        assert_eq!(rt; sink.held.is_empty(), status == 5);
-    }
-    for (room, status) in [(0, 5), (5, 5), (8, 5), (9, 0)] {
-        let mut shelf = files(alloc, IMAGE, TRACE)?;
-        let mut sink = FailSink::new(alloc, room)?;
-        assert_eq!(rt;
-            judge(&rt, alloc, &words, &mut shelf, &mut sink, &OpenGate),
-            status
-        );
-        assert_eq!(rt;
-            Some(sink.held.as_slice()),
-            b"agrees 1\n".as_slice().get(..room)
-        );
-    }
-    let mut only = Vec::new(alloc);
-    only.push(named(alloc, "i", IMAGE)?)?;
-    let mut shelf = MemShelf::new(only);
-    let mut sink = MemSink::new(alloc);
-    assert_eq!(rt;
-        judge(&rt, alloc, &words, &mut shelf, &mut sink, &OpenGate),
-        5
-    );
-    assert_eq!(rt; (shelf.misses, sink.held.len()), (1, 0));
-    Ok(())
-}
-
 /// Two workers judge six segments side by side: the one that claims segment 1 is held until segment
 /// 2 was found, by the other. Each segment passes the gate once.
 #[test]
@@ -555,9 +462,9 @@ fn judges_what_is_made(rt: HostRuntime) -> Result<(), Fail> {
             b"made 7 10: agrees 10\n",
         ),
         (
-            &["rvjudge", "make", "4294967295", "3000"],
+            &["rvjudge", "make", "4294967295", "262144"],
             0,
-            b"made 4294967295 3000: agrees 3000\n",
+            b"made 4294967295 262144: agrees 262144\n",
         ),
         (&["rvjudge", "make", "1", "262145"], 2, b"refused words\n"),
         (
