@@ -155,7 +155,7 @@ const MAKE: &[&str] = &["rvjudge", "make", "7", "1000"];
 /// Several segments a window, and several windows.
 const BOTH: &[&str] = &["rvjudge", "judge", "i", "t", "--segment=2", "--window=3"];
 
-/// A row, rows whose guesses are wrong, a made trace, control and status registers, page tables, all
+/// A row, rows whose guesses are wrong, a made trace, control and status registers, page tables:
 /// in one window, over the ends of windows or in further rounds; and each other kind of line.
 const CASES: [Case; 17] = [
     (PLAIN, &[IMAGE, TRACE], 0, b"agrees 1\n"),
