@@ -1,7 +1,8 @@
 -- Segments are settled part by part.
-use Rattle.std.proofs.Common.{◌≡◌, ℕ, ◌+◌, ◌-◌, ◌<◌, ◌≤◌, List, [], ◌∷◌, ◌++◌, drop, length, take, Option, Some, None, option_map, IfSome, refl, sym, ap, ◌∙◌, subst, arith}
+use Rattle.std.proofs.Common.{◌≡◌, ℕ, false, ◌+◌, zero, suc, ◌^◌, ◌<◌, ◌≤◌, List, [], ◌∷◌, ◌++◌, drop, length, map, take, Option, Some, None, option_map, IfSome, refl, sym, ap, ◌∙◌, subst, arith}
 use Rattle.std.specs.List.{flat_map}
-use Rattle.std.proofs.lemmas.List.{length-drop, length-take-le, map-append, take-append-drop}
+use Rattle.std.specs.Prelude.{◌==◌}
+use Rattle.std.proofs.lemmas.List.{length-append, length-drop, length-map, map-append, take-append-drop, take_all}
 use Rattle.std.proofs.lemmas.List.Concat.{flat_map-append}
 use Rattle.hart_words.specs.declared.span.Span.{Span}
 use Rattle.hart_words.specs.Memory.{Bytes, after_writes}
@@ -29,8 +30,9 @@ use Rattle.judge_run.specs.declared.rounds.Settling.{Settling}
 use Rattle.judge_run.specs.declared.tally.Tally.{Tally}
 use Rattle.judge_run.specs.declared.tally.Behind.{Behind}
 use Rattle.judge_run.specs.declared.tally.Behind.TheVariants.{On, Ends}
-use Rattle.judge_run.specs.Settling.{IsPartOver, IsTallied, LeadsByPart, behind}
-use Rattle.judge_run.proofs.Settled.{IsTalliedBehind, drop_twice, ends_where_agrees, lines_split, part_tallied, sliced}
+use Rattle.judge_run.specs.Settling.{HasRoom, IsPartOver, IsTallied, LeadsByPart, behind, behind_by}
+use Rattle.judge_run.proofs.AnyEvents.{same_lines}
+use Rattle.judge_run.proofs.Settled.{IsTalliedBehind, drop_twice, ends_where_agrees, lines_split, part_tallied}
 
 -- ---- what segments come to, in parts
 
@@ -195,54 +197,189 @@ pub record PartLeadsOn {M : Type 0} (bytes_of : M → Bytes) (ram_of : M → Spa
   pub follows : PartFollowed bytes_of columns segments start next
   pub tallied : IsTalliedBehind ram_of segments tally next
 
-pub part_leads_on : {M : Type 0} (bytes_of : M → Bytes) (ram_of : M → Span) (columns : ColumnList) (segments : List Segment) (start : HartState) (settling : Settling M) (next : Behind M) → CanStep ram_of settling.hart → IsTallied segments settling.tally → PartsSoFar columns segments start settling.tally (state_of bytes_of settling.hart) → LeadsByPart bytes_of ram_of columns segments settling next → PartLeadsOn bytes_of ram_of columns segments start settling.tally next
-part_leads_on bytes_of ram_of columns segments start settling next can_step tallied so_far leads = record {
+pub part_leads_on : {M : Type 0} (bytes_of : M → Bytes) (ram_of : M → Span) (columns : ColumnList) (count : ℕ) (segments : List Segment) (start : HartState) (settling : Settling M) (next : Behind M) → CanStep ram_of settling.hart → IsTallied segments settling.tally → PartsSoFar columns segments start settling.tally (state_of bytes_of settling.hart) → LeadsByPart bytes_of ram_of columns count (drop settling.tally.settled segments) settling next → PartLeadsOn bytes_of ram_of columns segments start settling.tally next
+part_leads_on bytes_of ram_of columns count segments start settling next can_step tallied so_far leads = record {
   follows = subst (PartFollowed bytes_of columns segments start) (sym leads.leads) (part_follows bytes_of ram_of columns segments start settling leads.part can_step.sound leads.over leads.none so_far);
   tallied = subst (IsTalliedBehind ram_of segments settling.tally) (sym leads.leads) (part_tallied bytes_of ram_of columns segments settling leads.part tallied leads.over);
 }
 
--- ---- the first of the segments that are left
+-- ---- a part of so many segments
 
-abbrev pub first_of : List Segment → ℕ → ℕ → List Segment
-first_of segments settled count = take count (take (length segments - settled) (drop settled segments))
-
-first_left : (segments : List Segment) (settled count : ℕ) → first_of segments settled count ≡ take count (drop settled segments)
-first_left segments settled count = ap (take count) (sliced segments settled)
-
--- what was settled of them is a part
-pub part_is : {M : Type 0} (bytes_of : M → Bytes) (ram_of : M → Span) (columns : ColumnList) (segments : List Segment) (settled count : ℕ) (start : HartState) (joined : JoinedSegments M) → count ≤ length segments - settled → 0 < count
-    → joined.verdict ≡ (conclusion_over start columns (first_of segments settled count)).verdict → option_map (state_of bytes_of) joined.end ≡ (conclusion_over start columns (first_of segments settled count)).end
-    → IfSome joined.end (CanStep ram_of) → joined.rejudged ≤ length (first_of segments settled count)
-    → IsPartOver bytes_of ram_of columns (drop settled segments) start (record { verdict = joined.verdict; end = joined.end; settled = count; rejudged = joined.rejudged })
-part_is bytes_of ram_of columns segments settled count start joined few some verdict end can_step again =
-    let dropped = length-drop settled segments in
-    let same = first_left segments settled count in
-    let many = length-take-le count (drop settled segments) (omega (arith, dropped, few)) in
-    let counted = ap length same in
+-- what was settled of all of them is a part
+pub part_is : {M : Type 0} (bytes_of : M → Bytes) (ram_of : M → Span) (columns : ColumnList) (segments : List Segment) (start : HartState) (joined : JoinedSegments M) → 0 < length segments
+    → joined.verdict ≡ (conclusion_over start columns segments).verdict → option_map (state_of bytes_of) joined.end ≡ (conclusion_over start columns segments).end
+    → IfSome joined.end (CanStep ram_of) → joined.rejudged ≤ length segments
+    → IsPartOver bytes_of ram_of columns segments start (record { verdict = joined.verdict; end = joined.end; settled = length segments; rejudged = joined.rejudged })
+part_is bytes_of ram_of columns segments start joined some verdict end can_step again =
+    let all = sym (take_all (length segments) segments (omega arith)) in
     record {
-      within = omega (arith, dropped, few);
+      within = omega arith;
       some = some;
-      again = omega (arith, again, counted, many);
-      verdict = verdict ∙ ap (λ segments. (conclusion_over start columns segments).verdict) same;
-      end = end ∙ ap (λ segments. (conclusion_over start columns segments).end) same;
+      again = again;
+      verdict = verdict ∙ ap (λ segments. (conclusion_over start columns segments).verdict) all;
+      end = end ∙ ap (λ segments. (conclusion_over start columns segments).end) all;
       can_step = can_step;
     }
 
-pub part_none : (columns : ColumnList) (segments : List Segment) (settled count rejudged : ℕ) (state : HartState) → (HoldsWords state → ShowChanges (rows_of columns (flat_map lines_of (first_of segments settled count))) → rejudged ≡ 0)
-    → HoldsWords state → ShowChanges (rows_of columns (flat_map lines_of (take count (drop settled segments)))) → rejudged ≡ 0
-part_none columns segments settled count rejudged state once words shows =
-    once words (subst (λ segments. ShowChanges (rows_of columns (flat_map lines_of segments))) (sym (first_left segments settled count)) shows)
+pub part_none : (columns : ColumnList) (segments : List Segment) (rejudged : ℕ) (state : HartState) → (HoldsWords state → ShowChanges (rows_of columns (flat_map lines_of segments)) → rejudged ≡ 0)
+    → HoldsWords state → ShowChanges (rows_of columns (flat_map lines_of (take (length segments) segments))) → rejudged ≡ 0
+part_none columns segments rejudged state once words shows =
+    once words (subst (λ segments. ShowChanges (rows_of columns (flat_map lines_of segments))) (take_all (length segments) segments (omega arith)) shows)
 
--- they have no more lines than all
-pub first_lines : (segments : List Segment) (settled count : ℕ) → length (flat_map lines_of (first_of segments settled count)) ≤ length (flat_map lines_of segments)
-first_lines segments settled count =
-    let same = ap (λ segments. length (flat_map lines_of segments)) (first_left segments settled count) in
-    let first = lines_split settled segments in
-    let second = lines_split count (drop settled segments) in
-    omega (arith, same, first, second)
+-- ---- segments that were read have the lines that they had
 
--- and there are so many
-pub count_is : (segments : List Segment) (settled count : ℕ) → count ≤ length segments - settled → length (first_of segments settled count) ≡ count
-count_is segments settled count few =
-    let dropped = length-drop settled segments in
-    ap length (first_left segments settled count) ∙ length-take-le count (drop settled segments) (omega (arith, dropped, few))
+-- so many of one list have the lines of another
+first_alike : (count : ℕ) (part left : List Segment) → length part ≡ count → map lines_of (take count left) ≡ map lines_of part → flat_map lines_of (take count part) ≡ flat_map lines_of (take count left)
+first_alike count part left many alike =
+    let all : take count part ≡ part = take_all count part (omega (arith, many)) in
+    ap (flat_map lines_of) all ∙ same_lines part (take count left) (sym alike)
+
+-- a part leads on by segments with its lines as by its own
+pub leads_alike : {M : Type 0} (bytes_of : M → Bytes) (ram_of : M → Span) (columns : ColumnList) (part left : List Segment) (settling : Settling M) (next : Behind M) → map lines_of (take (length part) left) ≡ map lines_of part
+    → LeadsByPart bytes_of ram_of columns (length part) part settling next → LeadsByPart bytes_of ram_of columns (length part) left settling next
+leads_alike bytes_of ram_of columns part left settling next alike leads =
+    let count = leads.part.settled in
+    let over = leads.over in
+    let state = state_of bytes_of settling.hart in
+    let same : flat_map lines_of (take count part) ≡ flat_map lines_of (take count left) =
+    subst (λ n. flat_map lines_of (take n part) ≡ flat_map lines_of (take n left)) (sym leads.whole) (first_alike (length part) part left refl alike) in
+    let long : length (take (length part) left) ≡ length part = sym (length-map (take (length part) left) lines_of) ∙ ap length alike ∙ length-map part lines_of in
+    let within : length part ≤ length left = taken_within (length part) left long in
+    record {
+      part = leads.part;
+      whole = leads.whole;
+      over = record {
+        within = omega (arith, leads.whole, within);
+        some = over.some;
+        again = over.again;
+        verdict = over.verdict ∙ ap (λ lines. (conclusion_from by_hart state (rows_of columns lines)).verdict) same;
+        end = over.end ∙ ap (λ lines. (conclusion_from by_hart state (rows_of columns lines)).end) same;
+        can_step = over.can_step;
+      };
+      none = λ words shows. leads.none words (subst (λ lines. ShowChanges (rows_of columns lines)) (sym same) shows);
+      leads = leads.leads;
+    }
+  where
+    taken_within : {A : Type 0} (count : ℕ) (xs : List A) → length (take count xs) ≡ count → count ≤ length xs
+    taken_within zero xs many = omega arith
+    taken_within (suc count) [] many = absurd (omega (arith, many))
+    taken_within (suc count) (x ∷ xs) many = let more = taken_within count xs (omega (arith, many)) in omega (arith, more)
+
+-- what is left of all segments has the lines of the part and of those behind it
+abbrev pub IsLeft : List Segment → ℕ → List Segment → List Segment → Type 0
+IsLeft all settled part left = map lines_of (drop settled all) ≡ map lines_of part ++ map lines_of left
+
+take_front : {A : Type 0} (xs ys : List A) → take (length xs) (xs ++ ys) ≡ xs
+take_front [] ys = take_none ys
+  where
+    take_none : {A : Type 0} (xs : List A) → take 0 xs ≡ []
+    take_none [] = refl
+    take_none (x ∷ xs) = refl
+take_front (x ∷ xs) ys = ap (λ rest. x ∷ rest) (take_front xs ys)
+
+drop_front : {A : Type 0} (xs ys : List A) → drop (length xs) (xs ++ ys) ≡ ys
+drop_front [] ys = refl
+drop_front (x ∷ xs) ys = drop_front xs ys
+
+take_lines : (count : ℕ) (segments : List Segment) → take count (map lines_of segments) ≡ map lines_of (take count segments)
+take_lines zero [] = refl
+take_lines zero (segment ∷ segments) = refl
+take_lines (suc count) [] = refl
+take_lines (suc count) (segment ∷ segments) = ap (λ rest. lines_of segment ∷ rest) (take_lines count segments)
+
+drop_lines : (count : ℕ) (segments : List Segment) → drop count (map lines_of segments) ≡ map lines_of (drop count segments)
+drop_lines zero segments = refl
+drop_lines (suc count) [] = refl
+drop_lines (suc count) (segment ∷ segments) = drop_lines count segments
+
+-- the part is the front of what is left
+pub front_alike : (all : List Segment) (settled : ℕ) (part left : List Segment) → IsLeft all settled part left → map lines_of (take (length part) (drop settled all)) ≡ map lines_of part
+front_alike all settled part left is =
+    sym (take_lines (length part) (drop settled all)) ∙ ap (take (length part)) is
+    ∙ ap (λ n. take n (map lines_of part ++ map lines_of left)) (sym (length-map part lines_of)) ∙ take_front (map lines_of part) (map lines_of left)
+
+-- behind a part the others are left
+pub left_behind_part : (all : List Segment) (settled : ℕ) (part left next rest : List Segment) → IsLeft all settled part left → map lines_of next ++ map lines_of rest ≡ map lines_of left → IsLeft all (settled + length part) next rest
+left_behind_part all settled part left next rest is split =
+    sym (ap (map lines_of) (drop_twice (length part) settled all)) ∙ sym (drop_lines (length part) (drop settled all)) ∙ ap (drop (length part)) is
+    ∙ ap (λ n. drop n (map lines_of part ++ map lines_of left)) (sym (length-map part lines_of)) ∙ drop_front (map lines_of part) (map lines_of left) ∙ sym split
+
+-- the part has room
+pub part_room : (all : List Segment) (tally : Tally) (part left : List Segment) → IsTallied all tally → IsLeft all tally.settled part left → length all < 2 ^ 32 → length (flat_map lines_of all) < 2 ^ 60 → HasRoom tally part
+part_room all tally part left tallied is few lines =
+    let alike = front_alike all tally.settled part left is in
+    let same = ap length (same_lines (take (length part) (drop tally.settled all)) part alike) in
+    let split = lines_split (length part) (drop tally.settled all) in
+    let dropped = length-drop tally.settled all in
+    let long : length (map lines_of (drop tally.settled all)) ≡ length (map lines_of part ++ map lines_of left) = ap length is in
+    let sum = length-append (map lines_of part) (map lines_of left) in
+    let one = length-map part lines_of in
+    let whole = length-map (drop tally.settled all) lines_of in
+    record {
+      valid = tallied.valid;
+      rows = omega (arith, tallied.rows, same, split, lines);
+      settled = omega (arith, tallied.within, dropped, long, sum, one, whole, few);
+      again = tallied.again;
+    }
+
+-- nothing is left behind the last part
+pub none_left : (all : List Segment) (settled : ℕ) (part left : List Segment) → IsLeft all settled part left → part ≡ [] → left ≡ [] → length all ≤ settled
+none_left all settled part left is no_part no_left =
+    let empty : map lines_of (drop settled all) ≡ [] = is ∙ rw (no_part, no_left) refl in
+    let long : length (map lines_of (drop settled all)) ≡ 0 = ap length empty in
+    let whole = length-map (drop settled all) lines_of in
+    let dropped = length-drop settled all in
+    omega (arith, long, whole, dropped)
+
+-- how many were settled then
+pub settled_behind : {M : Type 0} (tally : Tally) (round : Round M) (next : Settling M) → behind tally round ≡ On next → next.tally.settled ≡ tally.settled + round.settled
+settled_behind {M = M} tally round next is = by (counted_on tally.rows tally.valid round.verdict) round.end is
+  where
+    settled_of : Behind M → ℕ
+    settled_of (On next) = next.tally.settled
+    settled_of (Ends joined) = 0
+
+    by : (verdict : Verdict) (end : Option (Hart M)) → behind_by tally round.settled round.rejudged verdict end ≡ On next → next.tally.settled ≡ tally.settled + round.settled
+    by (Agrees rows valid) (Some hart) is = sym (ap settled_of is)
+    by (Agrees rows valid) None is = cc
+    by (Differs row difference) end is = cc
+    by (Refused row fault) end is = cc
+
+-- where a part leads that was read, among all segments
+pub turn_leads : {M : Type 0} (bytes_of : M → Bytes) (ram_of : M → Span) (columns : ColumnList) (all : List Segment) (start : HartState) (settling : Settling M) (part left seen : List Segment) (next : Behind M)
+    → CanStep ram_of settling.hart → IsTallied all settling.tally → PartsSoFar columns all start settling.tally (state_of bytes_of settling.hart) → IsLeft all settling.tally.settled part left → seen ≡ part
+    → LeadsByPart bytes_of ram_of columns (length seen) seen settling next → PartLeadsOn bytes_of ram_of columns all start settling.tally next
+turn_leads bytes_of ram_of columns all start settling part left seen next can_step tallied so_far is same leads =
+    let own = subst (λ segments. LeadsByPart bytes_of ram_of columns (length segments) segments settling next) same leads in
+    part_leads_on bytes_of ram_of columns (length part) all start settling next can_step tallied so_far
+    (leads_alike bytes_of ram_of columns part (drop settling.tally.settled all) settling next (front_alike all settling.tally.settled part left is) own)
+
+-- how many are settled then
+pub turn_settled : {M : Type 0} (bytes_of : M → Bytes) (ram_of : M → Span) (columns : ColumnList) (settling on : Settling M) (part seen : List Segment) (next : Behind M) → seen ≡ part → next ≡ On on
+    → LeadsByPart bytes_of ram_of columns (length seen) seen settling next → on.tally.settled ≡ settling.tally.settled + length part
+turn_settled bytes_of ram_of columns settling on part seen next same is leads =
+    settled_behind settling.tally leads.part on (sym leads.leads ∙ is) ∙ ap (λ n. settling.tally.settled + n) (leads.whole ∙ ap length same)
+
+-- the next part, as it was read, and those behind it have the lines of those that were left
+pub next_lines : (most : ℕ) (left next rest read : List Segment) → next ≡ take most left → rest ≡ drop most left → map lines_of read ≡ map lines_of next → map lines_of read ++ map lines_of rest ≡ map lines_of left
+next_lines most left next rest read first behind same =
+    ap (λ lines. lines ++ map lines_of rest) (same ∙ ap (map lines_of) first) ∙ ap (λ segments. map lines_of (take most left) ++ map lines_of segments) behind
+    ∙ sym (map-append lines_of (take most left) (drop most left)) ∙ ap (map lines_of) (take-append-drop most left)
+
+-- nothing was read where there was nothing
+pub none_read : (next read : List Segment) → map lines_of read ≡ map lines_of next → read ≡ [] → next ≡ []
+none_read [] read same none = refl
+none_read (segment ∷ next) read same none = let never : [] ≡ lines_of segment ∷ map lines_of next = sym (ap (map lines_of) none) ∙ same in cc
+
+pub no_items : (segments : List Segment) → length segments ≡ 0 → segments ≡ []
+no_items [] none = refl
+no_items (segment ∷ segments) none = absurd (omega (arith, none))
+
+-- all lines, by a first part that was read and those behind it
+pub all_lines : (most : ℕ) (segments first left read : List Segment) → first ≡ take most segments → left ≡ drop most segments → map lines_of read ≡ map lines_of first → flat_map lines_of (read ++ left) ≡ flat_map lines_of segments
+all_lines most segments first left read front behind same =
+    same_lines (read ++ left) segments (map-append lines_of read left ∙ next_lines most segments first left read front behind same)
+
+pub some_items : (seen segments : List Segment) → seen ≡ segments → (length seen == 0) ≡ false → 0 < length segments
+some_items seen [] same tested = let never : (0 == 0) ≡ false = ap (λ segments. length segments == 0) (sym same) ∙ tested in cc
+some_items seen (segment ∷ segments) same tested = omega arith

@@ -1,14 +1,16 @@
 -- Segments settled in rounds.
-use Rattle.std.specs.Prelude.{◌≡◌, ℕ, ◌+◌, ◌<◌, ◌≤◌, List, drop, length, map, take, Option, Some, None, option_map, IfSome}
-use Rattle.std.specs.List.{flat_map}
+use Rattle.std.specs.Prelude.{◌≡◌, ℕ, ◌+◌, ◌^◌, ◌<◌, ◌≤◌, List, drop, length, map, take, Option, Some, None, option_map, IfSome, Vec}
+use Rattle.std.specs.Global.{Global}
+use Rattle.std.specs.List.{All, flat_map}
 use Rattle.hart_words.specs.declared.span.Span.{Span}
 use Rattle.hart_words.specs.Memory.{Bytes}
 use Rattle.rvfi_rows.specs.declared.segment.Segment.{Segment}
 use Rattle.rvfi_rows.specs.declared.verdict.Verdict.{Verdict}
 use Rattle.rvfi_rows.specs.declared.verdict.Verdict.TheVariants.{Agrees}
+use Rattle.rvfi_rows.specs.declared.columns.Columns.{Columns}
 use Rattle.rvfi_rows.specs.Columns.{ColumnList}
 use Rattle.rvfi_rows.specs.Rows.{rows_of}
-use Rattle.rvfi_rows.specs.Segments.{lines_of}
+use Rattle.rvfi_rows.specs.Segments.{IsRead, lines_of}
 use Rattle.hart_step.specs.declared.hart.Hart.{Hart}
 use Rattle.hart_step.specs.declared.state.Core.{Core}
 use Rattle.hart_step.specs.Harts.{CanStep, state_of}
@@ -75,13 +77,26 @@ pub record IsPartOver {M : Type 0} (bytes_of : M → Bytes) (ram_of : M → Span
   pub end : option_map (state_of bytes_of) part.end ≡ (conclusion_from by_hart start (rows_of columns (flat_map lines_of (take part.settled segments)))).end
   pub can_step : IfSome part.end (CanStep ram_of)
 
--- a part leads on from what was settled; where its rows show what they change, none of it is judged again
-pub record LeadsByPart {M : Type 0} (bytes_of : M → Bytes) (ram_of : M → Span) (columns : ColumnList) (segments : List Segment) (settling : Settling M) (next : Behind M) : Type 0 where
+-- a part of so many segments leads on from what was settled; where its rows show what they change, none of it is judged again
+pub record LeadsByPart {M : Type 0} (bytes_of : M → Bytes) (ram_of : M → Span) (columns : ColumnList) (count : ℕ) (left : List Segment) (settling : Settling M) (next : Behind M) : Type 0 where
   pub part : Round M
-  pub over : IsPartOver bytes_of ram_of columns (drop settling.tally.settled segments) (state_of bytes_of settling.hart) part
+  pub whole : part.settled ≡ count
+  pub over : IsPartOver bytes_of ram_of columns left (state_of bytes_of settling.hart) part
   pub none : HoldsWords (state_of bytes_of settling.hart)
-      → ShowChanges (rows_of columns (flat_map lines_of (take part.settled (drop settling.tally.settled segments)))) → part.rejudged ≡ 0
+      → ShowChanges (rows_of columns (flat_map lines_of (take part.settled left))) → part.rejudged ≡ 0
   pub leads : next ≡ behind settling.tally part
+
+-- segments were read under these columns, and have the lines of others
+pub record IsReadPart (columns : Columns) (others : List Segment) (part : Vec Segment Global) : Type 0 where
+  pub read : All (IsRead columns) part.items
+  pub lines : map lines_of part.items ≡ map lines_of others
+
+-- what was counted leaves room for segments more
+pub record HasRoom (tally : Tally) (segments : List Segment) : Type 0 where
+  pub valid : tally.valid ≤ tally.rows
+  pub rows : tally.rows + length (flat_map lines_of segments) < 2 ^ 60
+  pub settled : tally.settled + length segments < 2 ^ 32
+  pub again : tally.rejudged ≤ tally.settled
 
 -- a round leads on from what was settled
 pub record LeadsBy {M : Type 0} (bytes_of : M → Bytes) (ram_of : M → Span) (columns : ColumnList) (segments : List Segment) (settling : Settling M) (next : Behind M) : Type 0 where

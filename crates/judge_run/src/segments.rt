@@ -14,49 +14,18 @@ ghost use Rattle.verdict_join.specs.Laws.{AreJudgedInTurn};
 ghost use Rattle.judge_run.specs.Events.{AreLeft};
 ghost use Rattle.judge_run.specs.Settling.{IsRoundOver};
 
-use crate::parts::settle_parts;
 use crate::workers::Workers;
 use boundary_guess::guesses;
 use hart_step::Hart;
 use hart_words::{NoMemory, PhysMem};
 use outside_ports::Gate;
-use rvfi_rows::{Columns, Segment, read_segments};
+use rvfi_rows::{Columns, Segment};
 use segment_judge::{Found, Judged};
 use segment_workers::{Steps, run};
 use std::sync::ledger::Ledger;
 use std::thread::Threads;
 use verdict_board::Board;
-use verdict_join::{Joined, Round, join_round};
-
-/// The verdict on the lines of segments, each a row under these columns, and the hart behind them
-/// where they agree. All are read first, once; then they are settled, part by part.
-pub fn judge_segments<R, G: Gate, M: PhysMem + Drop + Send + Sync>(
-    workers: &Workers<R, G>,
-    start: Hart<M>,
-    columns: &Columns,
-    segments: &mut [Segment],
-) -> Result<Joined<M>, NoMemory>
-where
-    R: Threads + Sync,
-    requires can_step { CanStep M.ram start }
-    requires few { length segments.old < 2 ^ 32 }
-    requires lines { length (flat_map lines_of segments.old) < 2 ^ 60 }
-    ensures verdict { IfOk result (λ joined. joined.verdict
-        ≡ (conclusion_from by_hart (state_of M.bytes start)
-        (rows_of columns.now (flat_map lines_of segments.old))).verdict) }
-    ensures end { IfOk result (λ joined. option_map (state_of M.bytes) joined.end
-        ≡ (conclusion_from by_hart (state_of M.bytes start)
-        (rows_of columns.now (flat_map lines_of segments.old))).end) }
-    ensures can_step { IfOk result (λ joined. IfSome joined.end (CanStep M.ram)) }
-    // Where the valid rows show what they change, each segment is judged once.
-    ensures once { HoldsWords (state_of M.bytes start)
-        → ShowChanges (rows_of columns.now (flat_map lines_of segments.old))
-        → IfOk result (λ joined. joined.rejudged ≡ 0) }
-{
-    let count = workers.count as usize;
-    read_segments(workers.rt, workers.alloc, count, columns, segments)?;
-    settle_parts(workers, start, columns, segments)
-}
+use verdict_join::{Round, join_round};
 
 /// A round over segments that were read: from guesses made of the state before the first, up to the
 /// first that does not agree or has to be judged again.

@@ -16,7 +16,7 @@ ghost use Rattle.judge_run.specs.Stops.{is_no_job};
 ghost use Rattle.judge_run.specs.Windows.{CanGoOn, EndsAsJob, IsNearer, IsOutcomeTold, PassesTold, passed_with};
 
 use crate::outcomes::outcome_of;
-use crate::segments::judge_segments;
+use crate::parts::settle_parts;
 use crate::traces::ended;
 use crate::window::{Window, take_window};
 use crate::workers::Workers;
@@ -167,8 +167,7 @@ where
         (rows_of columns.now (flat_map lines_of segments.items))).end) }
     ensures can_step { IfOk result (λ joined. IfSome joined.end (CanStep M.ram)) }
 {
-    let mut segments = segments;
-    judge_segments(workers, start, columns, &mut segments)
+    settle_parts(workers, start, columns, segments)
 }
 
 /// A verdict behind so many rows, and so many valid ones among these.
