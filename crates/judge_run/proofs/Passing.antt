@@ -29,6 +29,7 @@ use Rattle.verdict_join.proofs.Passed.{EndsWhereAgrees, conclusion_ends}
 use Rattle.judge_run.specs.declared.windows.Rest.{Rest}
 use Rattle.judge_run.specs.Stops.{is_no_job, is_no_job_ruling}
 use Rattle.judge_run.specs.Taking.{TakesLinesTold, window_lines}
+use Rattle.judge_run.proofs.Taking.{front_last, front_more}
 use Rattle.judge_run.specs.Answer.{ended, outcome_of}
 use Rattle.judge_run.specs.Windows.{CanGoOn, EndsAsJob, IsNearer, PassesTold, PassesWindow, Reached, outcome_behind, outcome_in, passed_with, reached_in}
 
@@ -73,30 +74,6 @@ however job one other rows valid first fits none = by first.verdict first.end fi
     by (Differs row difference) end fits none = refl
     by (Refused row fault) end fits none = refl
 
--- a window that is not the last is the front of as many lines as were asked for
-front_is : (asked : ℕ) (left : Left) (lines : List (List ℕ)) → record { lines = lines; ending = endings.More } ≡ front_of asked left → length lines ≡ asked → lines ≡ take asked left.lines
-unfolding front_of
-front_is asked left lines front count = by (nat_le asked (length left.lines)) refl front
-  where
-    by : (test : Bool) → nat_le asked (length left.lines) ≡ test → record { lines = lines; ending = endings.More } ≡ (if test then record { lines = take asked left.lines; ending = endings.More } else left) → lines ≡ take asked left.lines
-    by true e is = ap (λ view. view.lines) is
-    by false e is =
-        let fewer = leb-false _ _ e in
-        let same : length lines ≡ length left.lines = ap (λ view. length view.lines) is in
-        absurd (omega (arith, fewer, same, count))
-
--- the last window has all lines that are left
-all_taken : (asked : ℕ) (left piece : Left) → piece ≡ front_of asked left → length piece.lines < asked → piece ≡ left
-unfolding front_of
-all_taken asked left piece front few = by (nat_le asked (length left.lines)) refl front
-  where
-    by : (test : Bool) → nat_le asked (length left.lines) ≡ test → piece ≡ (if test then record { lines = take asked left.lines; ending = endings.More } else left) → piece ≡ left
-    by true e is =
-        let enough : asked ≤ length left.lines = leb-true _ _ e in
-        let many : length piece.lines ≡ asked = ap (λ view. length view.lines) is ∙ length-take-le asked left.lines enough in
-        absurd (omega (arith, many, few))
-    by false e is = is
-
 -- what a window's rows come to, by the lines that are left
 abbrev concluded : ColumnList → HartState → List (List ℕ) → Conclusion Core
 concluded columns state lines = conclusion_from by_hart state (rows_of columns lines)
@@ -107,14 +84,14 @@ ends_all : (job : JobView) (columns : ColumnList) (reached : Reached) (asked : �
 unfolding outcome_behind
 ends_all job columns reached asked left lines ending front few =
     ap (λ view. outcome_of job (ended job view.ending (counted_on reached.rows reached.valid (concluded columns reached.state view.lines).verdict)))
-    (all_taken asked left (record { lines = lines; ending = ending }) front few)
+    (front_last asked left (record { lines = lines; ending = ending }) front few)
 
 -- a window that ends the trace
 ends_here : (job : JobView) (columns : ColumnList) (reached : Reached) (asked : ℕ) (left : Left) (lines : List (List ℕ)) → record { lines = lines; ending = endings.More } ≡ front_of asked left → length lines ≡ asked → (concluded columns reached.state lines).end ≡ None
     → outcome_of job (ended job endings.More (counted_on reached.rows reached.valid (concluded columns reached.state lines).verdict)) ≡ outcome_behind job columns reached left
 unfolding outcome_behind
 ends_here job columns reached asked left lines front count none =
-    let taken : lines ≡ take asked left.lines = front_is asked left lines front count in
+    let taken : lines ≡ take asked left.lines = (front_more asked left lines front count).1 in
     let first = concluded columns reached.state (take asked left.lines) in
     let stops : first.end ≡ None = ap (λ text. (concluded columns reached.state text).end) (sym taken) ∙ none in
     let whole : (concluded columns reached.state left.lines).verdict ≡ first.verdict =
@@ -150,7 +127,7 @@ leads_on : {M : Type 0} (bytes_of : M → Bytes) (job : JobView) (columns : Colu
 leads_on bytes_of job columns file asked rest taker lines endings.More (Agrees rows valid) (Some hart) front back name fits is ends =
     let left = left_of file rest.taker in
     let reached = reached_in bytes_of rest in
-    let taken : lines ≡ take asked left.lines = front_is asked left lines front fits in
+    let taken : lines ≡ take asked left.lines = (front_more asked left lines front fits).1 in
     let agrees : (concluded columns reached.state (take asked left.lines)).verdict ≡ Agrees rows valid = ap (λ text. (concluded columns reached.state text).verdict) (sym taken) ∙ is in
     let some : (concluded columns reached.state (take asked left.lines)).end ≡ Some (state_of bytes_of hart) = ap (λ text. (concluded columns reached.state text).end) (sym taken) ∙ ends in (
       ap (λ left. outcome_behind job columns (record { rows = rest.rows + rows; valid = rest.valid + valid; state = state_of bytes_of hart }) left) (back refl)

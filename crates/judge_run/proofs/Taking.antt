@@ -25,7 +25,7 @@ none_taken None taker = tt
 none_taken (Some file) taker = record { enough = omega arith; lines = refl; left = refl; name = refl }
 
 -- a call whose lines are as many as were asked for found so many
-front_more : (asked : ℕ) (left : Left) (lines : List (List ℕ)) → record { lines = lines; ending = endings.More } ≡ front_of asked left → length lines ≡ asked → (asked ≤ length left.lines) × (lines ≡ take asked left.lines)
+pub front_more : (asked : ℕ) (left : Left) (lines : List (List ℕ)) → record { lines = lines; ending = endings.More } ≡ front_of asked left → length lines ≡ asked → (asked ≤ length left.lines) × (lines ≡ take asked left.lines)
 unfolding front_of
 front_more asked left lines front count = by (nat_le asked (length left.lines)) refl front
   where
@@ -37,7 +37,7 @@ front_more asked left lines front count = by (nat_le asked (length left.lines)) 
         absurd (omega (arith, fewer, same, count))
 
 -- one with fewer lines took all that was left
-front_last : (asked : ℕ) (left piece : Left) → piece ≡ front_of asked left → length piece.lines < asked → piece ≡ left
+pub front_last : (asked : ℕ) (left piece : Left) → piece ≡ front_of asked left → length piece.lines < asked → piece ≡ left
 unfolding front_of
 front_last asked left piece front few = by (nat_le asked (length left.lines)) refl front
   where

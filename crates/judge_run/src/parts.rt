@@ -96,12 +96,12 @@ where
     let mut part = part;
     let mut left = left;
     'parts: loop {
-        let settled: &[Segment] = &part;
-        if settled.is_empty() {
+        let current: &[Segment] = &part;
+        if current.is_empty() {
             return Ok(settling.tally.agreed(settling.hart));
         }
         let (next, behind) = parted(left, most)?;
-        let (led, read) = settle_and_read(workers, columns, settled, settling, next);
+        let (led, read) = settle_and_read(workers, columns, current, settling, next);
         match led {
             Ok(Behind::On(on)) => {
                 settling = on;

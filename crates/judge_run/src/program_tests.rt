@@ -14,8 +14,8 @@ struct Case {
     text: &'static [u8],
 }
 
-/// Code of 16 bits nearly throughout, as the GNU assembler makes it: loads, stores, shifts, branches
-/// taken and not taken, calls, and one instruction of 4 bytes between them.
+/// Code of 16 bits nearly throughout, as the GNU assembler makes it: loads, stores, shifts,
+/// branches taken and not taken, calls, and one instruction of 4 bytes between them.
 const SHORT_IMAGE: &[u8] = b"@80000000
     15 45 17 11 00 00 79 11 06 15 7D 15 2A 84 2A E4
     A2 45 0D 8C 19 C0 A2 95 89 8D 91 C1 00 00 11 A0
@@ -79,8 +79,8 @@ const UNSTACKED_TRACE: &[u8] =
 0x00100313,0x80000010,3,0,1,0x80000014,11,0x80000010,0xa00000080
 ";
 
-/// Entry 0 of protection is given the four bytes at 0x80000100 without rights, and eight bytes there
-/// are loaded: part of the access is covered, so that it is refused in M too.
+/// Entry 0 of protection is given the four bytes at 0x80000100 without rights, and eight bytes
+/// there are loaded: part of the access is covered, so that it is refused in M too.
 const ENTRY_IMAGE: &[u8] = b"@80000000
     17 01 00 00 93 51 21 00 93 81 01 04 73 90 01 3b
     13 02 00 01 73 10 02 3a 83 32 01 10

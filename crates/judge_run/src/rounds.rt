@@ -33,8 +33,8 @@ pub(crate) struct Settling<M> {
 /// The verdict on the lines of segments, each a row under these columns, and the hart behind them
 /// where they agree. The hart before each segment is guessed, workers judge them side by side, and
 /// the verdicts are joined from the true state up to the first segment that has to be judged again;
-/// what is left is guessed anew from there, in a further round. There are as many rounds as segments
-/// that are judged again, or one more. Each counts one on `steps`.
+/// what is left is guessed anew from there, in a further round. There are as many rounds as there
+/// are segments judged again, or one more. Each counts one on `steps`.
 pub fn settle<R, G: Gate, M: PhysMem + Drop + Send + Sync, L: Ledger>(
     rt: &R,
     alloc: Global,

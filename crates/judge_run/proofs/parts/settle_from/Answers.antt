@@ -8,33 +8,33 @@ use Rattle.judge_run.proofs.parts.settle_from.Goals as goal
 pub returns-then-is_empty-clause-verdict : goal.returns-then-is_empty-clause-verdict
 returns-then-is_empty-clause-verdict g c =
     let all = c.args.part.items ++ c.args.left.items in
-    let empty : c.parts.part.items ≡ [] = no_items c.parts.part.items (ap length (sym c.deref-settled.ensures.value) ∙ eqb-true (length c.deref-settled.result.now) 0 (sym c.if-is_empty.ensures)) in
+    let empty : c.parts.part.items ≡ [] = no_items c.parts.part.items (ap length (sym c.deref-current.ensures.value) ∙ eqb-true (length c.deref-current.result.now) 0 (sym c.if-is_empty.ensures)) in
     let none = none_left all c.parts.settling.tally.settled c.parts.part.items c.parts.left.items c.parts.invariant.left empty (c.parts.invariant.ends empty) in
     (parts_end g.M.PhysMem.bytes c.args.columns.now all (state_of g.M.PhysMem.bytes c.args.settling.hart) c.parts.settling c.agreed.result none c.parts.invariant.so_far c.agreed.ensures).verdict
 
 pub returns-then-is_empty-clause-end : goal.returns-then-is_empty-clause-end
 returns-then-is_empty-clause-end g c =
     let all = c.args.part.items ++ c.args.left.items in
-    let empty : c.parts.part.items ≡ [] = no_items c.parts.part.items (ap length (sym c.deref-settled.ensures.value) ∙ eqb-true (length c.deref-settled.result.now) 0 (sym c.if-is_empty.ensures)) in
+    let empty : c.parts.part.items ≡ [] = no_items c.parts.part.items (ap length (sym c.deref-current.ensures.value) ∙ eqb-true (length c.deref-current.result.now) 0 (sym c.if-is_empty.ensures)) in
     let none = none_left all c.parts.settling.tally.settled c.parts.part.items c.parts.left.items c.parts.invariant.left empty (c.parts.invariant.ends empty) in
     (parts_end g.M.PhysMem.bytes c.args.columns.now all (state_of g.M.PhysMem.bytes c.args.settling.hart) c.parts.settling c.agreed.result none c.parts.invariant.so_far c.agreed.ensures).end
 
 pub settle_and_read-led-requires-clause-room : goal.settle_and_read-led-requires-clause-room
 settle_and_read-led-requires-clause-room g c = λ κs within.
-    subst (HasRoom c.parts.settling.tally) (sym c.deref-settled.ensures.value)
+    subst (HasRoom c.parts.settling.tally) (sym c.deref-current.ensures.value)
     (part_room (c.args.part.items ++ c.args.left.items) c.parts.settling.tally c.parts.part.items c.parts.left.items c.parts.invariant.tallied c.parts.invariant.left c.requires.few c.requires.lines)
 
 pub parts-smaller : goal.parts-smaller
 parts-smaller g c =
-    let some = some_items c.deref-settled.result.now c.parts.part.items c.deref-settled.ensures.value (sym c.if-is_empty.ensures) in
+    let some = some_items c.deref-current.result.now c.parts.part.items c.deref-current.ensures.value (sym c.if-is_empty.ensures) in
     let bytes_of = g.M.PhysMem.bytes in
     let all = c.args.part.items ++ c.args.left.items in
     let start = state_of bytes_of c.args.settling.hart in
-    let seen = c.deref-settled.result.now in
+    let seen = c.deref-current.result.now in
     let leads = subst (λ led. IfOk led (LeadsByPart bytes_of g.M.PhysMem.ram c.args.columns.now (length seen) seen c.parts.settling)) c.in-Ok-On.is c.settle_and_read-led.ensures.leads in
-    let found = turn_leads bytes_of g.M.PhysMem.ram c.args.columns.now all start c.parts.settling c.parts.part.items c.parts.left.items seen _ c.parts.invariant.can_step c.parts.invariant.tallied c.parts.invariant.so_far c.parts.invariant.left c.deref-settled.ensures.value leads in
+    let found = turn_leads bytes_of g.M.PhysMem.ram c.args.columns.now all start c.parts.settling c.parts.part.items c.parts.left.items seen _ c.parts.invariant.can_step c.parts.invariant.tallied c.parts.invariant.so_far c.parts.invariant.left c.deref-current.ensures.value leads in
     let on = subst (PartLeadsOn bytes_of g.M.PhysMem.ram c.args.columns.now all start c.parts.settling.tally) c.in-Ok-On.field-0-is found in
-    let settled = turn_settled bytes_of g.M.PhysMem.ram c.args.columns.now c.parts.settling c.in-Ok-On.on c.parts.part.items seen _ c.deref-settled.ensures.value c.in-Ok-On.field-0-is leads in
+    let settled = turn_settled bytes_of g.M.PhysMem.ram c.args.columns.now c.parts.settling c.in-Ok-On.on c.parts.part.items seen _ c.deref-current.ensures.value c.in-Ok-On.field-0-is leads in
     omega (arith, settled, on.tallied.0.within, some)
 
 pub parts-preserved : goal.parts-preserved
@@ -42,11 +42,11 @@ parts-preserved g c =
     let bytes_of = g.M.PhysMem.bytes in
     let all = c.args.part.items ++ c.args.left.items in
     let start = state_of bytes_of c.args.settling.hart in
-    let seen = c.deref-settled.result.now in
+    let seen = c.deref-current.result.now in
     let leads = subst (λ led. IfOk led (LeadsByPart bytes_of g.M.PhysMem.ram c.args.columns.now (length seen) seen c.parts.settling)) c.in-Ok-On.is c.settle_and_read-led.ensures.leads in
-    let found = turn_leads bytes_of g.M.PhysMem.ram c.args.columns.now all start c.parts.settling c.parts.part.items c.parts.left.items seen _ c.parts.invariant.can_step c.parts.invariant.tallied c.parts.invariant.so_far c.parts.invariant.left c.deref-settled.ensures.value leads in
+    let found = turn_leads bytes_of g.M.PhysMem.ram c.args.columns.now all start c.parts.settling c.parts.part.items c.parts.left.items seen _ c.parts.invariant.can_step c.parts.invariant.tallied c.parts.invariant.so_far c.parts.invariant.left c.deref-current.ensures.value leads in
     let on = subst (PartLeadsOn bytes_of g.M.PhysMem.ram c.args.columns.now all start c.parts.settling.tally) c.in-Ok-On.field-0-is found in
-    let settled = turn_settled bytes_of g.M.PhysMem.ram c.args.columns.now c.parts.settling c.in-Ok-On.on c.parts.part.items seen _ c.deref-settled.ensures.value c.in-Ok-On.field-0-is leads in
+    let settled = turn_settled bytes_of g.M.PhysMem.ram c.args.columns.now c.parts.settling c.in-Ok-On.on c.parts.part.items seen _ c.deref-current.ensures.value c.in-Ok-On.field-0-is leads in
     let lines = (subst (λ read. IfOk read (IsReadPart c.args.columns.now c.in_ok-next.next.items)) c.in_ok-part-in-Ok-On.was c.settle_and_read-led.ensures.read).lines in
     let split = next_lines _ c.parts.left.items c.in_ok-next.next.items c.in_ok-next.behind.items c.in_ok-part-in-Ok-On.part.items c.in_ok-next.ensures.first c.in_ok-next.ensures.left lines in
     record {
@@ -62,9 +62,9 @@ returns-in-Ok-Ends-clause-verdict g c =
     let bytes_of = g.M.PhysMem.bytes in
     let all = c.args.part.items ++ c.args.left.items in
     let start = state_of bytes_of c.args.settling.hart in
-    let seen = c.deref-settled.result.now in
+    let seen = c.deref-current.result.now in
     let leads = subst (λ led. IfOk led (LeadsByPart bytes_of g.M.PhysMem.ram c.args.columns.now (length seen) seen c.parts.settling)) c.in-Ok-Ends.is c.settle_and_read-led.ensures.leads in
-    let found = turn_leads bytes_of g.M.PhysMem.ram c.args.columns.now all start c.parts.settling c.parts.part.items c.parts.left.items seen _ c.parts.invariant.can_step c.parts.invariant.tallied c.parts.invariant.so_far c.parts.invariant.left c.deref-settled.ensures.value leads in
+    let found = turn_leads bytes_of g.M.PhysMem.ram c.args.columns.now all start c.parts.settling c.parts.part.items c.parts.left.items seen _ c.parts.invariant.can_step c.parts.invariant.tallied c.parts.invariant.so_far c.parts.invariant.left c.deref-current.ensures.value leads in
     (subst (PartLeadsOn bytes_of g.M.PhysMem.ram c.args.columns.now all start c.parts.settling.tally) c.in-Ok-Ends.field-0-is found).follows.verdict
 
 pub returns-in-Ok-Ends-clause-end : goal.returns-in-Ok-Ends-clause-end
@@ -72,9 +72,9 @@ returns-in-Ok-Ends-clause-end g c =
     let bytes_of = g.M.PhysMem.bytes in
     let all = c.args.part.items ++ c.args.left.items in
     let start = state_of bytes_of c.args.settling.hart in
-    let seen = c.deref-settled.result.now in
+    let seen = c.deref-current.result.now in
     let leads = subst (λ led. IfOk led (LeadsByPart bytes_of g.M.PhysMem.ram c.args.columns.now (length seen) seen c.parts.settling)) c.in-Ok-Ends.is c.settle_and_read-led.ensures.leads in
-    let found = turn_leads bytes_of g.M.PhysMem.ram c.args.columns.now all start c.parts.settling c.parts.part.items c.parts.left.items seen _ c.parts.invariant.can_step c.parts.invariant.tallied c.parts.invariant.so_far c.parts.invariant.left c.deref-settled.ensures.value leads in
+    let found = turn_leads bytes_of g.M.PhysMem.ram c.args.columns.now all start c.parts.settling c.parts.part.items c.parts.left.items seen _ c.parts.invariant.can_step c.parts.invariant.tallied c.parts.invariant.so_far c.parts.invariant.left c.deref-current.ensures.value leads in
     (subst (PartLeadsOn bytes_of g.M.PhysMem.ram c.args.columns.now all start c.parts.settling.tally) c.in-Ok-Ends.field-0-is found).follows.end
 
 pub returns-in-Ok-Ends-clause-once : goal.returns-in-Ok-Ends-clause-once
@@ -82,7 +82,7 @@ returns-in-Ok-Ends-clause-once g c =
     let bytes_of = g.M.PhysMem.bytes in
     let all = c.args.part.items ++ c.args.left.items in
     let start = state_of bytes_of c.args.settling.hart in
-    let seen = c.deref-settled.result.now in
+    let seen = c.deref-current.result.now in
     let leads = subst (λ led. IfOk led (LeadsByPart bytes_of g.M.PhysMem.ram c.args.columns.now (length seen) seen c.parts.settling)) c.in-Ok-Ends.is c.settle_and_read-led.ensures.leads in
-    let found = turn_leads bytes_of g.M.PhysMem.ram c.args.columns.now all start c.parts.settling c.parts.part.items c.parts.left.items seen _ c.parts.invariant.can_step c.parts.invariant.tallied c.parts.invariant.so_far c.parts.invariant.left c.deref-settled.ensures.value leads in
+    let found = turn_leads bytes_of g.M.PhysMem.ram c.args.columns.now all start c.parts.settling c.parts.part.items c.parts.left.items seen _ c.parts.invariant.can_step c.parts.invariant.tallied c.parts.invariant.so_far c.parts.invariant.left c.deref-current.ensures.value leads in
     (subst (PartLeadsOn bytes_of g.M.PhysMem.ram c.args.columns.now all start c.parts.settling.tally) c.in-Ok-Ends.field-0-is found).follows.none
