@@ -1,6 +1,6 @@
 //! Physical memory, as the reference hart sees it.
 
-ghost use Rattle.std.specs.Prelude.{◌≡◌, ◌≤◌, ◌<◌, ◌*◌, ◌/◌, ◌%◌, ◌^◌, ℕ, Bool, IsOk, IfOk, OnOk, OnErr};
+ghost use Rattle.std.specs.Prelude.{◌≡◌, ◌≤◌, ◌<◌, ◌+◌, ◌*◌, ◌/◌, ◌%◌, ◌^◌, ℕ, Bool, IsOk, IfOk, OnOk, OnErr};
 ghost use Rattle.hart_words.specs.declared.span.Span.{Span};
 ghost use Rattle.hart_words.specs.declared.span.TheConstants.{PAGE_SIZE};
 ghost use Rattle.hart_words.specs.Memory.{Bytes, IsPlace, entry_of, number_at, stored};
@@ -23,7 +23,8 @@ pub trait PhysMem: Sized {
     fn read(&self, pa: u64, len: u8) -> u64
         requires { IsPlace (ram self.now) pa len }
         ensures value { result ≡ number_at (bytes self.now) pa len }
-        ensures fits { result < 2 ^ (8 * len) };
+        ensures fits { result < 2 ^ (8 * len) }
+        ensures small { (at : ℕ) → pa ≤ at → at < pa + len → bytes self.now at < 256 };
 
     /// Puts the low `len` bytes of a number at an address. A refused write changes nothing.
     fn write(&mut self, pa: u64, len: u8, value: u64) -> Result<(), NoMemory>

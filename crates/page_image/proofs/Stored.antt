@@ -91,3 +91,10 @@ put_more start before after pa len k value byte at is small inside below in_page
     ∙ ap (λ b. if at == pa + k then byte else b) done
     ∙ sym (stored-byte (pa + k) byte at (stored pa k value start) small)
     ∙ ap (λ bytes. bytes at) (stored-more pa k value byte start is small)
+
+-- bytes from a place on, of which the first is small, are small where those behind it are
+pub one_more : (bytes : Bytes) (place byte at : ℕ) → bytes place ≡ byte → byte < 256 → place ≤ at → (place + 1 ≤ at → bytes at < 256) → bytes at < 256
+one_more bytes place byte at is small from later = elim (cases_eq at place) [
+  | inl same ↦ rw (same, is) small
+  | inr apart ↦ later (omega (arith, from, apart))
+]

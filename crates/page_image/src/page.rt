@@ -70,6 +70,7 @@ impl Page {
         requires inside { pa + len < 2 ^ 64 }
         ensures value { result ≡ number_at (page_byte self.now) pa len }
         ensures fits { result < 2 ^ (8 * len) }
+        ensures small { (at : ℕ) → pa ≤ at → at < pa + len → page_byte self.now at < 256 }
     {
         let mut number = 0;
         let mut k = u64::from(len);

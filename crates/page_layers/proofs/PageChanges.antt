@@ -1,5 +1,5 @@
 -- What changes of the pages do to the bytes.
-use Rattle.std.proofs.Common.{◌≡◌, ℕ, zero, suc, ◌+◌, ◌/◌, ◌%◌, ◌<◌, ◌≤◌, ◌⊎◌, true, false, Bool, cond, Option, Some, option_map, List, [], ◌∷◌, refl, sym, ap, ◌∙◌, inl, inr, arith, if◌then◌else◌}
+use Rattle.std.proofs.Common.{◌≡◌, ℕ, zero, suc, ◌+◌, ◌-◌, ◌/◌, ◌%◌, ◌<◌, ◌≤◌, ◌⊎◌, true, false, Bool, cond, Option, Some, option_map, List, [], ◌∷◌, refl, sym, ap, ◌∙◌, inl, inr, arith, if◌then◌else◌}
 use Rattle.std.specs.Prelude.{nat_eq}
 use Rattle.std.proofs.Math.Path.{fun_ext}
 use Rattle.std.specs.Prelude.{OnErr, Result, Ok, Err}
@@ -33,6 +33,12 @@ number_of_zeros (suc len) pa = rw (number_of_zeros len (pa + 1)) refl
 -- a number within a page is read from it
 pub number_of_page : (pa len : ℕ) (page bytes : Bytes) → pa % 4096 + len ≤ 4096 → ((at : ℕ) → at / 4096 ≡ pa / 4096 → bytes at ≡ page at) → number_at page pa len ≡ number_at bytes pa len
 number_of_page pa len page bytes inside same = number_at-congr len pa page bytes (λ k below. sym (same (pa + k) (same_page pa len k inside below)))
+
+-- a byte of a number that lies in one page lies in it
+pub in_one_page : (pa len at : ℕ) → pa % 4096 + len ≤ 4096 → pa ≤ at → at < pa + len → at / 4096 ≡ pa / 4096
+in_one_page pa len at inside from below =
+    let place : pa + (at - pa) ≡ at = omega (arith, from) in
+    ap (λ n. n / 4096) (sym place) ∙ same_page pa len (at - pa) inside (omega (arith, from, below))
 
 pub zero_of_page : (pa len : ℕ) (bytes : Bytes) → pa % 4096 + len ≤ 4096 → ((at : ℕ) → at / 4096 ≡ pa / 4096 → bytes at ≡ 0) → 0 ≡ number_at bytes pa len
 zero_of_page pa len bytes inside same = sym (number_of_zeros len pa) ∙ number_of_page pa len (λ _. 0) bytes inside same

@@ -43,6 +43,7 @@ pub fn number_of<M: ByteMem>(mem: &M, pa: u64, len: u8) -> u64
     requires inside { pa + len < 2 ^ 64 }
     ensures value { result ≡ number_at (M.bytes mem.now) pa len }
     ensures fits { result < 2 ^ (8 * len) }
+    ensures small { (at : ℕ) → pa ≤ at → at < pa + len → M.bytes mem.now at < 256 }
 {
     let mut number = 0;
     let mut k = u64::from(len);

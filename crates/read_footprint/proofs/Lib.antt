@@ -5,3 +5,4 @@ pub mod Places
 pub mod Entries
 pub mod Agreement
 pub mod LowMemory
+pub mod Ranges

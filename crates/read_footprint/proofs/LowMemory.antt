@@ -1,15 +1,16 @@
 -- A memory whose bytes stand in a list, in tests.
-use Rattle.std.proofs.Common.{◌≡◌, ◌≢◌, ℕ, zero, suc, ◌+◌, ◌-◌, ◌*◌, ◌%◌, ◌<◌, ◌≤◌, ◌^◌, inl, inr, true, List, length, refl, ap, ◌∙◌, sym, arith, lit<}
+use Rattle.std.proofs.Common.{◌≡◌, ◌≢◌, ℕ, zero, suc, ◌+◌, ◌-◌, ◌*◌, ◌/◌, ◌%◌, ◌<◌, ◌≤◌, ◌^◌, inl, inr, true, List, length, refl, ap, ◌∙◌, sym, subst, arith, lit<}
 use Rattle.std.specs.Prelude.{slice_index_or, slice_set}
 use Rattle.std.proofs.Math.Path.{fun_ext}
-use Rattle.std.proofs.Math.Nat.{div-one, pow-le-pow_right}
+use Rattle.std.proofs.Math.Nat.{div-div-eq-div-mul, div-one, pow-le-pow_right, pow-succ'}
 use Rattle.std.proofs.lemmas.Nat.{pow-add}
 use Rattle.std.proofs.lemmas.List.{get_or-set_same, get_or-set_other}
-use Rattle.std.proofs.lemmas.Bool.{lt-ltb, le-leb}
+use Rattle.std.proofs.lemmas.Bool.{cases_lt, lt-ltb, le-leb}
 use Rattle.std.proofs.lemmas.Bool.Decides.{eqb_tells}
 use Rattle.hart_words.specs.declared.span.Span.{Span}
 use Rattle.hart_words.specs.Memory.{Bytes, is_within, number_at, stored}
 use Rattle.hart_words.specs.Spans.{is_in}
+use Rattle.hart_words.proofs.Stores.{stored-inside, stored-outside}
 use Rattle.read_footprint.specs.declared.footprint.Footprint.{Footprint}
 use Rattle.read_footprint.specs.LowMemory.{IsLow}
 use Rattle.read_footprint.specs.Sets.{IsWithin}
@@ -57,3 +58,38 @@ small_rest rest len few fits =
     let fewer : 8 * (len - 1) ≤ 56 = omega (arith, few) in
     let most : 2 ^ (8 * (len - 1)) ≤ 2 ^ 56 = pow-le-pow_right {n = 2} (lit< tt) fewer in
     omega (arith, fits, most)
+
+-- a number that is put byte by byte
+stored_more : (pa len value : ℕ) (bytes : Bytes) → len ≢ 0 → stored (pa + 1) (len - 1) (value / 256) (stored pa 1 value bytes) ≡ stored pa len value bytes
+stored_more pa len value bytes some = fun_ext (λ at. elim (cases_lt at pa) [
+  | inl before ↦ stored-outside (pa + 1) (len - 1) (value / 256) at (stored pa 1 value bytes) (inl (omega (arith, before))) ∙ stored-outside pa 1 value at bytes (inl before) ∙ sym (stored-outside pa len value at bytes (inl before))
+  | inr from ↦ elim (cases_lt at (pa + 1)) [
+    | inl first ↦
+        let here : pa + 0 ≡ at = omega (arith, from, first) in
+        subst (λ at. stored (pa + 1) (len - 1) (value / 256) (stored pa 1 value bytes) at ≡ stored pa len value bytes at) here
+        (stored-outside (pa + 1) (len - 1) (value / 256) (pa + 0) (stored pa 1 value bytes) (inl (omega arith)) ∙ stored-inside pa 1 value 0 bytes (omega arith) ∙ sym (stored-inside pa len value 0 bytes (omega (arith, some))))
+    | inr later ↦ elim (cases_lt at (pa + len)) [
+      | inl within ↦
+          let k = at - (pa + 1) in
+          let place : pa + 1 + k ≡ at = omega (arith, later) in
+          let second : pa + suc k ≡ at = omega (arith, later) in
+          let digit : value / 256 / 256 ^ k ≡ value / 256 ^ suc k = div-div-eq-div-mul value 256 (256 ^ k) ∙ ap (λ d. value / d) (sym (pow-succ' 256 k)) in
+          subst (λ at. stored (pa + 1) (len - 1) (value / 256) (stored pa 1 value bytes) at ≡ value / 256 ^ suc k % 256) place (stored-inside (pa + 1) (len - 1) (value / 256) k (stored pa 1 value bytes) (omega (arith, later, within)) ∙ ap (λ n. n % 256) digit)
+          ∙ subst (λ at. value / 256 ^ suc k % 256 ≡ stored pa len value bytes at) second (sym (stored-inside pa len value (suc k) bytes (omega (arith, later, within))))
+      | inr past ↦ stored-outside (pa + 1) (len - 1) (value / 256) at (stored pa 1 value bytes) (inr (omega (arith, past, some))) ∙ stored-outside pa 1 value at bytes (inr later) ∙ sym (stored-outside pa len value at bytes (inr past))
+    ]
+  ]
+])
+
+pub put_more : (items : List ℕ) (after : Bytes) (pa len value : ℕ) → len ≢ 0 → pa < length items → after ≡ stored (pa + 1) (len - 1) (value / 256) (listed (slice_set items pa (value % 256))) → after ≡ stored pa len value (listed items)
+put_more items after pa len value some below is = is ∙ ap (stored (pa + 1) (len - 1) (value / 256)) (byte_set items pa 1 value refl below) ∙ stored_more pa len value (listed items) some
+
+pub put_none : (pa len value : ℕ) (bytes : Bytes) → len ≡ 0 → bytes ≡ stored pa len value bytes
+put_none pa len value bytes none = fun_ext (λ at. sym (stored-outside pa len value at bytes (elim (cases_lt at pa) [ inl before ↦ inl before | inr from ↦ inr (omega (arith, none, from)) ])))
+
+-- the first byte is small, and so are those behind it
+pub small_more : (bytes : Bytes) (pa at : ℕ) → bytes pa < 256 → pa ≤ at → (pa + 1 ≤ at → bytes at < 256) → bytes at < 256
+small_more bytes pa at first from later = elim (cases_lt pa at) [
+  | inl behind ↦ later (omega (arith, behind))
+  | inr here ↦ let same : at ≡ pa = omega (arith, from, here) in rw same first
+]

@@ -2,3 +2,4 @@ pub mod Bits
 pub mod Footprints
 pub mod Sets
 pub mod LowMemory
+pub mod Ranges

@@ -1,11 +1,12 @@
 //! The bytes of a block in two memories.
 
-ghost use Rattle.std.specs.Prelude.{◌≡◌, ◌≤◌, ◌<◌, ◌+◌, ◌*◌, ◌/◌, ◌%◌, ◌==◌, ◌⊎◌, ℕ, true, false, OnOk, OnErr, if◌then◌else◌};
+ghost use Rattle.std.specs.Prelude.{◌≡◌, ◌≤◌, ◌<◌, ◌^◌, ℕ, None, true, IfSome, OnOk};
 ghost use Rattle.std.specs.Bool.{Decides};
-ghost use Rattle.hart_words.specs.Spans.{is_in};
 ghost use Rattle.read_footprint.specs.Bits.{has_bit};
+ghost use Rattle.read_footprint.specs.Ranges.{AreCounted, counts};
 ghost use Rattle.read_footprint.specs.Sets.{AreIn, ArePartlyMoved, has_byte};
 
+use crate::aligned_range::AlignedRange;
 use crate::block::BLOCK_SIZE;
 use hart_words::{NoMemory, PhysMem};
 
@@ -16,12 +17,10 @@ pub fn same_bytes<M: PhysMem, N: PhysMem>(one: &M, other: &N, number: u64, bits:
     ensures { Decides result ((address : ℕ) → has_byte number bits address ≡ true
         → N.bytes other.now address ≡ M.bytes one.now address) }
 {
-    for place in 0..BLOCK_SIZE {
-        if is_set(bits, place) && !same_byte(one, other, number * BLOCK_SIZE + place) {
-            return false;
-        }
+    match block_range(number, bits) {
+        None => true,
+        Some(range) => same_range(one, other, range),
     }
-    true
 }
 
 /// Makes each byte of a block whose bit is set what it is in another memory.
@@ -39,39 +38,94 @@ pub fn move_bytes<M: PhysMem, N: PhysMem>(
         (M.bytes memory.old) (M.bytes memory.new) }
     ensures ram { M.ram memory.new ≡ M.ram memory.old }
 {
-    for place in 0..BLOCK_SIZE {
-        if is_set(bits, place) {
-            move_byte(memory, judged, number * BLOCK_SIZE + place)?;
-        }
+    match block_range(number, bits) {
+        None => Ok(()),
+        Some(range) => move_range(memory, judged, range),
     }
-    Ok(())
 }
 
-/// Whether a bit is set.
-fn is_set(bits: u64, place: u64) -> bool
-    requires { place < 64 }
-    ensures { result ≡ has_bit bits place }
+/// The bytes of a block, or none where they have no addresses of 64 bits.
+fn block_range(number: u64, bits: u64) -> Option<AlignedRange>
+    ensures some { IfSome result (λ range. (address : ℕ)
+        → counts range address ≡ has_byte number bits address) }
+    ensures none { result ≡ None → 2 ^ 58 ≤ number }
 {
-    (bits >> place) % 2 == 1
+    let pa = number.checked_mul(BLOCK_SIZE)?;
+    Some(AlignedRange { pa, power: 6, bits })
 }
 
-/// Whether two memories have the same byte at an address.
-fn same_byte<M: PhysMem, N: PhysMem>(one: &M, other: &N, pa: u64) -> bool
-    requires one { is_in (M.ram one.now) pa ≡ true }
-    requires other { is_in (N.ram other.now) pa ≡ true }
-    ensures { Decides result (N.bytes other.now pa ≡ M.bytes one.now pa) }
+/// Whether two memories have the same bytes in a range, where they count: number by number, since to
+/// find a page costs more than to compare what is read.
+fn same_range<M: PhysMem, N: PhysMem>(one: &M, other: &N, range: AlignedRange) -> bool
+    requires one { AreCounted (M.ram one.now) range }
+    requires other { AreCounted (N.ram other.now) range }
+    ensures { Decides result ((address : ℕ) → counts range address ≡ true
+        → N.bytes other.now address ≡ M.bytes one.now address) }
 {
-    other.read(pa, 1) == one.read(pa, 1)
+    if range.is_empty() {
+        return true;
+    }
+    if range.is_number() {
+        return same_number(one, other, range);
+    }
+    let (front, back) = range.halves();
+    same_range(one, other, front) && same_range(one, other, back)
 }
 
-/// Makes a byte what it is in another memory.
-fn move_byte<M: PhysMem, N: PhysMem>(memory: &mut M, judged: &N, pa: u64) -> Result<(), NoMemory>
-    requires memory { is_in (M.ram memory.old) pa ≡ true }
-    requires judged { is_in (N.ram judged.now) pa ≡ true }
-    ensures ok { OnOk result ((address : ℕ) → M.bytes memory.new address
-        ≡ (if address == pa then N.bytes judged.now address else M.bytes memory.old address)) }
-    ensures err { OnErr result (M.bytes memory.new ≡ M.bytes memory.old) }
+/// Makes each byte of a range that counts what it is in another memory.
+fn move_range<M: PhysMem, N: PhysMem>(
+    memory: &mut M,
+    judged: &N,
+    range: AlignedRange,
+) -> Result<(), NoMemory>
+    requires memory { AreCounted (M.ram memory.old) range }
+    requires judged { AreCounted (N.ram judged.now) range }
+    ensures ok { OnOk result ((address : ℕ) → counts range address ≡ true
+        → M.bytes memory.new address ≡ N.bytes judged.now address) }
+    ensures either { ArePartlyMoved (counts range) (N.bytes judged.now)
+        (M.bytes memory.old) (M.bytes memory.new) }
     ensures ram { M.ram memory.new ≡ M.ram memory.old }
 {
-    memory.write(pa, 1, judged.read(pa, 1))
+    if range.is_empty() {
+        return Ok(());
+    }
+    if range.is_number() {
+        return move_number(memory, judged, range);
+    }
+    let (front, back) = range.halves();
+    move_range(memory, judged, front)?;
+    move_range(memory, judged, back)
+}
+
+/// Whether two memories have the same number in a range all of whose bytes count.
+fn same_number<M: PhysMem, N: PhysMem>(one: &M, other: &N, range: AlignedRange) -> bool
+    requires few { range.power ≤ 3 }
+    requires all { (k : ℕ) → k < 2 ^ range.power → has_bit range.bits k ≡ true }
+    requires one { AreCounted (M.ram one.now) range }
+    requires other { AreCounted (N.ram other.now) range }
+    ensures { Decides result ((address : ℕ) → counts range address ≡ true
+        → N.bytes other.now address ≡ M.bytes one.now address) }
+{
+    let len = range.len() as u8;
+    other.read(range.pa, len) == one.read(range.pa, len)
+}
+
+/// Makes the number in a range all of whose bytes count what it is in another memory.
+fn move_number<M: PhysMem, N: PhysMem>(
+    memory: &mut M,
+    judged: &N,
+    range: AlignedRange,
+) -> Result<(), NoMemory>
+    requires few { range.power ≤ 3 }
+    requires all { (k : ℕ) → k < 2 ^ range.power → has_bit range.bits k ≡ true }
+    requires memory { AreCounted (M.ram memory.old) range }
+    requires judged { AreCounted (N.ram judged.now) range }
+    ensures ok { OnOk result ((address : ℕ) → counts range address ≡ true
+        → M.bytes memory.new address ≡ N.bytes judged.now address) }
+    ensures either { ArePartlyMoved (counts range) (N.bytes judged.now)
+        (M.bytes memory.old) (M.bytes memory.new) }
+    ensures ram { M.ram memory.new ≡ M.ram memory.old }
+{
+    let len = range.len() as u8;
+    memory.write(range.pa, len, judged.read(range.pa, len))
 }

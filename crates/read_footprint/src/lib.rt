@@ -7,6 +7,7 @@
 //! of `specs/Footprints.antt`; `laws` says what these are for.
 #![tactic(auto)]
 
+mod aligned_range;
 mod block;
 mod bytes;
 mod footprint;

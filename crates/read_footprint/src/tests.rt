@@ -8,7 +8,7 @@ use std::process::Abort;
 use std::test::Fail;
 
 /// A memory whose RAM begins at address 0. It keeps the bytes that stand in a list, which it takes
-/// for writes of one byte; the others are 0.
+/// for writes; the others are 0.
 #[derive(Drop)]
 struct Low {
     ram: Span,
@@ -17,9 +17,9 @@ struct Low {
 }
 
 impl Low {
-    ghost use Rattle.std.specs.Prelude.{slice_index_or};
-    ghost use Rattle.hart_words.specs.Memory.{number_at};
-    ghost use Rattle.std.specs.Prelude.{◌≡◌, ◌≤◌, ◌<◌, ◌+◌, ◌*◌, ◌^◌};
+    ghost use Rattle.std.specs.Prelude.{length, slice_index_or};
+    ghost use Rattle.hart_words.specs.Memory.{number_at, stored};
+    ghost use Rattle.std.specs.Prelude.{◌≡◌, ◌≤◌, ◌<◌, ◌+◌, ◌*◌, ◌^◌, ℕ};
 
     /// The byte at an address.
     fn byte(&self, pa: u64) -> u8
@@ -37,11 +37,27 @@ impl Low {
         requires narrow { pa + len ≤ 2 ^ 56 }
         ensures value { result ≡ number_at (λ at. slice_index_or self.now.bytes.items at 0) pa len }
         ensures fits { result < 2 ^ (8 * len) }
+        ensures small { (at : ℕ) → pa ≤ at → at < pa + len
+            → slice_index_or self.now.bytes.items at 0 < 256 }
     {
         if len == 0 {
             return 0;
         }
         u64::from(self.byte(pa)) + 256 * self.number(pa + 1, len - 1)
+    }
+
+    /// Puts the low `len` bytes of a number at an address, where each has a place in the list.
+    fn put(&mut self, pa: u64, len: u8, value: u64)
+        requires { pa + len ≤ length self.old.bytes.items }
+        ensures bytes { (λ at. slice_index_or self.new.bytes.items at 0)
+            ≡ stored pa len value (λ at. slice_index_or self.old.bytes.items at 0) }
+        ensures ram { self.new.ram ≡ self.old.ram }
+    {
+        if len == 0 {
+            return;
+        }
+        self.bytes[pa as usize] = (value % 256) as u8;
+        self.put(pa + 1, len - 1, value / 256);
     }
 }
 
@@ -59,16 +75,11 @@ impl PhysMem for Low {
     }
 
     fn write(&mut self, pa: u64, len: u8, value: u64) -> Result<(), NoMemory> {
-        if len != 1 {
+        if (self.bytes.len() as u64) < pa + u64::from(len) {
             return Err(NoMemory);
         }
-        match self.bytes.get_mut(pa as usize) {
-            Some(byte) => {
-                *byte = (value % 256) as u8;
-                Ok(())
-            }
-            None => Err(NoMemory),
-        }
+        self.put(pa, len, value);
+        Ok(())
     }
 
     fn ready(&mut self, _pa: u64) -> Result<(), NoMemory> {

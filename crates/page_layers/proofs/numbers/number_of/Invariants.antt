@@ -1,4 +1,4 @@
-use Rattle.std.proofs.Common.{◌≡◌, ◌+◌, ◌-◌, ◌<◌, ◌≤◌, ◌^◌}
+use Rattle.std.proofs.Common.{◌≡◌, ◌+◌, ◌-◌, ◌<◌, ◌≤◌, ◌^◌, ℕ}
 use Rattle.hart_words.specs.Memory.{number_at}
 use Rattle.page_layers.proofs.numbers.number_of.Given as goal
 
@@ -8,6 +8,7 @@ invariant-loop-k g l = record {
   number : l.number ≡ number_at (g.M.ByteMem.bytes l.mem) (l.pa + l.k) (l.len - l.k);
   small : l.number < 256 ^ (l.len - l.k);
   within : l.k ≤ l.len;
+  each : (at : ℕ) → l.pa + l.k ≤ at → at < l.pa + l.len → g.M.ByteMem.bytes l.mem at < 256;
 }
 
 abbrev pub decreases-loop-k : goal.decreases-loop-k

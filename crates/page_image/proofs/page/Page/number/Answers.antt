@@ -2,14 +2,14 @@ use Rattle.std.proofs.Common.{◌≡◌, ◌+◌, ◌-◌, ◌<◌, arith, refl,
 use Rattle.hart_words.specs.Memory.{number_at}
 use Rattle.hart_words.proofs.Powers.{bits_of_bytes}
 use Rattle.page_image.specs.Pages.{page_byte}
-use Rattle.page_image.proofs.Stored.{number_at-more, number_grows, number_fits}
+use Rattle.page_image.proofs.Stored.{number_at-more, number_grows, number_fits, one_more}
 use Rattle.page_image.proofs.page.Page.number.Goals as goal
 
 pub loop-k-init : goal.loop-k-init
 unfolding number_at
 loop-k-init c =
     let none : c.args.len - c.from-k.result ≡ 0 = omega arith in
-    record { number = rw none refl; small = rw none (lit< tt); within = omega arith }
+    record { number = rw none refl; small = rw none (lit< tt); within = omega arith; each = λ at from below. absurd (omega (arith, from, below)) }
 
 pub overflow_mul-number : goal.overflow_mul-number
 overflow_mul-number c =
@@ -35,9 +35,13 @@ loop-k-preserved c =
       number = rw (more, place, read, ← same) refl;
       small = rw left (number_grows c.loop-k.number c.from.result (c.args.len - c.loop-k.k) c.loop-k.invariant.small byte);
       within = omega arith;
+      each = λ at from below. one_more bytes (c.args.pa + (c.loop-k.k - 1)) c.from.result at read byte from (λ later. c.loop-k.invariant.each at (omega (arith, place, later)) below);
     }
 
 pub returns-clause-fits : goal.returns-clause-fits
 returns-clause-fits c =
     let all : c.args.len - c.loop-k.k ≡ c.args.len = omega arith in
     rw (← bits_of_bytes c.args.len, ← all) c.loop-k.invariant.small
+
+pub returns-clause-small : goal.returns-clause-small
+returns-clause-small c = λ at from below. c.loop-k.invariant.each at (omega (arith, from)) below

@@ -1,4 +1,4 @@
-use Rattle.std.proofs.Common.{◌≡◌, ◌+◌, ◌-◌, ◌<◌, ◌≤◌, ◌^◌}
+use Rattle.std.proofs.Common.{◌≡◌, ◌+◌, ◌-◌, ◌<◌, ◌≤◌, ◌^◌, ℕ}
 use Rattle.hart_words.specs.Memory.{number_at}
 use Rattle.page_image.specs.Pages.{page_byte}
 use Rattle.page_image.proofs.page.Page.number.Given as goal
@@ -9,6 +9,7 @@ invariant-loop-k l = record {
   number : l.number ≡ number_at (page_byte l.self) (l.pa + l.k) (l.len - l.k);
   small : l.number < 256 ^ (l.len - l.k);
   within : l.k ≤ l.len;
+  each : (at : ℕ) → l.pa + l.k ≤ at → at < l.pa + l.len → page_byte l.self at < 256;
 }
 
 abbrev pub decreases-loop-k : goal.decreases-loop-k

@@ -1,5 +1,5 @@
 use Rattle.std.proofs.Common.{◌+◌, ◌*◌, ap, sym, ◌∙◌, arith}
-use Rattle.read_footprint.proofs.LowMemory.{fits_more, listed, number_more, number_none, small_rest}
+use Rattle.read_footprint.proofs.LowMemory.{fits_more, listed, number_more, number_none, small_more, small_rest}
 use Rattle.read_footprint.proofs.tests.Low.+number.Goals as goal
 
 pub returns-then-len-eq0-clause-value : goal.returns-then-len-eq0-clause-value
@@ -23,3 +23,6 @@ returns-clause-value t c =
 
 pub returns-clause-fits : goal.returns-clause-fits
 returns-clause-fits t c = fits_more c.from.result c.number.result c.args.len (omega (arith, c.from.ensures, c.byte.type_inv)) c.if-len-eq0.false c.number.ensures.fits
+
+pub returns-clause-small : goal.returns-clause-small
+returns-clause-small t c = λ at from below. small_more (listed c.args.self.now.bytes.items) c.args.pa at (omega (arith, c.byte.ensures, c.byte.type_inv)) from (λ behind. c.number.ensures.small at behind (omega (arith, below)))
