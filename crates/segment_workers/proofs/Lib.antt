@@ -1,4 +1,5 @@
 pub mod Accounts
+pub mod Chained
 pub mod Finding
 pub mod Gathering
 pub mod Seats

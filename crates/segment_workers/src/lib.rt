@@ -10,6 +10,7 @@
 //! this project's own: no standard is followed here.
 #![tactic(auto)]
 
+mod chain;
 pub mod laws;
 mod running;
 mod steps;

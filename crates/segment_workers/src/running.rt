@@ -9,6 +9,7 @@ ghost use Rattle.verdict_board.specs.Views.{IsWhole};
 ghost use Rattle.segment_workers.specs.Runs.{AreAllSeats, ArePosted, DrewEach, FoundBelow, HasReason, IsFoundBy};
 ghost use Rattle.segment_workers.specs.Works.{HaveDone, IsFreshSeat, seat_of};
 
+use crate::chain::call_each;
 use crate::steps::Steps;
 use crate::task::Task;
 use crate::work::{Work, Worker};
@@ -19,7 +20,7 @@ use rvfi_rows::{Columns, Segment};
 use segment_judge::{Found, Judged};
 use std::alloc::Global;
 use std::sync::ledger::Ledger;
-use std::thread::{Threads, map_vec};
+use std::thread::Threads;
 use verdict_board::{Board, Seat};
 
 /// Judges segments from the guesses before them, by one worker for each seat of a board: what was
@@ -72,7 +73,7 @@ pub fn run<R: Threads + Sync, M: PhysMem + Drop + Send + Sync, G: Gate, L: Ledge
             (length task.entry.segments.now) (view_of worker.seat).seats 1
             task.entry.board.now) }
     { task.work(worker) };
-    let works = map_vec(rt, workers, &work)?;
+    let works = call_each(rt, &work, workers)?;
     let Work { founds, seat } = task.gather(works)?;
     Ok((founds, seat))
 }

@@ -12,8 +12,8 @@ pub workers_at-requires : goal.workers_at-requires
 workers_at-requires g c =
     omega (arith, c.args.seats.ok, count_is (length c.args.segments.now) c.args.board.now c.args.seats.items c.requires.seats, c.requires.seats.few)
 
-pub map_vec-requires-after_bounds : goal.map_vec-requires-after_bounds
-map_vec-requires-after_bounds g c κs within i worker low is =
+pub call_each-requires-after_bounds : goal.call_each-requires-after_bounds
+call_each-requires-after_bounds g c κs within i worker low is =
     let n = length c.args.segments.now in
     let new = workers_new n c.args.board.now c.args.seats.items c.requires.seats c.in_ok-workers.workers.items c.in_ok-workers.ensures i worker low in
     let P : Worker → Type 0 = λ worker. IsFreshSeat n c.args.board.now worker.seat in (
@@ -26,15 +26,15 @@ gather-requires-clause-some g c κs within =
     let all = c.requires.seats in
     let count = count_is (length c.args.segments.now) c.args.board.now c.args.seats.items all in
     let many = workers_many c.in_ok-workers.workers.items c.args.seats.items c.in_ok-workers.ensures in
-    omega (arith, c.in_ok-works.ensures.len, c.in_ok-workers.workers.ok, many, count, all.some)
+    omega (arith, c.in_ok-works.works.ok, c.in_ok-works.ensures.len, many, count, all.some)
 
 pub gather-requires-clause-done : goal.gather-requires-clause-done
 gather-requires-clause-done g c κs within k d low =
     let n = length c.args.segments.now in
     let workers = c.in_ok-workers.workers in
     let works = c.in_ok-works.works in
-    let same : length works.items ≡ length workers.items = omega (arith, works.ok, workers.ok, c.in_ok-works.ensures.len) in
-    let gives = (c.in_ok-works.ensures.each k d (omega (arith, low, same))).1 in
+    let same : length works.items ≡ length workers.items = c.in_ok-works.ensures.len in
+    let gives = c.in_ok-works.ensures.each k d (omega (arith, low, same)) in
     let new = workers_new n c.args.board.now c.args.seats.items c.requires.seats workers.items c.in_ok-workers.ensures k gives.job (omega (arith, low, same)) in
     let seats_is : (view_of gives.job.seat).seats ≡ vec_len works = ap (λ worker. (view_of worker.seat).seats) (sym (gives.job_is gives.job)) ∙ new.1 ∙ omega (arith, works.ok, same) in
     let P : ℕ → Type 0 = λ seats. IfOk (slice_index_or works.items k d) (HaveDone (IsLawfulFound g.M.PhysMem.bytes g.M.PhysMem.ram c.args.columns.now c.args.segments.now c.args.guesses.now) n seats 1 c.args.board.now) in
