@@ -54,8 +54,8 @@ fn block_range(number: u64, bits: u64) -> Option<AlignedRange>
     Some(AlignedRange { pa, power: 6, bits })
 }
 
-/// Whether two memories have the same bytes in a range, where they count: number by number, since to
-/// find a page costs more than to compare what is read.
+/// Whether two memories have the same bytes in a range, where they count: number by number, so that
+/// a page is found once for each.
 fn same_range<M: PhysMem, N: PhysMem>(one: &M, other: &N, range: AlignedRange) -> bool
     requires one { AreCounted (M.ram one.now) range }
     requires other { AreCounted (N.ram other.now) range }

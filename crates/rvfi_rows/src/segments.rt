@@ -33,8 +33,8 @@ pub fn read_segments<R: Threads + Sync>(
 }
 
 /// Reads segments in pieces of so many, the last one in this thread and each other in one of its
-/// own. This thread alone makes the others: where two made threads at one moment, the system would
-/// put both of these on one processor and leave another idle.
+/// own. This thread alone makes the others: equal tasks ended sooner so than where new threads make
+/// further ones (docs/DECISIONS.md).
 #[cycle(pieces)]
 fn read_pieces<R: Threads + Sync>(
     rt: &R,

@@ -8,8 +8,8 @@ use std::alloc::AllocError;
 use std::thread::{Threads, join};
 
 /// Calls `work` with each job, the first in this thread and each other in one of its own, and gives
-/// the results in the order of the jobs. This thread alone makes the others: where two made threads
-/// at one moment, the system would put both of these on one processor and leave another idle.
+/// the results in the order of the jobs. This thread alone makes the others: equal tasks ended
+/// sooner so than where new threads make further ones (docs/DECISIONS.md).
 #[cycle(chain)]
 pub(crate) fn call_each<R: Threads + Sync, J: Send + Drop, X: Send + Drop, F: Fn(J) -> X + Sync>(
     rt: &R,
