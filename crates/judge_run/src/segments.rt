@@ -45,8 +45,7 @@ where
         (IsRoundOver M.bytes M.ram columns.now segments.now (state_of M.bytes start)) }
     ensures steps { IfOk result (λ round. steps.new ≡ steps.old + 1) }
 {
-    // Pages that were written so far are shared from here on, so that no later copy has to copy
-    // their bytes again.
+    // Where much was written so far, it is a layer of memory from here on, which later copies share.
     let start = start.copy()?;
     let guesses = guesses(workers.alloc, &start, columns, segments)?;
     let founds = find_by_workers(workers, &guesses, columns, segments, steps)?;

@@ -10,18 +10,6 @@ use Rattle.image_text.proofs.Pages.{none_at, set_at}
 use Rattle.page_image.specs.declared.page.Page.{Page}
 use Rattle.page_image.specs.Pages.{page_byte, byte_or_zero}
 
-same_place : (at pa : ℕ) → at / 4096 ≡ pa / 4096 → (at % 4096 == pa % 4096) ≡ (at == pa)
-same_place at pa in_page = grind (arith, nat_tests)
-
--- a byte of a page is set
-pub byte_set : (old new : Page) (pa value at : ℕ) → new.bytes ≡ set old.bytes (pa % 4096) value → at / 4096 ≡ pa / 4096 → page_byte new at ≡ (if at == pa then value else page_byte old at)
-unfolding page_byte
-byte_set old new pa value at is in_page =
-    let below : pa % 4096 < length old.bytes = omega (arith, old.full) in
-    ap (λ bytes. slice_index bytes (at % 4096)) is
-    ∙ set_at old.bytes (pa % 4096) (at % 4096) value _ below
-    ∙ ap (λ here. if here then value else slice_index old.bytes (at % 4096)) (same_place at pa in_page)
-
 -- pages with the same bytes at each address
 pub same_pages : (one other : Page) → ((pa : ℕ) → page_byte one pa ≡ page_byte other pa) → one.bytes ≡ other.bytes
 unfolding page_byte

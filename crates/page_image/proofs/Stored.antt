@@ -81,17 +81,6 @@ number_fits n b k below small few =
     let most = seven_bytes k few in
     omega (arith, most)
 
--- one more byte is put in a page
-pub put_more : (start before after : Bytes) (pa len k value byte at : ℕ) → byte ≡ value / 256 ^ k % 256 → byte < 256 → pa % 4096 + len ≤ 4096 → k < len → at / 4096 ≡ pa / 4096
-    → ((a : ℕ) → a / 4096 ≡ (pa + k) / 4096 → after a ≡ (if a == pa + k then byte else before a))
-    → before at ≡ stored pa k value start at
-    → after at ≡ stored pa (k + 1) value start at
-put_more start before after pa len k value byte at is small inside below in_page sets done =
-    sets at (in_page ∙ sym (same_page pa len k inside below))
-    ∙ ap (λ b. if at == pa + k then byte else b) done
-    ∙ sym (stored-byte (pa + k) byte at (stored pa k value start) small)
-    ∙ ap (λ bytes. bytes at) (stored-more pa k value byte start is small)
-
 -- bytes from a place on, of which the first is small, are small where those behind it are
 pub one_more : (bytes : Bytes) (place byte at : ℕ) → bytes place ≡ byte → byte < 256 → place ≤ at → (place + 1 ≤ at → bytes at < 256) → bytes at < 256
 one_more bytes place byte at is small from later = elim (cases_eq at place) [

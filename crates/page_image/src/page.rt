@@ -4,31 +4,19 @@ ghost use Rattle.std.specs.Prelude.{◌≡◌, length};
 ghost use Rattle.hart_words.specs.declared.span.TheConstants.{PAGE_SIZE};
 
 use hart_words::{PAGE_BYTES, PAGE_SIZE};
-use std::alloc::AllocError;
 
 /// The bytes of the addresses that have the same number when they are divided by 4,096. A page does
 /// not know this number.
+#[derive(Drop)]
 pub struct Page {
     bytes: [u8; PAGE_BYTES],
     ghost full: { length bytes ≡ PAGE_SIZE },
 }
 
-impl Copy for Page {}
-
-impl Clone for Page {
-    ghost use Rattle.std.specs.Prelude.{◌≡◌};
-
-    ghost is_clone = { λ page other. other ≡ page };
-
-    fn clone(&self) -> Result<Page, AllocError> {
-        Ok(*self)
-    }
-}
-
 impl Page {
-    ghost use Rattle.std.specs.Prelude.{◌≡◌, ◌<◌, ◌≤◌, ◌+◌, ◌*◌, ◌/◌, ◌%◌, ◌^◌, ℕ, length, slice_index, if◌then◌else◌, ◌==◌, option_copied};
+    ghost use Rattle.std.specs.Prelude.{◌≡◌, ◌<◌, ◌≤◌, ◌+◌, ◌*◌, ◌^◌, ℕ, option_copied};
     ghost use Rattle.std.specs.Bool.{Decides};
-    ghost use Rattle.hart_words.specs.Memory.{number_at, stored};
+    ghost use Rattle.hart_words.specs.Memory.{number_at};
     ghost use Rattle.page_image.specs.Pages.{page_byte, byte_or_zero};
 
     /// The page of these bytes.
@@ -40,7 +28,7 @@ impl Page {
     }
 
     /// A page of zeros.
-    pub fn zeros() -> Page
+    fn zeros() -> Page
         ensures { (pa : ℕ) → page_byte result pa ≡ 0 }
     {
         Page {
@@ -54,14 +42,6 @@ impl Page {
         ensures { result ≡ page_byte self.now pa }
     {
         self.bytes[(pa % PAGE_SIZE) as usize]
-    }
-
-    /// Sets the byte at an address in the page.
-    fn set(&mut self, pa: u64, value: u8)
-        ensures { (at : ℕ) → at / PAGE_SIZE ≡ pa / PAGE_SIZE
-            → page_byte self.new at ≡ (if at == pa then value else page_byte self.old at) }
-    {
-        self.bytes[(pa % PAGE_SIZE) as usize] = value;
     }
 
     /// The number of `len` bytes at an address, within the page.
@@ -81,30 +61,15 @@ impl Page {
         number
     }
 
-    /// Puts the low `len` bytes of a number at an address, within the page.
-    pub fn put(&mut self, pa: u64, len: u8, value: u64)
-        requires few { len ≤ 8 }
-        requires inside { pa + len < 2 ^ 64 }
-        requires page { pa % PAGE_SIZE + len ≤ PAGE_SIZE }
-        ensures { (at : ℕ) → at / PAGE_SIZE ≡ pa / PAGE_SIZE
-            → page_byte self.new at ≡ stored pa len value (page_byte self.old) at }
-    {
-        let mut rest = value;
-        for k in 0..u64::from(len) {
-            self.set(pa + k, (rest % 256) as u8);
-            rest /= 256;
-        }
-    }
-
     /// Whether the pages have the same bytes.
-    pub fn same_as(&self, other: &Page) -> bool
+    fn same_as(&self, other: &Page) -> bool
         ensures { Decides result ((pa : ℕ) → page_byte self.now pa ≡ page_byte other.now pa) }
     {
         self.bytes == other.bytes
     }
 
     /// Whether each byte is 0.
-    pub fn is_zero(&self) -> bool
+    fn is_zero(&self) -> bool
         ensures { Decides result ((pa : ℕ) → page_byte self.now pa ≡ 0) }
     {
         self.same_as(&Page::zeros())

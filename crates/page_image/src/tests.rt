@@ -30,35 +30,25 @@ fn bytes_of_ram(rt: HostRuntime) -> Result<(), Fail> {
 }
 
 #[test]
-fn pages_hold_numbers(rt: HostRuntime) -> Result<(), Fail> {
-    let mut page = Page::zeros();
-    assert!(&rt; page.is_zero());
-    page.put(0x8000_0ff8, 8, 0x0807_0605_0403_0201);
-    assert_eq!(&rt; page.number(0x8000_0ff8, 8), 0x0807_0605_0403_0201);
-    assert_eq!(&rt; page.number(0x8000_0ffe, 2), 0x0807);
-    assert_eq!(&rt; page.number(0x8000_0ff0, 8), 0);
-    assert_eq!(&rt; page.byte(0x8000_0fff), 8);
-    let mut other = page.clone()?;
-    assert!(&rt; page.same_as(&other));
-    other.put(0x8000_0fff, 1, 0xff09);
-    assert_eq!(&rt; other.number(0x8000_0ff8, 8), 0x0907_0605_0403_0201);
-    assert!(&rt; !page.same_as(&other));
-    assert!(&rt; !page.is_zero());
-    assert!(&rt; Page::same_bytes(None, None));
-    assert!(&rt; Page::same_bytes(None, Some(&Page::zeros())));
-    assert!(&rt; !Page::same_bytes(Some(&page), None));
-    assert!(&rt; !Page::same_bytes(Some(&page), Some(&other)));
-    Ok(())
-}
-
-#[test]
 fn pages_of_an_image(rt: HostRuntime) -> Result<(), Fail> {
     let ram = Span::new(0x8000_0000, 0x1_0000).ok_or("no range")?;
-    let pieces = read_image(rt.alloc(), b"@80001ffe 12 34 56", ram)?;
+    let text = b"@80001ffe 12 34 56 @80003ffe 12 34 @80004000 00 @80005ffe 12 35";
+    let pieces = read_image(rt.alloc(), text, ram)?;
     let image = PageImage::build(rt.alloc(), &pieces, ram)?;
     assert!(&rt; image.page(0x8_0000).is_none());
     let page = image.page(0x8_0001).ok_or("no page")?;
     assert_eq!(&rt; page.number(0x8000_1ffe, 2), 0x3412);
-    assert_eq!(&rt; image.pages().len(), 2);
+    assert_eq!(&rt; page.number(0x8000_1ff8, 8), 0x3412_0000_0000_0000);
+    assert_eq!(&rt; page.number(0x8000_1ff0, 8), 0);
+    assert_eq!(&rt; page.byte(0x8000_1fff), 0x34);
+    assert_eq!(&rt; image.pages().len(), 5);
+    let zeros = image.page(0x8_0004);
+    assert!(&rt; Page::same_bytes(None, None));
+    assert!(&rt; Page::same_bytes(None, zeros));
+    assert!(&rt; Page::same_bytes(zeros, None));
+    assert!(&rt; !Page::same_bytes(Some(page), None));
+    assert!(&rt; !Page::same_bytes(zeros, Some(page)));
+    assert!(&rt; Page::same_bytes(Some(page), image.page(0x8_0003)));
+    assert!(&rt; !Page::same_bytes(Some(page), image.page(0x8_0005)));
     Ok(())
 }

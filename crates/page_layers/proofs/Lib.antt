@@ -1,6 +1,7 @@
 pub mod Changes
-pub mod PageChanges
-pub mod EntryChanges
-pub mod TableChanges
-pub mod Directory
-pub mod Same
+pub mod BlockBytes
+pub mod Reading
+pub mod BlockMaps
+pub mod Stacks
+pub mod LayeredBytes
+pub mod SameBlocks

@@ -1,6 +1,2 @@
-pub mod Held
-pub mod Bytes
-pub mod Entries
-pub mod Tables
-pub mod Pages
+pub mod Blocks
 pub mod Memories

@@ -1,31 +1,50 @@
 -- The bytes of the two memories.
-use Rattle.std.specs.Prelude.{◌≡◌, ℕ, ◌/◌, Bool, true, is_some, unwrap_or}
+use Rattle.std.specs.Prelude.{◌≡◌, ℕ, ◌/◌, Bool, true, List, Option, is_some, unwrap_or}
 use Rattle.std.specs.BTreeMap.{get}
 use Rattle.std.specs.Ordering.{nat_cmp}
 use Rattle.hart_words.specs.declared.span.Span.{Span}
 use Rattle.hart_words.specs.Memory.{Bytes}
+use Rattle.page_image.specs.declared.image.PageImage.{PageImage}
 use Rattle.page_image.specs.Bytes.{byte_of}
 use Rattle.page_layers.specs.declared.layered.Layered.{Layered}
 use Rattle.page_layers.specs.declared.map_mem.MapMem.{MapMem}
-use Rattle.page_layers.specs.Bytes.{over}
-use Rattle.page_layers.specs.Pages.{own_byte}
+use Rattle.page_layers.specs.declared.block.Block.{Block}
+use Rattle.page_layers.specs.declared.block.TheConstants.{BLOCK_SIZE, PAGE_BLOCKS}
+use Rattle.page_layers.specs.declared.blocks.Blocks.{Blocks}
+use Rattle.page_layers.specs.declared.layers.Layer.{Layer}
+use Rattle.page_layers.specs.Blocks.{block_at, bytes_in, newest_block, over}
 use Rattle.hart_words.specs.declared.span.TheConstants.{PAGE_SIZE}
 
--- the image's bytes under the pages that were written
+-- an image's bytes under blocks and layers
+abbrev pub bytes_under : Blocks → List Layer → PageImage → Bytes
+bytes_under blocks layers image = over (bytes_in (newest_block blocks layers)) (byte_of image)
+
+-- the block of a number that was written
+abbrev pub block_of : Layered → ℕ → Option Block
+block_of mem = newest_block mem.written mem.layers.items
+
+-- the image's bytes under the blocks that were written
 abbrev pub layered_bytes : Layered → Bytes
-layered_bytes mem = over (own_byte mem.pages) (byte_of mem.image.now)
+layered_bytes mem = bytes_under mem.written mem.layers.items mem.image.now
 
 abbrev pub layered_ram : Layered → Span
 layered_ram mem = mem.image.now.ram
 
--- two memories have the same bytes in a page
-abbrev pub IsSamePage : Layered → Layered → ℕ → Type 0
-IsSamePage one other number =
-    (pa : ℕ) → pa / PAGE_SIZE ≡ number → layered_bytes one pa ≡ layered_bytes other pa
+-- the memory has a block for itself
+abbrev pub owns : Layered → ℕ → Bool
+owns mem number = is_some (block_at mem.written number)
 
--- all bytes of a page are zeros
-abbrev pub IsZeroPage : Bytes → ℕ → Type 0
-IsZeroPage bytes number = (pa : ℕ) → pa / PAGE_SIZE ≡ number → bytes pa ≡ 0
+-- and each block of a page
+abbrev pub OwnsPage : Layered → ℕ → Type 0
+OwnsPage mem page = (number : ℕ) → number / PAGE_BLOCKS ≡ page → owns mem number ≡ true
+
+-- two memories have the same bytes in a block
+abbrev pub IsSameBlock : Layered → Layered → ℕ → Type 0
+IsSameBlock one other number = (pa : ℕ) → pa / BLOCK_SIZE ≡ number → layered_bytes one pa ≡ layered_bytes other pa
+
+-- all bytes of a block are zeros
+abbrev pub IsZeroBlock : Bytes → ℕ → Type 0
+IsZeroBlock bytes number = (pa : ℕ) → pa / BLOCK_SIZE ≡ number → bytes pa ≡ 0
 
 -- the byte that the map has at an address, 0 where it has none
 unfoldable pub map_bytes : MapMem → Bytes

@@ -1,33 +1,41 @@
 //! The memory of a hart over an image.
 
-use crate::entries::TABLE_PAGES;
-use crate::held::Held;
-use crate::pages::Pages;
-use crate::table::Table;
-use hart_words::{NoMemory, PAGE_SIZE, PhysMem};
-use page_image::{Page, PageImage};
-use std::alloc::Global;
-use std::collections::HashMap;
+ghost use Rattle.std.specs.Prelude.{◌≡◌, ◌≤◌, ◌<◌, ◌+◌, ◌*◌, ◌/◌, ◌%◌, ◌^◌, ℕ, IsTrue};
+ghost use Rattle.hart_words.specs.declared.span.TheConstants.{PAGE_SIZE};
+ghost use Rattle.hart_words.specs.Memory.{number_at};
+ghost use Rattle.page_image.specs.Bytes.{byte_of};
+ghost use Rattle.page_layers.specs.declared.block.TheConstants.{BLOCK_SIZE};
+ghost use Rattle.page_layers.specs.Blocks.{block_byte};
 
-/// The bytes of an image, under the pages that were written since. A page is copied as a whole when
-/// a byte of it is first written, by this memory or since it was copied.
+use crate::block::{BLOCK_SIZE, Block, PAGE_BLOCKS};
+use crate::blocks::Blocks;
+use crate::layers::{Layer, block_among, layers_under};
+use crate::numbers::{ByteAt, ByteMem, number_of, put_number};
+use hart_words::{NoMemory, PAGE_SIZE, PhysMem};
+use page_image::PageImage;
+use std::alloc::Global;
+
+/// How many blocks a memory has for itself before its copy shares them.
+const MOST_WRITTEN: usize = 1024;
+
+/// The bytes of an image, under the blocks that were written since. A block is copied as a whole
+/// when a byte of it is first written. Few stand by themselves and are copied with the memory; the
+/// others stand in layers that its copies share, so that a copy costs little, whatever was written.
 #[derive(Drop)]
 pub struct Layered<'a> {
     alloc: Global,
-    image: &'a PageImage,
-    pages: Pages,
+    pub(crate) image: &'a PageImage,
+    pub(crate) layers: Vec<Layer>,
+    pub(crate) written: Blocks,
 }
 
 impl<'a> Layered<'a> {
-    ghost use Rattle.std.specs.Prelude.{◌≡◌, ◌/◌, ◌⊎◌, ℕ, nat_eq, IsOk, IsTrue, OnOk, is_some, option_copied};
+    ghost use Rattle.std.specs.Prelude.{◌≡◌, ◌⊎◌, IsOk, OnOk, option_copied};
     ghost use Rattle.std.specs.Bool.{Decides};
-    ghost use Rattle.std.specs.HashMap.{get};
-    ghost use Rattle.hart_words.specs.declared.span.TheConstants.{PAGE_SIZE};
-    ghost use Rattle.page_image.specs.Pages.{byte_or_zero};
-    ghost use Rattle.page_image.specs.Bytes.{byte_of};
-    ghost use Rattle.page_layers.specs.Bytes.{over};
-    ghost use Rattle.page_layers.specs.Pages.{first_of, own_byte, owns};
-    ghost use Rattle.page_layers.specs.Memories.{IsSamePage, IsZeroPage, layered_bytes, layered_ram};
+    ghost use Rattle.hart_words.specs.Memory.{stored};
+    ghost use Rattle.page_layers.specs.declared.block.TheConstants.{BLOCK_SIZE};
+    ghost use Rattle.page_layers.specs.Blocks.{block_byte};
+    ghost use Rattle.page_layers.specs.Memories.{block_of, layered_bytes, layered_ram, owns};
 
     /// The memory of an image, before any write.
     pub fn over(alloc: Global, image: &'a PageImage) -> Layered<'a>
@@ -37,148 +45,190 @@ impl<'a> Layered<'a> {
         Layered {
             alloc,
             image,
-            pages: Pages::none(alloc),
+            layers: Vec::new(alloc),
+            written: Blocks::none(alloc),
         }
     }
 
-    /// The page of a number, if there is one; its bytes are zeros if not.
-    fn page(&self, number: u64) -> Option<&Page>
-        ensures { (pa : ℕ) → pa / PAGE_SIZE ≡ number
-            → layered_bytes self.now pa ≡ byte_or_zero (option_copied result) pa }
+    /// The block of a number, if it was written.
+    fn block(&self, number: u64) -> Option<&Block>
+        ensures { option_copied result ≡ block_of self.now number }
     {
-        match self.pages.page(number) {
-            Some(page) => Some(page),
-            None => self.image.page(number),
+        match self.written.block(number) {
+            Some(block) => Some(block),
+            None => block_among(&self.layers, number),
         }
     }
 
-    /// Whether this memory has the bytes of another at each address.
-    pub fn same_as(&self, other: &Layered) -> bool
-        ensures { Decides result (layered_bytes self.now ≡ layered_bytes other.now) }
+    /// The bytes of a block.
+    pub(crate) fn value(&self, number: u64) -> Block
+        ensures { (pa : ℕ) → pa / BLOCK_SIZE ≡ number
+            → block_byte result pa ≡ layered_bytes self.now pa }
     {
-        self.same_under(other, &self.pages, self.image)
-            && self.same_under(other, &other.pages, other.image)
-    }
-
-    /// Whether it has the bytes of another in each page in which an image under pages has more than
-    /// zeros, and maybe in others.
-    fn same_under(&self, other: &Layered, pages: &Pages, image: &PageImage) -> bool
-        ensures told { IsTrue result → (number : ℕ)
-            → IsZeroPage (over (own_byte pages.now) (byte_of image.now)) number
-            ⊎ IsSamePage self.now other.now number }
-        ensures same { layered_bytes self.now ≡ layered_bytes other.now → IsTrue result }
-    {
-        self.same_in_tables(other, pages.tables()) && self.same_in_image(other, image)
-    }
-
-    /// Whether it has the bytes of another in each page of these tables.
-    fn same_in_tables(&self, other: &Layered, tables: &HashMap<u64, Held<Table>>) -> bool
-        ensures told { IsTrue result → (number : ℕ)
-            → IsTrue (is_some (get nat_eq tables.now (first_of number)))
-            → IsSamePage self.now other.now number }
-        ensures same { layered_bytes self.now ≡ layered_bytes other.now → IsTrue result }
-    {
-        for first in tables.keys() {
-            if !self.same_table(other, *first) {
-                return false;
-            }
+        match self.block(number) {
+            Some(block) => *block,
+            None => image_block(self.image, number),
         }
-        true
     }
 
-    /// Whether it has the bytes of another in each page that an image has.
-    fn same_in_image(&self, other: &Layered, image: &PageImage) -> bool
-        ensures told { IsTrue result → (number : ℕ)
-            → IsTrue (is_some (get nat_eq image.now.pages number))
-            → IsSamePage self.now other.now number }
-        ensures same { layered_bytes self.now ≡ layered_bytes other.now → IsTrue result }
+    /// The number of `len` bytes at an address, within a block.
+    fn number(&self, pa: u64, len: u8) -> u64
+        requires few { len ≤ 8 }
+        requires inside { pa + len < 2 ^ 64 }
+        requires block { pa % BLOCK_SIZE + len ≤ BLOCK_SIZE }
+        ensures value { result ≡ number_at (layered_bytes self.now) pa len }
+        ensures fits { result < 2 ^ (8 * len) }
+        ensures small { (at : ℕ) → pa ≤ at → at < pa + len → layered_bytes self.now at < 256 }
     {
-        for number in image.pages().keys() {
-            if !self.same_page(other, *number) {
-                return false;
-            }
+        match self.block(pa / BLOCK_SIZE) {
+            Some(block) => number_of(block, pa, len),
+            None => image_number(self.image, pa, len),
         }
-        true
     }
 
-    /// Whether it has the bytes of another in each page of a table, by its first page.
-    fn same_table(&self, other: &Layered, first: u64) -> bool
-        ensures told { IsTrue result → (number : ℕ) → first_of number ≡ first
-            → IsSamePage self.now other.now number }
-        ensures same { layered_bytes self.now ≡ layered_bytes other.now → IsTrue result }
-    {
-        for k in 0..TABLE_PAGES {
-            if !self.same_page(other, first.wrapping_add(k)) {
-                return false;
-            }
-        }
-        true
-    }
-
-    /// Whether it has the bytes of another in a page.
-    fn same_page(&self, other: &Layered, number: u64) -> bool
-        ensures { Decides result (IsSamePage self.now other.now number) }
-    {
-        Page::same_bytes(self.page(number), other.page(number))
-    }
-
-    /// Makes a page its own, with the bytes that it has.
+    /// Makes a block its own, with the bytes that it has.
     fn own(&mut self, number: u64) -> Result<(), NoMemory>
         ensures bytes { layered_bytes self.new ≡ layered_bytes self.old }
-        ensures ok { OnOk result (IsTrue (owns self.new.pages number)) }
-        ensures owned { IsTrue (owns self.old.pages number) → IsOk result }
-        ensures keeps { (page : ℕ) → IsTrue (owns self.old.pages page)
-            → IsTrue (owns self.new.pages page) }
+        ensures ok { OnOk result (IsTrue (owns self.new number)) }
+        ensures owned { IsTrue (owns self.old number) → IsOk result }
+        ensures keeps { (block : ℕ) → IsTrue (owns self.old block) → IsTrue (owns self.new block) }
         ensures ram { layered_ram self.new ≡ layered_ram self.old }
     {
-        if self.pages.is_own(number) {
+        if self.written.block(number).is_some() {
             return Ok(());
         }
-        let page = match self.page(number) {
-            Some(page) => *page,
-            None => Page::zeros(),
-        };
-        self.pages
-            .set(self.alloc, number, Box::new(self.alloc, page)?)
+        let block = self.value(number);
+        self.written.set(number, block)
+    }
+
+    /// Puts the low `len` bytes of a number at an address, within a block of its own.
+    fn put(&mut self, pa: u64, len: u8, value: u64)
+        requires few { len ≤ 8 }
+        requires inside { pa + len ≤ 2 ^ 64 }
+        requires block { pa % BLOCK_SIZE + len ≤ BLOCK_SIZE }
+        requires owned { IsTrue (owns self.old (pa / BLOCK_SIZE)) }
+        ensures bytes { layered_bytes self.new ≡ stored pa len value (layered_bytes self.old) }
+        ensures keeps { (block : ℕ) → IsTrue (owns self.old block) → IsTrue (owns self.new block) }
+        ensures ram { layered_ram self.new ≡ layered_ram self.old }
+    {
+        self.written.put(pa, len, value);
     }
 }
 
-impl<'a> PhysMem for Layered<'a> {
-    ghost use Rattle.std.specs.Prelude.{IsTrue};
-    ghost use Rattle.page_layers.specs.Pages.{owns};
-    ghost use Rattle.page_layers.specs.Memories.{layered_bytes, layered_ram};
+/// The block of a number, as an image has it.
+fn image_block(image: &PageImage, number: u64) -> Block
+    ensures { (pa : ℕ) → pa / BLOCK_SIZE ≡ number → block_byte result pa ≡ byte_of image.now pa }
+{
+    match image.page(number / PAGE_BLOCKS) {
+        Some(page) => Block::of_page(page, number),
+        None => Block::zeros(),
+    }
+}
+
+/// The number of `len` bytes at an address, within a page, as an image has it.
+fn image_number(image: &PageImage, pa: u64, len: u8) -> u64
+    requires few { len ≤ 8 }
+    requires inside { pa + len < 2 ^ 64 }
+    requires page { pa % PAGE_SIZE + len ≤ PAGE_SIZE }
+    ensures value { result ≡ number_at (byte_of image.now) pa len }
+    ensures fits { result < 2 ^ (8 * len) }
+    ensures small { (at : ℕ) → pa ≤ at → at < pa + len → byte_of image.now at < 256 }
+{
+    match image.page(pa / PAGE_SIZE) {
+        Some(page) => page.number(pa, len),
+        None => 0,
+    }
+}
+
+/// Whether so many bytes at an address lie in one block.
+fn is_within_block(pa: u64, len: u8) -> bool
+    ensures { IsTrue result → pa % BLOCK_SIZE + len ≤ BLOCK_SIZE }
+{
+    pa % BLOCK_SIZE + u64::from(len) <= BLOCK_SIZE
+}
+
+impl<'a> ByteAt for Layered<'a> {
+    ghost use Rattle.page_layers.specs.Memories.{layered_bytes};
+
+    ghost bytes = { layered_bytes };
+
+    fn byte(&self, pa: u64) -> u8 {
+        match self.block(pa / BLOCK_SIZE) {
+            Some(block) => block.byte(pa),
+            None => self.image.byte(pa),
+        }
+    }
+}
+
+impl<'a> ByteMem for Layered<'a> {
+    ghost use Rattle.page_layers.specs.Memories.{OwnsPage, layered_bytes, layered_ram};
 
     ghost bytes = { layered_bytes };
 
     ghost ram = { layered_ram };
 
-    ghost is_ready = { λ mem page. IsTrue (owns mem.pages page) };
+    ghost admits = { OwnsPage };
+
+    fn admit(&mut self, pa: u64) -> Result<(), NoMemory> {
+        let first = pa / PAGE_SIZE * PAGE_BLOCKS;
+        for k in 0..PAGE_BLOCKS {
+            self.own(first + k)?;
+        }
+        Ok(())
+    }
+
+    fn set(&mut self, pa: u64, value: u8) {
+        self.put(pa, 1, u64::from(value));
+    }
+}
+
+impl<'a> PhysMem for Layered<'a> {
+    ghost use Rattle.page_layers.specs.Memories.{OwnsPage, layered_bytes, layered_ram};
+
+    ghost bytes = { layered_bytes };
+
+    ghost ram = { layered_ram };
+
+    ghost is_ready = { OwnsPage };
 
     fn read(&self, pa: u64, len: u8) -> u64 {
-        match self.page(pa / PAGE_SIZE) {
-            Some(page) => page.number(pa, len),
-            None => 0,
+        if is_within_block(pa, len) {
+            self.number(pa, len)
+        } else {
+            number_of(self, pa, len)
         }
     }
 
     fn write(&mut self, pa: u64, len: u8, value: u64) -> Result<(), NoMemory> {
-        if self.pages.put(pa, len, value) {
-            return Ok(());
+        if is_within_block(pa, len) {
+            self.own(pa / BLOCK_SIZE)?;
+            self.put(pa, len, value);
+        } else {
+            self.admit(pa)?;
+            put_number(self, pa, len, value);
         }
-        self.own(pa / PAGE_SIZE)?;
-        self.pages.put(pa, len, value);
         Ok(())
     }
 
     fn ready(&mut self, pa: u64) -> Result<(), NoMemory> {
-        self.own(pa / PAGE_SIZE)
+        self.admit(pa)
     }
 
     fn copy(&self) -> Result<Layered<'a>, NoMemory> {
+        let written = self.written.clone()?;
+        if written.len() <= MOST_WRITTEN {
+            return Ok(Layered {
+                alloc: self.alloc,
+                image: self.image,
+                layers: self.layers.clone()?,
+                written,
+            });
+        }
         Ok(Layered {
             alloc: self.alloc,
             image: self.image,
-            pages: self.pages.copy()?,
+            layers: layers_under(self.alloc, written, &self.layers)?,
+            written: Blocks::none(self.alloc),
         })
     }
 }

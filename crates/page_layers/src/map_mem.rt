@@ -1,6 +1,6 @@
 //! A plain memory over an ordered map, for tests.
 
-use crate::numbers::{ByteMem, number_of, put_number};
+use crate::numbers::{ByteAt, ByteMem, number_of, put_number};
 use hart_words::{NoMemory, PAGE_SIZE, PhysMem, Span};
 use std::alloc::Global;
 use std::collections::BTreeMap;
@@ -44,14 +44,10 @@ impl MapMem {
     }
 }
 
-impl ByteMem for MapMem {
-    ghost use Rattle.page_layers.specs.Memories.{map_bytes, HasPage};
+impl ByteAt for MapMem {
+    ghost use Rattle.page_layers.specs.Memories.{map_bytes};
 
     ghost bytes = { map_bytes };
-
-    ghost ram = { λ mem. mem.ram };
-
-    ghost admits = { HasPage };
 
     #[tactic(auto, unfolding(crate::specs::Memories::map_bytes))]
     fn byte(&self, pa: u64) -> u8 {
@@ -60,6 +56,16 @@ impl ByteMem for MapMem {
             None => 0,
         }
     }
+}
+
+impl ByteMem for MapMem {
+    ghost use Rattle.page_layers.specs.Memories.{map_bytes, HasPage};
+
+    ghost bytes = { map_bytes };
+
+    ghost ram = { λ mem. mem.ram };
+
+    ghost admits = { HasPage };
 
     fn admit(&mut self, pa: u64) -> Result<(), NoMemory> {
         let first = pa - pa % PAGE_SIZE;

@@ -6,6 +6,16 @@ ghost use Rattle.hart_words.specs.Memory.{Bytes, number_at, stored};
 
 use hart_words::{NoMemory, PAGE_SIZE};
 
+/// What has a byte at each address.
+pub trait ByteAt {
+    /// The byte at each address.
+    ghost bytes: { Self → Bytes };
+
+    /// The byte at an address.
+    fn byte(&self, pa: u64) -> u8
+        ensures { result ≡ bytes self.now pa };
+}
+
 /// A memory of single bytes that admits writes by pages of 4,096 bytes.
 pub trait ByteMem {
     /// The byte at each address.
@@ -16,10 +26,6 @@ pub trait ByteMem {
 
     /// The addresses that are RAM. No call changes them.
     ghost ram: { Self → Span };
-
-    /// The byte at an address.
-    fn byte(&self, pa: u64) -> u8
-        ensures { result ≡ bytes self.now pa };
 
     /// Takes what memory the page of an address needs.
     fn admit(&mut self, pa: u64) -> Result<(), NoMemory>
@@ -38,18 +44,18 @@ pub trait ByteMem {
 }
 
 /// The number of `len` bytes at an address.
-pub fn number_of<M: ByteMem>(mem: &M, pa: u64, len: u8) -> u64
+pub fn number_of<B: ByteAt>(bytes: &B, pa: u64, len: u8) -> u64
     requires few { len ≤ 8 }
     requires inside { pa + len < 2 ^ 64 }
-    ensures value { result ≡ number_at (M.bytes mem.now) pa len }
+    ensures value { result ≡ number_at (B.bytes bytes.now) pa len }
     ensures fits { result < 2 ^ (8 * len) }
-    ensures small { (at : ℕ) → pa ≤ at → at < pa + len → M.bytes mem.now at < 256 }
+    ensures small { (at : ℕ) → pa ≤ at → at < pa + len → B.bytes bytes.now at < 256 }
 {
     let mut number = 0;
     let mut k = u64::from(len);
     while k > 0 {
         k -= 1;
-        number = number * 256 + u64::from(mem.byte(pa + k));
+        number = number * 256 + u64::from(bytes.byte(pa + k));
     }
     number
 }

@@ -1,4 +1,4 @@
-ghost use Rattle.std.specs.Prelude.{◌≡◌, IsTrue};
+ghost use Rattle.std.specs.Prelude.{◌≡◌, ◌<◌, IsTrue};
 ghost use Rattle.hart_words.specs.Memory.{IsPlace};
 
 use super::*;
@@ -244,5 +244,71 @@ fn compares_bytes(rt: HostRuntime) -> Result<(), Fail> {
     assert!(&rt; !mem.same_as(&own));
     write_all(&rt, &mut own, &ram, &[(0x8000_1fff, 1, 0)])?;
     assert!(&rt; own.same_as(&mem));
+    Ok(())
+}
+
+/// Writes a number into each of 1,100 blocks of 2 MiB, other ones in each round, and keeps what
+/// stands at the front of each of its 32,768 blocks.
+fn write_round<M: PhysMem>(
+    rt: &impl Abort,
+    mem: &mut M,
+    ram: &Span,
+    fronts: &mut [u64],
+    round: u64,
+) -> Result<(), Fail>
+    requires ram { M.ram mem.old ≡ ram.now }
+    requires few { round < 100 }
+    ensures { M.ram mem.new ≡ M.ram mem.old }
+{
+    for k in 0..1100_u64 {
+        let number = (round * 900 + k * 7) % 0x8000;
+        let pa = 0x8000_0000 + number * 64;
+        assert!(rt; is_place(ram, pa, 8));
+        mem.write(pa, 8, round * 10_000 + k + 1)?;
+        if let Some(front) = fronts.get_mut(number as usize) {
+            *front = round * 10_000 + k + 1;
+        }
+    }
+    Ok(())
+}
+
+/// The blocks begin so.
+fn begins<M: PhysMem>(rt: &impl Abort, mem: &M, ram: &Span, fronts: &[u64])
+    requires { M.ram mem.now ≡ ram.now }
+{
+    for number in 0..0x8000_u64 {
+        let pa = 0x8000_0000 + number * 64;
+        assert!(rt; is_place(ram, pa, 8));
+        assert_eq!(rt;
+            Some(mem.read(pa, 8)),
+            fronts.get(number as usize).copied(),
+            "at {pa}"
+        );
+    }
+}
+
+/// So many blocks that copies put them into layers, and layers into larger ones.
+#[test]
+fn layers_hold_many_blocks(rt: HostRuntime) -> Result<(), Fail> {
+    let ram = Span::new(0x8000_0000, 0x20_0000).ok_or("no range")?;
+    let nothing = read_image(rt.alloc(), b"", ram)?;
+    let image = PageImage::build(rt.alloc(), &nothing, ram)?;
+    let mut mem = Layered::over(rt.alloc(), &image);
+    let mut fronts = Vec::new(rt.alloc());
+    for _number in 0..0x8000 {
+        fronts.push(0)?;
+    }
+    for round in 0..12_u64 {
+        write_round(&rt, &mut mem, &ram, &mut fronts, round)?;
+        begins(&rt, &mem, &ram, &fronts);
+        let kept = mem.copy()?;
+        let mut later = fronts.clone()?;
+        write_round(&rt, &mut mem, &ram, &mut later, round + 20)?;
+        begins(&rt, &kept, &ram, &fronts);
+        begins(&rt, &mem, &ram, &later);
+        assert!(&rt; !mem.same_as(&kept));
+        mem = kept.copy()?;
+        assert!(&rt; mem.same_as(&kept));
+    }
     Ok(())
 }

@@ -24,7 +24,7 @@ overflow_add-number g c =
 pub loop-k-preserved : goal.loop-k-preserved
 loop-k-preserved g c =
     let byte : c.from.result < 256 = omega (arith, c.byte.type_inv) in
-    let bytes = g.M.ByteMem.bytes c.args.mem.now in
+    let bytes = g.B.ByteAt.bytes c.args.bytes.now in
     let place : c.args.pa + (c.loop-k.k - 1) + 1 ≡ c.args.pa + c.loop-k.k = omega arith in
     let left : c.args.len - (c.loop-k.k - 1) ≡ c.args.len - c.loop-k.k + 1 = omega arith in
     let more = number_at-more (c.args.pa + (c.loop-k.k - 1)) (c.args.len - c.loop-k.k) (c.args.len - (c.loop-k.k - 1)) bytes left in

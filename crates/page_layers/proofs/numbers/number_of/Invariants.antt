@@ -5,10 +5,10 @@ use Rattle.page_layers.proofs.numbers.number_of.Given as goal
 -- the bytes from the k-th on were read
 abbrev pub invariant-loop-k : goal.invariant-loop-k
 invariant-loop-k g l = record {
-  number : l.number ≡ number_at (g.M.ByteMem.bytes l.mem) (l.pa + l.k) (l.len - l.k);
+  number : l.number ≡ number_at (g.B.ByteAt.bytes l.bytes) (l.pa + l.k) (l.len - l.k);
   small : l.number < 256 ^ (l.len - l.k);
   within : l.k ≤ l.len;
-  each : (at : ℕ) → l.pa + l.k ≤ at → at < l.pa + l.len → g.M.ByteMem.bytes l.mem at < 256;
+  each : (at : ℕ) → l.pa + l.k ≤ at → at < l.pa + l.len → g.B.ByteAt.bytes l.bytes at < 256;
 }
 
 abbrev pub decreases-loop-k : goal.decreases-loop-k

@@ -1,0 +1,14 @@
+use Rattle.std.proofs.Common.{◌≡◌, ◌⊎◌, ℕ, true, is_some}
+use Rattle.std.specs.Prelude.{nat_eq}
+use Rattle.std.specs.Set.{is_member}
+use Rattle.page_layers.specs.Blocks.{block_at}
+use Rattle.page_layers.specs.Memories.{IsSameBlock}
+use Rattle.page_layers.proofs.layered.Layered.same_in_blocks.Given as goal
+
+-- what is no more to be looked at is the same
+abbrev pub invariant-loop-number : goal.invariant-loop-number
+invariant-loop-number l = record {
+  can_go : (goal.iterator-loop-number).can_next l.number-iterator;
+  ends : (goal.iterator-loop-number).is_finite l.number-iterator;
+  done : (q : ℕ) → is_some (block_at l.blocks q) ≡ true → (is_member nat_eq l.number-iterator q ≡ true) ⊎ IsSameBlock l.self l.other q;
+}
