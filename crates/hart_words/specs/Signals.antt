@@ -71,6 +71,11 @@ index_of MemPaddr = 20
 index_of Halt = 21
 index_of (Csr csr side) = 22 + 4 * csr_index_of csr + side_index_of side
 
+-- the same, but for a register where the registers begin
+abbrev pub plain_index_of : Signal → ℕ
+plain_index_of (Csr csr side) = 22
+plain_index_of signal = index_of signal
+
 -- the signal's line in the table
 unfoldable pub signal_entry_of : Signal → Option SignalEntry
 signal_entry_of signal = slice_get SIGNALS (index_of signal)

@@ -1,5 +1,5 @@
 -- The bytes of an image under blocks and layers.
-use Rattle.std.proofs.Common.{◌≡◌, ℕ, ◌/◌, true, Bool, Option, Some, None, option_map, unwrap_or, List, [], refl, sym, ap, ◌∙◌, if◌then◌else◌}
+use Rattle.std.proofs.Common.{◌≡◌, ℕ, ◌/◌, true, false, Bool, Option, Some, None, option_map, unwrap_or, List, [], refl, sym, ap, ◌∙◌, if◌then◌else◌}
 use Rattle.std.specs.Option.{option_or}
 use Rattle.std.proofs.Math.Path.{fun_ext}
 use Rattle.hart_words.specs.Memory.{Bytes, stored}
@@ -35,13 +35,17 @@ two_bases pa base (Some block) below = refl
 written_over : (written : Blocks) (layers : List Layer) (image : PageImage) → bytes_under written layers image ≡ over (bytes_in (block_at written)) (over (bytes_in (block_among layers)) (byte_of image))
 written_over written layers image = fun_ext (λ pa. two_bases pa (byte_of image pa) (block_at written (pa / 64)) (block_among layers (pa / 64)))
 
-pub put_under : (before after : Blocks) (layers : List Layer) (image : PageImage) (done : Bool) (pa len value : ℕ) → done ≡ true
+over_same : (before after : Blocks) (layers : List Layer) (image : PageImage) → over (bytes_in (block_at after)) (over (bytes_in (block_among layers)) (byte_of image)) ≡ over (bytes_in (block_at before)) (over (bytes_in (block_among layers)) (byte_of image)) → bytes_under after layers image ≡ bytes_under before layers image
+over_same before after layers image same = written_over after layers image ∙ same ∙ sym (written_over before layers image)
+
+over_stored : (before after : Blocks) (layers : List Layer) (image : PageImage) (pa len value : ℕ) → over (bytes_in (block_at after)) (over (bytes_in (block_among layers)) (byte_of image)) ≡ stored pa len value (over (bytes_in (block_at before)) (over (bytes_in (block_among layers)) (byte_of image))) → bytes_under after layers image ≡ stored pa len value (bytes_under before layers image)
+over_stored before after layers image pa len value put = written_over after layers image ∙ put ∙ ap (stored pa len value) (sym (written_over before layers image))
+
+pub put_under : (before after : Blocks) (layers : List Layer) (image : PageImage) (done : Bool) (pa len value : ℕ)
     → ((base : Bytes) → over (bytes_in (block_at after)) base ≡ (if done then stored pa len value (over (bytes_in (block_at before)) base) else over (bytes_in (block_at before)) base))
-    → bytes_under after layers image ≡ stored pa len value (bytes_under before layers image)
-put_under before after layers image done pa len value is puts =
-    let base = over (bytes_in (block_among layers)) (byte_of image) in
-    let put : over (bytes_in (block_at after)) base ≡ stored pa len value (over (bytes_in (block_at before)) base) = rw is at (puts base) in
-    written_over after layers image ∙ put ∙ ap (stored pa len value) (sym (written_over before layers image))
+    → bytes_under after layers image ≡ (if done then stored pa len value (bytes_under before layers image) else bytes_under before layers image)
+put_under before after layers image true pa len value puts = over_stored before after layers image pa len value (puts _)
+put_under before after layers image false pa len value puts = over_same before after layers image (puts _)
 
 -- memories whose blocks are the same have the same bytes
 pub same_under : (one other : Blocks) (layers others : List Layer) (image : PageImage) → ((number : ℕ) → newest_block other others number ≡ newest_block one layers number) → bytes_under other others image ≡ bytes_under one layers image

@@ -30,7 +30,7 @@ pub struct Layered<'a> {
 }
 
 impl<'a> Layered<'a> {
-    ghost use Rattle.std.specs.Prelude.{◌≡◌, ◌⊎◌, IsOk, OnOk, option_copied};
+    ghost use Rattle.std.specs.Prelude.{◌≡◌, ◌⊎◌, IsOk, OnOk, if◌then◌else◌, option_copied};
     ghost use Rattle.std.specs.Bool.{Decides};
     ghost use Rattle.hart_words.specs.Memory.{stored};
     ghost use Rattle.page_layers.specs.declared.block.TheConstants.{BLOCK_SIZE};
@@ -101,17 +101,20 @@ impl<'a> Layered<'a> {
         self.written.set(number, block)
     }
 
-    /// Puts the low `len` bytes of a number at an address, within a block of its own.
-    fn put(&mut self, pa: u64, len: u8, value: u64)
+    /// Puts the low `len` bytes of a number at an address, within a block of its own. Where it has
+    /// no such block nothing changes.
+    fn put(&mut self, pa: u64, len: u8, value: u64) -> bool
         requires few { len ≤ 8 }
         requires inside { pa + len ≤ 2 ^ 64 }
         requires block { pa % BLOCK_SIZE + len ≤ BLOCK_SIZE }
-        requires owned { IsTrue (owns self.old (pa / BLOCK_SIZE)) }
-        ensures bytes { layered_bytes self.new ≡ stored pa len value (layered_bytes self.old) }
-        ensures keeps { (block : ℕ) → IsTrue (owns self.old block) → IsTrue (owns self.new block) }
+        ensures owned { result ≡ owns self.old (pa / BLOCK_SIZE) }
+        ensures bytes { layered_bytes self.new ≡ (if result
+            then stored pa len value (layered_bytes self.old)
+            else layered_bytes self.old) }
+        ensures keeps { (block : ℕ) → owns self.new block ≡ owns self.old block }
         ensures ram { layered_ram self.new ≡ layered_ram self.old }
     {
-        self.written.put(pa, len, value);
+        self.written.put(pa, len, value)
     }
 }
 
@@ -201,8 +204,11 @@ impl<'a> PhysMem for Layered<'a> {
 
     fn write(&mut self, pa: u64, len: u8, value: u64) -> Result<(), NoMemory> {
         if is_within_block(pa, len) {
-            self.own(pa / BLOCK_SIZE)?;
-            self.put(pa, len, value);
+            // Most stores find a block that is owned, and look it up once.
+            if !self.put(pa, len, value) {
+                self.own(pa / BLOCK_SIZE)?;
+                self.put(pa, len, value);
+            }
         } else {
             self.admit(pa)?;
             put_number(self, pa, len, value);

@@ -82,8 +82,9 @@ impl<M: PhysMem + Drop> Progress<M> {
         ensures rows { IfOk result (λ end. IfNone end (self.new.rows ≡ self.old.rows + 1)) }
         ensures valid { IfOk result (λ end. self.new.valid ≤ self.new.rows) }
     {
-        // What a step gives is large, and `?` would move it once more.
-        let stepped = match self.hart.step(row) {
+        // What a step gives is large, so it is looked at where it lies.
+        let stepped = self.hart.step(row);
+        let stepped = match &stepped {
             Err(NoMemory) => return Err(NoMemory),
             Ok(stepped) => stepped,
         };
