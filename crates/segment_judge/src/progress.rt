@@ -83,8 +83,8 @@ impl<M: PhysMem + Drop> Progress<M> {
         ensures valid { IfOk result (λ end. self.new.valid ≤ self.new.rows) }
     {
         // What a step gives is large, so it is looked at where it lies.
-        let stepped = self.hart.step(row);
-        let stepped = match &stepped {
+        let done = self.hart.step(row);
+        let stepped = match &done {
             Err(NoMemory) => return Err(NoMemory),
             Ok(stepped) => stepped,
         };
