@@ -7,5 +7,4 @@ pub mod Written
 pub mod Runs
 pub mod AnyEvents
 pub mod Settled
-pub mod Parted
 pub mod MadeAnswers

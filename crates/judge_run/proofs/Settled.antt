@@ -40,7 +40,7 @@ use Rattle.judge_run.specs.declared.tally.Tally.{Tally}
 use Rattle.judge_run.specs.declared.tally.Behind.{Behind}
 use Rattle.judge_run.specs.declared.tally.Behind.TheVariants.{On, Ends}
 use Rattle.judge_run.specs.Events.{AreLeft}
-use Rattle.judge_run.specs.Settling.{IsPartOver, IsRoundOver, IsTallied, LeadsBy, SettlesInRounds, behind}
+use Rattle.judge_run.specs.Settling.{IsPartOver, IsRoundOver, IsSettled, IsTallied, LeadsBy, SettlesInRounds, behind}
 
 -- ---- a round in code is one of the definitions
 
@@ -261,6 +261,16 @@ pub left_round : {M : Type 0} (bytes_of : M → Bytes) (ram_of : M → Span) (co
 left_round bytes_of ram_of columns segments settled start round left over =
     let dropped = length-drop settled segments in
     part_of_round bytes_of ram_of columns (drop settled segments) start round (omega (arith, dropped, left)) over
+
+-- what is promised of segments that were settled, in one
+pub settled_are : {M E : Type 0} (bytes_of : M → Bytes) (ram_of : M → Span) (columns : ColumnList) (segments : List Segment) (start : HartState) (result : Result (JoinedSegments M) E)
+    → IfOk result (λ joined. joined.verdict ≡ (conclusion_from by_hart start (rows_of columns (flat_map lines_of segments))).verdict)
+    → IfOk result (λ joined. option_map (state_of bytes_of) joined.end ≡ (conclusion_from by_hart start (rows_of columns (flat_map lines_of segments))).end)
+    → IfOk result (λ joined. IfSome joined.end (CanStep ram_of)) → IfOk result (λ joined. joined.rejudged ≤ length segments)
+    → (HoldsWords start → ShowChanges (rows_of columns (flat_map lines_of segments)) → IfOk result (λ joined. joined.rejudged ≡ 0))
+    → IfOk result (IsSettled bytes_of ram_of columns segments start)
+settled_are bytes_of ram_of columns segments start (Ok joined) verdict end can_step again once = record { verdict = verdict; end = end; can_step = can_step; again = again; once = once }
+settled_are bytes_of ram_of columns segments start (Err error) verdict end can_step again once = tt
 
 -- a part counts no more rows than its segments have lines
 pub part_within : {M : Type 0} (bytes_of : M → Bytes) (ram_of : M → Span) (columns : ColumnList) (segments : List Segment) (start : HartState) (round : Round M) → IsPartOver bytes_of ram_of columns segments start round → IsWithinRows (length (flat_map lines_of (take round.settled segments))) round.verdict

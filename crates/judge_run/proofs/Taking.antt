@@ -1,5 +1,5 @@
--- Lines that are taken for a window, segment by segment.
-use Rattle.std.proofs.Common.{◌≡◌, ℕ, ◌+◌, ◌-◌, ◌*◌, ◌<◌, ◌≤◌, Bool, true, false, List, [], ◌∷◌, ◌++◌, length, take, drop, nat_le, if◌then◌else◌, Option, Some, None, IsSome, refl, sym, ap, ap₂, subst, ◌∙◌, arith, append-nil, string_bytes, take-add}
+-- Lines that are taken, segment by segment.
+use Rattle.std.proofs.Common.{◌≡◌, ℕ, zero, suc, ◌+◌, ◌-◌, ◌*◌, ◌<◌, ◌≤◌, Bool, true, false, List, [], ◌∷◌, ◌++◌, length, take, drop, nat_le, if◌then◌else◌, Option, Some, None, IsSome, Result, Ok, Err, IfOk, refl, sym, ap, ap₂, subst, ◌∙◌, arith, append-nil, string_bytes, take-add}
 use Rattle.std.specs.List.{flat_map}
 use Rattle.std.proofs.lemmas.Bool.{leb-true, leb-false, le-leb}
 use Rattle.std.proofs.Math.Nat.{add-mul}
@@ -15,8 +15,9 @@ use Rattle.trace_lines.specs.declared.line_taker.LineTaker.{LineTaker}
 use Rattle.trace_lines.specs.declared.piece.Piece.{Piece}
 use Rattle.trace_lines.specs.Lines.{Left}
 use Rattle.trace_lines.specs.Pieces.{FitsAsked, FitsEnding, back_of, front_of}
-use Rattle.trace_lines.specs.Takers.{TakesTold, left_of}
-use Rattle.judge_run.specs.Taking.{TakesLines, TakesLinesTold, TakesSoFar, TakesSoFarTold}
+use Rattle.trace_lines.specs.Takers.{TakesTold, left_of, room_of}
+use Rattle.judge_run.specs.declared.window.Asked.{Asked}
+use Rattle.judge_run.specs.Taking.{IsTaken, TakesBehindTold, TakesLines, TakesLinesTold, TakesSoFar, TakesSoFarTold, behind_ending, left_with, more_turns}
 
 -- before any call
 pub none_taken : (file : Option (List ℕ)) (taker : LineTaker) → TakesSoFarTold file 0 taker [] taker
@@ -82,7 +83,7 @@ take_on_told (Some file) first next before middle after lines piece taken takes 
     let front = ap (λ ending. record { lines = piece.lines; ending = ending }) (sym more) ∙ takes.taken in
     take_on file first next before middle after lines piece.lines taken front takes.left takes.name count
 
--- as many as a window has
+-- as many as were asked for
 front_whole : (asked : ℕ) (left : Left) → asked ≤ length left.lines → record { lines = take asked left.lines; ending = endings.More } ≡ front_of asked left
 unfolding front_of
 front_whole asked left enough = let some : nat_le asked (length left.lines) ≡ true = le-leb _ _ enough in rw some refl
@@ -95,7 +96,7 @@ takes_whole (Some file) asked before after lines taken = record {
   name = taken.name;
 }
 
--- a call with fewer lines than were asked for ends the window
+-- a call with fewer lines than were asked for is the last
 front_fewer : (asked : ℕ) (left : Left) → length left.lines < asked → left ≡ front_of asked left
 unfolding front_of
 front_fewer asked left fewer = let none : nat_le asked (length left.lines) ≡ false = not_enough (nat_le asked (length left.lines)) refl in rw none refl
@@ -163,15 +164,15 @@ pub one_segment_more : (segments : List Segment) (segment : Segment) → flat_ma
 one_segment_more segments segment =
     flat_map-append lines_of segments (segment ∷ []) ∙ ap (λ rest. flat_map lines_of segments ++ rest) (flat_map-cons lines_of segment [] ∙ append-nil segment.lines)
 
--- one segment more than so many, which are fewer than a window has
+-- one segment more than so many, which are fewer than were asked for
 pub next_lines_are : (count segment : ℕ) → (count + 1) * segment ≡ count * segment + segment
 next_lines_are count segment =
     let one : 1 * segment ≡ segment = omega arith in
     add-mul count 1 segment ∙ ap (λ more. count * segment + more) one
 
-pub next_within : (count window segment : ℕ) → count < window → count * segment + segment ≤ window * segment
-next_within count window segment fewer =
-    let whole : (count + 1) * segment ≤ window * segment = mul-le (count + 1) segment window segment (omega (arith, fewer)) (omega arith) in
+pub next_within : (count asked segment : ℕ) → count < asked → count * segment + segment ≤ asked * segment
+next_within count asked segment fewer =
+    let whole : (count + 1) * segment ≤ asked * segment = mul-le (count + 1) segment asked segment (omega (arith, fewer)) (omega arith) in
     let next = next_lines_are count segment in
     omega (arith, whole, next)
 
@@ -181,3 +182,100 @@ begins file taker segment items none = let nothing : 0 * segment ≡ 0 = omega a
 
 pub no_lines : (segment : ℕ) (items : List Segment) → items ≡ [] → length (flat_map lines_of items) ≡ 0 * segment
 no_lines segment items none = let nothing : 0 * segment ≡ 0 = omega arith in rw (none, nothing) refl
+
+-- ---- what was taken, with what is left behind it, is what was left
+
+front_and_back : (asked : ℕ) (left : Left) (lines : List (List ℕ)) → lines ≡ take asked left.lines → left_with lines (back_of asked left) ≡ left
+unfolding back_of
+front_and_back asked left lines is =
+    ap (λ text. record { lines = text; ending = left.ending }) (ap (λ text. text ++ drop asked left.lines) is ∙ take-append-drop asked left.lines)
+
+all_and_none : (left : Left) (lines : List (List ℕ)) (ending : Ending) → record { lines = lines; ending = ending } ≡ left → left_with lines (record { lines = []; ending = ending }) ≡ left
+all_and_none left lines ending is = ap (λ text. record { lines = text; ending = ending }) (append-nil lines) ∙ is
+
+taken_is_left : (file : List ℕ) (asked : ℕ) (before after : LineTaker) (lines : List (List ℕ)) (ending : Ending) → TakesLines file asked before lines ending after → FitsEnding ending asked (length lines) → left_with lines (behind_ending ending (left_of file after)) ≡ left_of file before
+taken_is_left file asked before after lines endings.More takes fits =
+    let left = left_of file before in
+    ap (left_with lines) (takes.left refl) ∙ front_and_back asked left lines (front_more asked left lines takes.taken fits).1
+taken_is_left file asked before after lines endings.End takes fits =
+    all_and_none (left_of file before) lines endings.End (front_last asked (left_of file before) (record { lines = lines; ending = endings.End }) takes.taken fits)
+taken_is_left file asked before after lines (endings.TooLong line) takes fits =
+    all_and_none (left_of file before) lines (endings.TooLong line) (front_last asked (left_of file before) (record { lines = lines; ending = endings.TooLong line }) takes.taken fits)
+taken_is_left file asked before after lines endings.TooLarge takes fits =
+    all_and_none (left_of file before) lines endings.TooLarge (front_last asked (left_of file before) (record { lines = lines; ending = endings.TooLarge }) takes.taken fits)
+
+pub taken_behind : (file : Option (List ℕ)) (asked : ℕ) (ending : Ending) (before after : LineTaker) (lines : List (List ℕ)) (now : Ending) → ending ≡ endings.More → TakesLinesTold file asked before lines now after → FitsEnding now asked (length lines) → TakesBehindTold file ending before lines now after
+taken_behind None asked ending before after lines now more takes fits = tt
+taken_behind (Some file) asked ending before after lines now more takes fits = record {
+  left = taken_is_left file asked before after lines now takes fits ∙ ap (λ ending. behind_ending ending (left_of file before)) (sym more);
+  name = takes.name;
+}
+
+-- the same of a result
+pub result_behind : {A E : Type 0} (text : A → List (List ℕ)) (now : A → Ending) (after : A → LineTaker) (file : Option (List ℕ)) (asked : ℕ) (ending : Ending) (before : LineTaker) (result : Result A E) → ending ≡ endings.More
+    → IfOk result (λ taken. TakesLinesTold file asked before (text taken) (now taken) (after taken)) → IfOk result (λ taken. FitsEnding (now taken) asked (length (text taken)))
+    → IfOk result (λ taken. TakesBehindTold file ending before (text taken) (now taken) (after taken))
+result_behind text now after file asked ending before (Ok taken) more takes fits = taken_behind file asked ending before (after taken) (text taken) (now taken) more takes fits
+result_behind text now after file asked ending before (Err error) more takes fits = tt
+
+pub none_behind : (file : Option (List ℕ)) (ending : Ending) (taker : LineTaker) (lines : List (List ℕ)) → lines ≡ [] → TakesBehindTold file ending taker lines ending taker
+none_behind None ending taker lines none = tt
+none_behind (Some file) ending taker lines none = record {
+  left = ap (λ text. left_with text (behind_ending ending (left_of file taker))) none;
+  name = refl;
+}
+
+-- ---- how many segments
+
+-- where more may follow, some are there
+some_lines : (asked segment : ℕ) → 0 < asked → 0 < segment → 0 < asked * segment
+some_lines (suc asked) (suc segment) one other = omega arith
+some_lines zero segment one other = absurd (omega (arith, one))
+some_lines (suc asked) zero one other = absurd (omega (arith, other))
+
+pub some_taken : (asked segment : ℕ) (ending : Ending) (segments : List Segment) → 0 < asked → 0 < segment → FitsEnding ending (asked * segment) (length (flat_map lines_of segments)) → more_turns ending ≤ length segments
+some_taken asked segment endings.More [] some lines fits = let all = some_lines asked segment some lines in absurd (omega (arith, all, fits))
+some_taken asked segment endings.More (one ∷ segments) some lines fits = omega arith
+some_taken asked segment endings.End segments some lines fits = omega arith
+some_taken asked segment (endings.TooLong line) segments some lines fits = omega arith
+some_taken asked segment endings.TooLarge segments some lines fits = omega arith
+
+pub few_turns : (ending : Ending) → more_turns ending ≤ 1
+few_turns endings.More = omega arith
+few_turns endings.End = omega arith
+few_turns (endings.TooLong line) = omega arith
+few_turns endings.TooLarge = omega arith
+
+pub no_turns : (ending : Ending) → (ending ≡ endings.More → ⊥) → more_turns ending ≡ 0
+no_turns endings.More last = absurd (last refl)
+no_turns endings.End last = refl
+no_turns (endings.TooLong line) last = refl
+no_turns endings.TooLarge last = refl
+
+-- what is promised of segments that were taken, in one
+pub taken_are : {A E : Type 0} (segments : A → List Segment) (now : A → Ending) (after : A → LineTaker) (asked : Asked) (segment : ℕ) (before : LineTaker) (result : Result A E) → 0 < segment → asked.ending ≡ endings.More
+    → IfOk result (λ taken. FitsEnding (now taken) (asked.segments * segment) (length (flat_map lines_of (segments taken))))
+    → IfOk result (λ taken. length (segments taken) ≤ asked.segments) → IfOk result (λ taken. length (segments taken) ≤ length (flat_map lines_of (segments taken)))
+    → IfOk result (λ taken. length (flat_map lines_of (segments taken)) + room_of (after taken) ≤ room_of before)
+    → IfOk result (λ taken. IsTaken asked before (segments taken) (now taken) (after taken))
+taken_are segments now after asked segment before (Ok taken) one more fits few full room = record {
+  few = few;
+  full = full;
+  room = room;
+  ending = let most = few_turns (now taken) in let turns : more_turns asked.ending ≡ 1 = ap more_turns more in omega (arith, most, turns);
+  some = λ some. some_taken asked.segments segment (now taken) (segments taken) some one fits;
+}
+taken_are segments now after asked segment before (Err error) one more fits few full room = tt
+
+pub none_are : (asked : Asked) (taker : LineTaker) (segments : List Segment) → segments ≡ [] → (asked.ending ≡ endings.More → ⊥) → IsTaken asked taker segments asked.ending taker
+none_are asked taker segments none last =
+    let no : length segments ≡ 0 = ap length none in
+    let lines : length (flat_map lines_of segments) ≡ 0 = ap (λ segments. length (flat_map lines_of segments)) none in
+    let turns = no_turns asked.ending last in
+    record {
+      few = omega (arith, no);
+      full = omega (arith, no);
+      room = omega (arith, lines);
+      ending = omega arith;
+      some = λ some. omega (arith, turns);
+    }

@@ -1,5 +1,5 @@
 -- Segments settled in rounds.
-use Rattle.std.specs.Prelude.{◌≡◌, ℕ, ◌+◌, ◌^◌, ◌<◌, ◌≤◌, List, drop, length, map, take, Option, Some, None, option_map, IfSome, Vec}
+use Rattle.std.specs.Prelude.{◌≡◌, ℕ, ◌+◌, ◌<◌, ◌≤◌, List, drop, length, map, take, Option, Some, None, option_map, IfSome, Vec}
 use Rattle.std.specs.Global.{Global}
 use Rattle.std.specs.List.{All, flat_map}
 use Rattle.hart_words.specs.declared.span.Span.{Span}
@@ -77,26 +77,18 @@ pub record IsPartOver {M : Type 0} (bytes_of : M → Bytes) (ram_of : M → Span
   pub end : option_map (state_of bytes_of) part.end ≡ (conclusion_from by_hart start (rows_of columns (flat_map lines_of (take part.settled segments)))).end
   pub can_step : IfSome part.end (CanStep ram_of)
 
--- a part of so many segments leads on from what was settled; where its rows show what they change, none of it is judged again
-pub record LeadsByPart {M : Type 0} (bytes_of : M → Bytes) (ram_of : M → Span) (columns : ColumnList) (count : ℕ) (left : List Segment) (settling : Settling M) (next : Behind M) : Type 0 where
-  pub part : Round M
-  pub whole : part.settled ≡ count
-  pub over : IsPartOver bytes_of ram_of columns left (state_of bytes_of settling.hart) part
-  pub none : HoldsWords (state_of bytes_of settling.hart)
-      → ShowChanges (rows_of columns (flat_map lines_of (take part.settled left))) → part.rejudged ≡ 0
-  pub leads : next ≡ behind settling.tally part
+-- what all of the segments come to; where their rows show what they change, none is judged again
+pub record IsSettled {M : Type 0} (bytes_of : M → Bytes) (ram_of : M → Span) (columns : ColumnList) (segments : List Segment) (start : HartState) (joined : JoinedSegments M) : Type 0 where
+  pub verdict : joined.verdict ≡ (conclusion_from by_hart start (rows_of columns (flat_map lines_of segments))).verdict
+  pub end : option_map (state_of bytes_of) joined.end ≡ (conclusion_from by_hart start (rows_of columns (flat_map lines_of segments))).end
+  pub can_step : IfSome joined.end (CanStep ram_of)
+  pub again : joined.rejudged ≤ length segments
+  pub once : HoldsWords start → ShowChanges (rows_of columns (flat_map lines_of segments)) → joined.rejudged ≡ 0
 
 -- segments were read under these columns, and have the lines of others
 pub record IsReadPart (columns : Columns) (others : List Segment) (part : Vec Segment Global) : Type 0 where
   pub read : All (IsRead columns) part.items
   pub lines : map lines_of part.items ≡ map lines_of others
-
--- what was counted leaves room for segments more
-pub record HasRoom (tally : Tally) (segments : List Segment) : Type 0 where
-  pub valid : tally.valid ≤ tally.rows
-  pub rows : tally.rows + length (flat_map lines_of segments) < 2 ^ 60
-  pub settled : tally.settled + length segments < 2 ^ 32
-  pub again : tally.rejudged ≤ tally.settled
 
 -- a round leads on from what was settled
 pub record LeadsBy {M : Type 0} (bytes_of : M → Bytes) (ram_of : M → Span) (columns : ColumnList) (segments : List Segment) (settling : Settling M) (next : Behind M) : Type 0 where

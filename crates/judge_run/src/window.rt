@@ -1,4 +1,4 @@
-//! Taking the rows of a window.
+//! Taking rows of a trace.
 
 ghost use Rattle.std.specs.Prelude.{◌≡◌, ◌≤◌, ◌+◌, ◌++◌, Decides, IfOk, IfErr, OnOk, false, length, string_bytes};
 ghost use Rattle.std.specs.List.{flat_map};
@@ -10,7 +10,7 @@ ghost use Rattle.trace_lines.specs.Errors.{is_read_fault};
 ghost use Rattle.trace_lines.specs.Pieces.{FitsEnding};
 ghost use Rattle.trace_lines.specs.declared.piece.Ending.TheVariants.{More};
 ghost use Rattle.trace_lines.specs.Takers.{room_of};
-ghost use Rattle.judge_run.specs.Taking.{TakesLinesTold, lines_in, window_lines};
+ghost use Rattle.judge_run.specs.Taking.{IsTaken, TakesBehindTold, TakesLinesTold, lines_asked, lines_in};
 
 use judge_words::Job;
 use line_text::Lines;
@@ -19,18 +19,25 @@ use rvfi_rows::Segment;
 use std::alloc::Global;
 use trace_lines::{Ending, LineError, LineTaker, Piece};
 
-/// The rows that are held at once, in segments of which none is empty, and what follows them.
+/// Rows that were taken at once, in segments of which none is empty, and what follows them.
 #[derive(Drop)]
 pub(crate) struct Window {
     pub segments: Vec<Segment>,
     pub ending: Ending,
 }
 
-/// Takes the next window: as many segments as it has, each of as many lines, or all that is left
-/// where that is less.
-pub fn take_window<H: Shelf>(
+/// What is asked for: so many segments, behind lines that end so.
+#[derive(Clone, Copy)]
+pub(crate) struct Asked {
+    pub segments: usize,
+    pub ending: Ending,
+}
+
+/// Takes the segments that are asked for, or none where nothing follows.
+pub fn take_behind<H: Shelf>(
     alloc: Global,
     job: &Job,
+    asked: Asked,
     taker: LineTaker,
     shelf: &mut H,
 ) -> Result<(Window, LineTaker), LineError>
@@ -38,12 +45,43 @@ pub fn take_window<H: Shelf>(
     requires there { IsThere (H.told shelf.old) (string_bytes taker.name) }
     ensures told { H.told shelf.new ≡ H.told shelf.old }
     ensures takes { let file = file_of (H.told shelf.old) (string_bytes taker.name) in
-        IfOk result (λ taken. TakesLinesTold file (window_lines (job_view job.now)) taker
+        IfOk result (λ taken. TakesBehindTold file asked.ending taker (lines_in taken.0)
+        taken.0.ending taken.1) }
+    ensures taken { IfOk result
+        (λ taken. IsTaken asked taker taken.0.segments.items taken.0.ending taken.1) }
+    ensures faults { CountsFault is_read_fault result (H.faults shelf.old) (H.faults shelf.new) }
+    ensures misses { CountsMiss is_read_fault result (H.told shelf.old) (string_bytes taker.name)
+        (H.misses shelf.old) (H.misses shelf.new) }
+{
+    if is_more(asked.ending) {
+        take_window(alloc, job, asked.segments, taker, shelf)
+    } else {
+        let segments = Vec::new(alloc);
+        let ending = asked.ending;
+        Ok((Window { segments, ending }, taker))
+    }
+}
+
+/// Takes the next rows: so many segments, each of as many lines, or all that is left where that is
+/// less.
+fn take_window<H: Shelf>(
+    alloc: Global,
+    job: &Job,
+    asked: usize,
+    taker: LineTaker,
+    shelf: &mut H,
+) -> Result<(Window, LineTaker), LineError>
+    requires lawful { IsLawful (job_view job.now) }
+    requires there { IsThere (H.told shelf.old) (string_bytes taker.name) }
+    ensures told { H.told shelf.new ≡ H.told shelf.old }
+    ensures takes { let file = file_of (H.told shelf.old) (string_bytes taker.name) in
+        IfOk result (λ taken. TakesLinesTold file (lines_asked (job_view job.now) asked) taker
         (lines_in taken.0) taken.0.ending taken.1) }
     ensures counts { IfOk result (λ taken. FitsEnding taken.0.ending
-        (window_lines (job_view job.now)) (length (lines_in taken.0))) }
-    ensures few { IfOk result (λ taken.
-        length taken.0.segments.items ≤ job.now.sharing.window) }
+        (lines_asked (job_view job.now) asked) (length (lines_in taken.0))) }
+    ensures few { IfOk result (λ taken. length taken.0.segments.items ≤ asked) }
+    ensures full { IfOk result (λ taken.
+        length taken.0.segments.items ≤ length (lines_in taken.0)) }
     ensures room { IfOk result (λ taken.
         length (lines_in taken.0) + room_of taken.1 ≤ room_of taker) }
     ensures faults { CountsFault is_read_fault result (H.faults shelf.old) (H.faults shelf.new) }
@@ -52,7 +90,7 @@ pub fn take_window<H: Shelf>(
 {
     let mut taker = taker;
     let mut segments = Vec::new(alloc);
-    'segments: for _ in 0..job.sharing.window {
+    'segments: for _ in 0..asked {
         let (piece, next) = match taker.next_lines(shelf, job.sharing.segment) {
             Ok(taken) => taken,
             Err(error) => return Err(error),
@@ -76,6 +114,8 @@ fn push_lines(segments: &mut Vec<Segment>, lines: Lines) -> Result<(), LineError
     ensures lines { OnOk result (flat_map lines_of segments.new.items
         ≡ flat_map lines_of segments.old.items ++ lines) }
     ensures few { OnOk result (length segments.new.items ≤ length segments.old.items + 1) }
+    ensures full { OnOk result (length segments.new.items
+        ≤ length segments.old.items + length lines) }
     ensures memory { IfErr result (λ error. is_read_fault error ≡ false) }
 {
     if lines.len() == 0 {
@@ -88,7 +128,7 @@ fn push_lines(segments: &mut Vec<Segment>, lines: Lines) -> Result<(), LineError
 }
 
 /// Whether more lines may follow.
-fn is_more(ending: Ending) -> bool
+pub fn is_more(ending: Ending) -> bool
     ensures { Decides result (ending ≡ More) }
 {
     matches!(ending, Ending::More)

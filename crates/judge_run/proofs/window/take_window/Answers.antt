@@ -7,7 +7,7 @@ use Rattle.rvfi_rows.specs.Segments.{lines_of}
 use Rattle.trace_lines.specs.declared.piece.Ending.TheVariants.{More}
 use Rattle.trace_lines.specs.Pieces.{FitsEnding}
 use Rattle.trace_lines.specs.Takers.{TakesTold}
-use Rattle.judge_run.specs.Taking.{TakesLinesTold, TakesSoFarTold, window_lines}
+use Rattle.judge_run.specs.Taking.{TakesLinesTold, TakesSoFarTold, lines_asked}
 use Rattle.judge_run.proofs.Taking.{begins, fits_last, next_lines_are, next_within, no_lines, take_last_told, take_on_told, takes_on, takes_whole, there_behind}
 use Rattle.judge_run.proofs.window.take_window.Goals as goal
 
@@ -24,6 +24,7 @@ segments-init g c =
       taken = begins (file_of (g.H.Shelf.told c.args.shelf.now) (string_bytes c.args.taker.name)) c.args.taker c.args.job.now.sharing.segment c.new-segments.result.items none;
       count = count;
       few = omega (arith, ap length none);
+      full = omega (arith, ap length none);
       room = omega (arith, count, nothing);
     }
 
@@ -40,9 +41,9 @@ returns-then-not-is_more-clause-takes g c =
     let inv = c.segments.invariant in
     let here : TakesTold (file_of told (string_bytes middle.name)) segment middle piece after = subst (λ told. TakesTold (file_of told (string_bytes middle.name)) segment middle piece after) inv.told c.in-Ok.ensures.takes in
     let takes = takes_on told c.args.taker middle after first segment lines piece c.requires.there inv.taken here in
-    let within = next_within c.segments.counter c.args.job.now.sharing.window segment c.segments-test.true in
-    subst (λ text. TakesLinesTold file (window_lines (job_view c.args.job.now)) c.args.taker text piece.ending after) (sym c.in-Ok-push_lines.ensures.lines)
-    (take_last_told file first segment (window_lines (job_view c.args.job.now)) c.args.taker middle after lines piece inv.taken takes c.in-Ok.ensures.counts
+    let within = next_within c.segments.counter c.args.asked segment c.segments-test.true in
+    subst (λ text. TakesLinesTold file (lines_asked (job_view c.args.job.now) c.args.asked) c.args.taker text piece.ending after) (sym c.in-Ok-push_lines.ensures.lines)
+    (take_last_told file first segment (lines_asked (job_view c.args.job.now) c.args.asked) c.args.taker middle after lines piece inv.taken takes c.in-Ok.ensures.counts
     (λ more. let never : c.is_more.result ≡ true = c.is_more.ensures.1 more in let other : false ≡ true = sym c.if-not-is_more.true ∙ never in cc) within)
 
 pub returns-then-not-is_more-clause-counts : goal.returns-then-not-is_more-clause-counts
@@ -50,10 +51,10 @@ returns-then-not-is_more-clause-counts g c =
     let segment = c.args.job.now.sharing.segment in
     let piece = c.in-Ok.taken.0 in
     let lines = flat_map lines_of c.segments.segments.items in
-    let within = next_within c.segments.counter c.args.job.now.sharing.window segment c.segments-test.true in
+    let within = next_within c.segments.counter c.args.asked segment c.segments-test.true in
     let many = ap length c.in-Ok-push_lines.ensures.lines ∙ length-append lines piece.lines in
-    subst (λ count. FitsEnding piece.ending (window_lines (job_view c.args.job.now)) count) (sym many)
-    (fits_last (c.segments.counter * segment) segment (window_lines (job_view c.args.job.now)) piece.ending (length lines) (length piece.lines) c.segments.invariant.count c.in-Ok.ensures.counts
+    subst (λ count. FitsEnding piece.ending (lines_asked (job_view c.args.job.now) c.args.asked) count) (sym many)
+    (fits_last (c.segments.counter * segment) segment (lines_asked (job_view c.args.job.now) c.args.asked) piece.ending (length lines) (length piece.lines) c.segments.invariant.count c.in-Ok.ensures.counts
     (λ more. let never : c.is_more.result ≡ true = c.is_more.ensures.1 more in let other : false ≡ true = sym c.if-not-is_more.true ∙ never in cc) within)
 
 pub segments-preserved : goal.segments-preserved
@@ -83,6 +84,7 @@ segments-preserved g c =
           (subst (λ asked. TakesSoFarTold file asked c.args.taker (lines ++ piece.lines) after) (sym next) taken);
       count = omega (arith, many, inv.count, whole, next);
       few = omega (arith, c.in-Ok-push_lines.ensures.few, inv.few);
+      full = omega (arith, many, c.in-Ok-push_lines.ensures.full, inv.full);
       room = omega (arith, many, inv.room, c.in-Ok.ensures.room);
     }
 
@@ -91,6 +93,6 @@ returns-clause-takes g c =
     let file = file_of (g.H.Shelf.told c.args.shelf.now) (string_bytes c.args.taker.name) in
     let segment = c.args.job.now.sharing.segment in
     let lines = flat_map lines_of c.segments.segments.items in
-    let all : c.segments.counter ≡ c.args.job.now.sharing.window = omega (arith, c.segments-test.false, c.segments.auto.counter-end) in
+    let all : c.segments.counter ≡ c.args.asked = omega (arith, c.segments-test.false, c.segments.auto.counter-end) in
     subst (λ count. TakesLinesTold file (count * segment) c.args.taker lines More c.segments.taker) all
     (takes_whole file (c.segments.counter * segment) c.args.taker c.segments.taker lines c.segments.invariant.taken)

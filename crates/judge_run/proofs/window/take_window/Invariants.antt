@@ -16,5 +16,6 @@ invariant-segments g l = record {
   taken : TakesSoFarTold (file_of (g.H.Shelf.told l.initial.shelf) (string_bytes l.initial.taker.name)) (l.counter * l.job.sharing.segment) l.initial.taker (flat_map lines_of l.segments.items) l.taker;
   count : length (flat_map lines_of l.segments.items) ≡ l.counter * l.job.sharing.segment;
   few : length l.segments.items ≤ l.counter;
+  full : length l.segments.items ≤ length (flat_map lines_of l.segments.items);
   room : length (flat_map lines_of l.segments.items) + room_of l.taker ≤ room_of l.initial.taker;
 }
