@@ -22,9 +22,9 @@ use judge_words::Job;
 use outside_ports::{Gate, Shelf};
 use rvfi_rows::{Columns, Segment, read_segments};
 use std::alloc::Global;
-use std::marker::{Brand, PhantomData};
+use std::marker::Brand;
 use std::sync::ledger::Blank;
-use std::thread::{Threads, join, join_mut};
+use std::thread::{Threads, join_mut};
 use trace_lines::{LineError, LineTaker};
 use verdict_join::Joined;
 
@@ -71,21 +71,27 @@ where
     let Left { rest, held } = left;
     let asked = asked_behind(workers, job, &held);
     let Held { part, next, .. } = held;
-    let part: &[Segment] = &part;
-    let mut start = Some((rest.hart, next));
+    let current: &[Segment] = &part;
+    let mut unread = Some(next);
+    let mut start = Some(rest.hart);
     let mut from = Some(rest.taker);
-    let mut settle = || -> Result<(Joined<M>, Vec<Segment>), NoMemory>
-        requires { IfSome start (λ pair. CanStep M.ram pair.0) × ((length part.now < 2 ^ 32)
-            × (length (flat_map lines_of part.now) < 2 ^ 60)) }
-    { settle_from(workers, columns, part, &mut start) };
+    let mut read = || read_from(workers, columns, &mut unread);
+    let mut settle = || -> Result<Joined<M>, NoMemory>
+        requires { IfSome start (CanStep M.ram) × ((length current.now < 2 ^ 32)
+            × (length (flat_map lines_of current.now) < 2 ^ 60)) }
+    { settle_from(workers, columns, current, &mut start) };
     let mut take = || take_from(workers.alloc, job, asked, &mut from, shelf);
-    let (led, taken) = at_once(workers, &mut settle, &mut take);
+    let (read, settled, taken) = all_at_once(workers, &mut read, &mut settle, &mut take);
     let (window, taker) = match taken {
         Ok(taken) => taken,
         Err(error) => return Err(error),
     };
-    let (joined, part) = match led {
-        Ok(led) => led,
+    let joined = match settled {
+        Ok(joined) => joined,
+        Err(NoMemory) => return Err(LineError::NoMemory),
+    };
+    let part = match read {
+        Ok(part) => part,
         Err(NoMemory) => return Err(LineError::NoMemory),
     };
     let Window { segments, ending } = window;
@@ -124,44 +130,68 @@ fn asked_behind<R, G>(workers: &Workers<R, G>, job: &Job, held: &Held) -> Asked
     }
 }
 
-/// Calls both, the first in a thread of its own where there are several workers.
-fn at_once<R: Threads + Sync, G, F: FnMut() -> A + Send, T: FnMut() -> B, A: Send, B>(
+/// Calls all three, the first two in threads of their own where there are several workers. The
+/// second begins soonest: a thread that is made first often waits on the processor of its maker.
+fn all_at_once<R: Threads + Sync, G, E, F, T, A: Send, B: Send, C>(
     workers: &Workers<R, G>,
-    first: &mut F,
-    second: &mut T,
-) -> (A, B)
-    requires { F.pre first.old × T.pre second.old }
-    ensures first { F.step first.old result.0 first.new }
-    ensures second { T.step second.old result.1 second.new }
+    first: &mut E,
+    second: &mut F,
+    third: &mut T,
+) -> (A, B, C)
+where
+    E: FnMut() -> A + Send,
+    F: FnMut() -> B + Send,
+    T: FnMut() -> C,
+    requires { E.pre first.old × (F.pre second.old × T.pre third.old) }
+    ensures first { E.step first.old result.0 first.new }
+    ensures second { F.step second.old result.1 second.new }
+    ensures third { T.step third.old result.2 third.new }
 {
     if workers.count == 1 {
-        (first(), second())
-    } else {
-        join_mut(workers.rt, first, second)
+        return (first(), second(), third());
     }
+    let mut others = || -> (B, C)
+        requires { F.pre second.now × T.pre third.now }
+        ensures second { F.step second.entry.now result.0 second.exit.now }
+        ensures third { T.step third.entry.now result.1 third.exit.now }
+    { join_mut(workers.rt, second, third) };
+    let (a, (b, c)) = join_mut(workers.rt, first, &mut others);
+    (a, b, c)
 }
 
-/// Settles a part from a hart before it, and reads the segments beside that. Both are taken out of
-/// their place.
+/// Settles a part from a hart before it, which is taken out of its place.
 fn settle_from<R, G: Gate, M: PhysMem + Drop + Send + Sync>(
     workers: &Workers<R, G>,
     columns: &Columns,
     part: &[Segment],
-    start: &mut Option<(Hart<M>, Vec<Segment>)>,
-) -> Result<(Joined<M>, Vec<Segment>), NoMemory>
+    start: &mut Option<Hart<M>>,
+) -> Result<Joined<M>, NoMemory>
 where
     R: Threads + Sync,
-    requires can_step { IfSome start.old (λ pair. CanStep M.ram pair.0) }
+    requires can_step { IfSome start.old (CanStep M.ram) }
     requires few { length part.now < 2 ^ 32 }
     requires lines { length (flat_map lines_of part.now) < 2 ^ 60 }
-    ensures settled { IfSome start.old (λ pair. IfOk result (λ led. IsSettled M.bytes M.ram
-        columns.now part.now (state_of M.bytes pair.0) led.0)) }
-    ensures read { IfSome start.old
-        (λ pair. IfOk result (λ led. IsReadPart columns.now pair.1.items led.1)) }
+    ensures { IfSome start.old (λ hart. IfOk result
+        (IsSettled M.bytes M.ram columns.now part.now (state_of M.bytes hart))) }
 {
     match start.take() {
         None => Err(NoMemory),
-        Some((hart, next)) => settle_and_read(workers, columns, part, hart, next),
+        Some(hart) => settle_part(workers, columns, part, hart),
+    }
+}
+
+/// Reads the segments of a part, which are taken out of their place.
+fn read_from<R: Threads + Sync, G: Gate>(
+    workers: &Workers<R, G>,
+    columns: &Columns,
+    unread: &mut Option<Vec<Segment>>,
+) -> Result<Vec<Segment>, NoMemory>
+    ensures { IfSome unread.old
+        (λ part. IfOk result (IsReadPart columns.now part.items)) }
+{
+    match unread.take() {
+        None => Err(NoMemory),
+        Some(part) => read_part(workers, columns, part),
     }
 }
 
@@ -194,55 +224,12 @@ fn take_from<H: Shelf>(
     }
 }
 
-/// Settles a part, and reads the segments behind it meanwhile.
-fn settle_and_read<R, G: Gate, M: PhysMem + Drop + Send + Sync>(
-    workers: &Workers<R, G>,
-    columns: &Columns,
-    part: &[Segment],
-    start: Hart<M>,
-    behind: Vec<Segment>,
-) -> Result<(Joined<M>, Vec<Segment>), NoMemory>
-where
-    R: Threads + Sync,
-    requires can_step { CanStep M.ram start }
-    requires few { length part.now < 2 ^ 32 }
-    requires lines { length (flat_map lines_of part.now) < 2 ^ 60 }
-    ensures settled { IfOk result (λ led. IsSettled M.bytes M.ram columns.now part.now
-        (state_of M.bytes start) led.0) }
-    ensures read { IfOk result (λ led. IsReadPart columns.now behind.items led.1) }
-{
-    if workers.count == 1 {
-        let joined = settle_part(workers, columns, part, start)?;
-        let read = read_part(workers, columns, behind, PhantomData::<M>)?;
-        return Ok((joined, read));
-    }
-    let settle = move || -> Result<Joined<M>, NoMemory>
-        requires { CanStep M.ram start × ((length part.now < 2 ^ 32)
-            × (length (flat_map lines_of part.now) < 2 ^ 60)) }
-        ensures { IfOk result (IsSettled M.bytes M.ram columns.entry.now part.entry.now
-            (state_of M.bytes start)) }
-    { settle_part(workers, columns, part, start) };
-    let memory = PhantomData::<M>;
-    let ahead = move || -> Result<Vec<Segment>, NoMemory>
-        requires { 1 ≤ workers.now.count }
-        ensures { IfOk result (IsReadPart columns.entry.now behind.items) }
-    { read_part(workers, columns, behind, memory) };
-    let (read, joined) = join(workers.rt, ahead, settle);
-    let joined = joined?;
-    let read = read?;
-    Ok((joined, read))
-}
-
-/// Reads the segments of a part. A closure that calls it says what it gives only where it has each
-/// type of the function round it, so it takes the memory's type along.
-fn read_part<R, G: Gate, M>(
+/// Reads the segments of a part.
+fn read_part<R: Threads + Sync, G: Gate>(
     workers: &Workers<R, G>,
     columns: &Columns,
     part: Vec<Segment>,
-    _memory: PhantomData<M>,
 ) -> Result<Vec<Segment>, NoMemory>
-where
-    R: Threads + Sync,
     ensures { IfOk result (IsReadPart columns.now part.items) }
 {
     let count = workers.count as usize;
