@@ -28,7 +28,7 @@ use std::thread::{Threads, join_mut};
 use trace_lines::{LineError, LineTaker};
 use verdict_join::Joined;
 
-/// How many segments a worker has in a part.
+/// How many segments a worker has in a part, where guesses hold.
 const SEGMENTS_A_WORKER: usize = 3;
 
 /// What a part comes to, and what is held behind it.
@@ -99,6 +99,7 @@ where
         part,
         next: segments,
         ending,
+        is_rejudged: 0 < joined.rejudged,
     };
     Ok(Settled {
         joined,
@@ -108,7 +109,8 @@ where
 }
 
 /// How many segments are taken behind those that are held: a part, of which a window has three at
-/// least where it can, or as many as it has room for.
+/// least where it can, or as many as it has room for. Where guesses were wrong a part is short, for
+/// then those behind the first wrong one are made in vain.
 fn asked_behind<R, G>(workers: &Workers<R, G>, job: &Job, held: &Held) -> Asked
     requires lawful { IsLawful (job_view job.now) }
     requires few { length held.now.part.items + length held.now.next.items
@@ -120,7 +122,12 @@ fn asked_behind<R, G>(workers: &Workers<R, G>, job: &Job, held: &Held) -> Asked
     ensures ending { result.ending ≡ held.now.ending }
 {
     let window = job.sharing.window;
-    let part = SEGMENTS_A_WORKER * workers.count as usize;
+    let each = if held.is_rejudged {
+        1
+    } else {
+        SEGMENTS_A_WORKER
+    };
+    let part = each * workers.count as usize;
     let room = window
         .saturating_sub(held.part.len())
         .saturating_sub(held.next.len());

@@ -48,6 +48,8 @@ pub(crate) struct Held {
     pub next: Vec<Segment>,
     /// What follows these.
     pub ending: Ending,
+    /// Whether a segment of the part before was judged again.
+    pub is_rejudged: bool,
 }
 
 /// What is left behind the rows of a trace that were judged.
@@ -75,6 +77,7 @@ impl Held {
             part: Vec::new(alloc),
             next: Vec::new(alloc),
             ending: Ending::More,
+            is_rejudged: false,
         }
     }
 
