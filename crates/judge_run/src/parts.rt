@@ -28,8 +28,8 @@ use std::thread::{Threads, join_mut};
 use trace_lines::{LineError, LineTaker};
 use verdict_join::Joined;
 
-/// How many segments a worker has in a part, where guesses hold.
-const SEGMENTS_A_WORKER: usize = 3;
+/// How many segments a part has at the default window.
+const SEGMENTS_OF_A_PART: usize = 12;
 
 /// What a part comes to, and what is held behind it.
 #[derive(Drop)]
@@ -70,6 +70,7 @@ where
 {
     let Left { rest, held } = left;
     let asked = asked_behind(workers, job, &held);
+    let is_unsure = held.is_unsure;
     let Held { part, next, .. } = held;
     let current: &[Segment] = &part;
     let mut unread = Some(next);
@@ -99,7 +100,7 @@ where
         part,
         next: segments,
         ending,
-        is_rejudged: 0 < joined.rejudged,
+        is_unsure: 0 < joined.rejudged || is_unsure && current.is_empty(),
     };
     Ok(Settled {
         joined,
@@ -108,9 +109,11 @@ where
     })
 }
 
-/// How many segments are taken behind those that are held: a part, of which a window has three at
-/// least where it can, or as many as it has room for. Where guesses were wrong a part is short, for
-/// then those behind the first wrong one are made in vain.
+/// How many segments are taken behind those that are held: a part, or as many as the window has room
+/// for. A part has twelve, or a fifth of the window where that is more, and no more than a third of
+/// it, whatever the number of workers, so that what is held does not grow with them. Where guesses
+/// may be wrong it has one a worker, or three where these are fewer: enough for wrong ones to show,
+/// and no more, since those behind the first wrong one are made in vain.
 fn asked_behind<R, G>(workers: &Workers<R, G>, job: &Job, held: &Held) -> Asked
     requires lawful { IsLawful (job_view job.now) }
     requires few { length held.now.part.items + length held.now.next.items
@@ -122,17 +125,17 @@ fn asked_behind<R, G>(workers: &Workers<R, G>, job: &Job, held: &Held) -> Asked
     ensures ending { result.ending ≡ held.now.ending }
 {
     let window = job.sharing.window;
-    let each = if held.is_rejudged {
-        1
+    let whole = (window / 5).max(SEGMENTS_OF_A_PART).min((window + 2) / 3);
+    let part = if held.is_unsure {
+        whole.min((workers.count as usize).max(3))
     } else {
-        SEGMENTS_A_WORKER
+        whole
     };
-    let part = each * workers.count as usize;
     let room = window
         .saturating_sub(held.part.len())
         .saturating_sub(held.next.len());
     Asked {
-        segments: part.min((window + 2) / 3).min(room),
+        segments: part.min(room),
         ending: held.ending,
     }
 }

@@ -48,8 +48,9 @@ pub(crate) struct Held {
     pub next: Vec<Segment>,
     /// What follows these.
     pub ending: Ending,
-    /// Whether a segment of the part before was judged again.
-    pub is_rejudged: bool,
+    /// Whether guesses may be wrong: a segment of the part before was judged again, or none was
+    /// judged yet.
+    pub is_unsure: bool,
 }
 
 /// What is left behind the rows of a trace that were judged.
@@ -77,7 +78,7 @@ impl Held {
             part: Vec::new(alloc),
             next: Vec::new(alloc),
             ending: Ending::More,
-            is_rejudged: false,
+            is_unsure: true,
         }
     }
 

@@ -1,8 +1,9 @@
 -- Lines of a trace that are judged together.
-use Rattle.std.specs.Prelude.{◌≡◌, ℕ, List, Option, Some, None}
+use Rattle.std.specs.Prelude.{◌≡◌, ℕ, List, Option, Some, None, slice_get}
 use Rattle.std.specs.Borrow.{Bor}
 use Rattle.rvfi_rows.specs.declared.rows.Rows.{Rows}
 use Rattle.rvfi_rows.specs.declared.segment.Segment.{Segment}
+use Rattle.rvfi_rows.specs.declared.unread.PlaceRead.{PlaceRead}
 use Rattle.rvfi_rows.specs.Columns.{ColumnList}
 use Rattle.rvfi_rows.specs.RowsRead.{WasReadUnder}
 use Rattle.rvfi_rows.specs.Readings.{rows_in}
@@ -20,3 +21,7 @@ abbrev pub FindsRows : ColumnList → Segment → Option (Bor Rows) → Type 0
 FindsRows columns segment None = IsRead columns segment → ⊥
 FindsRows columns segment (Some rows) =
     IsRead columns segment × (rows_in rows.now ≡ rows_of columns segment.lines)
+
+-- what was read of one of several segments is what its lines read as
+pub record ReadsPlace (segments : List (List (List ℕ))) (one : PlaceRead) : Type 0 where
+  pub reads : (lines : List (List ℕ)) → slice_get segments one.place ≡ Some lines → rows_in one.read.rows ≡ rows_of one.read.columns lines

@@ -16,6 +16,7 @@ mod rows;
 mod rows_read;
 mod segment;
 mod segments;
+mod unread;
 mod verdict;
 mod window;
 

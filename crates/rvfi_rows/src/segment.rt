@@ -1,12 +1,11 @@
 //! Lines of a trace that are judged together.
 
-ghost use Rattle.std.specs.Prelude.{◌≡◌, Decides, OnOk, OnErr};
+ghost use Rattle.std.specs.Prelude.{◌≡◌, Decides, OnOk, OnErr, Some};
 ghost use Rattle.std.specs.Option.{ForSome};
 ghost use Rattle.rvfi_rows.specs.Readings.{rows_in};
 ghost use Rattle.rvfi_rows.specs.Rows.{rows_of};
 
 use crate::columns::Columns;
-use crate::lines::read_rows;
 use crate::rows::Rows;
 use crate::rows_read::RowsRead;
 use hart_words::NoMemory;
@@ -58,10 +57,17 @@ impl Segment {
         if self.is_read(columns) {
             return Ok(());
         }
-        let rows = read_rows(alloc, columns, &self.lines)?;
-        let columns = columns.copy()?;
-        self.read = Some(RowsRead { columns, rows });
+        self.read = Some(RowsRead::of_lines(alloc, columns, &self.lines)?);
         Ok(())
+    }
+
+    /// Keeps what the lines read as.
+    pub(crate) fn keep(&mut self, read: RowsRead)
+        requires { rows_in read.rows ≡ rows_of read.columns self.old.lines }
+        ensures lines { self.new.lines ≡ self.old.lines }
+        ensures read { self.new.read ≡ Some read }
+    {
+        self.read = Some(read);
     }
 
     /// Whether the lines were read under these columns.

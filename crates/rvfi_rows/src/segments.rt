@@ -1,14 +1,16 @@
 //! Segments that are read side by side.
 
-ghost use Rattle.std.specs.Prelude.{◌≡◌, ◌<◌, map, OnOk};
+ghost use Rattle.std.specs.Prelude.{◌≡◌, ◌<◌, IfOk, map, OnOk};
 ghost use Rattle.std.specs.List.{All};
-ghost use Rattle.rvfi_rows.specs.Segments.{IsRead, lines_of};
+ghost use Rattle.rvfi_rows.specs.Segments.{IsRead, ReadsPlace, lines_of};
 
 use crate::columns::Columns;
 use crate::segment::Segment;
+use crate::unread::{PlaceRead, Unread};
 use hart_words::NoMemory;
 use std::alloc::Global;
-use std::thread::{Threads, join_mut};
+use std::sync::atomic::AtomicU64;
+use std::thread::{Threads, join};
 
 /// Reads the lines of segments that were not read under these columns, in so many threads at most.
 /// Where memory is refused some may have been read.
@@ -23,8 +25,8 @@ pub fn read_segments<R: Threads + Sync>(
     ensures lines { map lines_of segments.new ≡ map lines_of segments.old }
     ensures read { OnOk result (All (IsRead columns.now) segments.new) }
 {
-    let size = segments.len().div_ceil(threads).max(1);
-    read_pieces(rt, alloc, columns, size, segments);
+    let done = read_places(rt, alloc, threads, columns, segments)?;
+    keep_all(segments, done);
     if segments.iter().all(|segment| segment.is_read(columns)) {
         Ok(())
     } else {
@@ -32,41 +34,63 @@ pub fn read_segments<R: Threads + Sync>(
     }
 }
 
-/// Reads segments in pieces of so many, the last one in this thread and each other in one of its
-/// own. This thread alone makes the others: equal tasks ended sooner so than where new threads make
-/// further ones (docs/DECISIONS.md).
-#[cycle(pieces)]
-fn read_pieces<R: Threads + Sync>(
+/// What the segments that were not read under these columns read as, in any order.
+fn read_places<R: Threads + Sync>(
     rt: &R,
     alloc: Global,
+    threads: usize,
     columns: &Columns,
-    size: usize,
-    segments: &mut [Segment],
-)
-    requires { 0 < size }
-    ensures { map lines_of segments.new ≡ map lines_of segments.old }
+    segments: &[Segment],
+) -> Result<Vec<PlaceRead>, NoMemory>
+    ensures { IfOk result (λ done. All (ReadsPlace (map lines_of segments.now)) done.items) }
 {
-    if segments.len() <= size {
-        read_in_turn(alloc, columns, segments);
-        return;
-    }
-    let (piece, rest) = segments.split_at_mut(size);
-    let mut there = ||
-        requires { 0 < size }
-        ensures { map lines_of piece.exit.now ≡ map lines_of piece.entry.now }
-    { read_pieces(rt, alloc, columns, size, piece) };
-    let mut here = ||
-        requires { 0 < size }
-        ensures { map lines_of rest.exit.now ≡ map lines_of rest.entry.now }
-    { read_pieces(rt, alloc, columns, size, rest) };
-    join_mut(rt, &mut there, &mut here);
+    let unread = Unread {
+        alloc,
+        columns,
+        segments,
+        taken: AtomicU64::new(0),
+    };
+    read_in_threads(rt, threads.min(segments.len()), &unread)
 }
 
-/// Reads segments one after another.
-fn read_in_turn(alloc: Global, columns: &Columns, segments: &mut [Segment])
+/// Has so many threads read segments, this one the last of them. This thread alone makes the others:
+/// equal tasks ended sooner so than where new threads make further ones (docs/DECISIONS.md).
+#[cycle(threads)]
+fn read_in_threads<R: Threads + Sync>(
+    rt: &R,
+    threads: usize,
+    unread: &Unread,
+) -> Result<Vec<PlaceRead>, NoMemory>
+    ensures { IfOk result (λ done.
+        All (ReadsPlace (map lines_of unread.now.segments.now)) done.items) }
+{
+    if threads < 2 {
+        return unread.read();
+    }
+    let left = threads - 1;
+    let there = || -> Result<Vec<PlaceRead>, NoMemory>
+        ensures { IfOk result (λ done.
+            All (ReadsPlace (map lines_of unread.entry.now.segments.now)) done.items) }
+    { unread.read() };
+    let here = || -> Result<Vec<PlaceRead>, NoMemory>
+        ensures { IfOk result (λ done.
+            All (ReadsPlace (map lines_of unread.entry.now.segments.now)) done.items) }
+    { read_in_threads(rt, left, unread) };
+    let (one, others) = join(rt, there, here);
+    let mut done = others?;
+    done.append(&mut one?)?;
+    Ok(done)
+}
+
+/// Keeps what was read of segments in each of them.
+fn keep_all(segments: &mut [Segment], done: Vec<PlaceRead>)
+    requires { All (ReadsPlace (map lines_of segments.old)) done.items }
     ensures { map lines_of segments.new ≡ map lines_of segments.old }
 {
-    for index in 0..segments.len() {
-        let _done = segments[index].read(alloc, columns);
+    for one in done {
+        let PlaceRead { place, read } = one;
+        if place < segments.len() {
+            segments[place].keep(read);
+        }
     }
 }

@@ -1,0 +1,4 @@
+use Rattle.stage_times.proofs.windows.judge_segments.Given as goal
+
+abbrev pub ghosts-find : goal.ghosts-find
+ghosts-find g a = record { name = a.blank.name; parts = a.blank.parts }

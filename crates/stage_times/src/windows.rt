@@ -1,0 +1,218 @@
+//! Judging the rows of a trace window by window, stage by stage.
+
+ghost use Rattle.std.specs.Prelude.{◌≡◌, ◌≤◌, ◌<◌, ◌+◌, ◌*◌, ◌^◌, IfOk, IfSome, OnOk, length, map};
+ghost use Rattle.std.specs.List.{All, flat_map};
+ghost use Rattle.hart_step.specs.Harts.{CanStep};
+ghost use Rattle.rvfi_rows.specs.Segments.{lines_of};
+ghost use Rattle.segment_judge.specs.Founds.{IsLawfulFound};
+
+use crate::failure::Failure;
+use crate::stages::Stages;
+use boundary_guess::guesses;
+use hart_step::Hart;
+use hart_words::{NoMemory, PhysMem};
+use line_text::Lines;
+use outside_ports::{OpenGate, Shelf};
+use rvfi_rows::{Columns, Segment, read_segments};
+use segment_judge::{Found, Judged};
+use segment_workers::{Steps, run};
+use std::alloc::Global;
+use std::marker::Brand;
+use std::rt::Clock;
+use std::sync::ledger::{Blank, Ledger};
+use std::thread::Threads;
+use std::time::Instant;
+use trace_lines::{Ending, LineTaker, Piece};
+use verdict_board::Board;
+use verdict_join::join_round;
+
+/// How many lines a segment has, and how many segments a window has: the judge's defaults.
+const SEGMENT: usize = 4_096;
+
+const WINDOW: usize = 64;
+
+/// The segments of a window, and whether it is the last.
+#[derive(Drop)]
+pub(crate) struct Window {
+    pub segments: Vec<Segment>,
+    pub is_last: bool,
+    ghost few: { length segments.items ≤ 64 },
+    ghost lines: { length (flat_map lines_of segments.items) ≤ 64 * 4096 },
+}
+
+/// What is known before a window: the hart, and where lines are taken from.
+#[derive(Drop)]
+pub(crate) struct Walk<M> {
+    pub hart: Hart<M>,
+    pub taker: LineTaker,
+}
+
+/// So many workers, and what they run in.
+#[derive(Drop)]
+pub(crate) struct Workers<'a, R> {
+    pub rt: &'a R,
+    pub alloc: Global,
+    pub count: u32,
+    ghost some: { 1 ≤ count },
+    ghost few: { count ≤ 64 },
+}
+
+/// The microseconds since a time.
+fn since<R: Clock>(rt: &R, time: Instant) -> Result<u64, Failure> {
+    let passed = time.elapsed(rt)?;
+    Ok(
+        passed
+            .as_secs()
+            .saturating_mul(1_000_000)
+            .saturating_add(u64::from(passed.subsec_micros())),
+    )
+}
+
+/// Puts lines behind the others, as a segment of their own.
+fn push_lines(segments: &mut Vec<Segment>, lines: Lines) -> Result<(), NoMemory>
+    ensures lines { OnOk result (length (flat_map lines_of segments.new.items)
+        ≡ length (flat_map lines_of segments.old.items) + length lines) }
+    ensures one { OnOk result (length segments.new.items ≡ length segments.old.items + 1) }
+{
+    segments.push(Segment::new(lines))?;
+    Ok(())
+}
+
+/// Takes the lines of a window.
+fn take_window<H: Shelf>(
+    alloc: Global,
+    taker: LineTaker,
+    shelf: &mut H,
+) -> Result<(Window, LineTaker), Failure> {
+    let mut taker = taker;
+    let mut segments = Vec::new(alloc);
+    'segments: for _ in 0..WINDOW {
+        let (piece, next) = taker.next_lines(shelf, SEGMENT)?;
+        taker = next;
+        let Piece { lines, ending } = piece;
+        push_lines(&mut segments, lines)?;
+        if !matches!(ending, Ending::More) {
+            let is_last = true;
+            return Ok((Window { segments, is_last }, taker));
+        }
+    }
+    let is_last = false;
+    Ok((Window { segments, is_last }, taker))
+}
+
+/// What the workers find of segments.
+fn find<R: Threads + Sync, M: PhysMem + Drop + Send + Sync, L: Ledger>(
+    workers: &Workers<R>,
+    guesses: &[Hart<M>],
+    columns: &Columns,
+    segments: &[Segment],
+    blank: Blank,
+) -> Result<Vec<Found<Judged<M>>>, NoMemory>
+    requires few { length segments.now < 2 ^ 32 }
+    requires one_each { length guesses.now ≡ length segments.now }
+    requires guesses { All (CanStep M.ram) guesses.now }
+    requires name { blank.name ≡ L.name }
+    requires parts { blank.parts ≡ L.parts }
+    requires some { 0 < blank.parts }
+    ensures { IfOk result (λ founds. All
+        (IsLawfulFound M.bytes M.ram columns.now segments.now guesses.now) founds.items) }
+{
+    let count = segments.len() as u32;
+    let (board, seats) = Board::open(workers.alloc, count, workers.count)?;
+    let mut steps = Steps::<L>::new(blank);
+    let (founds, seat) = run(
+        workers.rt,
+        workers.alloc,
+        &board,
+        seats,
+        guesses,
+        columns,
+        segments,
+        &OpenGate,
+        &mut steps,
+    )?;
+    let _closed = board.close(seat);
+    Ok(founds)
+}
+
+/// Reads the rows of segments.
+fn read<R: Threads + Sync>(
+    workers: &Workers<R>,
+    columns: &Columns,
+    segments: Vec<Segment>,
+) -> Result<Vec<Segment>, NoMemory>
+    ensures { IfOk result (λ read. map lines_of read.items ≡ map lines_of segments.items) }
+{
+    let count = workers.count as usize;
+    let mut segments = segments;
+    read_segments(workers.rt, workers.alloc, count, columns, &mut segments)?;
+    Ok(segments)
+}
+
+/// Judges segments that were read, behind a hart: what the stages took, and the hart behind them.
+fn judge_segments<R: Threads + Sync + Clock, M: PhysMem + Drop + Send + Sync>(
+    workers: &Workers<R>,
+    columns: &Columns,
+    start: Hart<M>,
+    segments: &[Segment],
+) -> Result<(Stages, Hart<M>), Failure>
+    requires can_step { CanStep M.ram start }
+    requires few { length segments.now < 2 ^ 32 }
+    requires lines { length (flat_map lines_of segments.now) < 2 ^ 60 }
+    ensures { IfOk result (λ judged. CanStep M.ram judged.1) }
+{
+    let begin = Instant::now(workers.rt)?;
+    let start = start.copy()?;
+    let guesses = guesses(workers.alloc, &start, columns, segments)?;
+    let guessing = since(workers.rt, begin)?;
+    let begin = Instant::now(workers.rt)?;
+    let founds = find::<R, M, Brand>(workers, &guesses, columns, segments, Blank::new(1))?;
+    let judging = since(workers.rt, begin)?;
+    let begin = Instant::now(workers.rt)?;
+    let round = join_round(workers.alloc, start, columns, segments, &guesses, founds)?;
+    let joining = since(workers.rt, begin)?;
+    if round.settled < segments.len() {
+        return Err(Failure::Row);
+    }
+    let stages = Stages {
+        guessing,
+        judging,
+        joining,
+        ..Stages::NONE
+    };
+    match round.end {
+        Some(end) => Ok((stages, end)),
+        None => Err(Failure::Row),
+    }
+}
+
+/// Takes and judges the rows of the next window: what the stages took, and what is known behind it,
+/// unless it is the last.
+pub fn pass_window<R: Threads + Sync + Clock, M: PhysMem + Drop + Send + Sync, H: Shelf>(
+    workers: &Workers<R>,
+    columns: &Columns,
+    walk: Walk<M>,
+    shelf: &mut H,
+) -> Result<(Stages, Option<Walk<M>>), Failure>
+    requires { CanStep M.ram walk.hart }
+    ensures { IfOk result (λ passed. IfSome passed.1 (λ walk. CanStep M.ram walk.hart)) }
+{
+    let Walk { hart, taker } = walk;
+    let begin = Instant::now(workers.rt)?;
+    let (window, taker) = take_window(workers.alloc, taker, shelf)?;
+    let lines = since(workers.rt, begin)?;
+    let Window { segments, is_last } = window;
+    let begin = Instant::now(workers.rt)?;
+    let segments = read(workers, columns, segments)?;
+    let reading = since(workers.rt, begin)?;
+    let (stages, hart) = judge_segments(workers, columns, hart, &segments)?;
+    let stages = Stages {
+        lines,
+        reading,
+        ..stages
+    };
+    if is_last {
+        return Ok((stages, None));
+    }
+    Ok((stages, Some(Walk { hart, taker })))
+}
