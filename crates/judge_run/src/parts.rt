@@ -87,20 +87,19 @@ where
         Ok(taken) => taken,
         Err(error) => return Err(error),
     };
-    let joined = match settled {
-        Ok(joined) => joined,
-        Err(NoMemory) => return Err(LineError::NoMemory),
+    let Ok(joined) = settled else {
+        return Err(LineError::NoMemory);
     };
-    let part = match read {
-        Ok(part) => part,
-        Err(NoMemory) => return Err(LineError::NoMemory),
+    let Ok(read) = read else {
+        return Err(LineError::NoMemory);
     };
-    let Window { segments, ending } = window;
+    let is_unsure = 0 < joined.rejudged || is_unsure && part.is_empty();
+    let Window { segments, ending } = window.in_memory_of(part);
     let held = Held {
-        part,
+        part: read,
         next: segments,
         ending,
-        is_unsure: 0 < joined.rejudged || is_unsure && current.is_empty(),
+        is_unsure,
     };
     Ok(Settled {
         joined,

@@ -15,7 +15,7 @@ ghost use Rattle.judge_run.specs.Taking.{IsTaken, TakesBehindTold, TakesLinesTol
 use judge_words::Job;
 use line_text::Lines;
 use outside_ports::Shelf;
-use rvfi_rows::Segment;
+use rvfi_rows::{Segment, reuse_rows};
 use std::alloc::Global;
 use trace_lines::{Ending, LineError, LineTaker, Piece};
 
@@ -24,6 +24,19 @@ use trace_lines::{Ending, LineError, LineTaker, Piece};
 pub(crate) struct Window {
     pub segments: Vec<Segment>,
     pub ending: Ending,
+}
+
+impl Window {
+    /// The same, its segments to be read in the memory that the rows of others have.
+    pub fn in_memory_of(self, others: Vec<Segment>) -> Window
+        ensures segments { result.segments.items ≡ self.segments.items }
+        ensures ending { result.ending ≡ self.ending }
+    {
+        let Window { segments, ending } = self;
+        let mut segments = segments;
+        reuse_rows(&mut segments, others);
+        Window { segments, ending }
+    }
 }
 
 /// What is asked for: so many segments, behind lines that end so.

@@ -33,6 +33,11 @@ pub same_entries : (before after : Blocks) → after.blocks.entries ≡ before.b
 unfolding block_at
 same_entries before after e = rw e refl
 
+-- where the same is found of each number, the blocks are the same
+pub same_found : (before after : Blocks) → ((q : ℕ) → get nat_eq after.blocks q ≡ get nat_eq before.blocks q) → block_at after ≡ block_at before
+unfolding block_at
+same_found before after gets = λ i q. ap (λ found. guarded found q) (gets q) i
+
 -- a block is set
 pub block_set : (before after : Blocks) (key : ℕ) (block : Block) → key < 2 ^ 64 → ((q : ℕ) → get nat_eq after.blocks q ≡ cond (nat_eq key q) (Some block) (get nat_eq before.blocks q))
     → (q : ℕ) → block_at after q ≡ (if q == key then Some block else block_at before q)

@@ -65,6 +65,14 @@ impl Blocks {
         self.blocks.get(&number)
     }
 
+    /// Makes room for so many more.
+    fn reserve(&mut self, more: usize) -> Result<(), NoMemory>
+        ensures { block_at self.new ≡ block_at self.old }
+    {
+        self.blocks.reserve(more)?;
+        Ok(())
+    }
+
     /// Sets the block of a number. A refused one changes nothing.
     pub fn set(&mut self, number: u64, block: Block) -> Result<(), NoMemory>
         ensures ok { OnOk result ((q : ℕ) → block_at self.new q
@@ -102,6 +110,7 @@ impl Blocks {
             ≡ option_or (block_at self.now number) (block_at others.now number)) }
     {
         let mut all = others.clone()?;
+        all.reserve(self.len())?;
         for (number, block) in self.blocks.iter() {
             all.set(*number, *block)?;
         }

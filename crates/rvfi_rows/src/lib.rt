@@ -29,7 +29,7 @@ pub use reading::Reading;
 pub use row::{FIRST_CSR, Row};
 pub use rows::Rows;
 pub use segment::Segment;
-pub use segments::read_segments;
+pub use segments::{read_segments, reuse_rows};
 pub use verdict::Verdict;
 pub use window::distance_in_window;
 

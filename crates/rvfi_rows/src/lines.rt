@@ -17,7 +17,19 @@ use std::alloc::Global;
 pub fn read_rows(alloc: Global, columns: &Columns, lines: &Lines) -> Result<Rows, NoMemory>
     ensures { IfOk result (λ rows. rows_in rows ≡ rows_of columns.now lines.now) }
 {
-    let mut rows = Rows::with_room(alloc, columns.as_slice(), lines.len())?;
+    read_rows_in(alloc, columns, lines, Rows::none(alloc))
+}
+
+/// The same in the memory of rows that are wanted no more.
+pub(crate) fn read_rows_in(
+    alloc: Global,
+    columns: &Columns,
+    lines: &Lines,
+    spare: Rows,
+) -> Result<Rows, NoMemory>
+    ensures { IfOk result (λ rows. rows_in rows ≡ rows_of columns.now lines.now) }
+{
+    let mut rows = spare.emptied(alloc, columns.as_slice(), lines.len())?;
     let mut reader = LineReader::new(alloc, lines.text());
     let mut fields = Fields::new(alloc);
     let mut row = Row::empty();

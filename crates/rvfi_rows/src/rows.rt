@@ -29,8 +29,18 @@ pub struct Rows {
 impl Rows {
     ghost use Rattle.rvfi_rows.specs.Readings.{reading_of, rows_in};
 
-    /// No rows, under these columns, with room for so many.
-    pub(crate) fn with_room(
+    /// No rows, under no columns.
+    pub(crate) fn none(alloc: Global) -> Rows {
+        Rows {
+            signals: Vec::new(alloc),
+            rows: Vec::new(alloc),
+            values: Vec::new(alloc),
+        }
+    }
+
+    /// No rows, under these columns, with room for so many, in the memory of those that were.
+    pub(crate) fn emptied(
+        self,
         alloc: Global,
         columns: &[Option<Signal>],
         count: usize,
@@ -38,15 +48,22 @@ impl Rows {
         ensures none { IfOk result (λ rows. rows_in rows ≡ []) }
         ensures signals { IfOk result (λ rows. rows.signals.items ≡ signals_of columns.now) }
     {
+        let Rows { rows, values, .. } = self;
+        let mut rows = rows;
+        let mut values = values;
         let signals = known_signals(alloc, columns)?;
         let room = match count.checked_mul(signals.len()) {
             None => return Err(NoMemory),
             Some(room) => room,
         };
+        rows.clear();
+        rows.reserve(count)?;
+        values.clear();
+        values.reserve(room)?;
         Ok(Rows {
             signals,
-            rows: Vec::with_capacity(alloc, count)?,
-            values: Vec::with_capacity(alloc, room)?,
+            rows,
+            values,
         })
     }
 

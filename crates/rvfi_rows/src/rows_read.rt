@@ -5,7 +5,7 @@ ghost use Rattle.rvfi_rows.specs.Readings.{rows_in};
 ghost use Rattle.rvfi_rows.specs.Rows.{rows_of};
 
 use crate::columns::Columns;
-use crate::lines::read_rows;
+use crate::lines::read_rows_in;
 use crate::rows::Rows;
 use hart_words::NoMemory;
 use line_text::Lines;
@@ -19,12 +19,17 @@ pub(crate) struct RowsRead {
 }
 
 impl RowsRead {
-    /// What these lines read as.
-    pub fn of_lines(alloc: Global, columns: &Columns, lines: &Lines) -> Result<RowsRead, NoMemory>
+    /// What these lines read as, in the memory of rows that are wanted no more.
+    pub fn of_lines(
+        alloc: Global,
+        columns: &Columns,
+        lines: &Lines,
+        spare: Rows,
+    ) -> Result<RowsRead, NoMemory>
         ensures columns { IfOk result (λ read. read.columns ≡ columns.now) }
         ensures rows { IfOk result (λ read. rows_in read.rows ≡ rows_of columns.now lines.now) }
     {
-        let rows = read_rows(alloc, columns, lines)?;
+        let rows = read_rows_in(alloc, columns, lines, spare)?;
         let columns = columns.copy()?;
         Ok(RowsRead { columns, rows })
     }

@@ -94,3 +94,18 @@ fn keep_all(segments: &mut [Segment], done: Vec<PlaceRead>)
         }
     }
 }
+
+/// Has segments read in the memory that the rows of others have, one in that of one other, while
+/// there are others. It does not go back to the allocator then, which would keep much of it for the
+/// thread that asked for it first.
+pub fn reuse_rows(segments: &mut [Segment], others: Vec<Segment>)
+    ensures { segments.new ≡ segments.old }
+{
+    let mut others = others;
+    for index in 0..segments.len() {
+        match others.pop() {
+            None => return,
+            Some(other) => segments[index].reuse(other),
+        }
+    }
+}

@@ -159,6 +159,36 @@ fn reads_segments(rt: HostRuntime) -> Result<(), Fail> {
     check_segments(&rt, &segments, (&turned, &plain), &wanted, 10)
 }
 
+/// Segments read as ever in the memory of others, under other columns and with more lines too.
+#[test]
+fn reads_in_the_memory_of_others(rt: HostRuntime) -> Result<(), Fail> {
+    let alloc = rt.alloc();
+    let plain = read_header(alloc, b"insn,pc_rdata")?;
+    let wider = read_header(alloc, b"pc_rdata,order,insn")?;
+    let mut segments = Vec::new(alloc);
+    let mut lines = Lines::new(alloc);
+    lines.push(b"1,2")?;
+    segments.push(Segment::new(lines))?;
+    read_segments(&rt, alloc, 1, &plain, &mut segments)?;
+    let mut others = Vec::new(alloc);
+    for last in [b"13,,14".as_slice(), b"16,,17"] {
+        let mut lines = Lines::new(alloc);
+        lines.push(b"10,,")?;
+        lines.push(last)?;
+        others.push(Segment::new(lines))?;
+    }
+    reuse_rows(&mut others, segments);
+    read_segments(&rt, alloc, 2, &wider, &mut others)?;
+    let empty = Reading::Refused(RowFault::Empty(Signal::Insn));
+    check_segments(
+        &rt,
+        &others,
+        (&wider, &plain),
+        &[[empty, Reading::Valid]; 2],
+        17,
+    )
+}
+
 /// The columns of registers have 5 bits, those of byte masks 8.
 #[test]
 fn reads_registers_and_masks(rt: HostRuntime) -> Result<(), Fail> {

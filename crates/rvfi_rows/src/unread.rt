@@ -56,8 +56,7 @@ impl<'a> Unread<'a> {
         ensures reads { IfOk result (ReadsPlace (map lines_of self.now.segments.now)) }
         ensures place { IfOk result (λ one. one.place ≡ place) }
     {
-        let lines = &self.segments[place].lines;
-        let read = RowsRead::of_lines(self.alloc, self.columns, lines)?;
+        let read = self.segments[place].read_lines(self.alloc, self.columns)?;
         Ok(PlaceRead { place, read })
     }
 }

@@ -78,7 +78,12 @@ impl Course {
         };
         let memory = Layered::over(alloc, &self.image);
         let hart = Hart::reset(memory, FIRST_PC, self.map);
-        let mut walk = Walk { hart, taker };
+        let judged = Vec::new(alloc);
+        let mut walk = Walk {
+            hart,
+            taker,
+            judged,
+        };
         'windows: for number in 0..usize::MAX {
             let (stages, next) = pass_window(workers, &columns, walk, &mut self.shelf)?;
             note(least, number, stages)?;

@@ -13,7 +13,7 @@ use hart_step::Hart;
 use hart_words::{NoMemory, PhysMem};
 use line_text::Lines;
 use outside_ports::{OpenGate, Shelf};
-use rvfi_rows::{Columns, Segment, read_segments};
+use rvfi_rows::{Columns, Segment, read_segments, reuse_rows};
 use segment_judge::{Found, Judged};
 use segment_workers::{Steps, run};
 use std::alloc::Global;
@@ -45,6 +45,8 @@ pub(crate) struct Window {
 pub(crate) struct Walk<M> {
     pub hart: Hart<M>,
     pub taker: LineTaker,
+    /// The segments of the window before, in the memory of whose rows others are read.
+    pub judged: Vec<Segment>,
 }
 
 /// So many workers, and what they run in.
@@ -135,16 +137,18 @@ fn find<R: Threads + Sync, M: PhysMem + Drop + Send + Sync, L: Ledger>(
     Ok(founds)
 }
 
-/// Reads the rows of segments.
+/// Reads the rows of segments, in the memory that those of others have.
 fn read<R: Threads + Sync>(
     workers: &Workers<R>,
     columns: &Columns,
     segments: Vec<Segment>,
+    judged: Vec<Segment>,
 ) -> Result<Vec<Segment>, NoMemory>
     ensures { IfOk result (λ read. map lines_of read.items ≡ map lines_of segments.items) }
 {
     let count = workers.count as usize;
     let mut segments = segments;
+    reuse_rows(&mut segments, judged);
     read_segments(workers.rt, workers.alloc, count, columns, &mut segments)?;
     Ok(segments)
 }
@@ -197,13 +201,17 @@ pub fn pass_window<R: Threads + Sync + Clock, M: PhysMem + Drop + Send + Sync, H
     requires { CanStep M.ram walk.hart }
     ensures { IfOk result (λ passed. IfSome passed.1 (λ walk. CanStep M.ram walk.hart)) }
 {
-    let Walk { hart, taker } = walk;
+    let Walk {
+        hart,
+        taker,
+        judged,
+    } = walk;
     let begin = Instant::now(workers.rt)?;
     let (window, taker) = take_window(workers.alloc, taker, shelf)?;
     let lines = since(workers.rt, begin)?;
     let Window { segments, is_last } = window;
     let begin = Instant::now(workers.rt)?;
-    let segments = read(workers, columns, segments)?;
+    let segments = read(workers, columns, segments, judged)?;
     let reading = since(workers.rt, begin)?;
     let (stages, hart) = judge_segments(workers, columns, hart, &segments)?;
     let stages = Stages {
@@ -214,5 +222,11 @@ pub fn pass_window<R: Threads + Sync + Clock, M: PhysMem + Drop + Send + Sync, H
     if is_last {
         return Ok((stages, None));
     }
-    Ok((stages, Some(Walk { hart, taker })))
+    let judged = segments;
+    let walk = Walk {
+        hart,
+        taker,
+        judged,
+    };
+    Ok((stages, Some(walk)))
 }

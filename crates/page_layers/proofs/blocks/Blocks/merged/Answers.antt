@@ -11,7 +11,7 @@ loop-number-init c =
       can_go = tt;
       ends = tt;
       found = subst (AreFound c.args.self.now) (sym rest) c.iter-number-items.ensures.found;
-      done = merge_begins c.args.self.now c.args.others.now c.in_ok-all.all c.into_iter-number-iterator.result rest c.in_ok-all.ensures.cases;
+      done = merge_begins c.args.self.now c.args.others.now c.reserve.new.self c.into_iter-number-iterator.result rest (c.reserve.ensures ∙ c.in_ok-all.ensures.cases);
     }
 
 pub loop-number-preserved : goal.loop-number-preserved

@@ -1,6 +1,6 @@
 use Rattle.std.proofs.Common.{◌∙◌}
 use Rattle.rvfi_rows.proofs.NextRow.{lines-next}
-use Rattle.rvfi_rows.proofs.lines.read_rows.Goals as goal
+use Rattle.rvfi_rows.proofs.lines.read_rows_in.Goals as goal
 
 pub lines-preserved : goal.lines-preserved
 lines-preserved c = (

@@ -1,7 +1,7 @@
 use Rattle.std.proofs.Common.{◌≡◌, ◌++◌, length}
 use Rattle.rvfi_rows.specs.Readings.{rows_in}
 use Rattle.rvfi_rows.specs.Rows.{rows_of, signals_of}
-use Rattle.rvfi_rows.proofs.lines.read_rows.Given as goal
+use Rattle.rvfi_rows.proofs.lines.read_rows_in.Given as goal
 
 -- the rows that are there, with those of the lines that are left, are those of all lines
 abbrev pub invariant-lines : goal.invariant-lines
