@@ -216,6 +216,10 @@ holds_behind window taker after asked held now few some ending taken = record {
     by zero is = let turns = taken.some (some is) in omega (arith, turns)
     by (suc count) is = let most = few_turns now.ending in omega (arith, most, is)
 
+-- the same segments were taken
+pub same_taken : (asked : Asked) (before after : LineTaker) (one other : List Segment) (now ending : Ending) → other ≡ one → ending ≡ now → IsTaken asked before one now after → IsTaken asked before other ending after
+same_taken asked before after one other now ending segments endings taken = rw (segments, endings) taken
+
 -- as many segments
 as_many : (one other : List Segment) → map lines_of one ≡ map lines_of other → length one ≡ length other
 as_many one other same = sym (length-map one lines_of) ∙ ap length same ∙ length-map other lines_of
