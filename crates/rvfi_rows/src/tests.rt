@@ -171,10 +171,10 @@ fn reads_in_the_memory_of_others(rt: HostRuntime) -> Result<(), Fail> {
     segments.push(Segment::new(lines))?;
     read_segments(&rt, alloc, 1, &plain, &mut segments)?;
     let mut others = Vec::new(alloc);
-    for last in [b"13,,14".as_slice(), b"16,,17"] {
+    for _ in 0..2 {
         let mut lines = Lines::new(alloc);
         lines.push(b"10,,")?;
-        lines.push(last)?;
+        lines.push(b"13,,14")?;
         others.push(Segment::new(lines))?;
     }
     reuse_rows(&mut others, segments);
@@ -185,7 +185,7 @@ fn reads_in_the_memory_of_others(rt: HostRuntime) -> Result<(), Fail> {
         &others,
         (&wider, &plain),
         &[[empty, Reading::Valid]; 2],
-        17,
+        14,
     )
 }
 
