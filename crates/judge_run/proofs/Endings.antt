@@ -24,8 +24,8 @@ use Rattle.hart_step.specs.declared.hart.Hart.{Hart}
 use Rattle.hart_step.specs.Harts.{state_of}
 use Rattle.hart_step.specs.Rows.{HartState}
 use Rattle.segment_judge.specs.Laws.{conclusion_from}
-use Rattle.judge_run.specs.declared.windows.Rest.{Rest}
-use Rattle.judge_run.specs.Windows.{IsOutcomeTold, outcome_behind, outcome_in, reached_in}
+use Rattle.judge_run.specs.declared.left.Rest.{Rest}
+use Rattle.judge_run.specs.Parts.{IsOutcomeTold, outcome_behind, outcome_in, reached_in}
 use Rattle.judge_run.proofs.Passing.{counted_from_none}
 use Rattle.judge_run.specs.Answer.{Step, columns_in, ended, lines_outcome, outcome_of, trace_outcome, verdict_on}
 use Rattle.judge_run.specs.Stops.{MeantBy, MeantTold, MissesStop, LacksFile, line_stop}

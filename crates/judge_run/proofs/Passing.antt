@@ -30,15 +30,15 @@ use Rattle.segment_judge.proofs.Parts.{counted_twice, in_parts}
 use Rattle.verdict_join.specs.declared.joined.Joined.{Joined as JoinedSegments}
 use Rattle.verdict_join.specs.Walks.{IsWithinRows}
 use Rattle.verdict_join.proofs.Passed.{EndsWhereAgrees, conclusion_ends}
-use Rattle.judge_run.specs.declared.window.Asked.{Asked}
-use Rattle.judge_run.specs.declared.windows.Held.{Held}
-use Rattle.judge_run.specs.declared.windows.Left.{Left as LeftOf}
-use Rattle.judge_run.specs.declared.windows.Passed.TheVariants.{Ends, On}
-use Rattle.judge_run.specs.declared.windows.Rest.{Rest}
+use Rattle.judge_run.specs.declared.taken.Asked.{Asked}
+use Rattle.judge_run.specs.declared.left.Held.{Held}
+use Rattle.judge_run.specs.declared.left.Left.{Left as LeftOf}
+use Rattle.judge_run.specs.declared.left.Passed.TheVariants.{Ends, On}
+use Rattle.judge_run.specs.declared.left.Rest.{Rest}
 use Rattle.judge_run.specs.Answer.{ended, outcome_of}
 use Rattle.judge_run.specs.Settling.{IsReadPart, IsSettled}
 use Rattle.judge_run.specs.Taking.{IsTaken, TakesBehind, TakesBehindTold, behind_ending, left_with, more_turns}
-use Rattle.judge_run.specs.Windows.{CanGoOnWith, HoldsBehind, IsNearer, IsOver, LeadsFromTold, PassesPart, PassesTold, Reached, held_lines, outcome_behind, outcome_with, passed_with, reached_in, rows_left}
+use Rattle.judge_run.specs.Parts.{CanGoOnWith, HoldsBehind, IsNearer, IsOver, LeadsFromTold, PassesPart, PassesTold, Reached, held_lines, outcome_behind, outcome_with, passed_with, reached_in, rows_left}
 use Rattle.judge_run.proofs.AnyEvents.{same_lines}
 use Rattle.judge_run.proofs.Taking.{few_turns}
 

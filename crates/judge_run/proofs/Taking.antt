@@ -16,7 +16,7 @@ use Rattle.trace_lines.specs.declared.piece.Piece.{Piece}
 use Rattle.trace_lines.specs.Lines.{Left}
 use Rattle.trace_lines.specs.Pieces.{FitsAsked, FitsEnding, back_of, front_of}
 use Rattle.trace_lines.specs.Takers.{TakesTold, left_of, room_of}
-use Rattle.judge_run.specs.declared.window.Asked.{Asked}
+use Rattle.judge_run.specs.declared.taken.Asked.{Asked}
 use Rattle.judge_run.specs.Taking.{IsTaken, TakesBehindTold, TakesLines, TakesLinesTold, TakesSoFar, TakesSoFarTold, behind_ending, left_with, more_turns}
 
 -- before any call

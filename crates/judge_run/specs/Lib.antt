@@ -3,5 +3,5 @@ pub mod Stops
 pub mod Ends
 pub mod Events
 pub mod Taking
-pub mod Windows
+pub mod Parts
 pub mod Settling

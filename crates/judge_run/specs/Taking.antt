@@ -10,16 +10,16 @@ use Rattle.trace_lines.specs.declared.line_taker.LineTaker.{LineTaker}
 use Rattle.trace_lines.specs.Lines.{Left}
 use Rattle.trace_lines.specs.Pieces.{back_of, front_of}
 use Rattle.trace_lines.specs.Takers.{left_of, room_of}
-use Rattle.judge_run.specs.declared.window.Asked.{Asked}
-use Rattle.judge_run.specs.declared.window.Window.{Window}
+use Rattle.judge_run.specs.declared.taken.Asked.{Asked}
+use Rattle.judge_run.specs.declared.taken.Taken.{Taken}
 
 -- how many lines so many segments have at most
 abbrev pub lines_asked : JobView → ℕ → ℕ
 lines_asked job asked = asked * job.sharing.segment
 
 -- the lines that were taken at once
-abbrev pub lines_in : Window → List (List ℕ)
-lines_in window = flat_map lines_of window.segments.items
+abbrev pub lines_in : Taken → List (List ℕ)
+lines_in taken = flat_map lines_of taken.segments.items
 
 -- so many lines were asked for and were there, and the taker has the back
 pub record TakesSoFar (file : List ℕ) (asked : ℕ) (before : LineTaker) (text : List (List ℕ)) (after : LineTaker) : Type 0 where

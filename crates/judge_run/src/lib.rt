@@ -8,16 +8,16 @@
 mod images;
 mod judgement;
 pub mod laws;
+mod left;
 mod outcomes;
 mod output;
 mod parts;
 mod rounds;
 mod segments;
 mod stop;
+mod taken;
 mod tally;
 mod traces;
-mod window;
-mod windows;
 mod workers;
 
 pub use judgement::judge;

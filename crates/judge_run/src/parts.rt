@@ -10,11 +10,11 @@ ghost use Rattle.rvfi_rows.specs.Segments.{lines_of};
 ghost use Rattle.trace_lines.specs.Errors.{is_read_fault};
 ghost use Rattle.judge_run.specs.Settling.{IsReadPart, IsSettled};
 ghost use Rattle.judge_run.specs.Taking.{IsTaken, TakesBehindTold, lines_in};
-ghost use Rattle.judge_run.specs.Windows.{CanGoOnWith, HoldsBehind};
+ghost use Rattle.judge_run.specs.Parts.{CanGoOnWith, HoldsBehind};
 
+use crate::left::{Held, Left};
 use crate::rounds::settle_uncounted;
-use crate::window::{Asked, Window, take_behind};
-use crate::windows::{Held, Left};
+use crate::taken::{Asked, Taken, take_behind};
 use crate::workers::Workers;
 use hart_step::Hart;
 use hart_words::{NoMemory, PhysMem};
@@ -83,7 +83,7 @@ where
     { settle_from(workers, columns, current, &mut start) };
     let mut take = || take_from(workers.alloc, job, asked, &mut from, shelf);
     let (read, settled, taken) = all_at_once(workers, &mut read, &mut settle, &mut take);
-    let (window, taker) = match taken {
+    let (taken, taker) = match taken {
         Ok(taken) => taken,
         Err(error) => return Err(error),
     };
@@ -94,7 +94,7 @@ where
         return Err(LineError::NoMemory);
     };
     let is_unsure = 0 < joined.rejudged || is_unsure && part.is_empty();
-    let Window { segments, ending } = window.in_memory_of(part);
+    let Taken { segments, ending } = taken.in_memory_of(part);
     let held = Held {
         part: read,
         next: segments,
@@ -211,7 +211,7 @@ fn take_from<H: Shelf>(
     asked: Asked,
     from: &mut Option<LineTaker>,
     shelf: &mut H,
-) -> Result<(Window, LineTaker), LineError>
+) -> Result<(Taken, LineTaker), LineError>
     requires lawful { IsLawful (job_view job.now) }
     requires there { IfSome from.old
         (λ taker. IsThere (H.told shelf.old) (string_bytes taker.name)) }

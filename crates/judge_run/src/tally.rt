@@ -5,8 +5,8 @@ ghost use Rattle.rvfi_rows.specs.declared.verdict.Verdict.TheVariants.{Agrees};
 ghost use Rattle.verdict_join.specs.Walks.{IsWithinRows};
 ghost use Rattle.judge_run.specs.Settling.{behind};
 
+use crate::left::counted_on;
 use crate::rounds::Settling;
-use crate::windows::counted_on;
 use hart_step::Hart;
 use rvfi_rows::Verdict;
 use verdict_join::{Joined, Round};

@@ -7,9 +7,9 @@ ghost use Rattle.trace_lines.specs.Pieces.{piece_view};
 ghost use Rattle.judge_run.specs.Answer.{columns_in, ended, without_header, trace_outcome};
 ghost use Rattle.judge_run.specs.Stops.{MeantBy, MeantTold, CountsStop, MissesStop, IsJobs, IsJobsOutcome, WasRead, is_no_job_ruling};
 
+use crate::left::{Rest, judge_rows};
 use crate::outcomes::outcome_of;
 use crate::stop::{Stop, line_stop};
-use crate::windows::{Rest, judge_rows};
 use crate::workers::Workers;
 use hart_step::Hart;
 use judge_words::Job;

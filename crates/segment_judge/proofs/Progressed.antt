@@ -1,6 +1,6 @@
 -- Progress by one row.
 use Rattle.std.specs.Prelude.{◌||◌, ◌&&◌, not}
-use Rattle.std.proofs.Common.{◌≡◌, ℕ, ◌+◌, All, List, [], ◌∷◌, ◌++◌, Option, Some, None, Result, Ok, Err, IfOk, refl, sym, ap, ◌∙◌, subst, append-nil}
+use Rattle.std.proofs.Common.{◌≡◌, ℕ, ◌+◌, All, List, [], ◌∷◌, ◌++◌, Option, Some, None, Ok, Err, refl, sym, ap, ◌∙◌, subst, append-nil}
 use Rattle.hart_words.specs.declared.accesses.Read.{Read}
 use Rattle.hart_words.specs.declared.accesses.Write.{Write}
 use Rattle.hart_words.specs.declared.map.Map.{Map}
@@ -24,10 +24,6 @@ use Rattle.segment_judge.specs.Standings.{RowGives, touched_at}
 use Rattle.segment_judge.specs.Progress.{CanJudge, JudgesRow, standing}
 use Rattle.segment_judge.proofs.Turns.{agreed_gives, behind_valid, differing_gives, invalid_gives, performed_state, performed_touched, refused_gives}
 use Rattle.segment_judge.proofs.Within.{ReadLies, WriteLies, within_added}
-
--- what is said of a result holds of the value that it has
-pub ok_gives : {A E : Type 0} (P : A → Type 0) (result : Result A E) (value : A) → result ≡ Ok value → IfOk result P → P value
-ok_gives P result value is says = subst (λ result. IfOk result P) is says
 
 pub judges_refused : {M : Type 0} (bytes_of : M → Bytes) (before : Progress M) (fault : RowFault) (touched : List Touched) → JudgesRow bytes_of before before (Err fault) (Some (Refused (before.rows + 1) fault)) touched
 unfolding after_writes

@@ -4,7 +4,7 @@ use Rattle.outside_ports.specs.Ports.{IsMissing, file_of}
 use Rattle.page_image.specs.Bytes.{byte_of}
 use Rattle.page_layers.specs.Memories.{layered_bytes}
 use Rattle.judge_run.specs.Answer.{trace_outcome}
-use Rattle.judge_run.specs.Windows.{IsOutcomeTold}
+use Rattle.judge_run.specs.Parts.{IsOutcomeTold}
 use Rattle.judge_run.proofs.Endings.{lines_missed, trace_told, trace_stops, trace_lacks}
 use Rattle.judge_run.proofs.traces.judge_trace.Goals as goal
 

@@ -1,4 +1,4 @@
-//! Judging the rows of a trace part by part.
+//! What is left of a trace, and judging its rows part by part.
 
 ghost use Rattle.std.specs.Prelude.{◌≡◌, ◌≤◌, ◌<◌, ◌+◌, ◌^◌, [], Decides, false, IfOk, string_bytes};
 ghost use Rattle.judge_words.specs.Job.{IsLawful, job_view};
@@ -9,12 +9,12 @@ ghost use Rattle.trace_lines.specs.Errors.{is_read_fault};
 ghost use Rattle.trace_lines.specs.declared.piece.Ending.TheVariants.{More};
 ghost use Rattle.verdict_join.specs.Walks.{IsWithinRows};
 ghost use Rattle.judge_run.specs.Stops.{is_no_job};
-ghost use Rattle.judge_run.specs.Windows.{CanGoOn, CanGoOnWith, EndsAsJob, HoldsNone, IsNearer, IsOutcomeTold, IsOver, PassesTold, passed_with};
+ghost use Rattle.judge_run.specs.Parts.{CanGoOn, CanGoOnWith, EndsAsJob, HoldsNone, IsNearer, IsOutcomeTold, IsOver, PassesTold, passed_with};
 
 use crate::outcomes::outcome_of;
 use crate::parts::{Settled, settle_and_take};
+use crate::taken::is_more;
 use crate::traces::ended;
-use crate::window::is_more;
 use crate::workers::Workers;
 use hart_step::Hart;
 use hart_words::PhysMem;

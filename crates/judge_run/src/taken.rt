@@ -21,21 +21,21 @@ use trace_lines::{Ending, LineError, LineTaker, Piece};
 
 /// Rows that were taken at once, in segments of which none is empty, and what follows them.
 #[derive(Drop)]
-pub(crate) struct Window {
+pub(crate) struct Taken {
     pub segments: Vec<Segment>,
     pub ending: Ending,
 }
 
-impl Window {
+impl Taken {
     /// The same, its segments to be read in the memory that the rows of others have.
-    pub fn in_memory_of(self, others: Vec<Segment>) -> Window
+    pub fn in_memory_of(self, others: Vec<Segment>) -> Taken
         ensures segments { result.segments.items ≡ self.segments.items }
         ensures ending { result.ending ≡ self.ending }
     {
-        let Window { segments, ending } = self;
+        let Taken { segments, ending } = self;
         let mut segments = segments;
         reuse_rows(&mut segments, others);
-        Window { segments, ending }
+        Taken { segments, ending }
     }
 }
 
@@ -53,7 +53,7 @@ pub fn take_behind<H: Shelf>(
     asked: Asked,
     taker: LineTaker,
     shelf: &mut H,
-) -> Result<(Window, LineTaker), LineError>
+) -> Result<(Taken, LineTaker), LineError>
     requires lawful { IsLawful (job_view job.now) }
     requires there { IsThere (H.told shelf.old) (string_bytes taker.name) }
     ensures told { H.told shelf.new ≡ H.told shelf.old }
@@ -67,23 +67,23 @@ pub fn take_behind<H: Shelf>(
         (H.misses shelf.old) (H.misses shelf.new) }
 {
     if is_more(asked.ending) {
-        take_window(alloc, job, asked.segments, taker, shelf)
+        take_segments(alloc, job, asked.segments, taker, shelf)
     } else {
         let segments = Vec::new(alloc);
         let ending = asked.ending;
-        Ok((Window { segments, ending }, taker))
+        Ok((Taken { segments, ending }, taker))
     }
 }
 
 /// Takes the next rows: so many segments, each of as many lines, or all that is left where that is
 /// less.
-fn take_window<H: Shelf>(
+fn take_segments<H: Shelf>(
     alloc: Global,
     job: &Job,
     asked: usize,
     taker: LineTaker,
     shelf: &mut H,
-) -> Result<(Window, LineTaker), LineError>
+) -> Result<(Taken, LineTaker), LineError>
     requires lawful { IsLawful (job_view job.now) }
     requires there { IsThere (H.told shelf.old) (string_bytes taker.name) }
     ensures told { H.told shelf.new ≡ H.told shelf.old }
@@ -115,11 +115,11 @@ fn take_window<H: Shelf>(
             Err(error) => return Err(error),
         }
         if !is_more(ending) {
-            return Ok((Window { segments, ending }, taker));
+            return Ok((Taken { segments, ending }, taker));
         }
     }
     let ending = Ending::More;
-    Ok((Window { segments, ending }, taker))
+    Ok((Taken { segments, ending }, taker))
 }
 
 /// Puts lines behind the others, as a segment of their own, unless there are none.

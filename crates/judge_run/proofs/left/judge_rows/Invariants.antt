@@ -1,8 +1,8 @@
 use Rattle.std.proofs.Common.{◌≡◌, string_bytes}
 use Rattle.judge_words.specs.Job.{job_view}
 use Rattle.outside_ports.specs.Ports.{IsThere, file_of}
-use Rattle.judge_run.specs.Windows.{CanGoOnWith, LeadsFromTold, distance_of}
-use Rattle.judge_run.proofs.windows.judge_rows.Given as goal
+use Rattle.judge_run.specs.Parts.{CanGoOnWith, LeadsFromTold, distance_of}
+use Rattle.judge_run.proofs.left.judge_rows.Given as goal
 
 -- all rows come to what those that are left do
 abbrev pub invariant-parts : goal.invariant-parts

@@ -4,12 +4,12 @@ use Rattle.judge_words.specs.Job.{job_view}
 use Rattle.outside_ports.specs.Ports.{file_of}
 use Rattle.hart_step.specs.Harts.{state_of}
 use Rattle.rvfi_rows.specs.Segments.{lines_of}
-use Rattle.judge_run.specs.declared.windows.Passed.TheVariants.{Ends}
+use Rattle.judge_run.specs.declared.left.Passed.TheVariants.{Ends}
 use Rattle.judge_run.specs.Answer.{outcome_of}
-use Rattle.judge_run.specs.Windows.{IsNearer, PassesTold, passed_with}
+use Rattle.judge_run.specs.Parts.{IsNearer, PassesTold, passed_with}
 use Rattle.judge_run.proofs.Passing.{over_passes, part_lines, part_nears, part_passes}
 use Rattle.verdict_join.proofs.Passed.{few_within, lines_within}
-use Rattle.judge_run.proofs.windows.judge_part.Goals as goal
+use Rattle.judge_run.proofs.left.judge_part.Goals as goal
 
 pub counted_on-verdict-requires-clause-within : goal.counted_on-verdict-requires-clause-within
 counted_on-verdict-requires-clause-within g c =

@@ -3,16 +3,16 @@ use Rattle.judge_words.specs.Job.{job_view}
 use Rattle.outside_ports.specs.Ports.{file_of}
 use Rattle.judge_run.specs.Taking.{lines_asked, lines_in}
 use Rattle.judge_run.proofs.Taking.{none_are, result_behind, taken_are}
-use Rattle.judge_run.proofs.window.take_behind.Goals as goal
+use Rattle.judge_run.proofs.taken.take_behind.Goals as goal
 
 pub returns-then-is_more-clause-takes : goal.returns-then-is_more-clause-takes
 returns-then-is_more-clause-takes g c =
-    result_behind (λ taken. lines_in taken.0) (λ taken. taken.0.ending) (λ taken. taken.1) (file_of (g.H.Shelf.told c.args.shelf.now) (string_bytes c.args.taker.name)) (lines_asked (job_view c.args.job.now) c.args.asked.segments) c.args.asked.ending c.args.taker c.take_window.result (c.is_more.ensures.0 c.if-is_more.true) c.take_window.ensures.takes c.take_window.ensures.counts
+    result_behind (λ taken. lines_in taken.0) (λ taken. taken.0.ending) (λ taken. taken.1) (file_of (g.H.Shelf.told c.args.shelf.now) (string_bytes c.args.taker.name)) (lines_asked (job_view c.args.job.now) c.args.asked.segments) c.args.asked.ending c.args.taker c.take_segments.result (c.is_more.ensures.0 c.if-is_more.true) c.take_segments.ensures.takes c.take_segments.ensures.counts
 
 pub returns-then-is_more-clause-taken : goal.returns-then-is_more-clause-taken
 returns-then-is_more-clause-taken g c =
-    let window = c.take_window.ensures in
-    taken_are (λ taken. taken.0.segments.items) (λ taken. taken.0.ending) (λ taken. taken.1) c.args.asked c.args.job.now.sharing.segment c.args.taker c.take_window.result c.requires.lawful.sharing.segment.0 (c.is_more.ensures.0 c.if-is_more.true) window.counts window.few window.full window.room
+    let window = c.take_segments.ensures in
+    taken_are (λ taken. taken.0.segments.items) (λ taken. taken.0.ending) (λ taken. taken.1) c.args.asked c.args.job.now.sharing.segment c.args.taker c.take_segments.result c.requires.lawful.sharing.segment.0 (c.is_more.ensures.0 c.if-is_more.true) window.counts window.few window.full window.room
 
 pub returns-else-is_more-clause-taken : goal.returns-else-is_more-clause-taken
 returns-else-is_more-clause-taken g c =

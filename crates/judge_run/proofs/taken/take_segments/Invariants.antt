@@ -4,7 +4,7 @@ use Rattle.outside_ports.specs.Ports.{IsThere, file_of}
 use Rattle.rvfi_rows.specs.Segments.{lines_of}
 use Rattle.trace_lines.specs.Takers.{room_of}
 use Rattle.judge_run.specs.Taking.{TakesSoFarTold}
-use Rattle.judge_run.proofs.window.take_window.Given as goal
+use Rattle.judge_run.proofs.taken.take_segments.Given as goal
 
 -- so many segments were taken, each whole
 abbrev pub invariant-segments : goal.invariant-segments

@@ -9,7 +9,7 @@ use Rattle.trace_lines.specs.Pieces.{FitsEnding}
 use Rattle.trace_lines.specs.Takers.{TakesTold}
 use Rattle.judge_run.specs.Taking.{TakesLinesTold, TakesSoFarTold, lines_asked}
 use Rattle.judge_run.proofs.Taking.{begins, fits_last, next_lines_are, next_within, no_lines, take_last_told, take_on_told, takes_on, takes_whole, there_behind}
-use Rattle.judge_run.proofs.window.take_window.Goals as goal
+use Rattle.judge_run.proofs.taken.take_segments.Goals as goal
 
 pub segments-init : goal.segments-init
 segments-init g c =

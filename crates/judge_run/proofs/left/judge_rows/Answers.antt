@@ -1,10 +1,10 @@
 use Rattle.std.proofs.Common.{◌∙◌, rules, string_bytes, subst}
 use Rattle.judge_words.specs.Job.{job_view}
 use Rattle.outside_ports.specs.Ports.{file_of}
-use Rattle.judge_run.specs.declared.windows.Passed.TheVariants.{On}
-use Rattle.judge_run.specs.Windows.{IsNearer, PassesTold}
+use Rattle.judge_run.specs.declared.left.Passed.TheVariants.{On}
+use Rattle.judge_run.specs.Parts.{IsNearer, PassesTold}
 use Rattle.judge_run.proofs.Passing.{parts_lead, there_behind_part}
-use Rattle.judge_run.proofs.windows.judge_rows.Goals as goal
+use Rattle.judge_run.proofs.left.judge_rows.Goals as goal
 
 pub parts-preserved : goal.parts-preserved
 parts-preserved g c =

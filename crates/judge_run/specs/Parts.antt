@@ -19,10 +19,10 @@ use Rattle.hart_step.specs.Rows.{HartState}
 use Rattle.segment_judge.specs.Judgements.{by_hart, counted_on}
 use Rattle.segment_judge.specs.Laws.{conclusion_from}
 use Rattle.trace_report.specs.declared.outcome.Outcome.{Outcome}
-use Rattle.judge_run.specs.declared.windows.Held.{Held}
-use Rattle.judge_run.specs.declared.windows.Rest.{Rest}
-use Rattle.judge_run.specs.declared.windows.Passed.{Passed}
-use Rattle.judge_run.specs.declared.windows.Passed.TheVariants.{On, Ends}
+use Rattle.judge_run.specs.declared.left.Held.{Held}
+use Rattle.judge_run.specs.declared.left.Rest.{Rest}
+use Rattle.judge_run.specs.declared.left.Passed.{Passed}
+use Rattle.judge_run.specs.declared.left.Passed.TheVariants.{On, Ends}
 use Rattle.judge_run.specs.Answer.{ended, outcome_of}
 use Rattle.judge_run.specs.Taking.{behind_ending, left_with, more_turns}
 
