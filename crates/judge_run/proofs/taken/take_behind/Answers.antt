@@ -11,8 +11,8 @@ returns-then-is_more-clause-takes g c =
 
 pub returns-then-is_more-clause-taken : goal.returns-then-is_more-clause-taken
 returns-then-is_more-clause-taken g c =
-    let window = c.take_segments.ensures in
-    taken_are (λ taken. taken.0.segments.items) (λ taken. taken.0.ending) (λ taken. taken.1) c.args.asked c.args.job.now.sharing.segment c.args.taker c.take_segments.result c.requires.lawful.sharing.segment.0 (c.is_more.ensures.0 c.if-is_more.true) window.counts window.few window.full window.room
+    let took = c.take_segments.ensures in
+    taken_are (λ taken. taken.0.segments.items) (λ taken. taken.0.ending) (λ taken. taken.1) c.args.asked c.args.job.now.sharing.segment c.args.taker c.take_segments.result c.requires.lawful.sharing.segment.0 (c.is_more.ensures.0 c.if-is_more.true) took.counts took.few took.full took.room
 
 pub returns-else-is_more-clause-taken : goal.returns-else-is_more-clause-taken
 returns-else-is_more-clause-taken g c =
