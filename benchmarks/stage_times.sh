@@ -7,21 +7,14 @@ passes=${1:-10}
 workers=${2:-4}
 rows=1000000
 here=$(cd "$(dirname "$0")" && pwd)
-crate=$here/../crates/stage_times
+program=$(sh "$here/stage_times_program.sh")
 folder=$(mktemp -d)
 trap 'rm -rf "$folder"' EXIT
-if [ ! -f "$crate/out/stage_times" ]; then
-    (cd "$crate" && rt run) >"$folder/log" 2>&1 || [ -f "$crate/out/stage_times" ] || {
-        cat "$folder/log" >&2
-        exit 70
-    }
-fi
-[ -x "$crate/out/stage_times" ] || chmod +x "$crate/out/stage_times"
 python3 "$here/make_rows.py" "$folder/image" "$folder/trace" "$rows"
 echo "a loop, with 1 and $workers workers"
-"$crate/out/stage_times" "$folder/image" "$folder/trace" "$workers" "$passes"
+"$program" "$folder/image" "$folder/trace" "$workers" "$passes"
 for image in loop spread; do
     python3 "$here/run_compiled.py" "$here/compiled/$image.hex" "$folder/trace" "$rows"
     echo "compiled/$image.hex, with 1 and $workers workers"
-    "$crate/out/stage_times" "$here/compiled/$image.hex" "$folder/trace" "$workers" "$passes"
+    "$program" "$here/compiled/$image.hex" "$folder/trace" "$workers" "$passes"
 done

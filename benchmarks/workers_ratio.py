@@ -47,11 +47,11 @@ def told(trials):
         return 0.0, "none"
     figure = sum(trial.one for trial in trials) / sum(trial.several for trial in trials)
     single = sorted(trial.one / trial.several for trial in trials)
-    return figure, (f"{len(trials)} trials: {figure:.2f} by the sums, "
-                    f"{statistics.median(single):.2f} the median, "
-                    f"{single[0]:.2f} to {single[-1]:.2f}; "
-                    f"mean milliseconds {sum(t.one for t in trials) / len(trials) / 1000:.0f} "
-                    f"and {sum(t.several for t in trials) / len(trials) / 1000:.0f}")
+    mean = [statistics.mean(times) / 1000
+            for times in zip(*((trial.one, trial.several) for trial in trials))]
+    return figure, (f"{len(trials)}; {figure:.2f} by the sums, {statistics.median(single):.2f} the "
+                    f"median of single trials, which lie from {single[0]:.2f} to {single[-1]:.2f}; "
+                    f"{mean[0]:.0f} and {mean[1]:.0f} milliseconds on average")
 
 
 def main():
@@ -81,8 +81,8 @@ def main():
         quiet = [trial for trial in done if trial.steal <= options.steal]
         figure, line = told(quiet)
         print(pair.split("=", 1)[1])
-        print(f"  quiet, {line}")
-        print(f"  all, {told(done)[1]}")
+        print(f"  quiet trials: {line}")
+        print(f"  all trials: {told(done)[1]}")
         is_shown = is_shown and options.quiet <= len(quiet) and least <= figure
     return 0 if is_shown else 1
 
