@@ -8,8 +8,8 @@ processors while it ran (`steal` in /proc/stat); the others tell of a machine th
 is fixed before anything is measured: how many trials are run, that bound, and that the figure of a
 trace is the sum of the times with one worker over the sum with several, over all quiet trials. The
 medians of single trials are told beside it, and both over all trials. The status is 1 where a trace
-has fewer than --quiet quiet trials, or a figure below --least, which is 3.4 for four workers, 1.8 for
-two, and 0 for any other number.
+has fewer than --quiet quiet trials, or a figure below --least, which is 3.4 for four workers, 1.8
+for two, and 0 for any other number.
 """
 import argparse
 import statistics
@@ -27,7 +27,7 @@ def processors_time():
 
 
 class Trial:
-    """The microseconds of reading and judging, with one worker and several, and the host's share."""
+    """The microseconds of reading and judging, by one worker and several, and the host's share."""
 
     def __init__(self, program, image, trace, workers):
         all_before, host_before = processors_time()
