@@ -1,7 +1,7 @@
 //! The machine's state.
 
 ghost use Rattle.std.specs.Prelude.{◌≡◌, ◌↔◌, OnErr, OnOk, IfOk};
-ghost use Rattle.board_core.specs.Machine.{IsSilent, after, answer_of, has_drawn, has_passed, opened};
+ghost use Rattle.board_core.specs.Machine.{IsSilent, machine_after_event, answer_of, has_drawn, has_none_left, machine_at_start};
 ghost use Rattle.board_core.specs.declared.event.Answer.TheVariants.{Nothing};
 ghost use Rattle.board_core.specs.declared.event.Event.TheVariants.{Claim, Post};
 
@@ -43,7 +43,7 @@ impl Model for CoreState {
 impl CoreState {
     /// The machine for so many segments, before any event. It takes no memory yet.
     pub fn open(alloc: Global, n: u32) -> CoreState
-        ensures { result ≡ opened n }
+        ensures { result ≡ machine_at_start n }
     {
         CoreState {
             segments: n,
@@ -55,9 +55,9 @@ impl CoreState {
     }
 
     /// Takes one event. Where memory is refused nothing changes.
-    #[tactic(auto, unfolding(crate::specs::Machine::after))]
+    #[tactic(auto, unfolding(crate::specs::Machine::machine_after_event))]
     pub fn apply(&mut self, event: Event) -> Result<Answer, NoMemory>
-        ensures state { OnOk result (self.new ≡ after self.old event) }
+        ensures state { OnOk result (self.new ≡ machine_after_event self.old event) }
         ensures answer { IfOk result (λ answer. answer ≡ answer_of self.old event) }
         ensures silent { IfOk result (λ answer. (answer ≡ Nothing) ↔ IsSilent self.old event) }
         ensures kept { OnErr result (self.new ≡ self.old) }
@@ -69,15 +69,15 @@ impl CoreState {
         }
     }
 
-    #[tactic(auto, unfolding(crate::specs::Machine::after))]
+    #[tactic(auto, unfolding(crate::specs::Machine::machine_after_event))]
     fn claim(&mut self, worker: u32) -> Result<Answer, NoMemory>
-        ensures state { OnOk result (self.new ≡ after self.old (Claim worker)) }
+        ensures state { OnOk result (self.new ≡ machine_after_event self.old (Claim worker)) }
         ensures answer { IfOk result (λ answer. answer ≡ answer_of self.old (Claim worker)) }
         ensures silent { IfOk result
             (λ answer. (answer ≡ Nothing) ↔ IsSilent self.old (Claim worker)) }
         ensures kept { OnErr result (self.new ≡ self.old) }
     {
-        if self.has_passed(worker) {
+        if self.has_none_left(worker) {
             return Ok(Answer::Nothing);
         }
         let number = self.next;
@@ -86,9 +86,9 @@ impl CoreState {
         Ok(Answer::Drew(number))
     }
 
-    #[tactic(auto, unfolding(crate::specs::Machine::after))]
+    #[tactic(auto, unfolding(crate::specs::Machine::machine_after_event))]
     fn post(&mut self, worker: u32, segment: u32) -> Result<Answer, NoMemory>
-        ensures state { OnOk result (self.new ≡ after self.old (Post worker segment)) }
+        ensures state { OnOk result (self.new ≡ machine_after_event self.old (Post worker segment)) }
         ensures answer { IfOk result (λ answer. answer ≡ Nothing) }
         ensures kept { OnErr result (self.new ≡ self.old) }
     {
@@ -100,8 +100,8 @@ impl CoreState {
     }
 
     /// Whether the worker has drawn a number that is no segment's.
-    fn has_passed(&self, worker: u32) -> bool
-        ensures { result ≡ has_passed self.now worker }
+    fn has_none_left(&self, worker: u32) -> bool
+        ensures { result ≡ has_none_left self.now worker }
     {
         let segments = u64::from(self.segments);
         self.draws.iter().any(|(drawer, number)| *drawer == worker && *number >= segments)

@@ -1,5 +1,6 @@
 -- What a row that agrees shows of a signal.
-use Rattle.std.proofs.Common.{◌≡◌, ℕ, ◌-◌, ◌%◌, ◌^◌, ◌<◌, ◌==◌, Bool, true, false, bit_and, Option, Some, None, refl, sym, ap, ◌∙◌, arith, Ok, Err, if◌then◌else◌, lit<}
+use Rattle.std.proofs.Common.{◌≡◌, ℕ, ◌-◌, ◌%◌, ◌^◌, ◌<◌, ◌==◌, Bool, true, false, bit_and, Option, Some, None, refl}
+use Rattle.std.proofs.Common.{sym, ap, ◌∙◌, arith, Ok, Err, if◌then◌else◌, lit<}
 use Rattle.std.specs.Prelude.{IfSome}
 use Rattle.std.specs.Option.{is_some}
 use Rattle.std.proofs.lemmas.Nat.{and_mask}
@@ -12,9 +13,9 @@ use Rattle.hart_words.specs.Signals.{Shown}
 use Rattle.csr_file.specs.Fields.{all_bits}
 use Rattle.rvfi_rows.specs.declared.expected.Retired.{Retired}
 use Rattle.rvfi_rows.specs.declared.expected.Effects.{Effects}
-use Rattle.row_compare.specs.declared.wanted.Wanted.{Wanted}
+use Rattle.row_compare.specs.declared.expected_signal.ExpectedSignal.{ExpectedSignal}
 use Rattle.row_compare.specs.Wanted.{whole, where_known}
-use Rattle.row_compare.specs.Signals.{is_call_or_breakpoint, unless_trap, wanted, wanted_trap}
+use Rattle.row_compare.specs.Signals.{is_call_or_breakpoint, unless_trap, expected_signal, expected_trap}
 use Rattle.row_compare.specs.Difference.{difference_between, signal_difference}
 use Rattle.hart_step.specs.Choices.{shows}
 use Rattle.boundary_guess.specs.Truth.{IsShown}
@@ -25,69 +26,94 @@ abbrev pub ShowsWords : Shown → Type 0
 ShowsWords shown = (signal : Signal) → IfSome (shown signal) (λ value. value < 2 ^ 64)
 
 -- where nothing differs under a mask, both values are the same under it
-differs_by : (want found : ℕ) (difference : Difference) (test : Bool) → (want == found) ≡ test → (if test then None else Some difference) ≡ None → want ≡ found
+differs_by : (want found : ℕ) (difference : Difference) (test : Bool) → (want == found) ≡ test
+    → (if test then None else Some difference) ≡ None → want ≡ found
 differs_by want found difference true is none = grind (arith, nat_tests, is)
 differs_by want found difference false is none = absurd cc
 
-pub same_under : (signal : Signal) (found : ℕ) (want : Wanted) → difference_between signal (Some found) (Some want) ≡ None → bit_and want.value want.mask ≡ bit_and found want.mask
+pub same_under : (signal : Signal) (found : ℕ) (want : ExpectedSignal)
+    → difference_between signal (Some found) (Some want) ≡ None → bit_and want.value want.mask ≡ bit_and found want.mask
 same_under signal found want none =
-    let difference : Difference = record { signal = signal; expected = bit_and want.value want.mask; found = bit_and found want.mask } in
-    differs_by (bit_and want.value want.mask) (bit_and found want.mask) difference (bit_and want.value want.mask == bit_and found want.mask) refl none
+    let difference : Difference =
+    record { signal = signal; expected = bit_and want.value want.mask; found = bit_and found want.mask } in
+    differs_by (bit_and want.value want.mask) (bit_and found want.mask) difference
+    (bit_and want.value want.mask == bit_and found want.mask) refl none
 
 -- and the same where the mask is all ones
-same_word : (want found : ℕ) → want < 2 ^ 64 → found < 2 ^ 64 → bit_and want all_bits ≡ bit_and found all_bits → want ≡ found
+same_word : (want found : ℕ) → want < 2 ^ 64 → found < 2 ^ 64 → bit_and want all_bits ≡ bit_and found all_bits
+    → want ≡ found
 same_word want found small below same =
     let left : bit_and want (2 ^ 64 - 1) ≡ want % 2 ^ 64 = and_mask want 64 in
     let right : bit_and found (2 ^ 64 - 1) ≡ found % 2 ^ 64 = and_mask found 64 in
     let both : want % 2 ^ 64 ≡ found % 2 ^ 64 = sym left ∙ same ∙ right in
     omega (arith, both, small, below)
 
-pub found_is : (signal : Signal) (found : Option ℕ) (want : ℕ) → is_some found ≡ true → IfSome found (λ value. value < 2 ^ 64) → want < 2 ^ 64 → difference_between signal found (whole want) ≡ None → found ≡ Some want
+pub found_is : (signal : Signal) (found : Option ℕ) (want : ℕ) → is_some found ≡ true
+    → IfSome found (λ value. value < 2 ^ 64) → want < 2 ^ 64 → difference_between signal found (whole want) ≡ None
+    → found ≡ Some want
 found_is signal None want there word small none = absurd cc
 found_is signal (Some found) want there word small none =
-    ap (λ v. Some v) (sym (same_word want found small word (same_under signal found (record { value = want; mask = all_bits }) none)))
+    ap (λ v. Some v)
+    (sym
+    (same_word want found small word (same_under signal found (record { value = want; mask = all_bits }) none)))
 
 -- a signal that is shown, and of which a whole word is wanted, has that value
-shown_is : (retired : Retired) (shown : Shown) (signal : Signal) (want : ℕ) → IsShown shown signal → ShowsWords shown → want < 2 ^ 64 → wanted retired shown signal ≡ whole want
+shown_is : (retired : Retired) (shown : Shown) (signal : Signal) (want : ℕ) → IsShown shown signal → ShowsWords shown
+    → want < 2 ^ 64 → expected_signal retired shown signal ≡ whole want
     → signal_difference retired shown signal ≡ None → shown signal ≡ Some want
 unfolding signal_difference
 shown_is retired shown signal want there words small is none =
-    found_is signal (shown signal) want there (words signal) small (ap (λ w. difference_between signal (shown signal) w) (sym is) ∙ none)
+    found_is signal (shown signal) want there (words signal) small
+    (ap (λ w. difference_between signal (shown signal) w) (sym is) ∙ none)
 
 -- ---- traps
 
 one_shows : (trap : Option ℕ) → trap ≡ Some 1 → shows trap 1 ≡ false → ⊥
 one_shows trap one other = let yes : shows trap 1 ≡ true = ap (λ t. shows t 1) one in cc
 
-trap_wanted : (cause : Cause) (test : Bool) → is_call_or_breakpoint cause ≡ test → test ≡ false → (if test then None else whole 1) ≡ whole 1
+trap_wanted : (cause : Cause) (test : Bool) → is_call_or_breakpoint cause ≡ test → test ≡ false
+    → (if test then None else whole 1) ≡ whole 1
 trap_wanted cause true is fault = absurd cc
 trap_wanted cause false is fault = refl
 
 -- a row that agrees and does not show 1 did not take a trap for a fault
-pub took_no_fault : (retired : Retired) (shown : Shown) (cause : Cause) → retired.effects ≡ Err cause → IsFault cause → IsShown shown Trap → ShowsWords shown → shows (shown Trap) 1 ≡ false
+pub took_no_fault : (retired : Retired) (shown : Shown) (cause : Cause) → retired.effects ≡ Err cause → IsFault cause
+    → IsShown shown Trap → ShowsWords shown → shows (shown Trap) 1 ≡ false
     → signal_difference retired shown Trap ≡ None → ⊥
-unfolding wanted
+unfolding expected_signal
 took_no_fault retired shown cause is fault there words other none =
-    let want : wanted retired shown Trap ≡ whole 1 = ap wanted_trap is ∙ trap_wanted cause (is_call_or_breakpoint cause) refl fault in
+    let want : expected_signal retired shown Trap ≡ whole 1 =
+    ap expected_trap is ∙ trap_wanted cause (is_call_or_breakpoint cause) refl fault in
     one_shows (shown Trap) (shown_is retired shown Trap 1 there words (lit< tt) want none) other
 
 -- the bits that were fetched
-pub insn_is : (retired : Retired) (shown : Shown) (bits : ℕ) → retired.insn ≡ Some bits → bits < 2 ^ 64 → IsShown shown Insn → ShowsWords shown → signal_difference retired shown Insn ≡ None → shown Insn ≡ Some bits
-unfolding wanted
-insn_is retired shown bits is small there words none = shown_is retired shown Insn bits there words small (ap where_known is) none
+pub insn_is : (retired : Retired) (shown : Shown) (bits : ℕ) → retired.insn ≡ Some bits → bits < 2 ^ 64
+    → IsShown shown Insn → ShowsWords shown → signal_difference retired shown Insn ≡ None → shown Insn ≡ Some bits
+unfolding expected_signal
+insn_is retired shown bits is small there words none =
+    shown_is retired shown Insn bits there words small (ap where_known is) none
 
 -- what an instruction that retired did
-pub rd_is : (retired : Retired) (shown : Shown) (effects : Effects) → retired.effects ≡ Ok effects → effects.rd < 2 ^ 64 → IsShown shown RdAddr → ShowsWords shown → signal_difference retired shown RdAddr ≡ None → shown RdAddr ≡ Some effects.rd
-unfolding wanted
+pub rd_is : (retired : Retired) (shown : Shown) (effects : Effects) → retired.effects ≡ Ok effects
+    → effects.rd < 2 ^ 64 → IsShown shown RdAddr → ShowsWords shown → signal_difference retired shown RdAddr ≡ None
+    → shown RdAddr ≡ Some effects.rd
+unfolding expected_signal
 rd_is retired shown effects is small there words none =
-    shown_is retired shown RdAddr effects.rd there words small (ap (λ e. unless_trap (record retired { effects = e }) (λ done. whole done.rd)) is) none
+    shown_is retired shown RdAddr effects.rd there words small
+    (ap (λ e. unless_trap (record retired { effects = e }) (λ done. whole done.rd)) is) none
 
-pub value_is : (retired : Retired) (shown : Shown) (effects : Effects) → retired.effects ≡ Ok effects → effects.rd_value < 2 ^ 64 → IsShown shown RdWdata → ShowsWords shown → signal_difference retired shown RdWdata ≡ None → shown RdWdata ≡ Some effects.rd_value
-unfolding wanted
+pub value_is : (retired : Retired) (shown : Shown) (effects : Effects) → retired.effects ≡ Ok effects
+    → effects.rd_value < 2 ^ 64 → IsShown shown RdWdata → ShowsWords shown
+    → signal_difference retired shown RdWdata ≡ None → shown RdWdata ≡ Some effects.rd_value
+unfolding expected_signal
 value_is retired shown effects is small there words none =
-    shown_is retired shown RdWdata effects.rd_value there words small (ap (λ e. unless_trap (record retired { effects = e }) (λ done. whole done.rd_value)) is) none
+    shown_is retired shown RdWdata effects.rd_value there words small
+    (ap (λ e. unless_trap (record retired { effects = e }) (λ done. whole done.rd_value)) is) none
 
-pub next_is : (retired : Retired) (shown : Shown) (effects : Effects) → retired.effects ≡ Ok effects → effects.next_pc < 2 ^ 64 → IsShown shown PcWdata → ShowsWords shown → signal_difference retired shown PcWdata ≡ None → shown PcWdata ≡ Some effects.next_pc
-unfolding wanted
+pub next_is : (retired : Retired) (shown : Shown) (effects : Effects) → retired.effects ≡ Ok effects
+    → effects.next_pc < 2 ^ 64 → IsShown shown PcWdata → ShowsWords shown
+    → signal_difference retired shown PcWdata ≡ None → shown PcWdata ≡ Some effects.next_pc
+unfolding expected_signal
 next_is retired shown effects is small there words none =
-    shown_is retired shown PcWdata effects.next_pc there words small (ap (λ e. unless_trap (record retired { effects = e }) (λ done. whole done.next_pc)) is) none
+    shown_is retired shown PcWdata effects.next_pc there words small
+    (ap (λ e. unless_trap (record retired { effects = e }) (λ done. whole done.next_pc)) is) none

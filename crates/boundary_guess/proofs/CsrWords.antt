@@ -1,5 +1,7 @@
 -- Control and status registers hold words, and what accesses to them give are words.
-use Rattle.std.proofs.Common.{◌≡◌, inl, inr, ℕ, ◌+◌, ◌-◌, ◌*◌, ◌/◌, ◌%◌, ◌^◌, ◌<◌, ◌≤◌, ◌==◌, Bool, true, false, ◌&&◌, nat_lt, nat_le, bit_and, List, length, map, get_or, if◌then◌else◌, sym, subst, arith, lit<}
+use Rattle.std.proofs.Common.{◌≡◌, inl, inr, ℕ, ◌+◌, ◌-◌, ◌*◌, ◌/◌, ◌%◌, ◌^◌, ◌<◌, ◌≤◌, ◌==◌, Bool, true, false, ◌&&◌}
+use Rattle.std.proofs.Common.{nat_lt, nat_le, bit_and, List, length, map, get_or, if◌then◌else◌, sym, subst, arith}
+use Rattle.std.proofs.Common.{lit<}
 use Rattle.std.specs.Prelude.{◌||◌, slice_index, All}
 use Rattle.std.specs.List.{range_with_len}
 use Rattle.std.specs.Int.{from_le_bytes, w64}
@@ -13,15 +15,22 @@ use Rattle.csr_table.specs.declared.registers.Csr.{Csr}
 use Rattle.csr_table.specs.declared.registers.Csr.TheVariants as csr
 use Rattle.csr_file.specs.declared.csrs.Csrs.{Csrs}
 use Rattle.csr_file.specs.declared.csr_kind.CsrKind.{CsrKind}
-use Rattle.csr_file.specs.declared.csr_kind.CsrKind.TheVariants.{Stored, Status, Pending, SupervisorStatus, SupervisorEnables, SupervisorPending, Translation, LowConfigurations, HighConfigurations, EntryAddress, Constant, OfCore, Counter, ClosedCounter}
+use Rattle.csr_file.specs.declared.csr_kind.CsrKind.TheVariants.{Stored, Status, Pending, SupervisorStatus}
+use Rattle.csr_file.specs.declared.csr_kind.CsrKind.TheVariants.{SupervisorEnables, SupervisorPending, Translation}
+use Rattle.csr_file.specs.declared.csr_kind.CsrKind.TheVariants.{LowConfigurations, HighConfigurations, EntryAddress}
+use Rattle.csr_file.specs.declared.csr_kind.CsrKind.TheVariants.{Constant, ImplementationDefined, Counter}
+use Rattle.csr_file.specs.declared.csr_kind.CsrKind.TheVariants.{UnimplementedCounter}
 use Rattle.csr_file.specs.declared.stored_csr.StoredCsr.{StoredCsr}
 use Rattle.csr_file.specs.declared.stored_csr.StoredCsr.TheVariants.{Mstatus, Mie, Mip, Satp}
 use Rattle.csr_file.specs.declared.fields.TheConstants.{PMP_LOCK}
-use Rattle.csr_file.specs.Fields.{all_bits, bit_is_set, is_supported_mode, merged, satp_mode_of}
+use Rattle.csr_file.specs.Fields.{all_bits, bit_is_set, is_supported_mode, masked_update, satp_mode_of}
 use Rattle.csr_file.specs.Legal.{IsLegal}
 use Rattle.csr_file.specs.Registers.{at, no_entry, stored_index_of, with_at}
 use Rattle.csr_file.specs.Table.{csr_kind_of, line_bits}
-use Rattle.csr_file.specs.Values.{address_is_locked, configuration_after, configuration_of, configuration_written, configurations_write_of, csr_base_of, csr_value_of, csr_write_of, entry_address_of, entry_address_write_of, entry_written, packed_pmpcfg_of, pending_interrupts_of, status_write_of, translation_write_of, with_entry_address}
+use Rattle.csr_file.specs.Values.{address_is_locked, configuration_after, configuration_of, configuration_after_write}
+use Rattle.csr_file.specs.Values.{configurations_write_of, csr_base_of, csr_value_of, csr_write_of, entry_address_of}
+use Rattle.csr_file.specs.Values.{entry_address_write_of, entry_after_write, packed_pmpcfg_of, pending_interrupts_of}
+use Rattle.csr_file.specs.Values.{status_write_of, translation_write_of, with_entry_address}
 use Rattle.csr_file.proofs.Places.{at_other, at_same, same_index}
 
 -- each register holds a word, and each configuration of an entry is a byte
@@ -29,14 +38,18 @@ pub record HasWords (csrs : Csrs) : Type 0 where
   pub values : (stored : StoredCsr) → at csrs stored < 2 ^ 64
   pub configurations : All (λ entry. entry.cfg < 256) csrs.entries
 
-pub with_word : (csrs : Csrs) (stored : StoredCsr) (value : ℕ) → IsLegal csrs → HasWords csrs → value < 2 ^ 64 → HasWords (with_at csrs stored value)
+pub with_word : (csrs : Csrs) (stored : StoredCsr) (value : ℕ) → IsLegal csrs → HasWords csrs → value < 2 ^ 64
+    → HasWords (with_at csrs stored value)
 unfolding with_at
 with_word csrs stored value legal words small = record {
   values = λ other. elim (cases_eq (stored_index_of other) (stored_index_of stored)) [
     | inl same ↦ let e : other ≡ stored = same_index other stored same in
         let P : ℕ → Type 0 = λ v. v < 2 ^ 64 in
-        subst (λ s. at (with_at csrs stored value) s < 2 ^ 64) (sym e) (subst P (sym (at_same csrs stored value legal.whole)) small)
-    | inr apart ↦ let P : ℕ → Type 0 = λ v. v < 2 ^ 64 in subst P (sym (at_other csrs stored other value apart)) (words.values other)
+        subst (λ s. at (with_at csrs stored value) s < 2 ^ 64) (sym e)
+        (subst P (sym (at_same csrs stored value legal.whole)) small)
+    | inr apart ↦
+        let P : ℕ → Type 0 = λ v. v < 2 ^ 64 in
+        subst P (sym (at_other csrs stored other value apart)) (words.values other)
   ];
   configurations = words.configurations;
 }
@@ -47,20 +60,24 @@ and_first a b small = let less = and_le_l a b in omega (arith, less, small)
 and_second : (a b : ℕ) → b < 2 ^ 64 → bit_and a b < 2 ^ 64
 and_second a b small = let less = and_le_r a b in omega (arith, less, small)
 
-pub merged_word : (mask old value : ℕ) → old < 2 ^ 64 → value < 2 ^ 64 → merged mask old value < 2 ^ 64
-unfolding merged
-merged_word mask old value before after = or_lt 64 _ _ (and_first old (all_bits - mask) before) (and_first value mask after)
+pub merged_word : (mask old value : ℕ) → old < 2 ^ 64 → value < 2 ^ 64 → masked_update mask old value < 2 ^ 64
+unfolding masked_update
+merged_word mask old value before after =
+    or_lt 64 _ _ (and_first old (all_bits - mask) before) (and_first value mask after)
 
 -- ---- configurations
 
 any_at : {X : Type 0} (P : X → Type 0) (xs : List X) (i : ℕ) (d : X) → All P xs → P d → P (get_or xs i d)
 any_at P xs i d all default = elim (cases_Bool (nat_lt i (length xs))) [
   | inl inside ↦ all i d (grind (arith, nat_tests, inside))
-  | inr outside ↦ let past : length xs ≤ i = grind (arith, nat_tests, outside) in subst P (sym (get_or-eq_default xs d past)) default
+  | inr outside ↦
+      let past : length xs ≤ i = grind (arith, nat_tests, outside) in
+      subst P (sym (get_or-eq_default xs d past)) default
 ]
 
 configuration_byte : (csrs : Csrs) (number : ℕ) → HasWords csrs → configuration_of csrs number < 256
-configuration_byte csrs number words = any_at (λ entry. entry.cfg < 256) csrs.entries number no_entry words.configurations (lit< tt)
+configuration_byte csrs number words =
+    any_at (λ entry. entry.cfg < 256) csrs.entries number no_entry words.configurations (lit< tt)
 
 after_by : (kept : Bool) (old byte : ℕ) → old < 256 → (if kept then old else byte % 32 + byte / 128 % 2 * 128) < 256
 after_by true old byte few = few
@@ -74,24 +91,32 @@ written_by : (inside : Bool) (old byte : ℕ) → old < 256 → (if inside then 
 written_by true old byte few = after_byte old byte few
 written_by false old byte few = few
 
-written_byte : (csrs : Csrs) (first value number : ℕ) → HasWords csrs → (entry_written csrs first value number).cfg < 256
-unfolding configuration_written
+written_byte : (csrs : Csrs) (first value number : ℕ) → HasWords csrs
+    → (entry_after_write csrs first value number).cfg < 256
+unfolding configuration_after_write
 written_byte csrs first value number words =
-    written_by (nat_le first number && nat_lt number (first + 8)) (configuration_of csrs number) (bit_field (8 * (number - first)) 8 value) (configuration_byte csrs number words)
+    written_by (nat_le first number && nat_lt number (first + 8)) (configuration_of csrs number)
+    (bit_field (8 * (number - first)) 8 value) (configuration_byte csrs number words)
 
-configurations_words : (csrs : Csrs) (first value : ℕ) → HasWords csrs → HasWords (configurations_write_of csrs first value)
+configurations_words : (csrs : Csrs) (first value : ℕ) → HasWords csrs
+    → HasWords (configurations_write_of csrs first value)
 unfolding configurations_write_of at
 configurations_words csrs first value words = record {
   values = words.values;
-  configurations = All-map (λ entry. entry.cfg < 256) (entry_written csrs first value) (range_with_len 0 16) (λ k d inside. written_byte csrs first value (get_or (range_with_len 0 16) k d) words);
+  configurations =
+      All-map (λ entry. entry.cfg < 256) (entry_after_write csrs first value) (range_with_len 0 16)
+      (λ k d inside. written_byte csrs first value (get_or (range_with_len 0 16) k d) words);
 }
 
-address_by : (locked : Bool) (csrs : Csrs) (number value : ℕ) → HasWords csrs → HasWords (if locked then csrs else with_entry_address csrs number value)
+address_by : (locked : Bool) (csrs : Csrs) (number value : ℕ) → HasWords csrs
+    → HasWords (if locked then csrs else with_entry_address csrs number value)
 unfolding at
 address_by true csrs number value words = words
 address_by false csrs number value words = record {
   values = words.values;
-  configurations = All-set (λ entry. entry.cfg < 256) csrs.entries number _ (configuration_byte csrs number words) words.configurations;
+  configurations =
+      All-set (λ entry. entry.cfg < 256) csrs.entries number _ (configuration_byte csrs number words)
+      words.configurations;
 }
 
 address_words : (csrs : Csrs) (number value : ℕ) → HasWords csrs → HasWords (entry_address_write_of csrs number value)
@@ -100,36 +125,46 @@ address_words csrs number value words = address_by (address_is_locked csrs (numb
 
 -- ---- writes
 
-translation_by : (supported : Bool) (csrs : Csrs) (value : ℕ) → IsLegal csrs → HasWords csrs → value < 2 ^ 64 → HasWords (if supported then with_at csrs Satp value else csrs)
+translation_by : (supported : Bool) (csrs : Csrs) (value : ℕ) → IsLegal csrs → HasWords csrs → value < 2 ^ 64
+    → HasWords (if supported then with_at csrs Satp value else csrs)
 translation_by true csrs value legal words small = with_word csrs Satp value legal words small
 translation_by false csrs value legal words small = words
 
-pub write_words : (csrs : Csrs) (kind : CsrKind) (value : ℕ) → IsLegal csrs → HasWords csrs → value < 2 ^ 64 → HasWords (csr_write_of csrs kind value)
+pub write_words : (csrs : Csrs) (kind : CsrKind) (value : ℕ) → IsLegal csrs → HasWords csrs → value < 2 ^ 64
+    → HasWords (csr_write_of csrs kind value)
 unfolding csr_write_of status_write_of translation_write_of
 write_words csrs (Stored stored) value legal words small = with_word csrs stored _ legal words (and_first value _ small)
-write_words csrs Status value legal words small = with_word csrs Mstatus _ legal words (merged_word _ (at csrs Mstatus) value (words.values Mstatus) small)
+write_words csrs Status value legal words small =
+    with_word csrs Mstatus _ legal words (merged_word _ (at csrs Mstatus) value (words.values Mstatus) small)
 write_words csrs Pending value legal words small = with_word csrs Mip _ legal words (and_first value _ small)
-write_words csrs SupervisorStatus value legal words small = with_word csrs Mstatus _ legal words (merged_word _ (at csrs Mstatus) value (words.values Mstatus) small)
-write_words csrs SupervisorEnables value legal words small = with_word csrs Mie _ legal words (merged_word _ (at csrs Mie) value (words.values Mie) small)
-write_words csrs SupervisorPending value legal words small = with_word csrs Mip _ legal words (merged_word _ (at csrs Mip) value (words.values Mip) small)
-write_words csrs Translation value legal words small = translation_by (is_supported_mode (satp_mode_of value)) csrs value legal words small
+write_words csrs SupervisorStatus value legal words small =
+    with_word csrs Mstatus _ legal words (merged_word _ (at csrs Mstatus) value (words.values Mstatus) small)
+write_words csrs SupervisorEnables value legal words small =
+    with_word csrs Mie _ legal words (merged_word _ (at csrs Mie) value (words.values Mie) small)
+write_words csrs SupervisorPending value legal words small =
+    with_word csrs Mip _ legal words (merged_word _ (at csrs Mip) value (words.values Mip) small)
+write_words csrs Translation value legal words small =
+    translation_by (is_supported_mode (satp_mode_of value)) csrs value legal words small
 write_words csrs LowConfigurations value legal words small = configurations_words csrs 0 value words
 write_words csrs HighConfigurations value legal words small = configurations_words csrs 8 value words
 write_words csrs (EntryAddress number) value legal words small = address_words csrs number value words
 write_words csrs (Constant number) value legal words small = words
-write_words csrs OfCore value legal words small = words
+write_words csrs ImplementationDefined value legal words small = words
 write_words csrs (Counter bit) value legal words small = words
-write_words csrs ClosedCounter value legal words small = words
+write_words csrs UnimplementedCounter value legal words small = words
 
 -- ---- reads
 
-eight_bytes : (b0 b1 b2 b3 b4 b5 b6 b7 : ℕ) → b0 < 256 → b1 < 256 → b2 < 256 → b3 < 256 → b4 < 256 → b5 < 256 → b6 < 256 → b7 < 256
+eight_bytes : (b0 b1 b2 b3 b4 b5 b6 b7 : ℕ) → b0 < 256 → b1 < 256 → b2 < 256 → b3 < 256 → b4 < 256 → b5 < 256
+    → b6 < 256 → b7 < 256
     → b0 + 2 ^ 8 * b1 + 2 ^ 16 * b2 + 2 ^ 24 * b3 + 2 ^ 32 * b4 + 2 ^ 40 * b5 + 2 ^ 48 * b6 + 2 ^ 56 * b7 < 2 ^ 64
 eight_bytes b0 b1 b2 b3 b4 b5 b6 b7 h0 h1 h2 h3 h4 h5 h6 h7 = omega (arith, h0, h1, h2, h3, h4, h5, h6, h7)
 
 packed_word : (bytes : List ℕ) → ((i : ℕ) → slice_index bytes i < 256) → from_le_bytes w64 bytes < 2 ^ 64
 packed_word bytes few =
-    let all = eight_bytes (slice_index bytes 0) (slice_index bytes 1) (slice_index bytes 2) (slice_index bytes 3) (slice_index bytes 4) (slice_index bytes 5) (slice_index bytes 6) (slice_index bytes 7)
+    let all =
+    eight_bytes (slice_index bytes 0) (slice_index bytes 1) (slice_index bytes 2) (slice_index bytes 3)
+    (slice_index bytes 4) (slice_index bytes 5) (slice_index bytes 6) (slice_index bytes 7)
     (few 0) (few 1) (few 2) (few 3) (few 4) (few 5) (few 6) (few 7) in
     omega (arith, all)
 
@@ -138,10 +173,13 @@ unfolding packed_pmpcfg_of
 configurations_word csrs first words =
     packed_word (map (configuration_of csrs) (range_with_len first 8))
     (λ i. any_at (λ byte. byte < 256) (map (configuration_of csrs) (range_with_len first 8)) i 0
-    (All-map (λ byte. byte < 256) (configuration_of csrs) (range_with_len first 8) (λ k d inside. configuration_byte csrs (get_or (range_with_len first 8) k d) words)) (lit< tt))
+    (All-map (λ byte. byte < 256) (configuration_of csrs) (range_with_len first 8)
+    (λ k d inside. configuration_byte csrs (get_or (range_with_len first 8) k d) words)) (lit< tt))
 
 address_word : (csrs : Csrs) (number : ℕ) → IsLegal csrs → entry_address_of csrs number < 2 ^ 64
-address_word csrs number legal = any_at (λ entry. entry.addr < 2 ^ 64) csrs.entries (number % 16) no_entry (λ k d inside. let few = (legal.entries k d inside).address in omega (arith, few)) (lit< tt)
+address_word csrs number legal =
+    any_at (λ entry. entry.addr < 2 ^ 64) csrs.entries (number % 16) no_entry
+    (λ k d inside. let few = (legal.entries k d inside).address in omega (arith, few)) (lit< tt)
 
 -- the value of a constant register
 abbrev FitsKind : CsrKind → Type 0
@@ -158,7 +196,8 @@ pending_word : (csrs : Csrs) (lines : ℕ) → HasWords csrs → pending_interru
 unfolding pending_interrupts_of
 pending_word csrs lines words = or_lt 64 _ _ (words.values Mip) (and_second lines line_bits (lit< tt))
 
-pub value_word : (csrs : Csrs) (kind : CsrKind) (lines : ℕ) → IsLegal csrs → HasWords csrs → FitsKind kind → csr_value_of csrs kind lines < 2 ^ 64
+pub value_word : (csrs : Csrs) (kind : CsrKind) (lines : ℕ) → IsLegal csrs → HasWords csrs → FitsKind kind
+    → csr_value_of csrs kind lines < 2 ^ 64
 unfolding csr_value_of
 value_word csrs (Stored stored) lines legal words fits = words.values stored
 value_word csrs Status lines legal words fits = words.values Mstatus
@@ -171,11 +210,12 @@ value_word csrs LowConfigurations lines legal words fits = configurations_word c
 value_word csrs HighConfigurations lines legal words fits = configurations_word csrs 8 words
 value_word csrs (EntryAddress number) lines legal words fits = address_word csrs number legal
 value_word csrs (Constant number) lines legal words fits = fits
-value_word csrs OfCore lines legal words fits = lit< tt
+value_word csrs ImplementationDefined lines legal words fits = lit< tt
 value_word csrs (Counter bit) lines legal words fits = lit< tt
-value_word csrs ClosedCounter lines legal words fits = lit< tt
+value_word csrs UnimplementedCounter lines legal words fits = lit< tt
 
-pub base_word : (csrs : Csrs) (kind : CsrKind) (lines : ℕ) → IsLegal csrs → HasWords csrs → FitsKind kind → csr_base_of csrs kind lines < 2 ^ 64
+pub base_word : (csrs : Csrs) (kind : CsrKind) (lines : ℕ) → IsLegal csrs → HasWords csrs → FitsKind kind
+    → csr_base_of csrs kind lines < 2 ^ 64
 unfolding csr_base_of
 base_word csrs Pending lines legal words fits = words.values Mip
 base_word csrs (Stored stored) lines legal words fits = value_word csrs (Stored stored) lines legal words fits
@@ -186,8 +226,10 @@ base_word csrs SupervisorPending lines legal words fits = value_word csrs Superv
 base_word csrs Translation lines legal words fits = value_word csrs Translation lines legal words fits
 base_word csrs LowConfigurations lines legal words fits = value_word csrs LowConfigurations lines legal words fits
 base_word csrs HighConfigurations lines legal words fits = value_word csrs HighConfigurations lines legal words fits
-base_word csrs (EntryAddress number) lines legal words fits = value_word csrs (EntryAddress number) lines legal words fits
+base_word csrs (EntryAddress number) lines legal words fits =
+    value_word csrs (EntryAddress number) lines legal words fits
 base_word csrs (Constant number) lines legal words fits = value_word csrs (Constant number) lines legal words fits
-base_word csrs OfCore lines legal words fits = value_word csrs OfCore lines legal words fits
+base_word csrs ImplementationDefined lines legal words fits =
+    value_word csrs ImplementationDefined lines legal words fits
 base_word csrs (Counter bit) lines legal words fits = value_word csrs (Counter bit) lines legal words fits
-base_word csrs ClosedCounter lines legal words fits = value_word csrs ClosedCounter lines legal words fits
+base_word csrs UnimplementedCounter lines legal words fits = value_word csrs UnimplementedCounter lines legal words fits

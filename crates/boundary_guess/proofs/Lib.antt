@@ -16,3 +16,4 @@ pub mod ResultWords
 pub mod StepWords
 pub mod SaneSteps
 pub mod TrueGuesses
+pub mod WordLists

@@ -1,5 +1,7 @@
--- Guesses behind one row and one segment more.
-use Rattle.std.proofs.Common.{◌≡◌, ℕ, zero, suc, ◌+◌, ◌≤◌, ◌==◌, List, [], ◌∷◌, ◌++◌, length, drop, map, slice_get, option_map, Some, Bool, true, false, if◌then◌else◌, refl, sym, ap, ◌∙◌, arith, add-one, append_assoc}
+-- Guesses after one row and one segment more.
+use Rattle.std.proofs.Common.{◌≡◌, ℕ, zero, suc, ◌+◌, ◌≤◌, ◌==◌, List, [], ◌∷◌, ◌++◌, length, drop, map, slice_get}
+use Rattle.std.proofs.Common.{option_map, Some, Bool, true, false, if◌then◌else◌, refl, sym, ap, ◌∙◌, arith, add-one}
+use Rattle.std.proofs.Common.{append_assoc}
 use Rattle.std.proofs.lemmas.List.{drop_all, length-map, map-append}
 use Rattle.std.proofs.lemmas.List.Elements.{All-append, All-cons, All-nil}
 use Rattle.std.proofs.lemmas.Option.{slice_get-map}
@@ -7,12 +9,12 @@ use Rattle.std.specs.List.{All}
 use Rattle.hart_words.specs.declared.span.Span.{Span}
 use Rattle.hart_words.specs.Memory.{Bytes}
 use Rattle.rvfi_rows.specs.declared.segment.Segment.{Segment}
-use Rattle.rvfi_rows.specs.Segments.{lines_of}
+use Rattle.rvfi_rows.specs.Segments.{segment_lines}
 use Rattle.rvfi_rows.specs.Columns.{ColumnList}
 use Rattle.rvfi_rows.specs.Rows.{RowReading, rows_of}
 use Rattle.hart_step.specs.declared.hart.Hart.{Hart}
 use Rattle.hart_step.specs.Rows.{HartState}
-use Rattle.boundary_guess.specs.Guesses.{CanStep, Passes, guess_after, guesses_of, state_of}
+use Rattle.boundary_guess.specs.Guesses.{CanStep, PassesReading, guess_after, guesses_of, state_of}
 
 drop_from : {A : Type 0} (xs : List A) (i : ℕ) (x : A) → Some x ≡ slice_get xs i → drop i xs ≡ x ∷ drop (suc i) xs
 drop_from [] i x is = absurd cc
@@ -23,25 +25,34 @@ drop_found : {A : Type 0} (xs : List A) (i : ℕ) (x : A) → Some x ≡ slice_g
 drop_found xs i x is = rw add-one (drop_from xs i x is)
 
 -- a row is passed
-pub row_turn : (before now : HartState) (rows : List RowReading) (place : ℕ) (row : RowReading) (whole : HartState) → Some row ≡ slice_get rows place → (goes_on : Bool) → goes_on ≡ true → Passes before row goes_on now → guess_after before (drop place rows) ≡ whole → guess_after now (drop (place + 1) rows) ≡ whole
+pub row_turn : (before now : HartState) (rows : List RowReading) (place : ℕ) (row : RowReading) (whole : HartState)
+    → Some row ≡ slice_get rows place → (goes_on : Bool) → goes_on ≡ true → PassesReading before row goes_on now
+    → guess_after before (drop place rows) ≡ whole → guess_after now (drop (place + 1) rows) ≡ whole
 row_turn before now rows place row whole here goes_on is passes so_far =
     sym (passes (drop (place + 1) rows) ∙ ap (λ test. if test then guess_after now (drop (place + 1) rows) else now) is)
     ∙ sym (ap (λ rest. guess_after before rest) (drop_found rows place row here)) ∙ so_far
 
 -- a row ends the guess
-pub row_stops : (before now : HartState) (rows : List RowReading) (place : ℕ) (row : RowReading) (whole : HartState) → Some row ≡ slice_get rows place → (goes_on : Bool) → goes_on ≡ false → Passes before row goes_on now → guess_after before (drop place rows) ≡ whole → now ≡ whole
+pub row_stops : (before now : HartState) (rows : List RowReading) (place : ℕ) (row : RowReading) (whole : HartState)
+    → Some row ≡ slice_get rows place → (goes_on : Bool) → goes_on ≡ false → PassesReading before row goes_on now
+    → guess_after before (drop place rows) ≡ whole → now ≡ whole
 row_stops before now rows place row whole here goes_on is passes so_far =
     sym (passes (drop (place + 1) rows) ∙ ap (λ test. if test then guess_after now (drop (place + 1) rows) else now) is)
     ∙ sym (ap (λ rest. guess_after before rest) (drop_found rows place row here)) ∙ so_far
 
 -- no row is left
-pub rows_end : (state : HartState) (rows : List RowReading) (place : ℕ) (whole : HartState) → length rows ≤ place → guess_after state (drop place rows) ≡ whole → state ≡ whole
+pub rows_end : (state : HartState) (rows : List RowReading) (place : ℕ) (whole : HartState) → length rows ≤ place
+    → guess_after state (drop place rows) ≡ whole → state ≡ whole
 unfolding guess_after
 rows_end state rows place whole past so_far =
     sym (ap (λ rest. guess_after state rest) (drop_all place rows past)) ∙ so_far
 
 -- a segment is passed
-pub segment_turn : (columns : ColumnList) (before now : HartState) (segments : List (List (List ℕ))) (index : ℕ) (lines : List (List ℕ)) (done whole : List HartState) → Some lines ≡ slice_get segments index → now ≡ guess_after before (rows_of columns lines) → done ++ guesses_of before columns (drop index segments) ≡ whole → (done ++ before ∷ []) ++ guesses_of now columns (drop (index + 1) segments) ≡ whole
+pub segment_turn : (columns : ColumnList) (before now : HartState) (segments : List (List (List ℕ))) (index : ℕ)
+    (lines : List (List ℕ)) (done whole : List HartState) → Some lines ≡ slice_get segments index
+    → now ≡ guess_after before (rows_of columns lines)
+    → done ++ guesses_of before columns (drop index segments) ≡ whole
+    → (done ++ before ∷ []) ++ guesses_of now columns (drop (index + 1) segments) ≡ whole
 unfolding guesses_of
 segment_turn columns before now segments index lines done whole here is so_far =
     append_assoc done (before ∷ []) (guesses_of now columns (drop (index + 1) segments))
@@ -56,46 +67,70 @@ last_of (x ∷ []) zero all = (x, refl)
 last_of (x ∷ y ∷ xs) zero all = absurd (omega (arith, all))
 last_of (x ∷ xs) (suc index) all = last_of xs index (omega (arith, all))
 
-pub segments_end : (columns : ColumnList) (state : HartState) (segments : List (List (List ℕ))) (index : ℕ) (done whole : List HartState) → length segments ≡ index + 1 → done ++ guesses_of state columns (drop index segments) ≡ whole → done ++ state ∷ [] ≡ whole
+pub segments_end : (columns : ColumnList) (state : HartState) (segments : List (List (List ℕ))) (index : ℕ)
+    (done whole : List HartState) → length segments ≡ index + 1
+    → done ++ guesses_of state columns (drop index segments) ≡ whole → done ++ state ∷ [] ≡ whole
 unfolding guesses_of
 segments_end columns state segments index done whole all so_far =
     let last = last_of segments index all in
     sym (ap (λ rest. done ++ guesses_of state columns rest) last.1) ∙ so_far
 
-lines_at : (segments : List Segment) (index : ℕ) (segment : Segment) → slice_get segments index ≡ Some segment → Some segment.lines ≡ slice_get (map lines_of segments) index
-lines_at segments index segment here = sym (slice_get-map lines_of segments index ∙ ap (λ found. option_map lines_of found) here)
+lines_at : (segments : List Segment) (index : ℕ) (segment : Segment) → slice_get segments index ≡ Some segment
+    → Some segment.lines ≡ slice_get (map segment_lines segments) index
+lines_at segments index segment here =
+    sym (slice_get-map segment_lines segments index ∙ ap (λ found. option_map segment_lines found) here)
 
 -- ---- the same of harts: what is kept is a copy, and a copy of that goes on
 
-pub same_state : {M : Type 0} (bytes : M → Bytes) (one other : Hart M) → one.core ≡ other.core → bytes one.mem ≡ bytes other.mem → state_of bytes one ≡ state_of bytes other
+pub same_state : {M : Type 0} (bytes : M → Bytes) (one other : Hart M) → one.core ≡ other.core
+    → bytes one.mem ≡ bytes other.mem → state_of bytes one ≡ state_of bytes other
 same_state bytes one other core mem = rw (core, mem) refl
 
-pub can_copy : {M : Type 0} (ram : M → Span) (hart other : Hart M) → other.core ≡ hart.core → ram other.mem ≡ ram hart.mem → CanStep ram hart → CanStep ram other
+pub can_copy : {M : Type 0} (ram : M → Span) (hart other : Hart M) → other.core ≡ hart.core
+    → ram other.mem ≡ ram hart.mem → CanStep ram hart → CanStep ram other
 can_copy ram hart other core mem can = record {
   sound = rw core can.sound;
   ram = mem ∙ can.ram ∙ sym (ap (λ core. core.map.ram) core);
 }
 
-kept_last : {M : Type 0} (bytes : M → Bytes) (items : List (Hart M)) (kept : Hart M) (before : HartState) → state_of bytes kept ≡ before → map (state_of bytes) (items ++ kept ∷ []) ≡ map (state_of bytes) items ++ before ∷ []
+kept_last : {M : Type 0} (bytes : M → Bytes) (items : List (Hart M)) (kept : Hart M) (before : HartState)
+    → state_of bytes kept ≡ before
+    → map (state_of bytes) (items ++ kept ∷ []) ≡ map (state_of bytes) items ++ before ∷ []
 kept_last bytes items kept before is =
     map-append (state_of bytes) items (kept ∷ []) ∙ ap (λ state. map (state_of bytes) items ++ state ∷ []) is
 
-pub hart_turn : {M : Type 0} (bytes : M → Bytes) (columns : ColumnList) (segments : List Segment) (index : ℕ) (segment : Segment) (before : HartState) (kept now : Hart M) (items : List (Hart M)) (whole : List HartState) → slice_get segments index ≡ Some segment → state_of bytes kept ≡ before → state_of bytes now ≡ guess_after before (rows_of columns segment.lines) → map (state_of bytes) items ++ guesses_of before columns (drop index (map lines_of segments)) ≡ whole → map (state_of bytes) (items ++ kept ∷ []) ++ guesses_of (state_of bytes now) columns (drop (index + 1) (map lines_of segments)) ≡ whole
+pub hart_turn : {M : Type 0} (bytes : M → Bytes) (columns : ColumnList) (segments : List Segment) (index : ℕ)
+    (segment : Segment) (before : HartState) (kept now : Hart M) (items : List (Hart M)) (whole : List HartState)
+    → slice_get segments index ≡ Some segment → state_of bytes kept ≡ before
+    → state_of bytes now ≡ guess_after before (rows_of columns segment.lines)
+    → map (state_of bytes) items ++ guesses_of before columns (drop index (map segment_lines segments)) ≡ whole
+    → map (state_of bytes) (items ++ kept ∷ [])
+    ++ guesses_of (state_of bytes now) columns (drop (index + 1) (map segment_lines segments)) ≡ whole
 hart_turn bytes columns segments index segment before kept now items whole here is_kept went so_far =
-    ap (λ done. done ++ guesses_of (state_of bytes now) columns (drop (index + 1) (map lines_of segments))) (kept_last bytes items kept before is_kept)
-    ∙ segment_turn columns before (state_of bytes now) (map lines_of segments) index segment.lines (map (state_of bytes) items) whole (lines_at segments index segment here) went so_far
+    ap (λ done. done ++ guesses_of (state_of bytes now) columns (drop (index + 1) (map segment_lines segments)))
+    (kept_last bytes items kept before is_kept)
+    ∙ segment_turn columns before (state_of bytes now) (map segment_lines segments) index segment.lines
+    (map (state_of bytes) items) whole (lines_at segments index segment here) went so_far
 
-pub hart_end : {M : Type 0} (bytes : M → Bytes) (columns : ColumnList) (segments : List Segment) (index : ℕ) (before : HartState) (kept : Hart M) (items : List (Hart M)) (whole : List HartState) → length segments ≡ index + 1 → state_of bytes kept ≡ before → map (state_of bytes) items ++ guesses_of before columns (drop index (map lines_of segments)) ≡ whole → map (state_of bytes) (items ++ kept ∷ []) ≡ whole
+pub hart_end : {M : Type 0} (bytes : M → Bytes) (columns : ColumnList) (segments : List Segment) (index : ℕ)
+    (before : HartState) (kept : Hart M) (items : List (Hart M)) (whole : List HartState)
+    → length segments ≡ index + 1 → state_of bytes kept ≡ before
+    → map (state_of bytes) items ++ guesses_of before columns (drop index (map segment_lines segments)) ≡ whole
+    → map (state_of bytes) (items ++ kept ∷ []) ≡ whole
 hart_end bytes columns segments index before kept items whole all is_kept so_far =
     kept_last bytes items kept before is_kept
-    ∙ segments_end columns before (map lines_of segments) index (map (state_of bytes) items) whole (length-map segments lines_of ∙ all) so_far
+    ∙ segments_end columns before (map segment_lines segments) index (map (state_of bytes) items) whole
+    (length-map segments segment_lines ∙ all) so_far
 
-pub no_segment : {M : Type 0} (bytes : M → Bytes) (columns : ColumnList) (segments : List Segment) (state : HartState) (items : List (Hart M)) → items ≡ [] → length segments ≡ 0 → map (state_of bytes) items ≡ guesses_of state columns (map lines_of segments)
+pub no_segment : {M : Type 0} (bytes : M → Bytes) (columns : ColumnList) (segments : List Segment) (state : HartState)
+    (items : List (Hart M)) → items ≡ [] → length segments ≡ 0
+    → map (state_of bytes) items ≡ guesses_of state columns (map segment_lines segments)
 unfolding guesses_of
 no_segment bytes columns [] state items none empty = rw none refl
 no_segment bytes columns (segment ∷ segments) state items none empty = absurd (omega (arith, empty))
 
-pub all_push : {A : Type 0} (P : A → Type 0) (items : List A) (item : A) → All P items → P item → All P (items ++ item ∷ [])
+pub all_push : {A : Type 0} (P : A → Type 0) (items : List A) (item : A) → All P items → P item
+    → All P (items ++ item ∷ [])
 all_push P items item all one = All-append P items (item ∷ []) all (All-cons P item [] one (All-nil P))
 
 pub is_some_length : (count : ℕ) → (count == 0) ≡ false → 1 ≤ count

@@ -1,5 +1,6 @@
 -- Which operations the words of plain rows mean: none of SYSTEM, and none that is atomic.
-use Rattle.std.proofs.Common.{◌≡◌, ℕ, ◌/◌, ◌%◌, ◌^◌, ◌<◌, Bool, true, false, not, ◌&&◌, List, [], ◌∷◌, Option, None, Some, bit_and, ◌==◌, refl, sym, ◌∙◌, ap, subst, arith, if◌then◌else◌, lit<, ◌-◌}
+use Rattle.std.proofs.Common.{◌≡◌, ℕ, ◌/◌, ◌%◌, ◌^◌, ◌<◌, Bool, true, false, not, ◌&&◌, List, [], ◌∷◌, Option, None}
+use Rattle.std.proofs.Common.{Some, bit_and, ◌==◌, refl, sym, ◌∙◌, ap, subst, arith, if◌then◌else◌, lit<, ◌-◌}
 use Rattle.std.specs.Prelude.{◌||◌}
 use Rattle.std.specs.List.{list_all, find}
 use Rattle.std.specs.Option.{option_map, option_and_then}
@@ -12,14 +13,14 @@ use Rattle.rv_decode.specs.declared.patterns.Form.{Form}
 use Rattle.rv_decode.specs.declared.patterns.Form.TheVariants as forms
 use Rattle.rv_decode.specs.declared.patterns.Pattern.{Pattern}
 use Rattle.rv_decode.specs.Fields.{operation_of}
-use Rattle.rv_decode.specs.Operands.{destination_of}
-use Rattle.rv_decode.specs.Table.{opcodes, all_rows, meets, decoded_by, decoded}
+use Rattle.rv_decode.specs.Operands.{operands_of}
+use Rattle.rv_decode.specs.Table.{opcodes, all_rows, meets, decoded_op_by, decoded_op_of}
 use Rattle.rv_compressed.specs.declared.compressed_op.CompressedOp.{CompressedOp}
 use Rattle.rv_compressed.specs.declared.patterns.Pattern.{Pattern as Parcel}
 use Rattle.rv_compressed.specs.Patterns.{holds, meets as meets_parcel}
 use Rattle.hart_step.specs.Instructions.{op_of}
 use Rattle.hart_step.proofs.WordOpcodes.{both, opcode_met, opcode_of, word_opcode}
-use Rattle.rv_compressed.specs.Table.{table, word_of, expansion_by, expansion_of, expanded}
+use Rattle.rv_compressed.specs.Table.{table, encoding_of, expansion_by, expansion_of, expanded_op_of}
 
 -- neither of SYSTEM nor atomic
 abbrev pub is_plain_op : Op → Bool
@@ -113,10 +114,12 @@ is_special code = code == 0x73 || code == 0x2f
 abbrev is_told : Pattern → Bool
 is_told row = is_plain_form row.form || ((row.mask % 128 == 127) && is_special (row.bits % 128))
 
-told_by : (plain : Bool) (row : Pattern) (word : ℕ) → (plain || ((row.mask % 128 == 127) && is_special (row.bits % 128))) ≡ true → meets row word ≡ true → is_special (word % 128) ≡ false → plain ≡ true
-told_by true row word told met other = refl
-told_by false row word told met other =
-    let parts = both (row.mask % 128 == 127) (is_special (row.bits % 128)) told in
+told_by : (plain : Bool) (row : Pattern) (word : ℕ)
+    → (plain || ((row.mask % 128 == 127) && is_special (row.bits % 128))) ≡ true → meets row word ≡ true
+    → is_special (word % 128) ≡ false → plain ≡ true
+told_by true row word known_files met other = refl
+told_by false row word known_files met other =
+    let parts = both (row.mask % 128 == 127) (is_special (row.bits % 128)) known_files in
     let same = opcode_met row.mask row.bits word (eqb-true _ _ parts.0) (eqb-true _ _ met) in
     let special : is_special (word % 128) ≡ true = ap is_special (sym same) ∙ parts.1 in
     absurd cc
@@ -124,38 +127,46 @@ told_by false row word told met other =
 some_same : {A : Type 0} (x y : A) → Some x ≡ Some y → x ≡ y
 some_same x y is = cc
 
-plain_by : (test : Bool) (row : Pattern) (rest : Option Pattern) (word : ℕ) (op : Op) → is_told row ≡ true → meets row word ≡ test → is_special (word % 128) ≡ false
+plain_by : (test : Bool) (row : Pattern) (rest : Option Pattern) (word : ℕ) (op : Op) → is_told row ≡ true
+    → meets row word ≡ test → is_special (word % 128) ≡ false
     → (option_map (λ row. operation_of row.form word) rest ≡ Some op → is_plain_op op ≡ true)
     → option_map (λ row. operation_of row.form word) (if test then Some row else rest) ≡ Some op → is_plain_op op ≡ true
-plain_by true row rest word op told met other more is =
+plain_by true row rest word op known_files met other more is =
     let same : operation_of row.form word ≡ op = some_same _ _ is in
-    ap is_plain_op (sym same) ∙ of_form row.form word ∙ told_by (is_plain_form row.form) row word told met other
-plain_by false row rest word op told met other more is = more is
+    ap is_plain_op (sym same) ∙ of_form row.form word ∙ told_by (is_plain_form row.form) row word known_files met other
+plain_by false row rest word op known_files met other more is = more is
 
-plain_among : (rows : List Pattern) (word : ℕ) (op : Op) → list_all is_told rows ≡ true → is_special (word % 128) ≡ false
-    → option_map (λ row. operation_of row.form word) (find (λ row. meets row word) rows) ≡ Some op → is_plain_op op ≡ true
-plain_among [] word op told other is = absurd cc
-plain_among (row ∷ rows) word op told other is =
-    let parts = both (is_told row) (list_all is_told rows) told in
-    plain_by (meets row word) row (find (λ row. meets row word) rows) word op parts.0 refl other (plain_among rows word op parts.1 other) is
+plain_among : (rows : List Pattern) (word : ℕ) (op : Op) → list_all is_told rows ≡ true
+    → is_special (word % 128) ≡ false
+    → option_map (λ row. operation_of row.form word) (find (λ row. meets row word) rows) ≡ Some op
+    → is_plain_op op ≡ true
+plain_among [] word op known_files other is = absurd cc
+plain_among (row ∷ rows) word op known_files other is =
+    let parts = both (is_told row) (list_all is_told rows) known_files in
+    plain_by (meets row word) row (find (λ row. meets row word) rows) word op parts.0 refl other
+    (plain_among rows word op parts.1 other) is
 
-pub plain_decoded : (word : ℕ) (op : Op) → is_special (word % 128) ≡ false → decoded word ≡ Some op → is_plain_op op ≡ true
-unfolding decoded decoded_by opcodes
+pub plain_decoded : (word : ℕ) (op : Op) → is_special (word % 128) ≡ false → decoded_op_of word ≡ Some op
+    → is_plain_op op ≡ true
+unfolding decoded_op_of decoded_op_by opcodes
 plain_decoded word op other is = plain_among (all_rows opcodes) word op refl other is
 
 -- ---- compressed instructions: none but C.EBREAK expands to such a word
 
-common_word : (op : CompressedOp) (parcel : ℕ) → is_special (opcode_of op) ≡ false → is_special (word_of op parcel % 128) ≡ false
+common_word : (op : CompressedOp) (parcel : ℕ) → is_special (opcode_of op) ≡ false
+    → is_special (encoding_of op parcel % 128) ≡ false
 common_word op parcel other = ap is_special (word_opcode op parcel) ∙ other
 
 -- the row's word has another opcode, or the row fixes the whole parcel
 abbrev is_told_parcel : Parcel → Bool
 is_told_parcel row = not (is_special (opcode_of row.op)) || ((row.mask == 2 ^ 16 - 1) && (row.bits == 0x9002))
 
-parcel_told : (special : Bool) (row : Parcel) (parcel : ℕ) → (not special || ((row.mask == 2 ^ 16 - 1) && (row.bits == 0x9002))) ≡ true → meets_parcel row parcel ≡ true → parcel < 2 ^ 16 → (parcel == 0x9002) ≡ false → special ≡ false
-parcel_told false row parcel told met short other = refl
-parcel_told true row parcel told met short other =
-    let parts = both (row.mask == 2 ^ 16 - 1) (row.bits == 0x9002) told in
+parcel_told : (special : Bool) (row : Parcel) (parcel : ℕ)
+    → (not special || ((row.mask == 2 ^ 16 - 1) && (row.bits == 0x9002))) ≡ true → meets_parcel row parcel ≡ true
+    → parcel < 2 ^ 16 → (parcel == 0x9002) ≡ false → special ≡ false
+parcel_told false row parcel known_files met short other = refl
+parcel_told true row parcel known_files met short other =
+    let parts = both (row.mask == 2 ^ 16 - 1) (row.bits == 0x9002) known_files in
     let here = both (bit_and parcel row.mask == row.bits) (holds row.condition parcel) met in
     let fixed : bit_and parcel row.mask ≡ row.bits = eqb-true _ _ here.0 in
     let mask : row.mask ≡ 2 ^ 16 - 1 = eqb-true _ _ parts.0 in
@@ -164,59 +175,75 @@ parcel_told true row parcel told met short other =
     let whole : parcel ≡ 0x9002 = omega (arith, low, sym (ap (bit_and parcel) mask) ∙ fixed ∙ bits, short) in
     absurd (grind (arith, nat_tests, whole, other))
 
-common_by : (test : Bool) (row : Parcel) (rest : Option Parcel) (parcel word : ℕ) → is_told_parcel row ≡ true → meets_parcel row parcel ≡ test → parcel < 2 ^ 16 → (parcel == 0x9002) ≡ false
-    → (option_map (λ row. word_of row.op parcel) rest ≡ Some word → is_special (word % 128) ≡ false)
-    → option_map (λ row. word_of row.op parcel) (if test then Some row else rest) ≡ Some word → is_special (word % 128) ≡ false
-common_by true row rest parcel word told met short other more is =
-    let same : word_of row.op parcel ≡ word = some_same _ _ is in
-    ap (λ w. is_special (w % 128)) (sym same) ∙ common_word row.op parcel (parcel_told (is_special (opcode_of row.op)) row parcel told met short other)
-common_by false row rest parcel word told met short other more is = more is
+common_by : (test : Bool) (row : Parcel) (rest : Option Parcel) (parcel word : ℕ) → is_told_parcel row ≡ true
+    → meets_parcel row parcel ≡ test → parcel < 2 ^ 16 → (parcel == 0x9002) ≡ false
+    → (option_map (λ row. encoding_of row.op parcel) rest ≡ Some word → is_special (word % 128) ≡ false)
+    → option_map (λ row. encoding_of row.op parcel) (if test then Some row else rest) ≡ Some word
+    → is_special (word % 128) ≡ false
+common_by true row rest parcel word known_files met short other more is =
+    let same : encoding_of row.op parcel ≡ word = some_same _ _ is in
+    ap (λ w. is_special (w % 128)) (sym same)
+    ∙ common_word row.op parcel (parcel_told (is_special (opcode_of row.op)) row parcel known_files met short other)
+common_by false row rest parcel word known_files met short other more is = more is
 
-common_among : (rows : List Parcel) (parcel word : ℕ) → list_all is_told_parcel rows ≡ true → parcel < 2 ^ 16 → (parcel == 0x9002) ≡ false
-    → option_map (λ row. word_of row.op parcel) (find (λ row. meets_parcel row parcel) rows) ≡ Some word → is_special (word % 128) ≡ false
-common_among [] parcel word told short other is = absurd cc
-common_among (row ∷ rows) parcel word told short other is =
-    let parts = both (is_told_parcel row) (list_all is_told_parcel rows) told in
-    common_by (meets_parcel row parcel) row (find (λ row. meets_parcel row parcel) rows) parcel word parts.0 refl short other (common_among rows parcel word parts.1 short other) is
+common_among : (rows : List Parcel) (parcel word : ℕ) → list_all is_told_parcel rows ≡ true → parcel < 2 ^ 16
+    → (parcel == 0x9002) ≡ false
+    → option_map (λ row. encoding_of row.op parcel) (find (λ row. meets_parcel row parcel) rows) ≡ Some word
+    → is_special (word % 128) ≡ false
+common_among [] parcel word known_files short other is = absurd cc
+common_among (row ∷ rows) parcel word known_files short other is =
+    let parts = both (is_told_parcel row) (list_all is_told_parcel rows) known_files in
+    common_by (meets_parcel row parcel) row (find (λ row. meets_parcel row parcel) rows) parcel word parts.0 refl
+    short other (common_among rows parcel word parts.1 short other) is
 
-expansion_common : (parcel word : ℕ) → parcel < 2 ^ 16 → (parcel == 0x9002) ≡ false → expansion_of parcel ≡ Some word → is_special (word % 128) ≡ false
+expansion_common : (parcel word : ℕ) → parcel < 2 ^ 16 → (parcel == 0x9002) ≡ false → expansion_of parcel ≡ Some word
+    → is_special (word % 128) ≡ false
 unfolding expansion_of expansion_by table
 expansion_common parcel word short other is = common_among table parcel word refl short other is
 
-plain_expanded_by : (parcel : ℕ) (op : Op) (expansion : Option ℕ) → expansion_of parcel ≡ expansion → parcel < 2 ^ 16 → (parcel == 0x9002) ≡ false → option_and_then decoded expansion ≡ Some op → is_plain_op op ≡ true
+plain_expanded_by : (parcel : ℕ) (op : Op) (expansion : Option ℕ) → expansion_of parcel ≡ expansion → parcel < 2 ^ 16
+    → (parcel == 0x9002) ≡ false → option_and_then decoded_op_of expansion ≡ Some op → is_plain_op op ≡ true
 plain_expanded_by parcel op None at short other is = absurd cc
-plain_expanded_by parcel op (Some word) at short other is = plain_decoded word op (expansion_common parcel word short other at) is
+plain_expanded_by parcel op (Some word) at short other is =
+    plain_decoded word op (expansion_common parcel word short other at) is
 
-pub plain_expanded : (parcel : ℕ) (op : Op) → parcel < 2 ^ 16 → (parcel == 0x9002) ≡ false → expanded parcel ≡ Some op → is_plain_op op ≡ true
-unfolding expanded
+pub plain_expanded : (parcel : ℕ) (op : Op) → parcel < 2 ^ 16 → (parcel == 0x9002) ≡ false
+    → expanded_op_of parcel ≡ Some op → is_plain_op op ≡ true
+unfolding expanded_op_of
 plain_expanded parcel op short other is = plain_expanded_by parcel op (expansion_of parcel) refl short other is
 
 -- ---- all operations are those of forms
 
-decoded_by_form : (P : Op → Type 0) → ((form : Form) (word : ℕ) → P (operation_of form word)) → (found : Option Pattern) (word : ℕ) (op : Op) → option_map (λ row. operation_of row.form word) found ≡ Some op → P op
+decoded_by_form : (P : Op → Type 0) → ((form : Form) (word : ℕ) → P (operation_of form word))
+    → (found : Option Pattern) (word : ℕ) (op : Op) → option_map (λ row. operation_of row.form word) found ≡ Some op
+    → P op
 decoded_by_form P holds None word op is = absurd cc
 decoded_by_form P holds (Some row) word op is = subst P (some_same _ _ is) (holds row.form word)
 
-decoded_form : (P : Op → Type 0) → ((form : Form) (word : ℕ) → P (operation_of form word)) → (word : ℕ) (op : Op) → decoded word ≡ Some op → P op
-unfolding decoded decoded_by
+decoded_form : (P : Op → Type 0) → ((form : Form) (word : ℕ) → P (operation_of form word)) → (word : ℕ) (op : Op)
+    → decoded_op_of word ≡ Some op → P op
+unfolding decoded_op_of decoded_op_by
 decoded_form P holds word op is = decoded_by_form P holds (find (λ row. meets row word) (all_rows opcodes)) word op is
 
-expanded_form : (P : Op → Type 0) → ((form : Form) (word : ℕ) → P (operation_of form word)) → (expansion : Option ℕ) (op : Op) → option_and_then decoded expansion ≡ Some op → P op
+expanded_form : (P : Op → Type 0) → ((form : Form) (word : ℕ) → P (operation_of form word))
+    → (expansion : Option ℕ) (op : Op) → option_and_then decoded_op_of expansion ≡ Some op → P op
 expanded_form P holds None op is = absurd cc
 expanded_form P holds (Some word) op is = decoded_form P holds word op is
 
-form_by : (P : Op → Type 0) → ((form : Form) (word : ℕ) → P (operation_of form word)) → (short : Bool) (bits : ℕ) (op : Op) → (if short then expanded bits else decoded bits) ≡ Some op → P op
-unfolding expanded
+form_by : (P : Op → Type 0) → ((form : Form) (word : ℕ) → P (operation_of form word))
+    → (short : Bool) (bits : ℕ) (op : Op) → (if short then expanded_op_of bits else decoded_op_of bits) ≡ Some op → P op
+unfolding expanded_op_of
 form_by P holds true bits op is = expanded_form P holds (expansion_of bits) op is
 form_by P holds false bits op is = decoded_form P holds bits op is
 
-pub of_some_form : (P : Op → Type 0) → ((form : Form) (word : ℕ) → P (operation_of form word)) → (bits len : ℕ) (op : Op) → op_of bits len ≡ Some op → P op
+pub of_some_form : (P : Op → Type 0) → ((form : Form) (word : ℕ) → P (operation_of form word))
+    → (bits len : ℕ) (op : Op) → op_of bits len ≡ Some op → P op
 of_some_form P holds bits len op is = form_by P holds (len == 2) bits op is
 
 five_bits : (word : ℕ) → word / 2 ^ 7 % 2 ^ 5 < 32
 five_bits word = omega arith
 
-destination_by_form : (form : Form) (word : ℕ) → destination_of (operation_of form word) < 32
+destination_by_form : (form : Form) (word : ℕ) → (operands_of (operation_of form word)).rd < 32
 destination_by_form forms.Lui word = five_bits word
 destination_by_form forms.Auipc word = five_bits word
 destination_by_form forms.Jal word = five_bits word
@@ -244,5 +271,5 @@ destination_by_form (forms.LoadReserved width) word = five_bits word
 destination_by_form (forms.StoreConditional width) word = five_bits word
 destination_by_form (forms.Amo op width) word = five_bits word
 
-pub destination_below : (bits len : ℕ) (op : Op) → op_of bits len ≡ Some op → destination_of op < 32
-destination_below bits len op is = of_some_form (λ op. destination_of op < 32) destination_by_form bits len op is
+pub destination_below : (bits len : ℕ) (op : Op) → op_of bits len ≡ Some op → (operands_of op).rd < 32
+destination_below bits len op is = of_some_form (λ op. (operands_of op).rd < 32) destination_by_form bits len op is

@@ -1,5 +1,6 @@
 -- What stands at pc, and what the step of a plain row does with it.
-use Rattle.std.proofs.Common.{◌≡◌, ℕ, ◌%◌, ◌^◌, ◌<◌, ◌==◌, Bool, true, false, List, [], ◌++◌, Option, Some, None, refl, sym, ap, ◌∙◌, subst, arith, Ok, Err, Result, if◌then◌else◌}
+use Rattle.std.proofs.Common.{◌≡◌, ℕ, ◌%◌, ◌^◌, ◌<◌, ◌==◌, Bool, true, false, List, [], ◌++◌, Option, Some, None, refl}
+use Rattle.std.proofs.Common.{sym, ap, ◌∙◌, subst, arith, Ok, Err, Result, if◌then◌else◌}
 use Rattle.std.specs.Prelude.{IfOk, unwrap_or, ◌||◌}
 use Rattle.hart_words.specs.declared.accesses.Write.{Write}
 use Rattle.hart_words.specs.declared.signal.Signal.TheVariants.{Insn}
@@ -8,16 +9,18 @@ use Rattle.hart_words.specs.Signals.{Shown}
 use Rattle.hart_words.specs.Actions.{Run, pure, mapped}
 use Rattle.hart_words.proofs.Runs.{run_then-is}
 use Rattle.rv_decode.specs.declared.operation.Op.{Op}
-use Rattle.rv_decode.specs.Operands.{destination_of}
-use Rattle.mem_access.specs.Accesses.{Exception, fetched}
+use Rattle.rv_decode.specs.Operands.{operands_of}
+use Rattle.mem_access.specs.Accesses.{Exception, fetch_result}
 use Rattle.mem_access.proofs.Writes.{fetch_writes_nothing}
 use Rattle.hart_step.specs.declared.state.Core.{Core}
 use Rattle.hart_step.specs.declared.instruction.Instruction.{Instruction}
-use Rattle.hart_step.specs.declared.instruction.Executed.{Executed}
-use Rattle.hart_step.specs.declared.instruction.Executed.TheVariants.{Trapped, Retired}
+use Rattle.hart_step.specs.declared.instruction.InstructionOutcome.{InstructionOutcome}
+use Rattle.hart_step.specs.declared.instruction.InstructionOutcome.TheVariants.{Trapped, Retired}
 use Rattle.hart_step.specs.Choices.{choices_of}
-use Rattle.hart_step.specs.Instructions.{Done, Ran, decoded_run, ended, executed, fetched_run, op_of, ran}
-use Rattle.hart_step.specs.PlainRows.{bits_of, insn_shown, is_store, is_system_or_atomic, length_of, shows_store}
+use Rattle.hart_step.specs.Instructions.{Completion, InstructionRun, run_of_decoded, run_of_result, execution_of}
+use Rattle.hart_step.specs.Instructions.{run_of_fetched, op_of, instruction_run}
+use Rattle.hart_step.specs.PlainRows.{insn_bits_of, insn_shown, is_store, is_system_or_atomic, insn_length_of}
+use Rattle.hart_step.specs.PlainRows.{shows_store}
 use Rattle.boundary_guess.proofs.Faults.{AreBytes, IsFault, IsFetchedWord, RaisesFaults, fetch_faults, fetch_word}
 use Rattle.boundary_guess.proofs.PlainOps.{is_plain_op, plain_decoded, plain_expanded}
 use Rattle.boundary_guess.proofs.PlainRuns.{Does, IsDone, plain_does}
@@ -36,24 +39,29 @@ neither true b none = absurd cc
 whole_word : (bits : ℕ) → bits < 256 ^ 2 → bits % 256 ^ 2 ≡ bits
 whole_word bits below = omega (arith, below)
 
-plain_word_by : (long : Bool) (bits len : ℕ) (op : Op) → (bits % 4 == 3) ≡ long → len ≡ (if long then 4 else 2) → bits < 256 ^ len
-    → (if (if long then 4 else 2) == 2 then bits % 256 ^ (if long then 4 else 2) == 0x9002 else (bits % 128 == 0x73 || bits % 128 == 0x2f)) ≡ false
+plain_word_by : (long : Bool) (bits len : ℕ) (op : Op) → (bits % 4 == 3) ≡ long → len ≡ (if long then 4 else 2)
+    → bits < 256 ^ len
+    → (if (if long then 4 else 2) == 2 then bits % 256 ^ (if long then 4 else 2) == 0x9002
+    else (bits % 128 == 0x73 || bits % 128 == 0x2f)) ≡ false
     → op_of bits len ≡ Some op → is_plain_op op ≡ true
 plain_word_by true bits len op is long below common means =
     plain_decoded bits op common (sym (ap (op_of bits) long) ∙ means)
 plain_word_by false bits len op is short below common means =
     let few : bits < 256 ^ 2 = subst (λ n. bits < 256 ^ n) short below in
-    plain_expanded bits op few (ap (λ b. b == 0x9002) (sym (whole_word bits few)) ∙ common) (sym (ap (op_of bits) short) ∙ means)
+    plain_expanded bits op few (ap (λ b. b == 0x9002) (sym (whole_word bits few)) ∙ common)
+    (sym (ap (op_of bits) short) ∙ means)
 
 pub plain_word : (bits len : ℕ) → IsFetchedWord (bits, len) → is_system_or_atomic bits ≡ false → MeansPlain bits len
-plain_word bits len word common op means = plain_word_by (bits % 4 == 3) bits len op refl word.length word.below common means
+plain_word bits len word common op means =
+    plain_word_by (bits % 4 == 3) bits len op refl word.length word.below common means
 
 -- the bits of a word that was fetched are all of it
-bits_by : (long : Bool) (bits len : ℕ) → len ≡ (if long then 4 else 2) → bits < 256 ^ len → bits % 256 ^ (if long then 4 else 2) ≡ bits
+bits_by : (long : Bool) (bits len : ℕ) → len ≡ (if long then 4 else 2) → bits < 256 ^ len
+    → bits % 256 ^ (if long then 4 else 2) ≡ bits
 bits_by true bits len is below = let few : bits < 256 ^ 4 = subst (λ n. bits < 256 ^ n) is below in omega (arith, few)
 bits_by false bits len is below = let few : bits < 256 ^ 2 = subst (λ n. bits < 256 ^ n) is below in omega (arith, few)
 
-fetched_bits : (bits len : ℕ) → IsFetchedWord (bits, len) → bits_of bits ≡ bits
+fetched_bits : (bits len : ℕ) → IsFetchedWord (bits, len) → insn_bits_of bits ≡ bits
 fetched_bits bits len word = bits_by (bits % 4 == 3) bits len word.length word.below
 
 fits_by : (long : Bool) (bits len : ℕ) → len ≡ (if long then 4 else 2) → bits < 256 ^ len → bits < 2 ^ 64
@@ -67,18 +75,19 @@ pub insn_as : (shown : Shown) (bits : ℕ) → shown Insn ≡ Some bits → insn
 insn_as shown bits is = ap (λ insn. unwrap_or insn 0) is
 
 -- a row that shows the word of a store shows a store
-pub stores_as : (shown : Shown) (bits len : ℕ) (op : Op) → shown Insn ≡ Some bits → IsFetchedWord (bits, len) → op_of bits len ≡ Some op → shows_store shown ≡ is_store (Some op)
+pub stores_as : (shown : Shown) (bits len : ℕ) (op : Op) → shown Insn ≡ Some bits → IsFetchedWord (bits, len)
+    → op_of bits len ≡ Some op → shows_store shown ≡ is_store (Some op)
 unfolding shows_store
 stores_as shown bits len op is word means =
-    ap (λ insn. is_store (op_of (bits_of insn) (length_of insn))) (insn_as shown bits is)
-    ∙ ap (λ b. is_store (op_of b (length_of bits))) (fetched_bits bits len word)
+    ap (λ insn. is_store (op_of (insn_bits_of insn) (insn_length_of insn))) (insn_as shown bits is)
+    ∙ ap (λ b. is_store (op_of b (insn_length_of bits))) (fetched_bits bits len word)
     ∙ ap (λ n. is_store (op_of bits n)) (sym word.length)
     ∙ ap is_store means
 
 -- ---- what stands at pc
 
 -- an instruction that retired, and what it did where it is plain
-pub record IsRetired (core : Core) (i : Instruction) (done : Done) (wrote : List Write) : Type 0 where
+pub record IsRetired (core : Core) (i : Instruction) (done : Completion) (wrote : List Write) : Type 0 where
   pub word : IsFetchedWord (i.bits, i.len)
   pub means : op_of i.bits i.len ≡ Some i.op
   pub does : is_plain_op i.op ≡ true → IsDone core i (is_store (Some i.op)) done wrote
@@ -89,46 +98,57 @@ pub record IsRefusedWord (bits : ℕ) (exception : Exception) : Type 0 where
   pub word : IsFetchedWord (bits, len)
   pub fault : MeansPlain bits len → IsFault exception.0
 
-abbrev pub Runs : Core → Executed → Core → List Write → Type 0
+abbrev pub Runs : Core → InstructionOutcome → Core → List Write → Type 0
 Runs core (Trapped None exception) after wrote = IsFault exception.0
 Runs core (Trapped (Some bits) exception) after wrote = IsRefusedWord bits exception
 Runs core (Retired i access) after wrote = IsRetired core i (record { core = after; access = access }) wrote
 
-abbrev pub RunsBy : Core → Run Ran → Type 0
+abbrev pub RunsBy : Core → Run InstructionRun → Type 0
 RunsBy core run = Runs core run.value.executed run.value.core run.wrote
 
-ended_runs : (core : Core) (i : Instruction) (result : Result Done Exception) (wrote : List Write) → IsFetchedWord (i.bits, i.len) → op_of i.bits i.len ≡ Some i.op
-    → (is_plain_op i.op ≡ true → Does core i (is_store (Some i.op)) result wrote) → Runs core (ended core i result).executed (ended core i result).core wrote
-ended_runs core i (Err exception) wrote word means does = record { len = i.len; word = word; fault = λ plain. does (plain i.op means) }
+ended_runs : (core : Core) (i : Instruction) (result : Result Completion Exception) (wrote : List Write)
+    → IsFetchedWord (i.bits, i.len) → op_of i.bits i.len ≡ Some i.op
+    → (is_plain_op i.op ≡ true → Does core i (is_store (Some i.op)) result wrote)
+    → Runs core (run_of_result core i result).executed (run_of_result core i result).core wrote
+ended_runs core i (Err exception) wrote word means does =
+    record { len = i.len; word = word; fault = λ plain. does (plain i.op means) }
 ended_runs core i (Ok done) wrote word means does = record { word = word; means = means; does = does }
 
-decoded_runs : (core : Core) (shown : Shown) (bits len : ℕ) (op : Option Op) (bytes : Bytes) → IsFetchedWord (bits, len) → op_of bits len ≡ op → RunsBy core ((decoded_run core shown bits len op).run bytes)
+decoded_runs : (core : Core) (shown : Shown) (bits len : ℕ) (op : Option Op) (bytes : Bytes)
+    → IsFetchedWord (bits, len) → op_of bits len ≡ op → RunsBy core ((run_of_decoded core shown bits len op).run bytes)
 unfolding pure mapped
 decoded_runs core shown bits len None bytes word means = record { len = len; word = word; fault = λ plain. refl }
 decoded_runs core shown bits len (Some op) bytes word means =
     let i : Instruction = record { op = op; bits = bits; len = len } in
-    let run = (executed core (choices_of shown (destination_of op)) i).run bytes in
-    ended_runs core i run.value run.wrote word means (λ plain. plain_does core (choices_of shown (destination_of op)) i bytes plain)
+    let run = (execution_of core (choices_of shown (operands_of op).rd) i).run bytes in
+    ended_runs core i run.value run.wrote word means
+    (λ plain. plain_does core (choices_of shown (operands_of op).rd) i bytes plain)
 
-fetched_runs : (core : Core) (shown : Shown) (word : Result (ℕ × ℕ) Exception) (bytes : Bytes) → RaisesFaults word → IfOk word IsFetchedWord → RunsBy core ((fetched_run core shown word).run bytes)
+fetched_runs : (core : Core) (shown : Shown) (word : Result (ℕ × ℕ) Exception) (bytes : Bytes) → RaisesFaults word
+    → IfOk word IsFetchedWord → RunsBy core ((run_of_fetched core shown word).run bytes)
 unfolding pure
 fetched_runs core shown (Err exception) bytes faults is = faults
-fetched_runs core shown (Ok word) bytes faults is = decoded_runs core shown word.0 word.1 (op_of word.0 word.1) bytes is refl
+fetched_runs core shown (Ok word) bytes faults is =
+    decoded_runs core shown word.0 word.1 (op_of word.0 word.1) bytes is refl
 
 nothing_before : (wrote more : List Write) → wrote ≡ [] → wrote ++ more ≡ more
 nothing_before wrote more none = ap (λ w. w ++ more) none
 
-pub ran_runs : (core : Core) (shown : Shown) (bytes : Bytes) → AreBytes bytes → RunsBy core ((ran core shown).run bytes)
-unfolding ran after_writes
+pub ran_runs : (core : Core) (shown : Shown) (bytes : Bytes) → AreBytes bytes
+    → RunsBy core ((instruction_run core shown).run bytes)
+unfolding instruction_run after_writes
 ran_runs core shown bytes are =
-    let fetch = fetched core.csrs core.map core.mode core.pc in
+    let fetch = fetch_result core.csrs core.map core.mode core.pc in
     let before = fetch.run bytes in
     let none = fetch_writes_nothing core.csrs core.map core.mode core.pc bytes in
     let now : after_writes before.wrote bytes ≡ bytes = ap (λ wrote. after_writes wrote bytes) none in
-    let whole = run_then-is fetch (fetched_run core shown) bytes in
-    let after = (fetched_run core shown before.value).run (after_writes before.wrote bytes) in
-    let P : Bytes → Type 0 = λ memory. RunsBy core ((fetched_run core shown before.value).run memory) in
+    let whole = run_then-is fetch (run_of_fetched core shown) bytes in
+    let after = (run_of_fetched core shown before.value).run (after_writes before.wrote bytes) in
+    let P : Bytes → Type 0 = λ memory. RunsBy core ((run_of_fetched core shown before.value).run memory) in
     let Q : List Write → Type 0 = λ wrote. Runs core after.value.executed after.value.core wrote in
-    let R : Run Ran → Type 0 = λ run. RunsBy core run in
-    let runs = subst P (sym now) (fetched_runs core shown before.value bytes (fetch_faults core.csrs core.map core.mode core.pc bytes) (fetch_word core.csrs core.map core.mode core.pc bytes are)) in
+    let R : Run InstructionRun → Type 0 = λ run. RunsBy core run in
+    let runs =
+    subst P (sym now)
+    (fetched_runs core shown before.value bytes (fetch_faults core.csrs core.map core.mode core.pc bytes)
+    (fetch_word core.csrs core.map core.mode core.pc bytes are)) in
     subst R (sym whole) (subst Q (sym (nothing_before before.wrote after.wrote none)) runs)

@@ -1,11 +1,13 @@
 -- What instructions compute of words are words, and they go on at even addresses.
-use Rattle.std.proofs.Common.{◌≡◌, ℕ, ◌+◌, ◌-◌, ◌*◌, ◌/◌, ◌%◌, ◌^◌, ◌<◌, ◌≤◌, ◌==◌, Bool, true, false, nat_lt, bit_and, if◌then◌else◌, arith, lit<, ℤ, pos, negsuc}
+use Rattle.std.proofs.Common.{◌≡◌, ℕ, ◌+◌, ◌-◌, ◌*◌, ◌/◌, ◌%◌, ◌^◌, ◌<◌, ◌≤◌, ◌==◌, Bool, true, false, nat_lt, bit_and}
+use Rattle.std.proofs.Common.{if◌then◌else◌, arith, lit<, ℤ, pos, negsuc}
 use Rattle.std.specs.Prelude.{int_lt}
 use Rattle.std.specs.Int.{cast_signed, int_div_euclid, w64}
 use Rattle.std.specs.Int.RustNames.{int_div, int_rem}
 use Rattle.std.proofs.Math.Nat.{div-le_self, mod-le}
 use Rattle.std.proofs.lemmas.Nat.{and_le_l, div_below, mul-lt, or_lt, shr_le, xor_lt}
-use Rattle.hart_words.specs.Words.{high_mixed, high_signed, high_unsigned, quotient_signed, quotient_unsigned, remainder_signed, remainder_unsigned, residue, sign_extended}
+use Rattle.hart_words.specs.Words.{high_mixed, high_signed, high_unsigned, quotient_signed, quotient_unsigned}
+use Rattle.hart_words.specs.Words.{remainder_signed, remainder_unsigned, residue, sign_extended}
 use Rattle.hart_words.proofs.Extended.{extends_signs}
 use Rattle.rv_decode.specs.declared.operation.Op.{Op}
 use Rattle.rv_decode.specs.declared.operation.Op.TheVariants as ops
@@ -27,7 +29,8 @@ use Rattle.rv_integer.specs.declared.int_result.IntResult.{IntResult}
 use Rattle.rv_integer.specs.declared.int_result.IntResult.TheVariants as results
 use Rattle.rv_integer.specs.declared.int_result.SystemRequest.{SystemRequest}
 use Rattle.rv_integer.specs.declared.int_result.SystemRequest.TheVariants as system
-use Rattle.rv_integer.specs.Results.{computed, computed_immediate, computed_immediate_word, computed_register, computed_register_word, is_taken, load_of, wrapped_sum}
+use Rattle.rv_integer.specs.Results.{result_of, immediate_result, immediate_word_result, register_result}
+use Rattle.rv_integer.specs.Results.{register_word_result, is_taken, load_of, wrapped_sum}
 
 -- ---- numbers
 
@@ -58,8 +61,9 @@ no_more x a less small = omega (arith, less, small)
 high_half : (a b : ℕ) → a < 2 ^ 64 → b < 2 ^ 64 → a * b / 2 ^ 64 < 2 ^ 64
 high_half a b one other = div_below (a * b) (2 ^ 64) (2 ^ 64) (lit< tt) (mul-lt a b (2 ^ 64) (2 ^ 64) one other)
 
-register_word : (op : RegisterOp) (a b : ℕ) → a < 2 ^ 64 → b < 2 ^ 64 → computed_register op a b < 2 ^ 64
-unfolding computed_register high_signed high_mixed high_unsigned quotient_signed quotient_unsigned remainder_signed remainder_unsigned
+register_word : (op : RegisterOp) (a b : ℕ) → a < 2 ^ 64 → b < 2 ^ 64 → register_result op a b < 2 ^ 64
+unfolding register_result high_signed high_mixed high_unsigned quotient_signed quotient_unsigned remainder_signed
+    remainder_unsigned
 register_word registers.Add a b one other = wrapped (a + b)
 register_word registers.Sub a b one other = wrapped (a + (2 ^ 64 - b))
 register_word registers.Sll a b one other = wrapped (a * 2 ^ (b % 64))
@@ -74,13 +78,18 @@ register_word registers.Mul a b one other = wrapped (a * b)
 register_word registers.Mulh a b one other = residue_word _
 register_word registers.Mulhsu a b one other = residue_word _
 register_word registers.Mulhu a b one other = high_half a b one other
-register_word registers.Div a b one other = choice_word (b == 0) (2 ^ 64 - 1) (residue w64 (int_div (cast_signed w64 a) (cast_signed w64 b))) (lit< tt) (residue_word (int_div (cast_signed w64 a) (cast_signed w64 b)))
-register_word registers.Divu a b one other = choice_word (b == 0) (2 ^ 64 - 1) (a / b) (lit< tt) (no_more (a / b) a (div-le_self a b) one)
-register_word registers.Rem a b one other = choice_word (b == 0) a (residue w64 (int_rem (cast_signed w64 a) (cast_signed w64 b))) one (residue_word (int_rem (cast_signed w64 a) (cast_signed w64 b)))
+register_word registers.Div a b one other =
+    choice_word (b == 0) (2 ^ 64 - 1) (residue w64 (int_div (cast_signed w64 a) (cast_signed w64 b))) (lit< tt)
+    (residue_word (int_div (cast_signed w64 a) (cast_signed w64 b)))
+register_word registers.Divu a b one other =
+    choice_word (b == 0) (2 ^ 64 - 1) (a / b) (lit< tt) (no_more (a / b) a (div-le_self a b) one)
+register_word registers.Rem a b one other =
+    choice_word (b == 0) a (residue w64 (int_rem (cast_signed w64 a) (cast_signed w64 b))) one
+    (residue_word (int_rem (cast_signed w64 a) (cast_signed w64 b)))
 register_word registers.Remu a b one other = choice_word (b == 0) a (a % b) one (no_more (a % b) a (mod-le a b) one)
 
-register_word_word : (op : RegisterWordOp) (a b : ℕ) → computed_register_word op a b < 2 ^ 64
-unfolding computed_register_word
+register_word_word : (op : RegisterWordOp) (a b : ℕ) → register_word_result op a b < 2 ^ 64
+unfolding register_word_result
 register_word_word register_words.Addw a b = word_32 _
 register_word_word register_words.Subw a b = word_32 _
 register_word_word register_words.Sllw a b = word_32 _
@@ -92,8 +101,8 @@ register_word_word register_words.Divuw a b = word_32 _
 register_word_word register_words.Remw a b = word_32 _
 register_word_word register_words.Remuw a b = word_32 _
 
-immediate_word : (op : ImmediateOp) (a imm : ℕ) → a < 2 ^ 64 → imm < 2 ^ 64 → computed_immediate op a imm < 2 ^ 64
-unfolding computed_immediate
+immediate_word : (op : ImmediateOp) (a imm : ℕ) → a < 2 ^ 64 → imm < 2 ^ 64 → immediate_result op a imm < 2 ^ 64
+unfolding immediate_result
 immediate_word immediates.Addi a imm one other = wrapped (a + imm)
 immediate_word immediates.Slti a imm one other = flag_word (int_lt (cast_signed w64 a) (cast_signed w64 imm))
 immediate_word immediates.Sltiu a imm one other = flag_word (nat_lt a imm)
@@ -102,10 +111,11 @@ immediate_word immediates.Ori a imm one other = or_lt 64 a imm one other
 immediate_word immediates.Andi a imm one other = no_more (bit_and a imm) a (and_le_l a imm) one
 immediate_word immediates.Slli a imm one other = wrapped (a * 2 ^ (imm % 64))
 immediate_word immediates.Srli a imm one other = no_more (a / 2 ^ (imm % 64)) a (shr_le a (imm % 64)) one
-immediate_word immediates.Srai a imm one other = residue_word (int_div_euclid (cast_signed w64 a) (pos (2 ^ (imm % 64))))
+immediate_word immediates.Srai a imm one other =
+    residue_word (int_div_euclid (cast_signed w64 a) (pos (2 ^ (imm % 64))))
 
-immediate_word_word : (op : ImmediateWordOp) (a imm : ℕ) → computed_immediate_word op a imm < 2 ^ 64
-unfolding computed_immediate_word
+immediate_word_word : (op : ImmediateWordOp) (a imm : ℕ) → immediate_word_result op a imm < 2 ^ 64
+unfolding immediate_word_result
 immediate_word_word immediate_words.Addiw a imm = word_32 _
 immediate_word_word immediate_words.Slliw a imm = word_32 _
 immediate_word_word immediate_words.Srliw a imm = word_32 _
@@ -137,9 +147,12 @@ even_j a b c d = omega arith
 pub operands_by_form : (form : Form) (word : ℕ) → HasOperands (operation_of form word)
 operands_by_form forms.Lui word = extended_word 32 _ (omega arith) (omega arith)
 operands_by_form forms.Auipc word = tt
-operands_by_form forms.Jal word = even_of_21 _ (even_j (word / 2 ^ 31 % 2 ^ 1) (word / 2 ^ 12 % 2 ^ 8) (word / 2 ^ 20 % 2 ^ 1) (word / 2 ^ 21 % 2 ^ 10))
+operands_by_form forms.Jal word =
+    even_of_21 _
+    (even_j (word / 2 ^ 31 % 2 ^ 1) (word / 2 ^ 12 % 2 ^ 8) (word / 2 ^ 20 % 2 ^ 1) (word / 2 ^ 21 % 2 ^ 10))
 operands_by_form forms.Jalr word = tt
-operands_by_form (forms.Branch op) word = even_of_13 _ (even_b (word / 2 ^ 31 % 2 ^ 1) (word / 2 ^ 7 % 2 ^ 1) (word / 2 ^ 25 % 2 ^ 6) (word / 2 ^ 8 % 2 ^ 4))
+operands_by_form (forms.Branch op) word =
+    even_of_13 _ (even_b (word / 2 ^ 31 % 2 ^ 1) (word / 2 ^ 7 % 2 ^ 1) (word / 2 ^ 25 % 2 ^ 6) (word / 2 ^ 8 % 2 ^ 4))
 operands_by_form (forms.Load op) word = tt
 operands_by_form (forms.Store op) word = tt
 operands_by_form (forms.Immediate op) word = extended_word 12 _ (omega arith) (omega arith)
@@ -185,7 +198,8 @@ even_sum a b one other = (omega arith, omega (arith, one, other))
 halved : (x : ℕ) → x < 2 ^ 64 → IsEvenWord (x / 2 * 2)
 halved x small = (omega (arith, small), omega arith)
 
-branch_even : (taken : Bool) (one other : ℕ) → IsEvenWord one → IsEvenWord other → IsEvenWord (if taken then one else other)
+branch_even : (taken : Bool) (one other : ℕ) → IsEvenWord one → IsEvenWord other
+    → IsEvenWord (if taken then one else other)
 branch_even true one other a b = a
 branch_even false one other a b = b
 
@@ -198,15 +212,20 @@ load_words loads.Lbu address small = small
 load_words loads.Lhu address small = small
 load_words loads.Lwu address small = small
 
-pub computed_words : (op : Op) (a b pc len : ℕ) → HasOperands op → a < 2 ^ 64 → b < 2 ^ 64 → pc % 2 ≡ 0 → len % 2 ≡ 0 → IsOfWords (computed op a b pc len)
-unfolding computed
+pub computed_words : (op : Op) (a b pc len : ℕ) → HasOperands op → a < 2 ^ 64 → b < 2 ^ 64 → pc % 2 ≡ 0 → len % 2 ≡ 0
+    → IsOfWords (result_of op a b pc len)
+unfolding result_of
 computed_words (ops.Lui rd imm) a b pc len has one other even short = has
 computed_words (ops.Auipc rd imm) a b pc len has one other even short = wrapped (pc + imm)
-computed_words (ops.Jal rd offset) a b pc len has one other even short = (wrapped (pc + len), even_sum pc offset even has)
-computed_words (ops.Jalr rd rs1 offset) a b pc len has one other even short = (wrapped (pc + len), halved (wrapped_sum a offset) (wrapped (a + offset)))
+computed_words (ops.Jal rd offset) a b pc len has one other even short =
+    (wrapped (pc + len), even_sum pc offset even has)
+computed_words (ops.Jalr rd rs1 offset) a b pc len has one other even short =
+    (wrapped (pc + len), halved (wrapped_sum a offset) (wrapped (a + offset)))
 computed_words (ops.Branch op rs1 rs2 offset) a b pc len has one other even short =
-    branch_even (is_taken op a b) (wrapped_sum pc offset) (wrapped_sum pc len) (even_sum pc offset even has) (even_sum pc len even short)
-computed_words (ops.Load op rd rs1 offset) a b pc len has one other even short = load_words op (wrapped_sum a offset) (wrapped (a + offset))
+    branch_even (is_taken op a b) (wrapped_sum pc offset) (wrapped_sum pc len) (even_sum pc offset even has)
+    (even_sum pc len even short)
+computed_words (ops.Load op rd rs1 offset) a b pc len has one other even short =
+    load_words op (wrapped_sum a offset) (wrapped (a + offset))
 computed_words (ops.Store op rs1 rs2 offset) a b pc len has one other even short = wrapped (a + offset)
 computed_words (ops.Immediate op rd rs1 imm) a b pc len has one other even short = immediate_word op a imm one has
 computed_words (ops.ImmediateWord op rd rs1 imm) a b pc len has one other even short = immediate_word_word op a imm

@@ -1,5 +1,7 @@
 -- Every step keeps a hart's state sound, and its values words and bytes.
-use Rattle.std.proofs.Common.{◌≡◌, inl, inr, ℕ, zero, suc, ◌+◌, ◌-◌, ◌/◌, ◌%◌, ◌^◌, ◌<◌, ◌≤◌, ◌==◌, Bool, true, false, not, ◌&&◌, nat_lt, List, [], ◌∷◌, set, Option, Some, None, Ok, Err, Result, if◌then◌else◌, refl, sym, ap, subst, arith, lit<}
+use Rattle.std.proofs.Common.{◌≡◌, inl, inr, ℕ, zero, suc, ◌+◌, ◌-◌, ◌/◌, ◌%◌, ◌^◌, ◌<◌, ◌≤◌, ◌==◌, Bool, true, false}
+use Rattle.std.proofs.Common.{not, ◌&&◌, nat_lt, List, [], ◌∷◌, set, Option, Some, None, Ok, Err, Result, if◌then◌else◌}
+use Rattle.std.proofs.Common.{refl, sym, ap, subst, arith, lit<}
 use Rattle.std.specs.Prelude.{IfOk, IfSome, slice_index, slice_set}
 use Rattle.std.proofs.lemmas.Bool.{cases_Bool}
 use Rattle.std.proofs.lemmas.Bool.Decides.{nat_tests}
@@ -9,11 +11,17 @@ use Rattle.hart_words.specs.AccessSizes.{bytes_of}
 use Rattle.hart_words.specs.declared.accesses.Write.{Write}
 use Rattle.hart_words.specs.declared.privilege.Mode.{Mode}
 use Rattle.hart_words.specs.declared.privilege.Cause.{Cause}
-use Rattle.hart_words.specs.declared.privilege.Cause.TheVariants.{InstructionAccessFault, IllegalInstruction, Breakpoint, LoadAddressMisaligned, LoadAccessFault, StoreAddressMisaligned, StoreAccessFault, EnvironmentCallFromUser, EnvironmentCallFromSupervisor, EnvironmentCallFromMachine, InstructionPageFault, LoadPageFault, StorePageFault}
+use Rattle.hart_words.specs.declared.privilege.Cause.TheVariants.{InstructionAccessFault, IllegalInstruction}
+use Rattle.hart_words.specs.declared.privilege.Cause.TheVariants.{Breakpoint, LoadAddressMisaligned, LoadAccessFault}
+use Rattle.hart_words.specs.declared.privilege.Cause.TheVariants.{StoreAddressMisaligned, StoreAccessFault}
+use Rattle.hart_words.specs.declared.privilege.Cause.TheVariants.{EnvironmentCallFromUser}
+use Rattle.hart_words.specs.declared.privilege.Cause.TheVariants.{EnvironmentCallFromSupervisor}
+use Rattle.hart_words.specs.declared.privilege.Cause.TheVariants.{EnvironmentCallFromMachine, InstructionPageFault}
+use Rattle.hart_words.specs.declared.privilege.Cause.TheVariants.{LoadPageFault, StorePageFault}
 use Rattle.hart_words.specs.Privilege.{cause_code}
 use Rattle.hart_words.specs.declared.registers.Registers.{Registers}
 use Rattle.hart_words.specs.declared.signal.Signal.TheVariants.{RdWdata}
-use Rattle.hart_words.specs.Memory.{Bytes, after_writes, is_within, stored}
+use Rattle.hart_words.specs.Memory.{Bytes, after_writes, is_within, bytes_after_store}
 use Rattle.hart_words.specs.Registers.{register_of, with_register}
 use Rattle.hart_words.specs.Signals.{Shown}
 use Rattle.hart_words.specs.Actions.{pure, mapped}
@@ -26,27 +34,32 @@ use Rattle.csr_file.specs.Registers.{at}
 use Rattle.csr_file.specs.Values.{pending_interrupts_of}
 use Rattle.interrupt_pick.proofs.Taken.{picks_taken}
 use Rattle.rv_decode.specs.declared.operation.Op.{Op}
-use Rattle.rv_decode.specs.Operands.{destination_of}
+use Rattle.rv_decode.specs.Operands.{operands_of}
 use Rattle.rv_integer.specs.declared.int_result.IntResult.{IntResult}
 use Rattle.rv_integer.specs.declared.int_result.IntResult.TheVariants as results
 use Rattle.rv_integer.specs.declared.int_result.SystemRequest.{SystemRequest}
 use Rattle.rv_integer.specs.declared.int_result.SystemRequest.TheVariants as system
 use Rattle.rv_integer.specs.declared.int_result.MemoryRequest.{MemoryRequest}
-use Rattle.rv_integer.specs.Results.{computed}
-use Rattle.mem_access.specs.Accesses.{Exception, fetched}
+use Rattle.rv_integer.specs.Results.{result_of}
+use Rattle.mem_access.specs.Accesses.{Exception, fetch_result}
 use Rattle.mem_access.proofs.Writes.{fetch_writes_nothing}
 use Rattle.hart_step.specs.declared.state.Core.{Core}
-use Rattle.hart_step.specs.declared.choices.Choices.{Choices}
+use Rattle.hart_step.specs.declared.choices.RowChoices.{RowChoices}
 use Rattle.hart_step.specs.declared.instruction.Instruction.{Instruction}
-use Rattle.hart_step.specs.declared.instruction.Executed.{Executed}
-use Rattle.hart_step.specs.declared.instruction.Executed.TheVariants.{Trapped, Retired}
-use Rattle.hart_step.specs.declared.memory.Answer.{Answer}
-use Rattle.hart_step.specs.Choices.{asks_interrupt, choices_of, lines_of}
-use Rattle.hart_step.specs.CsrAccess.{csr_accessed}
-use Rattle.hart_step.specs.Returns.{is_supervised, may_mret, returned_by_mret, returned_by_sret, waits_by_trap}
-use Rattle.hart_step.specs.MemoryAccess.{Found, accessed, answer_of, placed}
-use Rattle.hart_step.specs.Instructions.{Done, Ran, after_access, after_csr, decoded_run, done_if, ended, executed, executed_by, fetched_run, first_value, goes_on, op_of, ran, retired, second_value, system_executed}
-use Rattle.hart_step.specs.Steps.{begun, counted, entered, finished, finished_by, interrupt_of, interrupted, interrupted_by}
+use Rattle.hart_step.specs.declared.instruction.InstructionOutcome.{InstructionOutcome}
+use Rattle.hart_step.specs.declared.instruction.InstructionOutcome.TheVariants.{Trapped, Retired}
+use Rattle.hart_step.specs.declared.memory.AccessResult.{AccessResult}
+use Rattle.hart_step.specs.Choices.{asks_interrupt, choices_of, pending_lines_of}
+use Rattle.hart_step.specs.CsrAccess.{csr_access_result}
+use Rattle.hart_step.specs.Returns.{may_use_supervisor_instruction, may_mret, core_after_mret, core_after_sret}
+use Rattle.hart_step.specs.Returns.{wfi_traps}
+use Rattle.hart_step.specs.MemoryAccess.{LocatedValue, memory_access, access_result_of, located_access}
+use Rattle.hart_step.specs.Instructions.{Completion, InstructionRun, after_access, after_csr, run_of_decoded}
+use Rattle.hart_step.specs.Instructions.{completion_if, run_of_result, execution_of, execution_by, run_of_fetched}
+use Rattle.hart_step.specs.Instructions.{first_value, core_at_next, op_of, instruction_run, core_after_retirement}
+use Rattle.hart_step.specs.Instructions.{second_value, system_execution}
+use Rattle.hart_step.specs.Steps.{before_instruction, core_after_count, core_after_entry, core_after_run}
+use Rattle.hart_step.specs.Steps.{core_after_outcome, interrupt_of, core_after_interrupt, core_after_interrupt_by}
 use Rattle.hart_step.specs.Laws.{next_of}
 use Rattle.hart_step.proofs.Phases.{next_halted, next_running}
 use Rattle.boundary_guess.proofs.Compared.{ShowsWords}
@@ -55,35 +68,41 @@ use Rattle.boundary_guess.proofs.Faults.{AreBytes, IsFetchedWord, fetch_word, th
 use Rattle.boundary_guess.proofs.PlainOps.{of_some_form}
 use Rattle.boundary_guess.proofs.PlainRuns.{accessed_value, answer_from}
 use Rattle.boundary_guess.proofs.PlainSteps.{fetched_fits}
-use Rattle.boundary_guess.proofs.StepWords.{FitsFound, RaisesWords, answer_word, fetch_raises, found_fits, placed_raises}
+use Rattle.boundary_guess.proofs.StepWords.{FitsFound, RaisesWords, answer_word, fetch_raises, found_fits}
+use Rattle.boundary_guess.proofs.StepWords.{placed_raises}
 use Rattle.boundary_guess.proofs.ResultWords.{AsksWords, HasOperands, IsOfWords, computed_words, operands_by_form}
 
 -- ---- registers
 
-set_word : (xs : List ℕ) (i v k : ℕ) → v < 2 ^ 64 → slice_index xs k < 2 ^ 64 → slice_index (slice_set xs i v) k < 2 ^ 64
+set_word : (xs : List ℕ) (i v k : ℕ) → v < 2 ^ 64 → slice_index xs k < 2 ^ 64
+    → slice_index (slice_set xs i v) k < 2 ^ 64
 set_word [] i v k small before = before
 set_word (x ∷ xs) zero v zero small before = small
 set_word (x ∷ xs) zero v (suc k) small before = before
 set_word (x ∷ xs) (suc i) v zero small before = before
 set_word (x ∷ xs) (suc i) v (suc k) small before = set_word xs i v k small before
 
-register_by : (zeroth kept : Bool) (registers : Registers) (index value other : ℕ) → value < 2 ^ 64 → (if zeroth then 0 else slice_index registers.values other) < 2 ^ 64
+register_by : (zeroth kept : Bool) (registers : Registers) (index value other : ℕ) → value < 2 ^ 64
+    → (if zeroth then 0 else slice_index registers.values other) < 2 ^ 64
     → (let after : Registers = if kept then registers else record { values = slice_set registers.values index value } in
     (if zeroth then 0 else slice_index after.values other) < 2 ^ 64)
 register_by true kept registers index value other small before = lit< tt
 register_by false true registers index value other small before = before
-register_by false false registers index value other small before = set_word registers.values index value other small before
+register_by false false registers index value other small before =
+    set_word registers.values index value other small before
 
 abbrev AreWords : Registers → Type 0
 AreWords registers = (number : ℕ) → register_of registers number < 2 ^ 64
 
-with_register_words : (registers : Registers) (number value : ℕ) → AreWords registers → value < 2 ^ 64 → AreWords (with_register registers number value)
-with_register_words registers number value words small other = register_by (other == 0) (number == 0) registers (number - 1) value (other - 1) small (words other)
+with_register_words : (registers : Registers) (number value : ℕ) → AreWords registers → value < 2 ^ 64
+    → AreWords (with_register registers number value)
+with_register_words registers number value words small other =
+    register_by (other == 0) (number == 0) registers (number - 1) value (other - 1) small (words other)
 
 -- ---- what an instruction leaves
 
--- the state behind it is sound, or the trap value is a word
-abbrev pub IsSaneResult : Result Done Exception → Type 0
+-- the state after it is sound, or the trap value is a word
+abbrev pub IsSaneResult : Result Completion Exception → Type 0
 IsSaneResult (Err exception) = exception.1 < 2 ^ 64
 IsSaneResult (Ok done) = IsSane done.core
 
@@ -92,24 +111,28 @@ pub record IsInstruction (i : Instruction) : Type 0 where
   pub even : i.len % 2 ≡ 0
   pub bits : i.bits < 2 ^ 64
 
-retired_sane : (core : Core) (i : Instruction) (value next : ℕ) → IsSane core → value < 2 ^ 64 → next < 2 ^ 64 → next % 2 ≡ 0 → IsSane (retired core i value next)
-unfolding retired
+retired_sane : (core : Core) (i : Instruction) (value next : ℕ) → IsSane core → value < 2 ^ 64 → next < 2 ^ 64
+    → next % 2 ≡ 0 → IsSane (core_after_retirement core i value next)
+unfolding core_after_retirement
 retired_sane core i value next sane small fits even = record {
   sound = record { even = even; legal = sane.sound.legal };
   pc = fits;
-  registers = with_register_words core.registers (destination_of i.op) value sane.registers small;
+  registers = with_register_words core.registers (operands_of i.op).rd value sane.registers small;
   csrs = sane.csrs;
 }
 
 behind_even : (pc len : ℕ) → pc % 2 ≡ 0 → len % 2 ≡ 0 → (pc + len) % 2 ^ 64 % 2 ≡ 0
 behind_even pc len even short = omega (arith, even, short)
 
-goes_on_sane : (core : Core) (i : Instruction) (value : ℕ) → IsSane core → IsInstruction i → value < 2 ^ 64 → IsSane (goes_on core i value)
+goes_on_sane : (core : Core) (i : Instruction) (value : ℕ) → IsSane core → IsInstruction i → value < 2 ^ 64
+    → IsSane (core_at_next core i value)
 goes_on_sane core i value sane is small =
-    retired_sane core i value ((core.pc + i.len) % 2 ^ 64) sane small (mod_below (core.pc + i.len) (2 ^ 64) (lit< tt)) (behind_even core.pc i.len sane.sound.even is.even)
+    retired_sane core i value ((core.pc + i.len) % 2 ^ 64) sane small (mod_below (core.pc + i.len) (2 ^ 64) (lit< tt))
+    (behind_even core.pc i.len sane.sound.even is.even)
 
 -- the same state with other fields is as sound
-reserved_sane : (core : Core) (answer : Answer) → IsSane core → IsSane (record core { reservation = answer.reservation })
+reserved_sane : (core : Core) (answer : AccessResult) → IsSane core
+    → IsSane (record core { reservation = answer.reservation })
 reserved_sane core answer sane = record {
   sound = record { even = sane.sound.even; legal = sane.sound.legal };
   pc = sane.pc;
@@ -117,34 +140,47 @@ reserved_sane core answer sane = record {
   csrs = sane.csrs;
 }
 
-after_access_sane : (core : Core) (i : Instruction) (answer : Result Answer Exception) → IsSane core → IsInstruction i → RaisesWords answer → IfOk answer (λ a. a.value < 2 ^ 64) → IsSaneResult (after_access core i answer)
+after_access_sane : (core : Core) (i : Instruction) (answer : Result AccessResult Exception) → IsSane core
+    → IsInstruction i → RaisesWords answer → IfOk answer (λ a. a.value < 2 ^ 64)
+    → IsSaneResult (after_access core i answer)
 unfolding after_access
 after_access_sane core i (Err exception) sane is raises words = raises
-after_access_sane core i (Ok answer) sane is raises words = goes_on_sane (record core { reservation = answer.reservation }) i answer.value (reserved_sane core answer sane) is words
+after_access_sane core i (Ok answer) sane is raises words =
+    goes_on_sane (record core { reservation = answer.reservation }) i answer.value (reserved_sane core answer sane) is
+    words
 
-answer_raises : (core : Core) (choices : Choices) (request : MemoryRequest) (found : Result Found Exception) → RaisesWords found → RaisesWords (answer_from core choices request found)
+answer_raises : (core : Core) (choices : RowChoices) (request : MemoryRequest) (found : Result LocatedValue Exception)
+    → RaisesWords found → RaisesWords (answer_from core choices request found)
 answer_raises core choices request (Err exception) raises = raises
 answer_raises core choices request (Ok found) raises = tt
 
-answer_fits : (core : Core) (choices : Choices) (request : MemoryRequest) (found : Result Found Exception) → FitsFound request.op (bytes_of request.size) found → IfOk (answer_from core choices request found) (λ a. a.value < 2 ^ 64)
-unfolding answer_of
+answer_fits : (core : Core) (choices : RowChoices) (request : MemoryRequest) (found : Result LocatedValue Exception)
+    → FitsFound request.op (bytes_of request.size) found
+    → IfOk (answer_from core choices request found) (λ a. a.value < 2 ^ 64)
+unfolding access_result_of
 answer_fits core choices request (Err exception) fits = tt
 answer_fits core choices request (Ok found) fits = answer_word core choices request found.0 found.1 request.op fits
 
-access_sane : (core : Core) (choices : Choices) (i : Instruction) (request : MemoryRequest) (bytes : Bytes) → IsSane core → IsInstruction i → AreBytes bytes → request.address < 2 ^ 64
-    → IsSaneResult (after_access core i ((accessed core choices request).run bytes).value)
+access_sane : (core : Core) (choices : RowChoices) (i : Instruction) (request : MemoryRequest) (bytes : Bytes)
+    → IsSane core → IsInstruction i → AreBytes bytes → request.address < 2 ^ 64
+    → IsSaneResult (after_access core i ((memory_access core choices request).run bytes).value)
 access_sane core choices i request bytes sane is are small =
-    let found = ((placed core request).run bytes).value in
-    let P : Result Answer Exception → Type 0 = λ answer. IsSaneResult (after_access core i answer) in
+    let found = ((located_access core request).run bytes).value in
+    let P : Result AccessResult Exception → Type 0 = λ answer. IsSaneResult (after_access core i answer) in
     subst P (sym (accessed_value core choices request bytes))
-    (after_access_sane core i (answer_from core choices request found) sane is (answer_raises core choices request found (placed_raises core request bytes small)) (answer_fits core choices request found (found_fits core request bytes are)))
+    (after_access_sane core i (answer_from core choices request found) sane is
+    (answer_raises core choices request found (placed_raises core request bytes small))
+    (answer_fits core choices request found (found_fits core request bytes are)))
 
-after_csr_sane : (core : Core) (i : Instruction) (answer : Result (ℕ × Csrs) Illegal) → IsSane core → IsInstruction i → IfOk answer IsSaneAnswer → IsSaneResult (after_csr core i answer)
+after_csr_sane : (core : Core) (i : Instruction) (answer : Result (ℕ × Csrs) Illegal) → IsSane core → IsInstruction i
+    → IfOk answer IsSaneAnswer → IsSaneResult (after_csr core i answer)
 unfolding after_csr
 after_csr_sane core i (Err refused) sane is words = is.bits
-after_csr_sane core i (Ok answer) sane is words = goes_on_sane (record core { csrs = answer.1 }) i answer.0 (changed core answer sane words) is words.0
+after_csr_sane core i (Ok answer) sane is words =
+    goes_on_sane (record core { csrs = answer.1 }) i answer.0 (changed core answer sane words) is words.0
   where
-    changed : (core : Core) (answer : ℕ × Csrs) → IsSane core → IsSaneAnswer answer → IsSane (record core { csrs = answer.1 })
+    changed : (core : Core) (answer : ℕ × Csrs) → IsSane core → IsSaneAnswer answer
+        → IsSane (record core { csrs = answer.1 })
     changed core answer sane words = record {
       sound = record { even = sane.sound.even; legal = words.1.0 };
       pc = sane.pc;
@@ -152,46 +188,67 @@ after_csr_sane core i (Ok answer) sane is words = goes_on_sane (record core { cs
       csrs = words.1.1;
     }
 
-done_if_sane : (allowed : Bool) (core : Core) (i : Instruction) → IsSane core → IsInstruction i → IsSaneResult (done_if allowed core i)
+done_if_sane : (allowed : Bool) (core : Core) (i : Instruction) → IsSane core → IsInstruction i
+    → IsSaneResult (completion_if allowed core i)
 done_if_sane true core i sane is = sane
 done_if_sane false core i sane is = is.bits
 
-system_sane : (core : Core) (choices : Choices) (i : Instruction) (request : SystemRequest) → IsSane core → IsInstruction i → AsksWords request → IfSome choices.rd_wdata (λ v. v < 2 ^ 64) → IsSaneResult (system_executed core choices i request)
-unfolding system_executed
-system_sane core choices i (system.Csr request) sane is small word = after_csr_sane core i (csr_accessed core choices request) sane is (csr_accessed_sane core choices request sane.sound.legal sane.csrs small word)
+system_sane : (core : Core) (choices : RowChoices) (i : Instruction) (request : SystemRequest) → IsSane core
+    → IsInstruction i → AsksWords request → IfSome choices.rd_wdata (λ v. v < 2 ^ 64)
+    → IsSaneResult (system_execution core choices i request)
+unfolding system_execution
+system_sane core choices i (system.Csr request) sane is small word =
+    after_csr_sane core i (csr_access_result core choices request) sane is
+    (csr_accessed_sane core choices request sane.sound.legal sane.csrs small word)
 system_sane core choices i system.EnvironmentCall sane is small word = lit< tt
 system_sane core choices i system.Breakpoint sane is small word = sane.pc
-system_sane core choices i system.MachineReturn sane is small word = done_if_sane (may_mret core.mode) (returned_by_mret core) i (mret_sane core sane) is
-system_sane core choices i system.SupervisorReturn sane is small word = done_if_sane (is_supervised core TSR) (returned_by_sret core) i (sret_sane core sane) is
-system_sane core choices i system.WaitForInterrupt sane is small word = done_if_sane (not (waits_by_trap core choices)) (goes_on core i 0) i (goes_on_sane core i 0 sane is (lit< tt)) is
-system_sane core choices i system.TranslationFence sane is small word = done_if_sane (is_supervised core TVM) (goes_on core i 0) i (goes_on_sane core i 0 sane is (lit< tt)) is
+system_sane core choices i system.MachineReturn sane is small word =
+    done_if_sane (may_mret core.mode) (core_after_mret core) i (mret_sane core sane) is
+system_sane core choices i system.SupervisorReturn sane is small word =
+    done_if_sane (may_use_supervisor_instruction core TSR) (core_after_sret core) i (sret_sane core sane) is
+system_sane core choices i system.WaitForInterrupt sane is small word =
+    done_if_sane (not (wfi_traps core choices)) (core_at_next core i 0) i (goes_on_sane core i 0 sane is (lit< tt)) is
+system_sane core choices i system.TranslationFence sane is small word =
+    done_if_sane (may_use_supervisor_instruction core TVM) (core_at_next core i 0) i
+    (goes_on_sane core i 0 sane is (lit< tt)) is
 
-executed_by_sane : (core : Core) (choices : Choices) (i : Instruction) (result : IntResult) (bytes : Bytes) → IsSane core → IsInstruction i → AreBytes bytes → IfSome choices.rd_wdata (λ v. v < 2 ^ 64) → IsOfWords result
-    → IsSaneResult ((executed_by core choices i result).run bytes).value
+executed_by_sane : (core : Core) (choices : RowChoices) (i : Instruction) (result : IntResult) (bytes : Bytes)
+    → IsSane core → IsInstruction i → AreBytes bytes → IfSome choices.rd_wdata (λ v. v < 2 ^ 64) → IsOfWords result
+    → IsSaneResult ((execution_by core choices i result).run bytes).value
 unfolding pure mapped
-executed_by_sane core choices i (results.Value value) bytes sane is are word words = goes_on_sane core i value sane is words
-executed_by_sane core choices i (results.Jump link target) bytes sane is are word words = retired_sane core i link target sane words.0 words.1.0 words.1.1
-executed_by_sane core choices i (results.Continue next_pc) bytes sane is are word words = retired_sane core i 0 next_pc sane (lit< tt) words.0 words.1
-executed_by_sane core choices i (results.Access request) bytes sane is are word words = access_sane core choices i request bytes sane is are words
-executed_by_sane core choices i (results.System request) bytes sane is are word words = system_sane core choices i request sane is words word
+executed_by_sane core choices i (results.Value value) bytes sane is are word words =
+    goes_on_sane core i value sane is words
+executed_by_sane core choices i (results.Jump link target) bytes sane is are word words =
+    retired_sane core i link target sane words.0 words.1.0 words.1.1
+executed_by_sane core choices i (results.Continue next_pc) bytes sane is are word words =
+    retired_sane core i 0 next_pc sane (lit< tt) words.0 words.1
+executed_by_sane core choices i (results.Access request) bytes sane is are word words =
+    access_sane core choices i request bytes sane is are words
+executed_by_sane core choices i (results.System request) bytes sane is are word words =
+    system_sane core choices i request sane is words word
 
-executed_sane : (core : Core) (choices : Choices) (i : Instruction) (bytes : Bytes) → IsSane core → IsInstruction i → HasOperands i.op → AreBytes bytes → IfSome choices.rd_wdata (λ v. v < 2 ^ 64) → IsSaneResult ((executed core choices i).run bytes).value
-unfolding executed
+executed_sane : (core : Core) (choices : RowChoices) (i : Instruction) (bytes : Bytes) → IsSane core → IsInstruction i
+    → HasOperands i.op → AreBytes bytes → IfSome choices.rd_wdata (λ v. v < 2 ^ 64)
+    → IsSaneResult ((execution_of core choices i).run bytes).value
+unfolding execution_of
 executed_sane core choices i bytes sane is has are word =
-    executed_by_sane core choices i (computed i.op (first_value core i.op) (second_value core i.op) core.pc i.len) bytes sane is are word
-    (computed_words i.op (first_value core i.op) (second_value core i.op) core.pc i.len has (sane.registers _) (sane.registers _) sane.sound.even is.even)
+    executed_by_sane core choices i (result_of i.op (first_value core i.op) (second_value core i.op) core.pc i.len)
+    bytes sane is are word
+    (computed_words i.op (first_value core i.op) (second_value core i.op) core.pc i.len has (sane.registers _)
+    (sane.registers _) sane.sound.even is.even)
 
 -- ---- what stands at pc
 
-abbrev TrapsWith : Executed → Type 0
+abbrev TrapsWith : InstructionOutcome → Type 0
 TrapsWith (Trapped insn exception) = exception.1 < 2 ^ 64
 TrapsWith (Retired instruction access) = Unit {0}
 
-pub record IsSaneRun (done : Ran) : Type 0 where
+pub record IsSaneRun (done : InstructionRun) : Type 0 where
   pub core : IsSane done.core
   pub traps : TrapsWith done.executed
 
-ended_sane : (core : Core) (i : Instruction) (result : Result Done Exception) → IsSane core → IsSaneResult result → IsSaneRun (ended core i result)
+ended_sane : (core : Core) (i : Instruction) (result : Result Completion Exception) → IsSane core
+    → IsSaneResult result → IsSaneRun (run_of_result core i result)
 ended_sane core i (Err exception) sane words = record { core = sane; traps = words }
 ended_sane core i (Ok done) sane words = record { core = words; traps = tt }
 
@@ -199,7 +256,8 @@ row_word : (rd : ℕ) (shown : Shown) → ShowsWords shown → IfSome (choices_o
 unfolding choices_of
 row_word rd shown words = by (rd == 0) (shown RdWdata) (words RdWdata)
   where
-    by : (zeroth : Bool) (value : Option ℕ) → IfSome value (λ v. v < 2 ^ 64) → IfSome (if zeroth then None else value) (λ v. v < 2 ^ 64)
+    by : (zeroth : Bool) (value : Option ℕ) → IfSome value (λ v. v < 2 ^ 64)
+        → IfSome (if zeroth then None else value) (λ v. v < 2 ^ 64)
     by true value word = tt
     by false value word = word
 
@@ -207,27 +265,39 @@ even_length : (long : Bool) (len : ℕ) → len ≡ (if long then 4 else 2) → 
 even_length true len is = ap (λ n. n % 2) is
 even_length false len is = ap (λ n. n % 2) is
 
-decoded_sane : (core : Core) (shown : Shown) (bits len : ℕ) (op : Option Op) (bytes : Bytes) → IsSane core → ShowsWords shown → AreBytes bytes → IsFetchedWord (bits, len) → op_of bits len ≡ op → IsSaneRun ((decoded_run core shown bits len op).run bytes).value
+decoded_sane : (core : Core) (shown : Shown) (bits len : ℕ) (op : Option Op) (bytes : Bytes) → IsSane core
+    → ShowsWords shown → AreBytes bytes → IsFetchedWord (bits, len) → op_of bits len ≡ op
+    → IsSaneRun ((run_of_decoded core shown bits len op).run bytes).value
 unfolding pure mapped
-decoded_sane core shown bits len None bytes sane words are word means = record { core = sane; traps = fetched_fits bits len word }
+decoded_sane core shown bits len None bytes sane words are word means =
+    record { core = sane; traps = fetched_fits bits len word }
 decoded_sane core shown bits len (Some op) bytes sane words are word means =
     let i : Instruction = record { op = op; bits = bits; len = len } in
-    let is : IsInstruction i = record { even = even_length (bits % 4 == 3) len word.length; bits = fetched_fits bits len word } in
-    let choices = choices_of shown (destination_of op) in
-    ended_sane core i ((executed core choices i).run bytes).value sane
-    (executed_sane core choices i bytes sane is (of_some_form HasOperands operands_by_form bits len op means) are (row_word (destination_of op) shown words))
+    let is : IsInstruction i =
+    record { even = even_length (bits % 4 == 3) len word.length; bits = fetched_fits bits len word } in
+    let choices = choices_of shown (operands_of op).rd in
+    ended_sane core i ((execution_of core choices i).run bytes).value sane
+    (executed_sane core choices i bytes sane is (of_some_form HasOperands operands_by_form bits len op means) are
+    (row_word (operands_of op).rd shown words))
 
-fetched_sane : (core : Core) (shown : Shown) (word : Result (ℕ × ℕ) Exception) (bytes : Bytes) → IsSane core → ShowsWords shown → AreBytes bytes → RaisesWords word → IfOk word IsFetchedWord → IsSaneRun ((fetched_run core shown word).run bytes).value
+fetched_sane : (core : Core) (shown : Shown) (word : Result (ℕ × ℕ) Exception) (bytes : Bytes) → IsSane core
+    → ShowsWords shown → AreBytes bytes → RaisesWords word → IfOk word IsFetchedWord
+    → IsSaneRun ((run_of_fetched core shown word).run bytes).value
 unfolding pure
 fetched_sane core shown (Err exception) bytes sane words are raises word = record { core = sane; traps = raises }
-fetched_sane core shown (Ok found) bytes sane words are raises word = decoded_sane core shown found.0 found.1 (op_of found.0 found.1) bytes sane words are word refl
+fetched_sane core shown (Ok found) bytes sane words are raises word =
+    decoded_sane core shown found.0 found.1 (op_of found.0 found.1) bytes sane words are word refl
 
-ran_sane : (core : Core) (shown : Shown) (bytes : Bytes) → IsSane core → ShowsWords shown → AreBytes bytes → IsSaneRun ((ran core shown).run bytes).value
-unfolding ran
+ran_sane : (core : Core) (shown : Shown) (bytes : Bytes) → IsSane core → ShowsWords shown → AreBytes bytes
+    → IsSaneRun ((instruction_run core shown).run bytes).value
+unfolding instruction_run
 ran_sane core shown bytes sane words are =
-    let fetch = fetched core.csrs core.map core.mode core.pc in
-    then_gives_here IsSaneRun fetch (fetched_run core shown) bytes (fetch_writes_nothing core.csrs core.map core.mode core.pc bytes)
-    (fetched_sane core shown (fetch.run bytes).value bytes sane words are (fetch_raises core.csrs core.map core.mode core.pc bytes sane.pc) (fetch_word core.csrs core.map core.mode core.pc bytes are))
+    let fetch = fetch_result core.csrs core.map core.mode core.pc in
+    then_gives_here IsSaneRun fetch (run_of_fetched core shown) bytes
+    (fetch_writes_nothing core.csrs core.map core.mode core.pc bytes)
+    (fetched_sane core shown (fetch.run bytes).value bytes sane words are
+    (fetch_raises core.csrs core.map core.mode core.pc bytes sane.pc)
+    (fetch_word core.csrs core.map core.mode core.pc bytes are))
 
 -- ---- the step
 
@@ -247,7 +317,8 @@ code_word LoadPageFault = lit< tt
 code_word StorePageFault = lit< tt
 
 -- fields that are not of the state's values
-flagged_sane : (core : Core) (trapped halted : Bool) → IsSane core → IsSane (record core { trapped_last = trapped; halted = halted })
+flagged_sane : (core : Core) (trapped halted : Bool) → IsSane core
+    → IsSane (record core { trapped_last = trapped; halted = halted })
 flagged_sane core trapped halted sane = record {
   sound = record { even = sane.sound.even; legal = sane.sound.legal };
   pc = sane.pc;
@@ -255,20 +326,22 @@ flagged_sane core trapped halted sane = record {
   csrs = sane.csrs;
 }
 
-finished_by_sane : (core : Core) (executed : Executed) → IsSane core → TrapsWith executed → IsSane (finished_by core executed)
+finished_by_sane : (core : Core) (execution_of : InstructionOutcome) → IsSane core → TrapsWith execution_of
+    → IsSane (core_after_outcome core execution_of)
 finished_by_sane core (Trapped insn exception) sane traps =
-    let after = entered core false (cause_code exception.0) exception.1 in
-    flagged_sane after true after.halted (entered_sane core false (cause_code exception.0) exception.1 sane (code_word exception.0) traps)
+    let after = core_after_entry core false (cause_code exception.0) exception.1 in
+    flagged_sane after true after.halted
+    (entered_sane core false (cause_code exception.0) exception.1 sane (code_word exception.0) traps)
 finished_by_sane core (Retired instruction access) sane traps = flagged_sane core false core.halted sane
 
-finished_sane : (done : Ran) (shown : Shown) → IsSaneRun done → IsSane (finished done shown)
-unfolding finished
+finished_sane : (done : InstructionRun) (shown : Shown) → IsSaneRun done → IsSane (core_after_run done shown)
+unfolding core_after_run
 finished_sane done shown is =
-    let after = finished_by done.core done.executed in
+    let after = core_after_outcome done.core done.executed in
     flagged_sane after after.trapped_last _ (finished_by_sane done.core done.executed is.core is.traps)
 
-counted_sane : (core : Core) (shown : Shown) → IsSane core → IsSane (counted core shown)
-unfolding counted
+counted_sane : (core : Core) (shown : Shown) → IsSane core → IsSane (core_after_count core shown)
+unfolding core_after_count
 counted_sane core shown sane = record {
   sound = record { even = sane.sound.even; legal = sane.sound.legal };
   pc = sane.pc;
@@ -277,7 +350,8 @@ counted_sane core shown sane = record {
 }
 
 -- an interrupt that is enabled has one of the 64 codes
-few_codes : (enables code : ℕ) (below : Bool) → enables < 2 ^ 64 → bit_is_set enables code ≡ true → nat_lt code 64 ≡ below → code < 64
+few_codes : (enables code : ℕ) (below : Bool) → enables < 2 ^ 64 → bit_is_set enables code ≡ true
+    → nat_lt code 64 ≡ below → code < 64
 few_codes enables code true small set is = grind (arith, nat_tests, is)
 few_codes enables code false small set is =
     let past : 64 ≤ code = grind (arith, nat_tests, is) in
@@ -289,30 +363,41 @@ both : (a b : Bool) → (a && b) ≡ true → (a ≡ true) × (b ≡ true)
 both true b h = (refl, h)
 both false b h = cc
 
-interrupted_by_sane : (core : Core) (pick : Option (ℕ × Mode)) → IsSane core → IfSome pick (λ p. p.0 < 64) → IsSane (interrupted_by core pick)
+interrupted_by_sane : (core : Core) (pick : Option (ℕ × Mode)) → IsSane core → IfSome pick (λ p. p.0 < 64)
+    → IsSane (core_after_interrupt_by core pick)
 interrupted_by_sane core None sane few = sane
-interrupted_by_sane core (Some interrupt) sane few = entered_sane core true interrupt.0 0 sane (omega (arith, few)) (lit< tt)
+interrupted_by_sane core (Some interrupt) sane few =
+    entered_sane core true interrupt.0 0 sane (omega (arith, few)) (lit< tt)
 
-picked_few : (core : Core) (shown : Shown) (pick : Option (ℕ × Mode)) → IsSane core → interrupt_of core shown ≡ pick → IfSome pick (λ p. p.0 < 64)
+picked_few : (core : Core) (shown : Shown) (pick : Option (ℕ × Mode)) → IsSane core → interrupt_of core shown ≡ pick
+    → IfSome pick (λ p. p.0 < 64)
 picked_few core shown None sane is = tt
 picked_few core shown (Some interrupt) sane is =
-    let taken = picks_taken core.csrs core.mode (lines_of shown).up interrupt.0 interrupt.1 is in
-    let set = both (bit_is_set (pending_interrupts_of core.csrs (lines_of shown).up) interrupt.0) (bit_is_set (at core.csrs Mie) interrupt.0) taken.pending in
+    let taken = picks_taken core.csrs core.mode (pending_lines_of shown).up interrupt.0 interrupt.1 is in
+    let set =
+    both (bit_is_set (pending_interrupts_of core.csrs (pending_lines_of shown).up) interrupt.0)
+    (bit_is_set (at core.csrs Mie) interrupt.0) taken.pending in
     few_codes (at core.csrs Mie) interrupt.0 (nat_lt interrupt.0 64) (sane.csrs.values Mie) set.1 refl
 
-interrupted_by_test : (asks : Bool) (core : Core) (shown : Shown) → IsSane core → IsSane (if asks then interrupted_by core (interrupt_of core shown) else core)
-interrupted_by_test true core shown sane = interrupted_by_sane core (interrupt_of core shown) sane (picked_few core shown (interrupt_of core shown) sane refl)
+interrupted_by_test : (asks : Bool) (core : Core) (shown : Shown) → IsSane core
+    → IsSane (if asks then core_after_interrupt_by core (interrupt_of core shown) else core)
+interrupted_by_test true core shown sane =
+    interrupted_by_sane core (interrupt_of core shown) sane (picked_few core shown (interrupt_of core shown) sane refl)
 interrupted_by_test false core shown sane = sane
 
-begun_sane : (core : Core) (shown : Shown) → IsSane core → IsSane (begun core shown)
-unfolding begun interrupted
-begun_sane core shown sane = interrupted_by_test (asks_interrupt (counted core shown) shown) (counted core shown) shown (counted_sane core shown sane)
+begun_sane : (core : Core) (shown : Shown) → IsSane core → IsSane (before_instruction core shown)
+unfolding before_instruction core_after_interrupt
+begun_sane core shown sane =
+    interrupted_by_test (asks_interrupt (core_after_count core shown) shown) (core_after_count core shown) shown
+    (counted_sane core shown sane)
 
-pub next_sane : (core : Core) (shown : Shown) (bytes : Bytes) → IsSane core → ShowsWords shown → AreBytes bytes → IsSane (next_of core shown bytes)
+pub next_sane : (core : Core) (shown : Shown) (bytes : Bytes) → IsSane core → ShowsWords shown → AreBytes bytes
+    → IsSane (next_of core shown bytes)
 next_sane core shown bytes sane words are = elim (cases_Bool core.halted) [
   | inl halted ↦ subst IsSane (sym (next_halted core shown bytes halted)) sane
   | inr runs ↦ subst IsSane (sym (next_running core shown bytes runs))
-      (finished_sane ((ran (begun core shown) shown).run bytes).value shown (ran_sane (begun core shown) shown bytes (begun_sane core shown sane) words are))
+      (finished_sane ((instruction_run (before_instruction core shown) shown).run bytes).value shown
+      (ran_sane (before_instruction core shown) shown bytes (begun_sane core shown sane) words are))
 ]
 
 -- ---- memory
@@ -321,11 +406,14 @@ stored_by : (within : Bool) (new old : ℕ) → old < 256 → (if within then ne
 stored_by true new old few = omega arith
 stored_by false new old few = few
 
-stored_bytes : (pa len value : ℕ) (bytes : Bytes) → AreBytes bytes → AreBytes (stored pa len value bytes)
-unfolding stored
-stored_bytes pa len value bytes are address = stored_by (is_within pa len address) (value / 256 ^ (address - pa)) (bytes address) (are address)
+stored_bytes : (pa len value : ℕ) (bytes : Bytes) → AreBytes bytes → AreBytes (bytes_after_store pa len value bytes)
+unfolding bytes_after_store
+stored_bytes pa len value bytes are address =
+    stored_by (is_within pa len address) (value / 256 ^ (address - pa)) (bytes address) (are address)
 
 pub written_bytes : (wrote : List Write) (bytes : Bytes) → AreBytes bytes → AreBytes (after_writes wrote bytes)
 unfolding after_writes
 written_bytes [] bytes are = are
-written_bytes (write ∷ wrote) bytes are = written_bytes wrote (stored write.pa write.len write.value bytes) (stored_bytes write.pa write.len write.value bytes are)
+written_bytes (write ∷ wrote) bytes are =
+    written_bytes wrote (bytes_after_store write.pa write.len write.value bytes)
+    (stored_bytes write.pa write.len write.value bytes are)

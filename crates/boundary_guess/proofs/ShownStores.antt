@@ -1,5 +1,6 @@
 -- A store's row that agrees shows the bytes that the store writes.
-use Rattle.std.proofs.Common.{◌≡◌, ℕ, ◌+◌, ◌-◌, ◌%◌, ◌^◌, ◌<◌, ◌≤◌, Bool, true, false, not, ◌&&◌, nat_le, bit_and, List, [], ◌∷◌, Option, Some, None, Ok, if◌then◌else◌, refl, sym, ap, ◌∙◌, subst, arith, lit<}
+use Rattle.std.proofs.Common.{◌≡◌, ℕ, ◌+◌, ◌-◌, ◌%◌, ◌^◌, ◌<◌, ◌≤◌, Bool, true, false, not, ◌&&◌, nat_le, bit_and, List}
+use Rattle.std.proofs.Common.{[], ◌∷◌, Option, Some, None, Ok, if◌then◌else◌, refl, sym, ap, ◌∙◌, subst, arith, lit<}
 use Rattle.std.specs.Prelude.{◌||◌, IfSome, unwrap_or, option_map}
 use Rattle.std.specs.Option.{is_some, option_and_then}
 use Rattle.std.proofs.lemmas.Nat.{mod_below, pow_below}
@@ -15,16 +16,17 @@ use Rattle.hart_words.specs.declared.signal.Signal.TheVariants.{MemAddr, MemWmas
 use Rattle.hart_words.specs.Memory.{Bytes, after_writes, is_within}
 use Rattle.hart_words.specs.Signals.{Shown}
 use Rattle.hart_words.specs.Spans.{holds_all, is_apart_from, is_in}
-use Rattle.rvfi_rows.specs.Window.{above, distance_of}
+use Rattle.rvfi_rows.specs.Window.{above, distance_in_window, moved_up}
 use Rattle.rvfi_rows.specs.declared.expected.Retired.{Retired}
 use Rattle.rvfi_rows.specs.declared.expected.Effects.{Effects}
 use Rattle.rvfi_rows.specs.declared.expected.Accessed.{Accessed}
 use Rattle.mem_access.specs.declared.place.Place.{Place}
 use Rattle.mem_access.specs.Places.{is_device}
-use Rattle.row_compare.specs.declared.wanted.Wanted.{Wanted}
+use Rattle.row_compare.specs.declared.expected_signal.ExpectedSignal.{ExpectedSignal}
 use Rattle.row_compare.specs.Wanted.{whole, where_known}
-use Rattle.row_compare.specs.Memory.{address_at, byte_ones, data_at, moved_back, moved_up, ones, wanted_address, wanted_physical, wanted_write_mask, wanted_written, write_mask_at}
-use Rattle.row_compare.specs.Signals.{access_in, effects_in, wanted}
+use Rattle.row_compare.specs.Memory.{address_at, byte_ones, data_at, moved_back, ones, expected_address}
+use Rattle.row_compare.specs.Memory.{expected_physical, expected_write_mask, expected_write, write_mask_at}
+use Rattle.row_compare.specs.Signals.{access_in, effects_in, expected_signal}
 use Rattle.row_compare.specs.Difference.{difference_between, signal_difference}
 use Rattle.hart_step.specs.declared.state.Core.{Core}
 use Rattle.hart_step.specs.declared.shown_store.ShownStore.{ShownStore}
@@ -35,21 +37,26 @@ use Rattle.boundary_guess.proofs.StoreBytes.{ShowsStored, put_to_device, put_to_
 
 -- ---- what the row shows of the access
 
-difference_at : (retired : Retired) (shown : Shown) (signal : Signal) (found : Option ℕ) (want : Option Wanted) → shown signal ≡ found → wanted retired shown signal ≡ want
+difference_at : (retired : Retired) (shown : Shown) (signal : Signal) (found : Option ℕ)
+    (want : Option ExpectedSignal) → shown signal ≡ found → expected_signal retired shown signal ≡ want
     → signal_difference retired shown signal ≡ None → difference_between signal found want ≡ None
 unfolding signal_difference
 difference_at retired shown signal found want is_shown is_wanted none =
-    sym (ap (λ f. difference_between signal f want) is_shown) ∙ sym (ap (λ w. difference_between signal (shown signal) w) is_wanted) ∙ none
+    sym (ap (λ f. difference_between signal f want) is_shown)
+    ∙ sym (ap (λ w. difference_between signal (shown signal) w) is_wanted) ∙ none
 
-access_is : (retired : Retired) (effects : Effects) (access : Accessed) → retired.effects ≡ Ok effects → effects.access ≡ Some access → access_in retired.effects ≡ Some access
+access_is : (retired : Retired) (effects : Effects) (access : Accessed) → retired.effects ≡ Ok effects
+    → effects.access ≡ Some access → access_in retired.effects ≡ Some access
 access_is retired effects access is made = ap access_in is ∙ made
 
 -- the eight bytes that are shown have those of the access
 own_place : (va : ℕ) → va < 2 ^ 64 → above va va ≡ 0
 own_place va small = omega (arith, small)
 
-near_by : (near : Bool) (va len named : ℕ) → va < 2 ^ 64 → named < 2 ^ 64 → len ≤ 8 → nat_le (above va named + len) 8 ≡ near
-    → difference_between MemAddr (Some named) (address_at va (if near then Some (above va named) else None)) ≡ None → near ≡ true
+near_by : (near : Bool) (va len named : ℕ) → va < 2 ^ 64 → named < 2 ^ 64 → len ≤ 8
+    → nat_le (above va named + len) 8 ≡ near
+    → difference_between MemAddr (Some named) (address_at va (if near then Some (above va named) else None)) ≡ None
+    → near ≡ true
 near_by true va len named small word few is none = refl
 near_by false va len named small word few is none =
     let same : Some named ≡ Some va = found_is MemAddr (Some named) va refl word small none in
@@ -79,7 +86,8 @@ ones_below away len within =
 
 -- ---- where the store goes
 
-place_fits : (map : Map) (len : ℕ) (place : Place) (io : Bool) → place.io ≡ io → (if io then is_device map.io place.pa len else holds_all map.ram place.pa len) ≡ true → place.pa + len ≤ 2 ^ 64
+place_fits : (map : Map) (len : ℕ) (place : Place) (io : Bool) → place.io ≡ io
+    → (if io then is_device map.io place.pa len else holds_all map.ram place.pa len) ≡ true → place.pa + len ≤ 2 ^ 64
 place_fits map len place false is stands = let end = map.ram.below in grind (arith, nat_tests, stands)
 place_fits map len place true is stands = by map.io stands
   where
@@ -87,11 +95,13 @@ place_fits map len place true is stands = by map.io stands
     by None held = absurd cc
     by (Some io) held = let end = io.below in grind (arith, nat_tests, held)
 
-apart_by : (ram io : Span) (pa len x : ℕ) (test : Bool) → is_apart_from ram io ≡ true → holds_all io pa len ≡ true → is_in ram x ≡ true → is_within pa len x ≡ test → test ≡ false
+apart_by : (ram io : Span) (pa len x : ℕ) (test : Bool) → is_apart_from ram io ≡ true → holds_all io pa len ≡ true
+    → is_in ram x ≡ true → is_within pa len x ≡ test → test ≡ false
 apart_by ram io pa len x false apart held inside is = refl
 apart_by ram io pa len x true apart held inside is = absurd (grind (arith, nat_tests, apart, held, inside, is))
 
-device_apart : (map : Map) (pa len x : ℕ) → is_device map.io pa len ≡ true → is_in map.ram x ≡ true → is_within pa len x ≡ false
+device_apart : (map : Map) (pa len x : ℕ) → is_device map.io pa len ≡ true → is_in map.ram x ≡ true
+    → is_within pa len x ≡ false
 device_apart map pa len x held inside = by map.io refl held
   where
     by : (io : Option Span) → map.io ≡ io → is_device io pa len ≡ true → is_within pa len x ≡ false
@@ -105,7 +115,8 @@ few_bytes Word = omega arith
 few_bytes Doubleword = omega arith
 
 -- the address that is shown, and the distance, give the place
-back_place : (place pa away : ℕ) → pa < 2 ^ 64 → away < 2 ^ 64 → place ≡ moved_back pa away → pa ≡ (place + away) % 2 ^ 64
+back_place : (place pa away : ℕ) → pa < 2 ^ 64 → away < 2 ^ 64 → place ≡ moved_back pa away
+    → pa ≡ (place + away) % 2 ^ 64
 back_place place pa away small near is = omega (arith, small, near, is)
 
 own_distance : (va named : ℕ) → va < 2 ^ 64 → named < 2 ^ 64 → va ≡ (named + above va named) % 2 ^ 64
@@ -116,38 +127,48 @@ own_distance va named small word = omega (arith, small, word)
 abbrev store_at : ℕ → ℕ → ℕ → ℕ → Accessed
 store_at va pa len value = record { va = va; pa = pa; len = len; read = None; written = Some value }
 
-abbrev from_access : (Accessed → Option ℕ → Option Wanted) → Option Accessed → Option ℕ → Option Wanted
+abbrev from_access : (Accessed → Option ℕ → Option ExpectedSignal) → Option Accessed → Option ℕ → Option ExpectedSignal
 from_access of_access access named = option_and_then (λ access. of_access access named) access
 
-address_wanted : (retired : Retired) (shown : Shown) (access : Accessed) (named : ℕ) → access_in retired.effects ≡ Some access → shown MemAddr ≡ Some named → wanted retired shown MemAddr ≡ wanted_address access (Some named)
-unfolding wanted
+address_wanted : (retired : Retired) (shown : Shown) (access : Accessed) (named : ℕ)
+    → access_in retired.effects ≡ Some access → shown MemAddr ≡ Some named
+    → expected_signal retired shown MemAddr ≡ expected_address access (Some named)
+unfolding expected_signal
 address_wanted retired shown access named is shows =
-    ap (λ a. from_access wanted_address a (shown MemAddr)) is ∙ ap (wanted_address access) shows
+    ap (λ a. from_access expected_address a (shown MemAddr)) is ∙ ap (expected_address access) shows
 
-written_wanted : (retired : Retired) (shown : Shown) (access : Accessed) (named : ℕ) → access_in retired.effects ≡ Some access → shown MemAddr ≡ Some named → wanted retired shown MemWdata ≡ wanted_written access (Some named)
-unfolding wanted
+written_wanted : (retired : Retired) (shown : Shown) (access : Accessed) (named : ℕ)
+    → access_in retired.effects ≡ Some access → shown MemAddr ≡ Some named
+    → expected_signal retired shown MemWdata ≡ expected_write access (Some named)
+unfolding expected_signal
 written_wanted retired shown access named is shows =
-    ap (λ a. from_access wanted_written a (shown MemAddr)) is ∙ ap (wanted_written access) shows
+    ap (λ a. from_access expected_write a (shown MemAddr)) is ∙ ap (expected_write access) shows
 
-physical_wanted : (retired : Retired) (shown : Shown) (access : Accessed) (named : ℕ) → access_in retired.effects ≡ Some access → shown MemAddr ≡ Some named → wanted retired shown MemPaddr ≡ wanted_physical access (Some named)
-unfolding wanted
+physical_wanted : (retired : Retired) (shown : Shown) (access : Accessed) (named : ℕ)
+    → access_in retired.effects ≡ Some access → shown MemAddr ≡ Some named
+    → expected_signal retired shown MemPaddr ≡ expected_physical access (Some named)
+unfolding expected_signal
 physical_wanted retired shown access named is shows =
-    ap (λ a. from_access wanted_physical a (shown MemAddr)) is ∙ ap (wanted_physical access) shows
+    ap (λ a. from_access expected_physical a (shown MemAddr)) is ∙ ap (expected_physical access) shows
 
-mask_wanted : (retired : Retired) (shown : Shown) (effects : Effects) (access : Accessed) (named : ℕ) → retired.effects ≡ Ok effects → effects.access ≡ Some access → shown MemAddr ≡ Some named → wanted retired shown MemWmask ≡ wanted_write_mask (Some access) (Some named)
-unfolding wanted
+mask_wanted : (retired : Retired) (shown : Shown) (effects : Effects) (access : Accessed) (named : ℕ)
+    → retired.effects ≡ Ok effects → effects.access ≡ Some access → shown MemAddr ≡ Some named
+    → expected_signal retired shown MemWmask ≡ expected_write_mask (Some access) (Some named)
+unfolding expected_signal
 mask_wanted retired shown effects access named is made shows =
-    ap (λ e. option_and_then (λ effects. wanted_write_mask effects.access (shown MemAddr)) (effects_in e)) is
-    ∙ ap (λ a. wanted_write_mask a (shown MemAddr)) made
-    ∙ ap (wanted_write_mask (Some access)) shows
+    ap (λ e. option_and_then (λ effects. expected_write_mask effects.access (shown MemAddr)) (effects_in e)) is
+    ∙ ap (λ a. expected_write_mask a (shown MemAddr)) made
+    ∙ ap (expected_write_mask (Some access)) shows
 
 some_is : (a b : ℕ) → Some a ≡ Some b → a ≡ b
 some_is a b is = cc
 
-there_by : (core : Core) (shown : Shown) (retired : Retired) (va pa len value named : ℕ) (paddr : Option ℕ) → shown MemPaddr ≡ paddr
-    → va < 2 ^ 64 → pa < 2 ^ 64 → named < 2 ^ 64 → distance_of va len named ≡ Some (above va named)
+there_by : (core : Core) (shown : Shown) (retired : Retired) (va pa len value named : ℕ) (paddr : Option ℕ)
+    → shown MemPaddr ≡ paddr
+    → va < 2 ^ 64 → pa < 2 ^ 64 → named < 2 ^ 64 → distance_in_window va len named ≡ Some (above va named)
     → access_in retired.effects ≡ Some (store_at va pa len value) → shown MemAddr ≡ Some named
-    → (is_some paddr || not (translates_data core)) ≡ true → (translates_data core ≡ false → pa ≡ va) → ShowsWords shown → signal_difference retired shown MemPaddr ≡ None
+    → (is_some paddr || not (translates_data core)) ≡ true → (translates_data core ≡ false → pa ≡ va)
+    → ShowsWords shown → signal_difference retired shown MemPaddr ≡ None
     → pa ≡ (unwrap_or paddr named + above va named) % 2 ^ 64
 there_by core shown retired va pa len value named None is small low word near made shows known physical words none =
     let off : translates_data core ≡ false = negated (translates_data core) known in
@@ -156,19 +177,27 @@ there_by core shown retired va pa len value named None is small low word near ma
     negated : (b : Bool) → not b ≡ true → b ≡ false
     negated true h = cc
     negated false h = refl
-there_by core shown retired va pa len value named (Some place) is small low word near made shows known physical words none =
-    let want : wanted retired shown MemPaddr ≡ whole (moved_back pa (above va named)) =
-    physical_wanted retired shown (store_at va pa len value) named made shows ∙ ap (λ d. where_known (option_map (moved_back pa) d)) near in
-    let differs = difference_at retired shown MemPaddr (Some place) (whole (moved_back pa (above va named))) is want none in
+there_by core shown retired va pa len value named (Some place) is small low word near made shows known physical words
+    none =
+    let want : expected_signal retired shown MemPaddr ≡ whole (moved_back pa (above va named)) =
+    physical_wanted retired shown (store_at va pa len value) named made shows
+    ∙ ap (λ d. where_known (option_map (moved_back pa) d)) near in
+    let differs =
+    difference_at retired shown MemPaddr (Some place) (whole (moved_back pa (above va named))) is want none in
     let shown_at : Some place ≡ Some (moved_back pa (above va named)) =
-    found_is MemPaddr (Some place) (moved_back pa (above va named)) refl (word_of shown MemPaddr place words is) (mod_below (pa + (2 ^ 64 - above va named)) (2 ^ 64) (lit< tt)) differs in
+    found_is MemPaddr (Some place) (moved_back pa (above va named)) refl (word_of shown MemPaddr place words is)
+    (mod_below (pa + (2 ^ 64 - above va named)) (2 ^ 64) (lit< tt)) differs in
     let away_fits : above va named < 2 ^ 64 = mod_below (va + (2 ^ 64 - named)) (2 ^ 64) (lit< tt) in
     back_place place pa (above va named) low away_fits (some_is place _ shown_at)
 
 -- the shown store is that of the instruction
-shows_stored : (core : Core) (shown : Shown) (retired : Retired) (effects : Effects) (va pa len value : ℕ) (shows : ShowsAccess shown) → retired.effects ≡ Ok effects → effects.access ≡ Some (store_at va pa len value)
-    → va < 2 ^ 64 → len ≤ 8 → pa + len ≤ 2 ^ 64 → pa < 2 ^ 64 → (is_some (shown MemPaddr) || not (translates_data core)) ≡ true → (translates_data core ≡ false → pa ≡ va) → ShowsWords shown
-    → ((signal : Signal) → signal_difference retired shown signal ≡ None) → ShowsStored (store_shown shown) pa len value (above va shows.address)
+shows_stored : (core : Core) (shown : Shown) (retired : Retired) (effects : Effects) (va pa len value : ℕ)
+    (shows : ShowsAccess shown) → retired.effects ≡ Ok effects → effects.access ≡ Some (store_at va pa len value)
+    → va < 2 ^ 64 → len ≤ 8 → pa + len ≤ 2 ^ 64 → pa < 2 ^ 64
+    → (is_some (shown MemPaddr) || not (translates_data core)) ≡ true → (translates_data core ≡ false → pa ≡ va)
+    → ShowsWords shown
+    → ((signal : Signal) → signal_difference retired shown signal ≡ None)
+    → ShowsStored (store_shown shown) pa len value (above va shows.address)
 unfolding store_shown
 shows_stored core shown retired effects va pa len value shows is made small few fits low known physical words none =
     let access = store_at va pa len value in
@@ -178,65 +207,94 @@ shows_stored core shown retired effects va pa len value shows is made small few 
     let word = word_of shown MemAddr named words shows.address_is in
     let near : nat_le (away + len) 8 ≡ true =
     near_by (nat_le (away + len) 8) va len named small word few refl
-    (difference_at retired shown MemAddr (Some named) (wanted_address access (Some named)) shows.address_is (address_wanted retired shown access named made_in shows.address_is) (none MemAddr)) in
-    let distance : distance_of va len named ≡ Some away = ap (λ (t : Bool). if t then Some away else None) near in
+    (difference_at retired shown MemAddr (Some named) (expected_address access (Some named)) shows.address_is
+    (address_wanted retired shown access named made_in shows.address_is) (none MemAddr)) in
+    let distance : distance_in_window va len named ≡ Some away =
+    ap (λ (t : Bool). if t then Some away else None) near in
     let within : away + len ≤ 8 = grind (arith, nat_tests, near) in
-    let mask_want : wanted retired shown MemWmask ≡ whole (ones away len) =
-    mask_wanted retired shown effects access named is made shows.address_is ∙ ap (λ d. write_mask_at len d (Some value)) distance in
+    let mask_want : expected_signal retired shown MemWmask ≡ whole (ones away len) =
+    mask_wanted retired shown effects access named is made shows.address_is
+    ∙ ap (λ d. write_mask_at len d (Some value)) distance in
     let mask_found : Some shows.mask ≡ Some (ones away len) =
-    found_is MemWmask (Some shows.mask) (ones away len) refl (word_of shown MemWmask shows.mask words shows.mask_is) (ones_below away len within)
-    (difference_at retired shown MemWmask (Some shows.mask) (whole (ones away len)) shows.mask_is mask_want (none MemWmask)) in
-    let want : Wanted = record { value = moved_up value away; mask = byte_ones away len } in
-    let bytes_want : wanted retired shown MemWdata ≡ Some want =
-    written_wanted retired shown access named made_in shows.address_is ∙ ap (λ d. data_at len d (Some value)) distance in
-    let bytes_same = same_under MemWdata shows.bytes want (difference_at retired shown MemWdata (Some shows.bytes) (Some want) shows.bytes_are bytes_want (none MemWdata)) in
-    let place_is : unwrap_or (shown MemPaddr) (unwrap_or (shown MemAddr) 0) ≡ unwrap_or (shown MemPaddr) named = ap (λ a. unwrap_or (shown MemPaddr) (unwrap_or a 0)) shows.address_is in
+    found_is MemWmask (Some shows.mask) (ones away len) refl (word_of shown MemWmask shows.mask words shows.mask_is)
+    (ones_below away len within)
+    (difference_at retired shown MemWmask (Some shows.mask) (whole (ones away len)) shows.mask_is mask_want
+    (none MemWmask)) in
+    let want : ExpectedSignal = record { value = moved_up value away; mask = byte_ones away len } in
+    let bytes_want : expected_signal retired shown MemWdata ≡ Some want =
+    written_wanted retired shown access named made_in shows.address_is
+    ∙ ap (λ d. data_at len d (Some value)) distance in
+    let bytes_same =
+    same_under MemWdata shows.bytes want
+    (difference_at retired shown MemWdata (Some shows.bytes) (Some want) shows.bytes_are bytes_want
+    (none MemWdata)) in
+    let place_is : unwrap_or (shown MemPaddr) (unwrap_or (shown MemAddr) 0) ≡ unwrap_or (shown MemPaddr) named =
+    ap (λ a. unwrap_or (shown MemPaddr) (unwrap_or a 0)) shows.address_is in
     record {
       place = place_word (shown MemPaddr) (shown MemAddr) (words MemPaddr) (words MemAddr);
       within = within;
-      there = there_by core shown retired va pa len value named (shown MemPaddr) refl small low word distance made_in shows.address_is known physical words (none MemPaddr)
+      there =
+          there_by core shown retired va pa len value named (shown MemPaddr) refl small low word distance made_in
+          shows.address_is known physical words (none MemPaddr)
           ∙ ap (λ p. (p + away) % 2 ^ 64) (sym place_is);
       fits = fits;
       mask = ap (λ m. unwrap_or m 0) shows.mask_is ∙ some_is shows.mask (ones away len) mask_found;
       bytes = bytes_same ∙ ap (λ d. bit_and (unwrap_or d 0) (byte_ones away len)) (sym shows.bytes_are);
     }
   where
-    place_word : (paddr address : Option ℕ) → IfSome paddr (λ v. v < 2 ^ 64) → IfSome address (λ v. v < 2 ^ 64) → unwrap_or paddr (unwrap_or address 0) < 2 ^ 64
+    place_word : (paddr address : Option ℕ) → IfSome paddr (λ v. v < 2 ^ 64) → IfSome address (λ v. v < 2 ^ 64)
+        → unwrap_or paddr (unwrap_or address 0) < 2 ^ 64
     place_word None None p a = lit< tt
     place_word None (Some address) p a = a
     place_word (Some place) address p a = p
 
 -- ---- and its bytes are those that are written
 
-access_of : (shown : Shown) (core : Core) → shows_bytes core shown ≡ true → ShowsAccess shown × ((is_some (shown MemPaddr) || not (translates_data core)) ≡ true)
+access_of : (shown : Shown) (core : Core) → shows_bytes core shown ≡ true
+    → ShowsAccess shown × ((is_some (shown MemPaddr) || not (translates_data core)) ≡ true)
 unfolding shows_bytes
-access_of shown core shows = by (shown MemAddr) (shown MemWmask) (shown MemWdata) (is_some (shown MemPaddr) || not (translates_data core)) refl refl refl refl shows
+access_of shown core shows =
+    by (shown MemAddr) (shown MemWmask) (shown MemWdata) (is_some (shown MemPaddr) || not (translates_data core)) refl
+    refl refl refl shows
   where
-    by : (address mask bytes : Option ℕ) (known : Bool) → shown MemAddr ≡ address → shown MemWmask ≡ mask → shown MemWdata ≡ bytes → (is_some (shown MemPaddr) || not (translates_data core)) ≡ known
-        → (is_some address && is_some mask && is_some bytes && known) ≡ true → ShowsAccess shown × ((is_some (shown MemPaddr) || not (translates_data core)) ≡ true)
-    by (Some address) (Some mask) (Some bytes) true a m b k h = (record { address = address; mask = mask; bytes = bytes; address_is = a; mask_is = m; bytes_are = b }, k)
+    by : (address mask bytes : Option ℕ) (known : Bool) → shown MemAddr ≡ address → shown MemWmask ≡ mask
+        → shown MemWdata ≡ bytes → (is_some (shown MemPaddr) || not (translates_data core)) ≡ known
+        → (is_some address && is_some mask && is_some bytes && known) ≡ true
+        → ShowsAccess shown × ((is_some (shown MemPaddr) || not (translates_data core)) ≡ true)
+    by (Some address) (Some mask) (Some bytes) true a m b k h =
+        (record { address = address; mask = mask; bytes = bytes; address_is = a; mask_is = m; bytes_are = b }, k)
     by (Some address) (Some mask) (Some bytes) false a m b k h = absurd cc
     by (Some address) (Some mask) None known a m b k h = absurd cc
     by (Some address) None bytes known a m b k h = absurd cc
     by None mask bytes known a m b k h = absurd cc
 
-written_by : (map : Map) (store : ShownStore) (place : Place) (len value away : ℕ) (io : Bool) (bytes : Bytes) (x : ℕ) → ShowsStored store place.pa len value away
+written_by : (map : Map) (store : ShownStore) (place : Place) (len value away : ℕ) (io : Bool) (bytes : Bytes) (x : ℕ)
+    → ShowsStored store place.pa len value away
     → (if io then is_device map.io place.pa len else holds_all map.ram place.pa len) ≡ true
-    → bytes_put map.ram store 8 bytes x ≡ after_writes (if io then [] else record { pa = place.pa; len = len; value = value } ∷ []) bytes x
+    → bytes_put map.ram store 8 bytes x
+    ≡ after_writes (if io then [] else record { pa = place.pa; len = len; value = value } ∷ []) bytes x
 unfolding after_writes
-written_by map store place len value away true bytes x shows stands = put_to_device map.ram store place.pa len value away bytes x shows (device_apart map place.pa len x stands)
-written_by map store place len value away false bytes x shows stands = put_to_ram map.ram store place.pa len value away bytes x shows stands
+written_by map store place len value away true bytes x shows stands =
+    put_to_device map.ram store place.pa len value away bytes x shows (device_apart map place.pa len x stands)
+written_by map store place len value away false bytes x shows stands =
+    put_to_ram map.ram store place.pa len value away bytes x shows stands
 
-pub store_is_true : (core : Core) (shown : Shown) (bytes : Bytes) (retired : Retired) (effects : Effects) (wrote : List Write) → Stores core effects.access wrote → retired.effects ≡ Ok effects
-    → shows_bytes core shown ≡ true → ShowsWords shown → ((signal : Signal) → signal_difference retired shown signal ≡ None)
+pub store_is_true : (core : Core) (shown : Shown) (bytes : Bytes) (retired : Retired) (effects : Effects)
+    (wrote : List Write) → Stores core effects.access wrote → retired.effects ≡ Ok effects
+    → shows_bytes core shown ≡ true → ShowsWords shown
+    → ((signal : Signal) → signal_difference retired shown signal ≡ None)
     → (x : ℕ) → bytes_put core.map.ram (store_shown shown) 8 bytes x ≡ after_writes wrote bytes x
 store_is_true core shown bytes retired effects wrote stores is shows words none x =
     let place = stores.place in
     let len = bytes_of stores.request.size in
     let known = access_of shown core shows in
     let fits = place_fits core.map len place place.io refl stores.stands in
-    let shown_store = shows_stored core shown retired effects stores.request.address place.pa len stores.value known.0 is stores.made stores.address (few_bytes stores.request.size) fits (low_place place.pa stores.request.size fits) known.1 stores.physical words none in
-    written_by core.map (store_shown shown) place len stores.value (above stores.request.address known.0.address) place.io bytes x shown_store stores.stands
+    let shown_store =
+    shows_stored core shown retired effects stores.request.address place.pa len stores.value known.0 is
+    stores.made stores.address (few_bytes stores.request.size) fits (low_place place.pa stores.request.size fits)
+    known.1 stores.physical words none in
+    written_by core.map (store_shown shown) place len stores.value (above stores.request.address known.0.address)
+    place.io bytes x shown_store stores.stands
     ∙ ap (λ w. after_writes w bytes x) (sym stores.wrote_is)
   where
     low_place : (pa : ℕ) (size : AccessSize) → pa + bytes_of size ≤ 2 ^ 64 → pa < 2 ^ 64

@@ -1,5 +1,6 @@
 -- What the rows of a trace show are words.
-use Rattle.std.proofs.Common.{◌≡◌, ◌≤◌, ℕ, ◌^◌, ◌<◌, ◌==◌, Bool, true, false, not, List, [], ◌∷◌, length, nat_lt, Option, Some, None, Ok, Err, Result, if◌then◌else◌, refl, ap, arith}
+use Rattle.std.proofs.Common.{◌≡◌, ◌≤◌, ℕ, ◌^◌, ◌<◌, ◌==◌, Bool, true, false, not, List, [], ◌∷◌, length, nat_lt}
+use Rattle.std.proofs.Common.{Option, Some, None, Ok, Err, Result, if◌then◌else◌, refl, ap, arith}
 use Rattle.std.specs.Prelude.{IfOk, IfSome}
 use Rattle.std.specs.Option.{option_map_or, option_or}
 use Rattle.std.proofs.lemmas.Bool.Decides.{nat_tests}
@@ -7,21 +8,23 @@ use Rattle.std.proofs.lemmas.Nat.{pow_below}
 use Rattle.hart_words.specs.declared.signal.Signal.{Signal}
 use Rattle.hart_words.specs.declared.signal.SignalEntry.{SignalEntry}
 use Rattle.hart_words.specs.declared.numbers.NumberFault.TheVariants as number
-use Rattle.hart_words.specs.Numbers.{fitted, number_of, number_within}
+use Rattle.hart_words.specs.Numbers.{result_within, number_of, number_within}
 use Rattle.hart_words.specs.Results.{◌>>=◌, ◌>>◌, refuse_if}
 use Rattle.hart_words.specs.Signals.{Shown, index_of, signal_entry_of, width_of}
 use Rattle.hart_words.proofs.SignalTable.{width_in}
 use Rattle.csv_line.specs.Fields.{fields_of_line, has_return_in}
 use Rattle.rvfi_rows.specs.Columns.{ColumnList}
 use Rattle.rvfi_rows.specs.declared.fault.RowFault.{RowFault}
-use Rattle.rvfi_rows.specs.Rows.{RowReading, alone, cell_of, cells_of, field_shown, is_invalid, is_needed, row_from, row_of_fields, row_of_line, rows_of, shown_then, valid_of, value_or_fault}
+use Rattle.rvfi_rows.specs.Rows.{RowReading, alone, cell_of, cells_of, field_shown, is_invalid, is_needed, row_from}
+use Rattle.rvfi_rows.specs.Rows.{row_of_fields, row_of_line, rows_of, shown_then, valid_of, value_or_fault}
 use Rattle.boundary_guess.proofs.Compared.{ShowsWords}
 
 -- a value, where there is one, is a word
 abbrev IsWord : Option ℕ → Type 0
 IsWord value = IfSome value (λ v. v < 2 ^ 64)
 
-width_by : (signal : Signal) (entry : Option SignalEntry) → entry ≡ signal_entry_of signal → option_map_or (λ entry. entry.width) entry 64 ≤ 64
+width_by : (signal : Signal) (entry : Option SignalEntry) → entry ≡ signal_entry_of signal
+    → option_map_or (λ entry. entry.width) entry 64 ≤ 64
 width_by signal None is = omega arith
 width_by signal (Some entry) is = width_in signal entry is
 
@@ -30,20 +33,23 @@ unfolding width_of
 width_fits signal = width_by signal (signal_entry_of signal) refl
 
 power_by : (width : ℕ) (test : Bool) → width ≤ 64 → nat_lt width 64 ≡ test → 2 ^ width ≤ 2 ^ 64
-power_by width true fits is = let less : 2 ^ width < 2 ^ 64 = pow_below width 64 (grind (arith, nat_tests, is)) in omega (arith, less)
+power_by width true fits is =
+    let less : 2 ^ width < 2 ^ 64 = pow_below width 64 (grind (arith, nat_tests, is)) in omega (arith, less)
 power_by width false fits is =
     let same : width ≡ 64 = grind (arith, nat_tests, is, fits) in
     let whole : 2 ^ width ≡ 2 ^ 64 = ap (λ w. 2 ^ w) same in
     omega (arith, whole)
 
-value_by : (signal : Signal) (value width : ℕ) (test : Bool) → width ≤ 64 → nat_lt value (2 ^ width) ≡ test → IfOk (value_or_fault signal (if test then Ok value else Err number.TooWide)) IsWord
+value_by : (signal : Signal) (value width : ℕ) (test : Bool) → width ≤ 64 → nat_lt value (2 ^ width) ≡ test
+    → IfOk (value_or_fault signal (if test then Ok value else Err number.TooWide)) IsWord
 value_by signal value width true fits is =
     let less : value < 2 ^ width = grind (arith, nat_tests, is) in
     let most = power_by width (nat_lt width 64) fits refl in
     omega (arith, less, most)
 value_by signal value width false fits is = tt
 
-number_by : (signal : Signal) (width : ℕ) (value : Option ℕ) → width ≤ 64 → IfOk (value_or_fault signal (fitted width value)) IsWord
+number_by : (signal : Signal) (width : ℕ) (value : Option ℕ) → width ≤ 64
+    → IfOk (value_or_fault signal (result_within width value)) IsWord
 number_by signal width None fits = tt
 number_by signal width (Some value) fits = value_by signal value width (nat_lt value (2 ^ width)) fits refl
 
@@ -60,7 +66,8 @@ alone_by : (test : Bool) (value : Option ℕ) → IsWord value → IsWord (if te
 alone_by true value word = word
 alone_by false value word = tt
 
-field_by : (signal : Signal) (cell : Result (Option ℕ) RowFault) → IfOk cell IsWord → IfOk (cell >>= λ value. Ok (alone signal value)) ShowsWords
+field_by : (signal : Signal) (cell : Result (Option ℕ) RowFault) → IfOk cell IsWord
+    → IfOk (cell >>= λ value. Ok (alone signal value)) ShowsWords
 field_by signal (Err fault) words = tt
 field_by signal (Ok value) words = λ other. alone_by (index_of other == index_of signal) value words
 
@@ -73,7 +80,8 @@ or_words : (later first : Option ℕ) → IsWord later → IsWord first → IsWo
 or_words None first l f = f
 or_words (Some value) first l f = l
 
-then_words : (first others : Result Shown RowFault) → IfOk first ShowsWords → IfOk others ShowsWords → IfOk (first >>= λ one. (others >>= λ more. Ok (shown_then one more))) ShowsWords
+then_words : (first others : Result Shown RowFault) → IfOk first ShowsWords → IfOk others ShowsWords
+    → IfOk (first >>= λ one. (others >>= λ more. Ok (shown_then one more))) ShowsWords
 then_words (Err fault) others f o = tt
 then_words (Ok one) (Err fault) f o = tt
 then_words (Ok one) (Ok more) f o = λ signal. or_words (more signal) (one signal) (o signal) (f signal)
@@ -82,7 +90,9 @@ cells_words : (columns : ColumnList) (fields : List (List ℕ)) → IfOk (cells_
 unfolding cells_of
 cells_words [] fields = λ signal. tt
 cells_words (column ∷ columns) [] = λ signal. tt
-cells_words (column ∷ columns) (field ∷ fields) = then_words (field_shown column field) (cells_of columns fields) (field_words column field) (cells_words columns fields)
+cells_words (column ∷ columns) (field ∷ fields) =
+    then_words (field_shown column field) (cells_of columns fields) (field_words column field)
+    (cells_words columns fields)
 
 -- what a row reads as shows words, where it is valid
 abbrev pub ReadsWords : RowReading → Type 0
@@ -92,11 +102,13 @@ shown_words : (cells : Result Shown RowFault) → IfOk cells ShowsWords → Read
 shown_words (Err fault) words = tt
 shown_words (Ok shown) words = words
 
-invalid_by : (invalid : Bool) (cells : Result Shown RowFault) → IfOk cells ShowsWords → ReadsWords (if invalid then Ok None else (cells >>= λ row. Ok (Some row)))
+invalid_by : (invalid : Bool) (cells : Result Shown RowFault) → IfOk cells ShowsWords
+    → ReadsWords (if invalid then Ok None else (cells >>= λ row. Ok (Some row)))
 invalid_by true cells words = tt
 invalid_by false cells words = shown_words cells words
 
-valid_by : (valid : Result (Option ℕ) RowFault) (cells : Result Shown RowFault) → IfOk cells ShowsWords → ReadsWords (valid >>= λ value. (if is_invalid value then Ok None else (cells >>= λ row. Ok (Some row))))
+valid_by : (valid : Result (Option ℕ) RowFault) (cells : Result Shown RowFault) → IfOk cells ShowsWords
+    → ReadsWords (valid >>= λ value. (if is_invalid value then Ok None else (cells >>= λ row. Ok (Some row))))
 valid_by (Err fault) cells words = tt
 valid_by (Ok value) cells words = invalid_by (is_invalid value) cells words
 
@@ -104,14 +116,17 @@ from_words : (columns : ColumnList) (fields : List (List ℕ)) → ReadsWords (r
 unfolding row_from
 from_words columns fields = valid_by (valid_of columns fields) (cells_of columns fields) (cells_words columns fields)
 
-fields_by : (has_return many : Bool) (columns : ColumnList) (fields : List (List ℕ)) (one other : RowFault) → ReadsWords (refuse_if has_return one >> (refuse_if many other >> row_from columns fields))
+fields_by : (has_return many : Bool) (columns : ColumnList) (fields : List (List ℕ)) (one other : RowFault)
+    → ReadsWords (refuse_if has_return one >> (refuse_if many other >> row_from columns fields))
 fields_by true many columns fields one other = tt
 fields_by false true columns fields one other = tt
 fields_by false false columns fields one other = from_words columns fields
 
 line_words : (columns : ColumnList) (line : List ℕ) → ReadsWords (row_of_line columns line)
 unfolding row_of_line row_of_fields
-line_words columns line = fields_by (has_return_in line) (not (length (fields_of_line line) == length columns)) columns (fields_of_line line) _ _
+line_words columns line =
+    fields_by (has_return_in line) (not (length (fields_of_line line) == length columns)) columns
+    (fields_of_line line) _ _
 
 -- so do all rows
 unfoldable pub AllReadWords : List RowReading → Type 0

@@ -1,5 +1,6 @@
--- Guesses behind rows and segments that agree, and show their changes, are the true states.
-use Rattle.std.proofs.Common.{◌≡◌, ℕ, zero, suc, ◌-◌, ◌^◌, ◌<◌, ◌==◌, Bool, true, false, if◌then◌else◌, List, [], ◌∷◌, ◌++◌, map, Some, None, Ok, Err, refl, ap, ◌∙◌, subst, lit<}
+-- Guesses after rows and segments that agree, and show their changes, are the true states.
+use Rattle.std.proofs.Common.{◌≡◌, ℕ, zero, suc, ◌-◌, ◌^◌, ◌<◌, ◌==◌, Bool, true, false, if◌then◌else◌, List, [], ◌∷◌}
+use Rattle.std.proofs.Common.{◌++◌, map, Some, None, Ok, Err, refl, ap, ◌∙◌, subst, lit<}
 use Rattle.std.specs.Prelude.{All, replicate, slice_index}
 use Rattle.std.proofs.lemmas.List.{map-append}
 use Rattle.std.proofs.lemmas.List.Concat.{flat_map-cons}
@@ -9,16 +10,20 @@ use Rattle.hart_words.specs.Memory.{Bytes}
 use Rattle.hart_words.specs.Registers.{register_of, registers_at_reset}
 use Rattle.hart_words.specs.Signals.{Shown}
 use Rattle.csr_file.specs.declared.stored_csr.StoredCsr.{StoredCsr}
-use Rattle.csr_file.specs.declared.stored_csr.StoredCsr.TheVariants.{Mstatus, Medeleg, Mideleg, Mie, Mtvec, Mcounteren, Menvcfg, Mcountinhibit, Mscratch, Mepc, Mcause, Mtval, Mip, Stvec, Scounteren, Senvcfg, Sscratch, Sepc, Scause, Stval, Satp}
+use Rattle.csr_file.specs.declared.stored_csr.StoredCsr.TheVariants.{Mstatus, Medeleg, Mideleg, Mie, Mtvec, Mcounteren}
+use Rattle.csr_file.specs.declared.stored_csr.StoredCsr.TheVariants.{Menvcfg, Mcountinhibit, Mscratch, Mepc, Mcause}
+use Rattle.csr_file.specs.declared.stored_csr.StoredCsr.TheVariants.{Mtval, Mip, Stvec, Scounteren, Senvcfg, Sscratch}
+use Rattle.csr_file.specs.declared.stored_csr.StoredCsr.TheVariants.{Sepc, Scause, Stval, Satp}
 use Rattle.csr_file.specs.Registers.{at, csrs_at_reset, no_entry}
 use Rattle.rvfi_rows.specs.Columns.{ColumnList}
 use Rattle.rvfi_rows.specs.Rows.{RowReading, row_of_line, rows_of}
 use Rattle.hart_step.specs.Cores.{IsSound, core_at_reset}
 use Rattle.hart_step.specs.Rows.{HartState, after_row}
-use Rattle.hart_step.specs.Steps.{stepped}
-use Rattle.boundary_guess.specs.Cuts.{lines_through}
+use Rattle.hart_step.specs.Steps.{step_of}
+use Rattle.boundary_guess.specs.Cuts.{lines_of_pieces}
 use Rattle.boundary_guess.specs.Guesses.{guess_after, guesses_of}
-use Rattle.boundary_guess.specs.Truth.{Agree, HoldsWords, ShowChanges, StaysSound, state_after, state_at_reset, true_starts}
+use Rattle.boundary_guess.specs.Truth.{Agree, HoldsWords, ShowChanges, StaysSound, true_state_after, state_at_reset}
+use Rattle.boundary_guess.specs.Truth.{true_starts}
 use Rattle.boundary_guess.proofs.Compared.{ShowsWords}
 use Rattle.boundary_guess.proofs.CoreWords.{IsSane}
 use Rattle.boundary_guess.proofs.Faults.{AreBytes}
@@ -32,10 +37,11 @@ pub record IsSaneState (state : HartState) : Type 0 where
   pub core : IsSane state.core
   pub bytes : AreBytes state.bytes
 
-row_keeps : (state : HartState) (shown : Shown) → IsSaneState state → ShowsWords shown → IsSaneState (after_row state shown)
+row_keeps : (state : HartState) (shown : Shown) → IsSaneState state → ShowsWords shown
+    → IsSaneState (after_row state shown)
 row_keeps state shown sane words = record {
   core = next_sane state.core shown state.bytes sane.core words sane.bytes;
-  bytes = written_bytes ((stepped state.core shown).run state.bytes).wrote state.bytes sane.bytes;
+  bytes = written_bytes ((step_of state.core shown).run state.bytes).wrote state.bytes sane.bytes;
 }
 
 in_range : (state : HartState) → IsSaneState state → IsInRange state.core
@@ -44,11 +50,12 @@ in_range state sane = record { even = sane.core.sound.even; pc = sane.core.pc; r
 -- ---- rows
 
 pub record IsGuessedRightly (state : HartState) (rows : List RowReading) : Type 0 where
-  pub guess : guess_after state rows ≡ state_after state rows
-  pub sane : IsSaneState (state_after state rows)
+  pub guess : guess_after state rows ≡ true_state_after state rows
+  pub sane : IsSaneState (true_state_after state rows)
 
-rows_true : (rows : List RowReading) (state : HartState) → IsSaneState state → AllReadWords rows → Agree state rows → ShowChanges rows → IsGuessedRightly state rows
-unfolding guess_after state_after Agree ShowChanges AllReadWords
+rows_true : (rows : List RowReading) (state : HartState) → IsSaneState state → AllReadWords rows → Agree state rows
+    → ShowChanges rows → IsGuessedRightly state rows
+unfolding guess_after true_state_after Agree ShowChanges AllReadWords
 rows_true [] state sane words agree show = record { guess = refl; sane = sane }
 rows_true (Err fault ∷ rows) state sane words agree show = absurd agree
 rows_true (Ok None ∷ rows) state sane words agree show =
@@ -62,8 +69,9 @@ rows_true (Ok (Some shown) ∷ rows) state sane words agree show =
 
 -- ---- rows before others
 
-agree_parts : (front back : List RowReading) (state : HartState) → Agree state (front ++ back) → Agree state front × Agree (state_after state front) back
-unfolding Agree state_after
+pub agree_parts : (front back : List RowReading) (state : HartState) → Agree state (front ++ back)
+    → Agree state front × Agree (true_state_after state front) back
+unfolding Agree true_state_after
 agree_parts [] back state agree = (tt, agree)
 agree_parts (Err fault ∷ front) back state agree = absurd agree
 agree_parts (Ok None ∷ front) back state agree = agree_parts front back state agree
@@ -82,42 +90,68 @@ show_parts (Ok (Some shown) ∷ front) back show =
 
 -- ---- segments
 
-rows_split : (columns : ColumnList) (lines : List (List ℕ)) (segments : List (List (List ℕ))) → rows_of columns (lines_through (lines ∷ segments)) ≡ rows_of columns lines ++ rows_of columns (lines_through segments)
+rows_split : (columns : ColumnList) (lines : List (List ℕ)) (segments : List (List (List ℕ)))
+    → rows_of columns (lines_of_pieces (lines ∷ segments)) ≡ rows_of columns lines
+    ++ rows_of columns (lines_of_pieces segments)
 rows_split columns lines segments =
     ap (rows_of columns) (flat_map-cons (λ (piece : List (List ℕ)). piece) lines segments)
-    ∙ map-append (row_of_line columns) lines (lines_through segments)
+    ∙ map-append (row_of_line columns) lines (lines_of_pieces segments)
 
-segments_true : (segments : List (List (List ℕ))) (last : List (List ℕ)) (columns : ColumnList) (state : HartState) → IsSaneState state
-    → Agree state (rows_of columns (lines_through segments)) → ShowChanges (rows_of columns (lines_through segments))
+segments_true : (segments : List (List (List ℕ))) (last : List (List ℕ)) (columns : ColumnList) (state : HartState)
+    → IsSaneState state
+    → Agree state (rows_of columns (lines_of_pieces segments))
+    → ShowChanges (rows_of columns (lines_of_pieces segments))
     → guesses_of state columns (segments ++ last ∷ []) ≡ true_starts state columns (segments ++ last ∷ [])
 unfolding guesses_of true_starts
 segments_true [] last columns state sane agree show = refl
 segments_true (lines ∷ segments) last columns state sane agree show =
     let rows = rows_of columns lines in
-    let later = rows_of columns (lines_through segments) in
+    let later = rows_of columns (lines_of_pieces segments) in
     let agreed = agree_parts rows later state (subst (Agree state) (rows_split columns lines segments) agree) in
     let showed = show_parts rows later (subst ShowChanges (rows_split columns lines segments) show) in
     let here = rows_true rows state sane (rows_words columns lines) agreed.0 showed.0 in
     ap (λ next. state ∷ guesses_of next columns (segments ++ last ∷ [])) here.guess
-    ∙ ap (λ more. state ∷ more) (segments_true segments last columns (state_after state rows) here.sane agreed.1 showed.1)
+    ∙ ap (λ more. state ∷ more)
+    (segments_true segments last columns (true_state_after state rows) here.sane agreed.1 showed.1)
 
 -- ---- states
 
 sane_by : (state : HartState) → IsSound state.core → HoldsWords state → IsSaneState state
 sane_by state sound words = record {
-  core = record { sound = sound; pc = words.pc; registers = words.registers; csrs = record { values = words.csrs; configurations = words.configurations } };
+  core =
+      record {
+        sound =
+            sound;
+        pc =
+            words.pc;
+        registers =
+            words.registers;
+        csrs = record { values = words.csrs; configurations = words.configurations };
+      };
   bytes = words.bytes;
 }
 
-states_sane : (rows : List RowReading) (state : HartState) → IsSaneState state → AllReadWords rows → IsSaneState (state_after state rows)
-unfolding state_after AllReadWords
+states_sane : (rows : List RowReading) (state : HartState) → IsSaneState state → AllReadWords rows
+    → IsSaneState (true_state_after state rows)
+unfolding true_state_after AllReadWords
 states_sane [] state sane words = sane
 states_sane (Err fault ∷ rows) state sane words = sane
 states_sane (Ok None ∷ rows) state sane words = states_sane rows state sane words.1
-states_sane (Ok (Some shown) ∷ rows) state sane words = states_sane rows (after_row state shown) (row_keeps state shown sane words.0) words.1
+states_sane (Ok (Some shown) ∷ rows) state sane words =
+    states_sane rows (after_row state shown) (row_keeps state shown sane words.0) words.1
 
 words_by : (state : HartState) → IsSaneState state → HoldsWords state
-words_by state sane = record { pc = sane.core.pc; registers = sane.core.registers; csrs = sane.core.csrs.values; configurations = sane.core.csrs.configurations; bytes = sane.bytes }
+words_by state sane =
+    record {
+      pc =
+          sane.core.pc;
+      registers =
+          sane.core.registers;
+      csrs =
+          sane.core.csrs.values;
+      configurations = sane.core.csrs.configurations;
+      bytes = sane.bytes;
+    }
 
 zeros : (count i : ℕ) → slice_index (replicate count 0) i < 2 ^ 64
 zeros zero i = lit< tt
@@ -160,22 +194,38 @@ reset_configurations : All (λ entry. entry.cfg < 256) csrs_at_reset.entries
 unfolding csrs_at_reset
 reset_configurations = All-replicate (λ entry. entry.cfg < 256) 16 no_entry (lit< tt)
 
-pub reset_holds : (pc : ℕ) (map : Map) (bytes : Bytes) → pc < 2 ^ 64 → ((address : ℕ) → bytes address < 2 ^ 8) → HoldsWords (state_at_reset pc map bytes)
+pub reset_holds : (pc : ℕ) (map : Map) (bytes : Bytes) → pc < 2 ^ 64 → ((address : ℕ) → bytes address < 2 ^ 8)
+    → HoldsWords (state_at_reset pc map bytes)
 unfolding core_at_reset
-reset_holds pc map bytes small are = record { pc = small; registers = reset_registers; csrs = reset_csrs; configurations = reset_configurations; bytes = are }
+reset_holds pc map bytes small are =
+    record {
+      pc =
+          small;
+      registers = reset_registers;
+      csrs = reset_csrs;
+      configurations = reset_configurations;
+      bytes = are;
+    }
 
-pub rows_stay : (state : HartState) (columns : ColumnList) (lines : List (List ℕ)) → IsSound state.core → HoldsWords state → StaysSound state (rows_of columns lines)
+pub rows_stay : (state : HartState) (columns : ColumnList) (lines : List (List ℕ)) → IsSound state.core
+    → HoldsWords state → StaysSound state (rows_of columns lines)
 rows_stay state columns lines sound words =
     let after = states_sane (rows_of columns lines) state (sane_by state sound words) (rows_words columns lines) in
-    record { sound = after.core.sound; words = words_by (state_after state (rows_of columns lines)) after }
+    record { sound = after.core.sound; words = words_by (true_state_after state (rows_of columns lines)) after }
 
 -- ---- the law
 
-pub rows_guessed : (state : HartState) (columns : ColumnList) (lines : List (List ℕ)) → IsSound state.core → HoldsWords state
-    → Agree state (rows_of columns lines) → ShowChanges (rows_of columns lines) → guess_after state (rows_of columns lines) ≡ state_after state (rows_of columns lines)
-rows_guessed state columns lines sound words agree show = (rows_true (rows_of columns lines) state (sane_by state sound words) (rows_words columns lines) agree show).guess
+pub rows_guessed : (state : HartState) (columns : ColumnList) (lines : List (List ℕ)) → IsSound state.core
+    → HoldsWords state
+    → Agree state (rows_of columns lines) → ShowChanges (rows_of columns lines)
+    → guess_after state (rows_of columns lines) ≡ true_state_after state (rows_of columns lines)
+rows_guessed state columns lines sound words agree show =
+    (rows_true (rows_of columns lines) state (sane_by state sound words) (rows_words columns lines) agree show).guess
 
-pub segments_guessed : (state : HartState) (columns : ColumnList) (segments : List (List (List ℕ))) (last : List (List ℕ)) → IsSound state.core → HoldsWords state
-    → Agree state (rows_of columns (lines_through segments)) → ShowChanges (rows_of columns (lines_through segments))
+pub segments_guessed : (state : HartState) (columns : ColumnList) (segments : List (List (List ℕ)))
+    (last : List (List ℕ)) → IsSound state.core → HoldsWords state
+    → Agree state (rows_of columns (lines_of_pieces segments))
+    → ShowChanges (rows_of columns (lines_of_pieces segments))
     → guesses_of state columns (segments ++ last ∷ []) ≡ true_starts state columns (segments ++ last ∷ [])
-segments_guessed state columns segments last sound words agree show = segments_true segments last columns state (sane_by state sound words) agree show
+segments_guessed state columns segments last sound words agree show =
+    segments_true segments last columns state (sane_by state sound words) agree show

@@ -1,5 +1,6 @@
--- A guess behind a row that agrees, and shows its changes, is the true state.
-use Rattle.std.proofs.Common.{◌≡◌, ℕ, Bool, true, false, not, ◌&&◌, Option, None, if◌then◌else◌, refl, sym, ap, ◌∙◌, subst}
+-- A guess after a row that agrees, and shows its changes, is the true state.
+use Rattle.std.proofs.Common.{◌≡◌, ℕ, Bool, true, false, not, ◌&&◌, Option, None, if◌then◌else◌, refl, sym, ap, ◌∙◌}
+use Rattle.std.proofs.Common.{subst}
 use Rattle.std.specs.Option.{is_some}
 use Rattle.hart_words.specs.declared.signal.Signal.{Signal}
 use Rattle.hart_words.specs.declared.signal.Signal.TheVariants.{Intr, PcRdata}
@@ -10,12 +11,13 @@ use Rattle.rvfi_rows.specs.declared.expected.Retired.{Retired as Retirement}
 use Rattle.row_compare.specs.Difference.{difference_of, signal_difference}
 use Rattle.row_compare.proofs.Among.{agrees_in_all}
 use Rattle.hart_step.specs.declared.state.Core.{Core}
-use Rattle.hart_step.specs.Choices.{asks_interrupt, lines_of, shows}
-use Rattle.hart_step.specs.Instructions.{Ran, ran}
+use Rattle.hart_step.specs.Choices.{asks_interrupt, pending_lines_of, shows}
+use Rattle.hart_step.specs.Instructions.{InstructionRun, instruction_run}
 use Rattle.hart_step.specs.Laws.{enters_interrupt}
 use Rattle.hart_step.specs.PlainRows.{is_plain}
 use Rattle.hart_step.specs.Rows.{HartState, after_row}
-use Rattle.hart_step.specs.Steps.{begun, counted, effects_of, expected_of, finished, insn_of, interrupt_of, lacks_interrupt, stepped}
+use Rattle.hart_step.specs.Steps.{before_instruction, core_after_count, effects_of, expected_of, core_after_run}
+use Rattle.hart_step.specs.Steps.{insn_of, interrupt_of, lacks_interrupt, step_of}
 use Rattle.hart_step.proofs.Phases.{begun_kept, expected_running, next_running, wrote_running}
 use Rattle.boundary_guess.specs.Guesses.{guess_after_row, state_shown}
 use Rattle.boundary_guess.specs.Truth.{ShowsChanges}
@@ -25,35 +27,43 @@ use Rattle.boundary_guess.proofs.PlainSteps.{Runs, ran_runs}
 use Rattle.boundary_guess.proofs.PlainTruth.{IsInRange, plain_facts, ran_true}
 
 -- no interrupt is entered before a plain row
-never_asked : (intr : Option ℕ) (more : Bool) (pick : Bool) → shows intr 1 ≡ false → (shows intr 1 && more && pick) ≡ false
+never_asked : (intr : Option ℕ) (more : Bool) (pick : Bool) → shows intr 1 ≡ false
+    → (shows intr 1 && more && pick) ≡ false
 never_asked intr more pick none = ap (λ t. t && more && pick) none
 
 none_entered : (core : Core) (shown : Shown) → shows (shown Intr) 1 ≡ false → enters_interrupt core shown ≡ false
 unfolding asks_interrupt
-none_entered core shown none = never_asked (shown Intr) (not (core.trapped_last && shows (shown PcRdata) core.pc)) (is_some (interrupt_of core shown)) none
+none_entered core shown none =
+    never_asked (shown Intr) (not (core.trapped_last && shows (shown PcRdata) core.pc))
+    (is_some (interrupt_of core shown)) none
 
 -- what the reference hart did
-abbrev retirement : Core → Shown → Ran → Retirement
+abbrev retirement : Core → Shown → InstructionRun → Retirement
 retirement core shown done = record {
   order = core.next_order;
-  lacks_interrupt = lacks_interrupt (counted core shown) shown;
-  pc = (begun core shown).pc;
-  mode = (begun core shown).mode;
+  lacks_interrupt = lacks_interrupt (core_after_count core shown) shown;
+  pc = (before_instruction core shown).pc;
+  mode = (before_instruction core shown).mode;
   insn = insn_of done.executed;
-  effects = effects_of (begun core shown) done.core done.executed;
-  csrs_before = (begun core shown).csrs;
-  csrs_after = (finished done shown).csrs;
-  lines = (lines_of shown).up;
+  effects = effects_of (before_instruction core shown) done.core done.executed;
+  csrs_before = (before_instruction core shown).csrs;
+  csrs_after = (core_after_run done shown).csrs;
+  lines = (pending_lines_of shown).up;
 }
 
-expected_is : (core : Core) (shown : Shown) (done : Ran) → expected_of core shown done ≡ expected.Retired (retirement core shown done)
+expected_is : (core : Core) (shown : Shown) (done : InstructionRun)
+    → expected_of core shown done ≡ expected.Retired (retirement core shown done)
 unfolding expected_of
 expected_is core shown done = refl
 
-agrees_so : (core : Core) (shown : Shown) (bytes : Bytes) → core.halted ≡ false → difference_of ((stepped core shown).run bytes).value.expected shown ≡ None
-    → (signal : Signal) → signal_difference (retirement core shown ((ran (begun core shown) shown).run bytes).value) shown signal ≡ None
+agrees_so : (core : Core) (shown : Shown) (bytes : Bytes) → core.halted ≡ false
+    → difference_of ((step_of core shown).run bytes).value.expected shown ≡ None
+    → (signal : Signal)
+    → signal_difference
+    (retirement core shown ((instruction_run (before_instruction core shown) shown).run bytes).value) shown signal
+    ≡ None
 agrees_so core shown bytes runs none =
-    let done = ((ran (begun core shown) shown).run bytes).value in
+    let done = ((instruction_run (before_instruction core shown) shown).run bytes).value in
     let is = expected_running core shown bytes runs ∙ expected_is core shown done in
     agrees_in_all (retirement core shown done) shown (sym (ap (λ e. difference_of e shown) is) ∙ none)
 
@@ -61,31 +71,40 @@ same_states : (one other : HartState) → one.core ≡ other.core → one.bytes 
 same_states one other core bytes =
     ap (λ c. record { core = c; bytes = one.bytes }) core ∙ ap (λ b. record { core = other.core; bytes = b }) bytes
 
-plain_row_is_true : (state : HartState) (shown : Shown) → is_plain state.core shown ≡ true → AreBytes state.bytes → IsInRange (after_row state shown).core → ShowsChanges shown → ShowsWords shown
-    → difference_of ((stepped state.core shown).run state.bytes).value.expected shown ≡ None → state_shown state shown ≡ after_row state shown
+plain_row_is_true : (state : HartState) (shown : Shown) → is_plain state.core shown ≡ true → AreBytes state.bytes
+    → IsInRange (after_row state shown).core → ShowsChanges shown → ShowsWords shown
+    → difference_of ((step_of state.core shown).run state.bytes).value.expected shown ≡ None
+    → state_shown state shown ≡ after_row state shown
 plain_row_is_true state shown is are range shows words agrees =
     let core = state.core in
     let bytes = state.bytes in
     let plain = plain_facts core shown is in
     let begins = begun_kept core shown (none_entered core shown plain.intr) in
-    let run = (ran (begun core shown) shown).run bytes in
+    let run = (instruction_run (before_instruction core shown) shown).run bytes in
     let done = run.value in
     let next = next_running core shown bytes plain.runs in
     let wrote = wrote_running core shown bytes plain.runs in
     let P : Core → Type 0 = λ k. Runs k done.executed done.core run.wrote in
-    let right = ran_true core shown bytes done.executed done.core run.wrote (retirement core shown done) plain shows words
-    (subst P begins (ran_runs (begun core shown) shown bytes are)) refl
+    let right =
+    ran_true core shown bytes done.executed done.core run.wrote (retirement core shown done) plain shows words
+    (subst P begins (ran_runs (before_instruction core shown) shown bytes are)) refl
     (ap (λ k. effects_of k done.core done.executed) begins)
     (agrees_so core shown bytes plain.runs agrees)
     (subst IsInRange next range) in
-    same_states (state_shown state shown) (after_row state shown) (right.core_is ∙ sym next) (right.bytes_are ∙ ap (λ w. after_writes w bytes) (sym wrote))
+    same_states (state_shown state shown) (after_row state shown) (right.core_is ∙ sym next)
+    (right.bytes_are ∙ ap (λ w. after_writes w bytes) (sym wrote))
 
-row_by : (plain : Bool) (state : HartState) (shown : Shown) → is_plain state.core shown ≡ plain → AreBytes state.bytes → IsInRange (after_row state shown).core → ShowsChanges shown → ShowsWords shown
-    → difference_of ((stepped state.core shown).run state.bytes).value.expected shown ≡ None → (if plain then state_shown state shown else after_row state shown) ≡ after_row state shown
+row_by : (plain : Bool) (state : HartState) (shown : Shown) → is_plain state.core shown ≡ plain → AreBytes state.bytes
+    → IsInRange (after_row state shown).core → ShowsChanges shown → ShowsWords shown
+    → difference_of ((step_of state.core shown).run state.bytes).value.expected shown ≡ None
+    → (if plain then state_shown state shown else after_row state shown) ≡ after_row state shown
 row_by true state shown is are range shows words agrees = plain_row_is_true state shown is are range shows words agrees
 row_by false state shown is are range shows words agrees = refl
 
-pub row_is_true : (state : HartState) (shown : Shown) → AreBytes state.bytes → IsInRange (after_row state shown).core → ShowsChanges shown → ShowsWords shown
-    → difference_of ((stepped state.core shown).run state.bytes).value.expected shown ≡ None → guess_after_row state shown ≡ after_row state shown
+pub row_is_true : (state : HartState) (shown : Shown) → AreBytes state.bytes → IsInRange (after_row state shown).core
+    → ShowsChanges shown → ShowsWords shown
+    → difference_of ((step_of state.core shown).run state.bytes).value.expected shown ≡ None
+    → guess_after_row state shown ≡ after_row state shown
 unfolding guess_after_row
-row_is_true state shown are range shows words agrees = row_by (is_plain state.core shown) state shown refl are range shows words agrees
+row_is_true state shown are range shows words agrees =
+    row_by (is_plain state.core shown) state shown refl are range shows words agrees

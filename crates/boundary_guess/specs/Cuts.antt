@@ -14,8 +14,8 @@ abbrev pub cut_of : ℕ → List (List ℕ) → List (List (List ℕ))
 cut_of k lines = pieces_of (length lines) k lines
 
 -- the lines of pieces, in order
-abbrev pub lines_through : List (List (List ℕ)) → List (List ℕ)
-lines_through pieces = flat_map (λ piece. piece) pieces
+abbrev pub lines_of_pieces : List (List (List ℕ)) → List (List ℕ)
+lines_of_pieces pieces = flat_map (λ piece. piece) pieces
 
 -- each piece has k lines but the last, which has one at least and k at most
 unfoldable pub AreOfLength : ℕ → List (List (List ℕ)) → Type 0

@@ -1,17 +1,17 @@
--- What the rows of a trace let one guess of the hart's state behind them.
+-- What the rows of a trace let one guess of the hart's state after them.
 use Rattle.std.specs.Prelude.{◌≡◌, ℕ, List, [], ◌∷◌, Some, None, Ok, Err, if◌then◌else◌, Bool}
 use Rattle.hart_words.specs.Signals.{Shown}
 use Rattle.rvfi_rows.specs.Columns.{ColumnList}
 use Rattle.rvfi_rows.specs.Rows.{RowReading, rows_of}
 pub use Rattle.hart_step.specs.Harts.{CanStep, state_of}
-use Rattle.hart_step.specs.PlainRows.{bytes_shown, core_shown, is_plain}
+use Rattle.hart_step.specs.PlainRows.{memory_shown, core_shown, is_plain}
 use Rattle.hart_step.specs.Rows.{HartState, after_row}
 
 -- after a plain row, as it shows
 abbrev pub state_shown : HartState → Shown → HartState
 state_shown state shown = record {
   core = core_shown state.core shown;
-  bytes = bytes_shown state.core shown state.bytes;
+  bytes = memory_shown state.core shown state.bytes;
 }
 
 -- after a valid row: as a plain one shows; any other is stepped, and not compared
@@ -33,7 +33,7 @@ guesses_of state columns (lines ∷ segments) =
     state ∷ guesses_of (guess_after state (rows_of columns lines)) columns segments
 
 -- a reading either ends the guess or leaves the rest of the rows
-abbrev pub Passes : HartState → RowReading → Bool → HartState → Type 0
-Passes before reading goes_on now =
+abbrev pub PassesReading : HartState → RowReading → Bool → HartState → Type 0
+PassesReading before reading goes_on now =
     (rows : List RowReading) →
     guess_after before (reading ∷ rows) ≡ if goes_on then guess_after now rows else now

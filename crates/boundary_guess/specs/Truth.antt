@@ -14,7 +14,7 @@ use Rattle.rvfi_rows.specs.Rows.{RowReading, rows_of}
 use Rattle.row_compare.specs.Difference.{difference_of}
 use Rattle.hart_step.specs.Cores.{IsSound, core_at_reset}
 use Rattle.hart_step.specs.Rows.{HartState, after_row}
-use Rattle.hart_step.specs.Steps.{stepped}
+use Rattle.hart_step.specs.Steps.{step_of}
 
 -- the registers of a state hold words, and its memory bytes: so it is with every hart
 pub record HoldsWords (state : HartState) : Type 0 where
@@ -54,23 +54,23 @@ Agree state [] = Unit {0}
 Agree state (Err fault ∷ rows) = ⊥
 Agree state (Ok None ∷ rows) = Agree state rows
 Agree state (Ok (Some shown) ∷ rows) =
-    (difference_of ((stepped state.core shown).run state.bytes).value.expected shown ≡ None)
+    (difference_of ((step_of state.core shown).run state.bytes).value.expected shown ≡ None)
     × Agree (after_row state shown) rows
 
 -- the true state after rows: that of a step by each valid one; from a refused one on nothing changes
-unfoldable pub state_after : HartState → List RowReading → HartState
-state_after state [] = state
-state_after state (Err fault ∷ rows) = state
-state_after state (Ok None ∷ rows) = state_after state rows
-state_after state (Ok (Some shown) ∷ rows) = state_after (after_row state shown) rows
+unfoldable pub true_state_after : HartState → List RowReading → HartState
+true_state_after state [] = state
+true_state_after state (Err fault ∷ rows) = state
+true_state_after state (Ok None ∷ rows) = true_state_after state rows
+true_state_after state (Ok (Some shown) ∷ rows) = true_state_after (after_row state shown) rows
 
 -- the true state before the lines of each segment
 unfoldable pub true_starts : HartState → ColumnList → List (List (List ℕ)) → List HartState
 true_starts state columns [] = []
 true_starts state columns (lines ∷ segments) =
-    state ∷ true_starts (state_after state (rows_of columns lines)) columns segments
+    state ∷ true_starts (true_state_after state (rows_of columns lines)) columns segments
 
 -- rows leave a sound state sound, and its values words and bytes
 pub record StaysSound (state : HartState) (rows : List RowReading) : Type 0 where
-  pub sound : IsSound (state_after state rows).core
-  pub words : HoldsWords (state_after state rows)
+  pub sound : IsSound (true_state_after state rows).core
+  pub words : HoldsWords (true_state_after state rows)

@@ -1,5 +1,6 @@
-//! A program that GCC compiled for rv64imac: the image of `benchmarks/compiled/loop.hex`, whose source
-//! stands beside it. It never ends, and no instruction of it traps.
+//! A program that GCC compiled for rv64imac: the image of `loop.hex` in
+//! `benchmarks/interpreter/compiled`, whose source stands beside it. It never ends, and no
+//! instruction of it traps.
 
 pub const IMAGE: &[u8] = b"@80000000
 17 21 00 00 13 01 01 63 97 00 00 00 e7 80 c0 58

@@ -8,13 +8,15 @@ ghost use Rattle.page_layers.specs.Memories.{layered_ram};
 use super::*;
 use crate::compiled::IMAGE;
 use crate::tests::put_line;
-use hart_step::{Core, Hart, Stepped};
+use hart_step::{Core, Hart};
 use hart_words::{Map, Mode, Signal, Span};
 use image_text::read_image;
 use line_text::Lines;
 use page_image::PageImage;
 use page_layers::Layered;
-use rvfi_rows::{Accessed, Columns, Effects, Expected, Row, Segment, read_header, read_row};
+use rvfi_rows::{
+    Accessed, Columns, Effects, Expected, Row, Segment, Stepped, read_header, read_row,
+};
 use std::alloc::Global;
 use std::process::Abort;
 use std::test::Fail;
@@ -63,8 +65,8 @@ impl Retirement {
         }
     }
 
-    /// The address behind the instruction.
-    fn behind(&self) -> u64 {
+    /// The address after the instruction.
+    fn following(&self) -> u64 {
         self.pc.wrapping_add(if self.insn % 4 == 3 { 4 } else { 2 })
     }
 
@@ -263,7 +265,7 @@ fn write(core: &mut Core, address: u16, value: u64) -> Result<(), Fail>
 }
 
 /// Where rows show their instructions alone, x2 stays 0, so that the first store, at row 6, traps to
-/// address 0. No RAM is there, and so each row behind it traps to address 0 from there.
+/// address 0. No RAM is there, and so each row after it traps to address 0 from there.
 #[test]
 fn guesses_of_bare_rows(rt: HostRuntime) -> Result<(), Fail> {
     let alloc = rt.alloc();
@@ -293,8 +295,8 @@ fn guesses_of_bare_rows(rt: HostRuntime) -> Result<(), Fail> {
     Ok(())
 }
 
-/// The guess behind one row that shows these signals.
-fn guess_behind<'a>(
+/// The guess after one row that shows these signals.
+fn guess_after<'a>(
     alloc: Global,
     start: &Hart<Layered<'a>>,
     row: &Retirement,
@@ -309,8 +311,8 @@ fn guess_behind<'a>(
     Ok(found.pop().ok_or("two guesses")?)
 }
 
-/// The state behind a row of the program that does not show this signal, which is not of a store: an
-/// atomic one is stepped, of another the register stays, or the hart goes on behind the instruction.
+/// The state after a row of the program that does not show this signal, which is not of a store: an
+/// atomic one is stepped, of another the register stays, or the hart goes on after the instruction.
 fn leave_out(core: &mut Core, before: &Core, row: &Retirement, left_out: Signal)
     requires { IsSound core.old }
 {
@@ -320,12 +322,12 @@ fn leave_out(core: &mut Core, before: &Core, row: &Retirement, left_out: Signal)
     let rd = row.effects.rd;
     match left_out {
         Signal::RdAddr | Signal::RdWdata => core.registers.set(rd, before.registers.get(rd)),
-        Signal::PcWdata => core.pc = row.behind(),
+        Signal::PcWdata => core.pc = row.following(),
         _ => {}
     }
 }
 
-/// What a row does not show stays as it was, but pc goes on behind the instruction: of every seventh
+/// What a row does not show stays as it was, but pc goes on after the instruction: of every seventh
 /// row.
 #[test]
 fn guesses_one_row_more(rt: HostRuntime) -> Result<(), Fail> {
@@ -343,7 +345,7 @@ fn guesses_one_row_more(rt: HostRuntime) -> Result<(), Fail> {
         let retirement = Retirement::of(&stepped)?;
         for left_out in [Signal::RdAddr, Signal::RdWdata, Signal::PcWdata] {
             let signals = changes_without(alloc, &[left_out])?;
-            let found = guess_behind(alloc, &before, &retirement, &signals)?;
+            let found = guess_after(alloc, &before, &retirement, &signals)?;
             let mut wanted = hart.copy()?;
             leave_out(&mut wanted.core, &before.core, &retirement, left_out);
             hold_same(&rt, &found, &wanted, place);

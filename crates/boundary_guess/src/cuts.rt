@@ -2,7 +2,7 @@
 
 ghost use Rattle.std.specs.Prelude.{◌≡◌, ◌≤◌, ◌<◌, ◌-◌, IfOk, IfSome, drop, length, map, option_copied, slice_get, take};
 ghost use Rattle.line_text.specs.Lines.{IsLine};
-ghost use Rattle.rvfi_rows.specs.Segments.{lines_of};
+ghost use Rattle.rvfi_rows.specs.Segments.{segment_lines};
 ghost use Rattle.boundary_guess.specs.Cuts.{cut_of};
 
 use hart_words::NoMemory;
@@ -12,8 +12,8 @@ use std::alloc::Global;
 
 /// Segments of `k` lines each, the last one shorter; of no lines none.
 pub fn cut(alloc: Global, lines: &Lines, k: usize) -> Result<Vec<Segment>, NoMemory>
-    requires some { 0 < k }
-    ensures { IfOk result (λ segments. map lines_of segments.items ≡ cut_of k lines.now) }
+    requires positive { 0 < k }
+    ensures { IfOk result (λ segments. map segment_lines segments.items ≡ cut_of k lines.now) }
 {
     let mut segments = Vec::new(alloc);
     let mut start = 0;

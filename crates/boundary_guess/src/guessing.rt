@@ -3,10 +3,10 @@
 ghost use Rattle.std.specs.Prelude.{◌≡◌, IfOk, OnOk, map};
 ghost use Rattle.std.specs.List.{All};
 ghost use Rattle.rvfi_rows.specs.Cells.{shown_in};
-ghost use Rattle.rvfi_rows.specs.Readings.{reading_of, rows_in};
+ghost use Rattle.rvfi_rows.specs.Readings.{reading_of, readings_in};
 ghost use Rattle.rvfi_rows.specs.Rows.{rows_of};
-ghost use Rattle.rvfi_rows.specs.Segments.{lines_of};
-ghost use Rattle.boundary_guess.specs.Guesses.{CanStep, Passes, guess_after, guess_after_row, guesses_of, state_of};
+ghost use Rattle.rvfi_rows.specs.Segments.{segment_lines};
+ghost use Rattle.boundary_guess.specs.Guesses.{CanStep, PassesReading, guess_after, guess_after_row, guesses_of, state_of};
 
 use hart_step::Hart;
 use hart_words::{NoMemory, PhysMem};
@@ -24,7 +24,7 @@ pub fn guesses<M: PhysMem + Drop>(
 ) -> Result<Vec<Hart<M>>, NoMemory>
     requires { CanStep M.ram start.now }
     ensures guesses { IfOk result (λ guesses. map (state_of M.bytes) guesses.items
-        ≡ guesses_of (state_of M.bytes start.now) columns.now (map lines_of segments.now)) }
+        ≡ guesses_of (state_of M.bytes start.now) columns.now (map segment_lines segments.now)) }
     ensures can_step { IfOk result (λ guesses. All (CanStep M.ram) guesses.items) }
 {
     let mut guesses = Vec::new(alloc);
@@ -74,7 +74,7 @@ fn pass_rows<M: PhysMem + Drop>(
 ) -> Result<(), NoMemory>
     requires { CanStep M.ram hart.old }
     ensures guess { OnOk result (state_of M.bytes hart.new
-        ≡ guess_after (state_of M.bytes hart.old) (rows_in rows.now)) }
+        ≡ guess_after (state_of M.bytes hart.old) (readings_in rows.now)) }
     ensures can_step { CanStep M.ram hart.new }
 {
     for place in 0..rows.len() {
@@ -90,7 +90,7 @@ fn pass_rows<M: PhysMem + Drop>(
 }
 
 /// Takes the guess past one row, which reads so; `row` shows what it shows where it is valid.
-/// Whether the guess goes on behind it: it does not behind a refused one.
+/// Whether the guess goes on after it: it does not after a refused one.
 #[tactic(auto, unfolding(crate::specs::Guesses::guess_after))]
 fn pass_reading<M: PhysMem + Drop>(
     hart: &mut Hart<M>,
@@ -98,7 +98,7 @@ fn pass_reading<M: PhysMem + Drop>(
     row: &Row,
 ) -> Result<bool, NoMemory>
     requires { CanStep M.ram hart.old }
-    ensures passes { IfOk result (λ goes_on. Passes (state_of M.bytes hart.old)
+    ensures passes { IfOk result (λ goes_on. PassesReading (state_of M.bytes hart.old)
         (reading_of reading (shown_in row.now)) goes_on (state_of M.bytes hart.new)) }
     ensures can_step { CanStep M.ram hart.new }
 {

@@ -7,15 +7,15 @@ ghost use Rattle.rvfi_rows.specs.Columns.{ColumnList};
 ghost use Rattle.rvfi_rows.specs.Rows.{rows_of};
 ghost use Rattle.hart_step.specs.Cores.{IsSound};
 ghost use Rattle.hart_step.specs.Rows.{HartState};
-ghost use Rattle.boundary_guess.specs.Cuts.{AreOfLength, cut_of, lines_through};
+ghost use Rattle.boundary_guess.specs.Cuts.{AreOfLength, cut_of, lines_of_pieces};
 ghost use Rattle.boundary_guess.specs.Guesses.{guess_after, guesses_of};
-ghost use Rattle.boundary_guess.specs.Truth.{Agree, HoldsWords, ShowChanges, StaysSound, state_after, state_at_reset, true_starts};
+ghost use Rattle.boundary_guess.specs.Truth.{Agree, HoldsWords, ShowChanges, StaysSound, true_state_after, state_at_reset, true_starts};
 
 /// The pieces, in order, are the lines. Each has k lines but the last, which has one at least and
 /// k at most.
 pub fn pieces_are_the_lines()
     ensures whole { (k : ℕ) (lines : List (List ℕ)) → 0 < k →
-        lines_through (cut_of k lines) ≡ lines }
+        lines_of_pieces (cut_of k lines) ≡ lines }
     ensures lengths { (k : ℕ) (lines : List (List ℕ)) → 0 < k →
         AreOfLength k (cut_of k lines) }
 {}
@@ -30,18 +30,18 @@ pub fn states_hold_words()
 {}
 
 /// Where rows agree with the hart, and each valid one shows `trap`, `rd_addr`, `rd_wdata` and
-/// `pc_wdata`, the guess behind them is the true state; and where the rows of all segments but the
+/// `pc_wdata`, the guess after them is the true state; and where the rows of all segments but the
 /// last are such, the guess before each segment is.
 pub fn guesses_are_true_where_rows_show_changes()
     ensures rows { (state : HartState) (columns : ColumnList) (lines : List (List ℕ))
         → IsSound state.core → HoldsWords state
         → Agree state (rows_of columns lines) → ShowChanges (rows_of columns lines)
-        → guess_after state (rows_of columns lines) ≡ state_after state (rows_of columns lines) }
+        → guess_after state (rows_of columns lines) ≡ true_state_after state (rows_of columns lines) }
     ensures segments { (state : HartState) (columns : ColumnList)
         (segments : List (List (List ℕ))) (last : List (List ℕ))
         → IsSound state.core → HoldsWords state
-        → Agree state (rows_of columns (lines_through segments))
-        → ShowChanges (rows_of columns (lines_through segments))
+        → Agree state (rows_of columns (lines_of_pieces segments))
+        → ShowChanges (rows_of columns (lines_of_pieces segments))
         → guesses_of state columns (segments ++ last ∷ [])
         ≡ true_starts state columns (segments ++ last ∷ []) }
 {}

@@ -1,13 +1,12 @@
-ghost use Rattle.std.specs.Prelude.{◌≡◌, ◌%◌, IfOk, IsTrue};
+ghost use Rattle.std.specs.Prelude.{◌≡◌, IfOk, IsTrue};
 ghost use Rattle.std.specs.List.{All};
 ghost use Rattle.hart_step.specs.Cores.{IsSound};
-ghost use Rattle.hart_words.specs.Memory.{IsPlace};
 ghost use Rattle.line_text.specs.Lines.{IsLine};
 ghost use Rattle.boundary_guess.specs.Guesses.{CanStep};
 
 use super::*;
 use hart_step::Hart;
-use hart_words::{Map, PAGE_SIZE, PhysMem, Span};
+use hart_words::{Map, PhysMem, Span};
 use line_text::Lines;
 use page_layers::MapMem;
 use rvfi_rows::{Columns, Segment, read_header, read_row};
@@ -44,7 +43,7 @@ const LAST: &[u8] = b"1,0x00108113,0x80000008,2,6,0x8000000c,,,";
 /// The first, with another result than it has.
 const SEVEN: &[u8] = b"1,0x00500093,0x80000000,1,7,0x80000004,,,";
 
-/// The store, of another half word and with another address behind it.
+/// The store, of another half word and with another address after it.
 const HALF: &[u8] = b"1,0x00153023,0x80000004,0,0,0x80000011,0x80001002,0x03,0x1122";
 
 /// The store, at another address and with nothing else shown.
@@ -69,19 +68,12 @@ pub(crate) fn put_line(lines: &mut Lines, line: &[u8]) -> Result<(), Fail> {
     Ok(())
 }
 
-/// Whether so many bytes lie in one page of RAM.
-fn is_place(ram: &Span, pa: u64, len: u8) -> bool
-    ensures { IsTrue result → IsPlace ram.now pa len }
-{
-    1 <= len && len <= 8 && ram.holds(pa, len) && pa % PAGE_SIZE + u64::from(len) <= PAGE_SIZE
-}
-
 /// Writes to memory, where so many bytes lie in one page of RAM.
 fn put(mem: &mut MapMem, ram: &Span, pa: u64, len: u8, value: u64) -> Result<(), Fail>
     requires ram { mem.old.ram ≡ ram.now }
     ensures ram { mem.new.ram ≡ mem.old.ram }
 {
-    if !is_place(ram, pa, len) {
+    if !ram.is_place(pa, len) {
         return Err(Fail::from("no place of RAM"));
     }
     mem.write(pa, len, value)?;
@@ -92,7 +84,7 @@ fn put(mem: &mut MapMem, ram: &Span, pa: u64, len: u8, value: u64) -> Result<(),
 fn held(hart: &Hart<MapMem>) -> Result<u64, Fail>
     requires ram { hart.now.mem.ram ≡ hart.now.core.map.ram }
 {
-    if !is_place(&hart.core.map.ram, DATA, 8) {
+    if !hart.core.map.ram.is_place(DATA, 8) {
         return Err(Fail::from("no place of RAM"));
     }
     Ok(hart.mem.read(DATA, 8))

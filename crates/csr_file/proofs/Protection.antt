@@ -1,5 +1,7 @@
 -- What writes of the registers of physical memory protection leave.
-use Rattle.std.proofs.Common.{◌≡◌, ◌≢◌, ℕ, ◌+◌, ◌-◌, ◌*◌, ◌/◌, ◌%◌, ◌<◌, ◌≤◌, Bool, true, false, ◌&&◌, ◌||◌, nat_lt, nat_le, inl, inr, refl, sym, ap, ◌∙◌, subst, arith, lit<, List, length, map, get_or, get_or-set_other, replicate, All, if◌then◌else◌}
+use Rattle.std.proofs.Common.{◌≡◌, ◌≢◌, ℕ, ◌+◌, ◌-◌, ◌*◌, ◌/◌, ◌%◌, ◌<◌, ◌≤◌, Bool, true, false, ◌&&◌, ◌||◌, nat_lt}
+use Rattle.std.proofs.Common.{nat_le, inl, inr, refl, sym, ap, ◌∙◌, subst, arith, lit<, List, length, map, get_or}
+use Rattle.std.proofs.Common.{get_or-set_other, replicate, All, if◌then◌else◌}
 use Rattle.std.specs.Prelude.{◌==◌}
 use Rattle.std.specs.List.{range_with_len}
 use Rattle.std.proofs.lemmas.Bool.{cases_Bool}
@@ -14,7 +16,9 @@ use Rattle.csr_file.specs.declared.csrs.Csrs.{Csrs}
 use Rattle.csr_file.specs.declared.fields.TheConstants.{PMP_LOCK}
 use Rattle.csr_file.specs.Fields.{bit_is_set}
 use Rattle.csr_file.specs.Registers.{at, no_entry, pmp_entry_of}
-use Rattle.csr_file.specs.Values.{configuration_of, configuration_after, configuration_written, entry_written, with_entry_address, configurations_write_of, is_locked_from_below, address_is_locked, entry_address_write_of}
+use Rattle.csr_file.specs.Values.{configuration_of, configuration_after, configuration_after_write, entry_after_write}
+use Rattle.csr_file.specs.Values.{with_entry_address, configurations_write_of, is_locked_from_below, address_is_locked}
+use Rattle.csr_file.specs.Values.{entry_address_write_of}
 use Rattle.csr_file.specs.Legal.{IsLegal, IsLegalConfiguration, IsLegalEntry}
 use Rattle.csr_file.specs.Laws.{KeepsLocked}
 
@@ -25,7 +29,8 @@ fields_legal byte apart = record { reserved = omega arith; rights = λ two. apar
 differs : (a b : ℕ) → (a == b) ≡ false → a ≢ b
 differs a b off same = grind (arith, nat_tests)
 
-after_by : (old byte : ℕ) (locked reserved : Bool) → (byte % 4 == 2) ≡ reserved → IsLegalConfiguration old → IsLegalConfiguration (if locked || reserved then old else byte % 32 + byte / 128 % 2 * 128)
+after_by : (old byte : ℕ) (locked reserved : Bool) → (byte % 4 == 2) ≡ reserved → IsLegalConfiguration old
+    → IsLegalConfiguration (if locked || reserved then old else byte % 32 + byte / 128 % 2 * 128)
 after_by old byte true reserved is legal = legal
 after_by old byte false true is legal = legal
 after_by old byte false false is legal = fields_legal byte (differs (byte % 4) 2 is)
@@ -49,34 +54,44 @@ entry_legal csrs number legal = elim (cases_Bool (nat_lt number (length csrs.ent
 pub reset_entries_legal : All IsLegalEntry (replicate 16 no_entry)
 reset_entries_legal = All-replicate IsLegalEntry 16 no_entry off_legal
 
-written_by : (old byte : ℕ) (inside : Bool) → IsLegalConfiguration old → IsLegalConfiguration (if inside then configuration_after old byte else old)
+written_by : (old byte : ℕ) (inside : Bool) → IsLegalConfiguration old
+    → IsLegalConfiguration (if inside then configuration_after old byte else old)
 written_by old byte true legal = after_legal old byte legal
 written_by old byte false legal = legal
 
-written_legal : (csrs : Csrs) (first value number : ℕ) → IsLegal csrs → IsLegalEntry (entry_written csrs first value number)
-unfolding configuration_written
+written_legal : (csrs : Csrs) (first value number : ℕ) → IsLegal csrs
+    → IsLegalEntry (entry_after_write csrs first value number)
+unfolding configuration_after_write
 written_legal csrs first value number legal =
     let before = entry_legal csrs number legal in
     record {
-      configuration = written_by (configuration_of csrs number) (bit_field (8 * (number - first)) 8 value) (nat_le first number && nat_lt number (first + 8)) before.configuration;
+      configuration =
+          written_by (configuration_of csrs number) (bit_field (8 * (number - first)) 8 value)
+          (nat_le first number && nat_lt number (first + 8)) before.configuration;
       address = before.address;
     }
 
-pub configurations_legal : (csrs : Csrs) (first value : ℕ) → IsLegal csrs → IsLegal (configurations_write_of csrs first value)
+pub configurations_legal : (csrs : Csrs) (first value : ℕ) → IsLegal csrs
+    → IsLegal (configurations_write_of csrs first value)
 unfolding configurations_write_of at
 configurations_legal csrs first value legal = record {
   whole = legal.whole;
   values = legal.values;
-  entries = All-map IsLegalEntry (entry_written csrs first value) (range_with_len 0 16) (λ k d inside. written_legal csrs first value (get_or (range_with_len 0 16) k d) legal);
+  entries =
+      All-map IsLegalEntry (entry_after_write csrs first value) (range_with_len 0 16)
+      (λ k d inside. written_legal csrs first value (get_or (range_with_len 0 16) k d) legal);
 }
 
-address_by : (csrs : Csrs) (number value : ℕ) (locked : Bool) → IsLegal csrs → IsLegal (if locked then csrs else with_entry_address csrs number value)
+address_by : (csrs : Csrs) (number value : ℕ) (locked : Bool) → IsLegal csrs
+    → IsLegal (if locked then csrs else with_entry_address csrs number value)
 unfolding at
 address_by csrs number value true legal = legal
 address_by csrs number value false legal = record {
   whole = legal.whole;
   values = legal.values;
-  entries = All-set IsLegalEntry csrs.entries number _ (record { configuration = (entry_legal csrs number legal).configuration; address = omega arith }) legal.entries;
+  entries =
+      All-set IsLegalEntry csrs.entries number _
+      (record { configuration = (entry_legal csrs number legal).configuration; address = omega arith }) legal.entries;
 }
 
 pub address_legal : (csrs : Csrs) (number value : ℕ) → IsLegal csrs → IsLegal (entry_address_write_of csrs number value)
@@ -84,7 +99,8 @@ unfolding entry_address_write_of
 address_legal csrs number value legal = address_by csrs (number % 16) value (address_is_locked csrs (number % 16)) legal
 
 -- a locked entry keeps its configuration
-locked_by : (old byte : ℕ) (reserved : Bool) → bit_is_set old PMP_LOCK ≡ true → (if bit_is_set old PMP_LOCK || reserved then old else byte) ≡ old
+locked_by : (old byte : ℕ) (reserved : Bool) → bit_is_set old PMP_LOCK ≡ true
+    → (if bit_is_set old PMP_LOCK || reserved then old else byte) ≡ old
 locked_by old byte reserved locked =
     let P : Bool → Type 0 = λ b. (if b || reserved then old else byte) ≡ old in
     subst P (sym locked) refl
@@ -93,46 +109,59 @@ after_locked : (old byte : ℕ) → bit_is_set old PMP_LOCK ≡ true → configu
 unfolding configuration_after
 after_locked old byte locked = locked_by old (byte % 32 + byte / 128 % 2 * 128) (byte % 4 == 2) locked
 
-inside_by : (old byte : ℕ) (inside : Bool) → bit_is_set old PMP_LOCK ≡ true → (if inside then configuration_after old byte else old) ≡ old
+inside_by : (old byte : ℕ) (inside : Bool) → bit_is_set old PMP_LOCK ≡ true
+    → (if inside then configuration_after old byte else old) ≡ old
 inside_by old byte true locked = after_locked old byte locked
 inside_by old byte false locked = refl
 
-written_locked : (csrs : Csrs) (first value number : ℕ) → bit_is_set (configuration_of csrs number) PMP_LOCK ≡ true → configuration_written csrs first value number ≡ configuration_of csrs number
-unfolding configuration_written
+written_locked : (csrs : Csrs) (first value number : ℕ) → bit_is_set (configuration_of csrs number) PMP_LOCK ≡ true
+    → configuration_after_write csrs first value number ≡ configuration_of csrs number
+unfolding configuration_after_write
 written_locked csrs first value number locked =
-    inside_by (configuration_of csrs number) (bit_field (8 * (number - first)) 8 value) (nat_le first number && nat_lt number (first + 8)) locked
+    inside_by (configuration_of csrs number) (bit_field (8 * (number - first)) 8 value)
+    (nat_le first number && nat_lt number (first + 8)) locked
 
 -- each entry after a write of configurations
-entry_after : (csrs : Csrs) (first value number : ℕ) → number < 16 → pmp_entry_of (configurations_write_of csrs first value) number ≡ entry_written csrs first value number
+entry_after : (csrs : Csrs) (first value number : ℕ) → number < 16
+    → pmp_entry_of (configurations_write_of csrs first value) number ≡ entry_after_write csrs first value number
 unfolding configurations_write_of
-entry_after csrs first value number below = get_or-map-range_with_len (entry_written csrs first value) 0 16 number number no_entry below (omega arith)
+entry_after csrs first value number below =
+    get_or-map-range_with_len (entry_after_write csrs first value) 0 16 number number no_entry below (omega arith)
 
-pub configurations_keep : (csrs : Csrs) (first value number : ℕ) → number < 16 → bit_is_set (configuration_of csrs number) PMP_LOCK ≡ true → KeepsLocked csrs (configurations_write_of csrs first value) number
+pub configurations_keep : (csrs : Csrs) (first value number : ℕ) → number < 16
+    → bit_is_set (configuration_of csrs number) PMP_LOCK ≡ true
+    → KeepsLocked csrs (configurations_write_of csrs first value) number
 configurations_keep csrs first value number below locked =
     let with_configuration : ℕ → PmpEntry = λ cfg. record (pmp_entry_of csrs number) { cfg = cfg } in
     record {
-      entry = entry_after csrs first value number below ∙ ap with_configuration (written_locked csrs first value number locked);
+      entry =
+          entry_after csrs first value number below
+          ∙ ap with_configuration (written_locked csrs first value number locked);
       below = λ begins. ap (λ entry. entry.addr) (entry_after csrs first value (number - 1) (omega (arith, below)));
     }
 
 -- and its address
-unlocked_apart : (csrs : Csrs) (one number : ℕ) → bit_is_set (configuration_of csrs number) PMP_LOCK ≡ true → address_is_locked csrs one ≡ false → number ≢ one
+unlocked_apart : (csrs : Csrs) (one number : ℕ) → bit_is_set (configuration_of csrs number) PMP_LOCK ≡ true
+    → address_is_locked csrs one ≡ false → number ≢ one
 unfolding address_is_locked
 unlocked_apart csrs one number locked free same =
     let P : ℕ → Type 0 = λ n. bit_is_set (configuration_of csrs n) PMP_LOCK ≡ true in
-    left_false (bit_is_set (configuration_of csrs one) PMP_LOCK) (nat_lt one 15 && is_locked_from_below (configuration_of csrs (one + 1))) free (subst P same locked)
+    left_false (bit_is_set (configuration_of csrs one) PMP_LOCK)
+    (nat_lt one 15 && is_locked_from_below (configuration_of csrs (one + 1))) free (subst P same locked)
   where
     left_false : (a b : Bool) → (a || b) ≡ false → a ≡ true → ⊥
     left_false true b off on = cc
     left_false false b off on = cc
 
-before_apart : (csrs : Csrs) (one number : ℕ) → number < 16 → 0 < number → is_locked_from_below (configuration_of csrs number) ≡ true → address_is_locked csrs one ≡ false → number - 1 ≢ one
+before_apart : (csrs : Csrs) (one number : ℕ) → number < 16 → 0 < number
+    → is_locked_from_below (configuration_of csrs number) ≡ true → address_is_locked csrs one ≡ false → number - 1 ≢ one
 unfolding address_is_locked
 before_apart csrs one number below some begins free same =
     let is : one + 1 ≡ number = omega (arith, same) in
     let P : ℕ → Type 0 = λ n. is_locked_from_below (configuration_of csrs n) ≡ true in
     let low : nat_lt one 15 ≡ true = grind (arith, nat_tests, is, below) in
-    right_false (bit_is_set (configuration_of csrs one) PMP_LOCK) (nat_lt one 15) (is_locked_from_below (configuration_of csrs (one + 1))) free low (subst P (sym is) begins)
+    right_false (bit_is_set (configuration_of csrs one) PMP_LOCK) (nat_lt one 15)
+    (is_locked_from_below (configuration_of csrs (one + 1))) free low (subst P (sym is) begins)
   where
     right_false : (a b d : Bool) → (a || (b && d)) ≡ false → b ≡ true → d ≡ true → ⊥
     right_false true b d off on here = cc
@@ -140,11 +169,13 @@ before_apart csrs one number below some begins free same =
     right_false false true false off on here = cc
     right_false false false d off on here = cc
 
-kept_by : (csrs : Csrs) (one number value : ℕ) (free : Bool) → (free ≡ false → number ≢ one) → pmp_entry_of (if free then csrs else with_entry_address csrs one value) number ≡ pmp_entry_of csrs number
+kept_by : (csrs : Csrs) (one number value : ℕ) (free : Bool) → (free ≡ false → number ≢ one)
+    → pmp_entry_of (if free then csrs else with_entry_address csrs one value) number ≡ pmp_entry_of csrs number
 kept_by csrs one number value true apart = refl
 kept_by csrs one number value false apart = get_or-set_other csrs.entries one number _ no_entry (apart refl)
 
-below_by : (csrs : Csrs) (one number : ℕ) → number < 16 → bit_is_set (configuration_of csrs number) PMP_LOCK ≡ true → is_locked_from_below (configuration_of csrs number) ≡ true → address_is_locked csrs one ≡ false → number - 1 ≢ one
+below_by : (csrs : Csrs) (one number : ℕ) → number < 16 → bit_is_set (configuration_of csrs number) PMP_LOCK ≡ true
+    → is_locked_from_below (configuration_of csrs number) ≡ true → address_is_locked csrs one ≡ false → number - 1 ≢ one
 below_by csrs zero_or number below locked begins free = elim (cases_Bool (nat_lt 0 number)) [
   | inl some ↦ before_apart csrs zero_or number below (grind (arith, nat_tests, some)) begins free
   | inr none ↦
@@ -152,14 +183,25 @@ below_by csrs zero_or number below locked begins free = elim (cases_Bool (nat_lt
       λ same. unlocked_apart csrs zero_or number locked free (sym is ∙ same)
 ]
 
-pub address_keeps : (csrs : Csrs) (one value number : ℕ) → number < 16 → bit_is_set (configuration_of csrs number) PMP_LOCK ≡ true → KeepsLocked csrs (entry_address_write_of csrs one value) number
+pub address_keeps : (csrs : Csrs) (one value number : ℕ) → number < 16
+    → bit_is_set (configuration_of csrs number) PMP_LOCK ≡ true
+    → KeepsLocked csrs (entry_address_write_of csrs one value) number
 unfolding entry_address_write_of
 address_keeps csrs one value number below locked = record {
-  entry = kept_by csrs (one % 16) number value (address_is_locked csrs (one % 16)) (unlocked_apart csrs (one % 16) number locked);
-  below = λ begins. ap (λ entry. entry.addr) (kept_by csrs (one % 16) (number - 1) value (address_is_locked csrs (one % 16)) (below_by csrs (one % 16) number below locked begins));
+  entry =
+      kept_by csrs (one % 16) number value (address_is_locked csrs (one % 16))
+      (unlocked_apart csrs (one % 16) number locked);
+  below =
+      λ begins. ap (λ entry. entry.addr)
+      (kept_by csrs (one % 16) (number - 1) value (address_is_locked csrs (one % 16))
+      (below_by csrs (one % 16) number below locked begins));
 }
 
 -- a list that holds at each place what a function gives from a number on
-pub filled_from : (f : ℕ → ℕ) (first count : ℕ) (xs : List ℕ) → length xs ≡ count → ((k : ℕ) → k < count → get_or xs k 0 ≡ f (first + k)) → xs ≡ map f (range_with_len first count)
+pub filled_from : (f : ℕ → ℕ) (first count : ℕ) (xs : List ℕ) → length xs ≡ count
+    → ((k : ℕ) → k < count → get_or xs k 0 ≡ f (first + k)) → xs ≡ map f (range_with_len first count)
 filled_from f first count xs whole each =
-    ext_get_or 0 xs _ (whole ∙ sym (length-map-range_with_len f first count)) (λ k inside. let below : k < count = omega (arith, inside, whole) in each k below ∙ sym (get_or-map-range_with_len f first count k (first + k) 0 below refl))
+    ext_get_or 0 xs _ (whole ∙ sym (length-map-range_with_len f first count))
+    (λ k inside. let below : k < count =
+    omega (arith, inside, whole) in
+    each k below ∙ sym (get_or-map-range_with_len f first count k (first + k) 0 below refl))

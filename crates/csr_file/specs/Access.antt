@@ -1,6 +1,7 @@
 -- Which accesses are legal, and what they give, from the Privileged Architecture's chapter "Control and Status
 -- Registers (CSRs)" and its descriptions of mcounteren, scounteren and TVM.
-use Rattle.std.specs.Prelude.{ℕ, Bool, true, false, not, ◌&&◌, nat_le, Option, Some, None, Result, Ok, Err, if◌then◌else◌}
+use Rattle.std.specs.Prelude.{ℕ, Bool, true, false, not, ◌&&◌, nat_le, Option, Some, None, Result, Ok, Err}
+use Rattle.std.specs.Prelude.{if◌then◌else◌}
 use Rattle.hart_words.specs.declared.privilege.Mode.{Mode}
 use Rattle.hart_words.specs.declared.privilege.Mode.TheVariants.{User, Supervisor, Machine}
 use Rattle.hart_words.specs.Privilege.{mode_number}
@@ -9,7 +10,11 @@ use Rattle.csr_table.specs.Addresses.{csr_row_of}
 use Rattle.csr_file.specs.declared.csrs.Csrs.{Csrs}
 use Rattle.csr_file.specs.declared.stored_csr.StoredCsr.TheVariants.{Mstatus, Mcounteren, Scounteren}
 use Rattle.csr_file.specs.declared.csr_kind.CsrKind.{CsrKind}
-use Rattle.csr_file.specs.declared.csr_kind.CsrKind.TheVariants.{Stored, Status, Pending, SupervisorStatus, SupervisorEnables, SupervisorPending, Translation, LowConfigurations, HighConfigurations, EntryAddress, Constant, OfCore, Counter, ClosedCounter}
+use Rattle.csr_file.specs.declared.csr_kind.CsrKind.TheVariants.{Stored, Status, Pending, SupervisorStatus}
+use Rattle.csr_file.specs.declared.csr_kind.CsrKind.TheVariants.{SupervisorEnables, SupervisorPending, Translation}
+use Rattle.csr_file.specs.declared.csr_kind.CsrKind.TheVariants.{LowConfigurations, HighConfigurations, EntryAddress}
+use Rattle.csr_file.specs.declared.csr_kind.CsrKind.TheVariants.{Constant, ImplementationDefined, Counter}
+use Rattle.csr_file.specs.declared.csr_kind.CsrKind.TheVariants.{UnimplementedCounter}
 use Rattle.csr_file.specs.declared.access.CsrRead.{CsrRead}
 use Rattle.csr_file.specs.declared.access.Illegal.{Illegal}
 use Rattle.csr_file.specs.declared.fields.TheConstants.{TVM}
@@ -45,9 +50,9 @@ is_enabled csrs mode LowConfigurations = true
 is_enabled csrs mode HighConfigurations = true
 is_enabled csrs mode (EntryAddress number) = true
 is_enabled csrs mode (Constant number) = true
-is_enabled csrs mode OfCore = true
+is_enabled csrs mode ImplementationDefined = true
 is_enabled csrs mode (Counter bit) = counter_is_enabled csrs mode bit
-is_enabled csrs mode ClosedCounter = nat_le 3 (mode_number mode)
+is_enabled csrs mode UnimplementedCounter = nat_le 3 (mode_number mode)
 
 -- a read of the row's register is legal in the mode
 unfoldable pub may_read : Csrs → Mode → CsrRow → Bool
@@ -58,21 +63,21 @@ unfoldable pub may_write : Csrs → Mode → CsrRow → Bool
 may_write csrs mode row = may_read csrs mode row && not row.read_only
 
 -- what a read gives, where the address has a row and the read is legal
-abbrev pub read_by : Csrs → Mode → ℕ → Option CsrRow → Result CsrRead Illegal
-read_by csrs mode lines None = Err (record {})
-read_by csrs mode lines (Some row) =
+abbrev pub csr_read_by : Csrs → Mode → ℕ → Option CsrRow → Result CsrRead Illegal
+csr_read_by csrs mode lines None = Err (record {})
+csr_read_by csrs mode lines (Some row) =
     if may_read csrs mode row then Ok (csr_read_of csrs (csr_kind_of row.csr) lines) else Err (record {})
 
 -- a read by address
-unfoldable pub read_at : Csrs → ℕ → Mode → ℕ → Result CsrRead Illegal
-read_at csrs address mode lines = read_by csrs mode lines (csr_row_of address)
+unfoldable pub csr_read_at : Csrs → ℕ → Mode → ℕ → Result CsrRead Illegal
+csr_read_at csrs address mode lines = csr_read_by csrs mode lines (csr_row_of address)
 
 -- the registers after a write, where the address has a row and the write is legal
-abbrev pub write_by : Csrs → Mode → ℕ → Option CsrRow → Result Csrs Illegal
-write_by csrs mode value None = Err (record {})
-write_by csrs mode value (Some row) =
+abbrev pub csr_write_by : Csrs → Mode → ℕ → Option CsrRow → Result Csrs Illegal
+csr_write_by csrs mode value None = Err (record {})
+csr_write_by csrs mode value (Some row) =
     if may_write csrs mode row then Ok (csr_write_of csrs (csr_kind_of row.csr) value) else Err (record {})
 
 -- a write by address
-unfoldable pub write_at : Csrs → ℕ → Mode → ℕ → Result Csrs Illegal
-write_at csrs address mode value = write_by csrs mode value (csr_row_of address)
+unfoldable pub csr_write_at : Csrs → ℕ → Mode → ℕ → Result Csrs Illegal
+csr_write_at csrs address mode value = csr_write_by csrs mode value (csr_row_of address)

@@ -6,10 +6,14 @@ use Rattle.csr_file.specs.declared.csrs.Csrs.{Csrs}
 use Rattle.csr_file.specs.declared.stored_csr.StoredCsr.{StoredCsr}
 use Rattle.csr_file.specs.declared.stored_csr.StoredCsr.TheVariants.{Mstatus, Mie, Mip, Satp}
 use Rattle.csr_file.specs.declared.csr_kind.CsrKind.{CsrKind}
-use Rattle.csr_file.specs.declared.csr_kind.CsrKind.TheVariants.{Stored, Status, Pending, SupervisorStatus, SupervisorEnables, SupervisorPending, Translation, LowConfigurations, HighConfigurations, EntryAddress, Constant, OfCore, Counter, ClosedCounter}
+use Rattle.csr_file.specs.declared.csr_kind.CsrKind.TheVariants.{Stored, Status, Pending, SupervisorStatus}
+use Rattle.csr_file.specs.declared.csr_kind.CsrKind.TheVariants.{SupervisorEnables, SupervisorPending, Translation}
+use Rattle.csr_file.specs.declared.csr_kind.CsrKind.TheVariants.{LowConfigurations, HighConfigurations, EntryAddress}
+use Rattle.csr_file.specs.declared.csr_kind.CsrKind.TheVariants.{Constant, ImplementationDefined, Counter}
+use Rattle.csr_file.specs.declared.csr_kind.CsrKind.TheVariants.{UnimplementedCounter}
 use Rattle.csr_file.specs.declared.fields.TheConstants.{PMP_LOCK}
 use Rattle.csr_file.specs.Registers.{at, pmp_entry_of}
-use Rattle.csr_file.specs.Fields.{bit_is_set, merged}
+use Rattle.csr_file.specs.Fields.{bit_is_set, masked_update}
 use Rattle.csr_file.specs.Table.{csr_kind_of}
 use Rattle.csr_file.specs.Values.{configuration_of, csr_write_of, is_locked_from_below}
 
@@ -26,9 +30,9 @@ written_register_of LowConfigurations = None
 written_register_of HighConfigurations = None
 written_register_of (EntryAddress number) = None
 written_register_of (Constant number) = None
-written_register_of OfCore = None
+written_register_of ImplementationDefined = None
 written_register_of (Counter bit) = None
-written_register_of ClosedCounter = None
+written_register_of UnimplementedCounter = None
 
 -- a write changes no register but that one
 abbrev pub LeavesOtherRegisters : Csrs → Csr → ℕ → Type 0
@@ -64,4 +68,4 @@ LeavesLocked csrs csr value =
 abbrev pub MergesByBits : ℕ → ℕ → ℕ → Type 0
 MergesByBits mask old value =
     (bit : ℕ) → bit < 64
-    → bit_at (merged mask old value) bit ≡ (if bit_is_set mask bit then bit_at value bit else bit_at old bit)
+    → bit_at (masked_update mask old value) bit ≡ (if bit_is_set mask bit then bit_at value bit else bit_at old bit)

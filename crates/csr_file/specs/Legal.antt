@@ -5,15 +5,18 @@ use Rattle.std.specs.Int.{bit_at}
 use Rattle.hart_words.specs.declared.privilege.PmpEntry.{PmpEntry}
 use Rattle.csr_file.specs.declared.csrs.Csrs.{Csrs}
 use Rattle.csr_file.specs.declared.stored_csr.StoredCsr.{StoredCsr}
-use Rattle.csr_file.specs.declared.stored_csr.StoredCsr.TheVariants.{Mstatus, Medeleg, Mideleg, Mie, Mtvec, Mcounteren, Menvcfg, Mcountinhibit, Mscratch, Mepc, Mcause, Mtval, Mip, Stvec, Scounteren, Senvcfg, Sscratch, Sepc, Scause, Stval, Satp}
+use Rattle.csr_file.specs.declared.stored_csr.StoredCsr.TheVariants.{Mstatus, Medeleg, Mideleg, Mie, Mtvec, Mcounteren}
+use Rattle.csr_file.specs.declared.stored_csr.StoredCsr.TheVariants.{Menvcfg, Mcountinhibit, Mscratch, Mepc, Mcause}
+use Rattle.csr_file.specs.declared.stored_csr.StoredCsr.TheVariants.{Mtval, Mip, Stvec, Scounteren, Senvcfg, Sscratch}
+use Rattle.csr_file.specs.declared.stored_csr.StoredCsr.TheVariants.{Sepc, Scause, Stval, Satp}
 use Rattle.csr_file.specs.declared.stored_csr.TheConstants.{STORED_CSRS}
 use Rattle.csr_file.specs.Registers.{at}
 use Rattle.csr_file.specs.Fields.{all_bits, mpp_of}
 use Rattle.csr_file.specs.Table.{status_constant, writable_bits}
 
 -- all bits of the value are in the mask
-abbrev pub IsWithin : ℕ → ℕ → Type 0
-IsWithin mask value = bit_and value mask ≡ value
+abbrev pub IsWithinMask : ℕ → ℕ → Type 0
+IsWithinMask mask value = bit_and value mask ≡ value
 
 -- mstatus: the bits that are never written have their constants, and MPP is a mode
 pub record IsLegalStatus (value : ℕ) : Type 0 where
@@ -24,21 +27,21 @@ pub record IsLegalStatus (value : ℕ) : Type 0 where
 -- satp's mode is Bare or Sv39
 abbrev pub IsLegalValue : StoredCsr → ℕ → Type 0
 IsLegalValue Mstatus value = IsLegalStatus value
-IsLegalValue Medeleg value = IsWithin (writable_bits Medeleg) value
-IsLegalValue Mideleg value = IsWithin (writable_bits Mideleg) value
-IsLegalValue Mie value = IsWithin (writable_bits Mie) value
+IsLegalValue Medeleg value = IsWithinMask (writable_bits Medeleg) value
+IsLegalValue Mideleg value = IsWithinMask (writable_bits Mideleg) value
+IsLegalValue Mie value = IsWithinMask (writable_bits Mie) value
 IsLegalValue Mtvec value = bit_at value 1 ≡ 0
-IsLegalValue Mcounteren value = IsWithin (writable_bits Mcounteren) value
-IsLegalValue Menvcfg value = IsWithin (writable_bits Menvcfg) value
-IsLegalValue Mcountinhibit value = IsWithin (writable_bits Mcountinhibit) value
+IsLegalValue Mcounteren value = IsWithinMask (writable_bits Mcounteren) value
+IsLegalValue Menvcfg value = IsWithinMask (writable_bits Menvcfg) value
+IsLegalValue Mcountinhibit value = IsWithinMask (writable_bits Mcountinhibit) value
 IsLegalValue Mscratch value = Unit {0}
 IsLegalValue Mepc value = value % 2 ≡ 0
 IsLegalValue Mcause value = Unit {0}
 IsLegalValue Mtval value = Unit {0}
-IsLegalValue Mip value = IsWithin (writable_bits Mip) value
+IsLegalValue Mip value = IsWithinMask (writable_bits Mip) value
 IsLegalValue Stvec value = bit_at value 1 ≡ 0
-IsLegalValue Scounteren value = IsWithin (writable_bits Scounteren) value
-IsLegalValue Senvcfg value = IsWithin (writable_bits Senvcfg) value
+IsLegalValue Scounteren value = IsWithinMask (writable_bits Scounteren) value
+IsLegalValue Senvcfg value = IsWithinMask (writable_bits Senvcfg) value
 IsLegalValue Sscratch value = Unit {0}
 IsLegalValue Sepc value = value % 2 ≡ 0
 IsLegalValue Scause value = Unit {0}

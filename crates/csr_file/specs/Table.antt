@@ -1,15 +1,28 @@
 -- What each register is and which of its bits can be written, from the Privileged Architecture's chapters
 -- "Control and Status Registers (CSRs)", "Machine-Level ISA" and "Supervisor-Level ISA".
 use Rattle.std.specs.Prelude.{ℕ, ◌+◌, ◌-◌, ◌*◌, ◌^◌, ◌==◌, if◌then◌else◌, [], ◌∷◌, map}
-use Rattle.hart_words.specs.declared.privilege.Cause.TheVariants.{InstructionAccessFault, IllegalInstruction, Breakpoint, LoadAddressMisaligned, LoadAccessFault, StoreAddressMisaligned, StoreAccessFault, EnvironmentCallFromUser, EnvironmentCallFromSupervisor, InstructionPageFault, LoadPageFault, StorePageFault}
+use Rattle.hart_words.specs.declared.privilege.Cause.TheVariants.{InstructionAccessFault, IllegalInstruction}
+use Rattle.hart_words.specs.declared.privilege.Cause.TheVariants.{Breakpoint, LoadAddressMisaligned, LoadAccessFault}
+use Rattle.hart_words.specs.declared.privilege.Cause.TheVariants.{StoreAddressMisaligned, StoreAccessFault}
+use Rattle.hart_words.specs.declared.privilege.Cause.TheVariants.{EnvironmentCallFromUser}
+use Rattle.hart_words.specs.declared.privilege.Cause.TheVariants.{EnvironmentCallFromSupervisor, InstructionPageFault}
+use Rattle.hart_words.specs.declared.privilege.Cause.TheVariants.{LoadPageFault, StorePageFault}
 use Rattle.hart_words.specs.Privilege.{cause_code}
 use Rattle.csr_table.specs.declared.registers.Csr.{Csr}
 use Rattle.csr_table.specs.declared.registers.Csr.TheVariants as csr
 use Rattle.csr_file.specs.declared.stored_csr.StoredCsr.{StoredCsr}
-use Rattle.csr_file.specs.declared.stored_csr.StoredCsr.TheVariants.{Mstatus, Medeleg, Mideleg, Mie, Mtvec, Mcounteren, Menvcfg, Mcountinhibit, Mscratch, Mepc, Mcause, Mtval, Mip, Stvec, Scounteren, Senvcfg, Sscratch, Sepc, Scause, Stval, Satp}
+use Rattle.csr_file.specs.declared.stored_csr.StoredCsr.TheVariants.{Mstatus, Medeleg, Mideleg, Mie, Mtvec, Mcounteren}
+use Rattle.csr_file.specs.declared.stored_csr.StoredCsr.TheVariants.{Menvcfg, Mcountinhibit, Mscratch, Mepc, Mcause}
+use Rattle.csr_file.specs.declared.stored_csr.StoredCsr.TheVariants.{Mtval, Mip, Stvec, Scounteren, Senvcfg, Sscratch}
+use Rattle.csr_file.specs.declared.stored_csr.StoredCsr.TheVariants.{Sepc, Scause, Stval, Satp}
 use Rattle.csr_file.specs.declared.csr_kind.CsrKind.{CsrKind}
-use Rattle.csr_file.specs.declared.csr_kind.CsrKind.TheVariants.{Stored, Status, Pending, SupervisorStatus, SupervisorEnables, SupervisorPending, Translation, LowConfigurations, HighConfigurations, EntryAddress, Constant, OfCore, Counter, ClosedCounter}
-use Rattle.csr_file.specs.declared.fields.TheConstants.{SIE, MIE, SPIE, MPIE, SPP, MPP, MPRV, SUM, MXR, TVM, TW, TSR, UXL, SXL, SSIP, MSIP, STIP, MTIP, SEIP, MEIP, CY, TM, IR, FIOM}
+use Rattle.csr_file.specs.declared.csr_kind.CsrKind.TheVariants.{Stored, Status, Pending, SupervisorStatus}
+use Rattle.csr_file.specs.declared.csr_kind.CsrKind.TheVariants.{SupervisorEnables, SupervisorPending, Translation}
+use Rattle.csr_file.specs.declared.csr_kind.CsrKind.TheVariants.{LowConfigurations, HighConfigurations, EntryAddress}
+use Rattle.csr_file.specs.declared.csr_kind.CsrKind.TheVariants.{Constant, ImplementationDefined, Counter}
+use Rattle.csr_file.specs.declared.csr_kind.CsrKind.TheVariants.{UnimplementedCounter}
+use Rattle.csr_file.specs.declared.fields.TheConstants.{SIE, MIE, SPIE, MPIE, SPP, MPP, MPRV, SUM, MXR, TVM, TW, TSR}
+use Rattle.csr_file.specs.declared.fields.TheConstants.{UXL, SXL, SSIP, MSIP, STIP, MTIP, SEIP, MEIP, CY, TM, IR, FIOM}
 use Rattle.csr_file.specs.Fields.{bits, field_bits, all_bits, mpp_of}
 
 -- the bits of mstatus that a write can set, MPP's aside
@@ -122,15 +135,15 @@ csr_kind_of csr.Satp = Translation
 csr_kind_of csr.Pmpcfg0 = LowConfigurations
 csr_kind_of csr.Pmpcfg2 = HighConfigurations
 csr_kind_of (csr.Pmpaddr number) = EntryAddress number
-csr_kind_of csr.Mcycle = OfCore
-csr_kind_of csr.Minstret = OfCore
-csr_kind_of (csr.Mhpmcounter number) = OfCore
+csr_kind_of csr.Mcycle = ImplementationDefined
+csr_kind_of csr.Minstret = ImplementationDefined
+csr_kind_of (csr.Mhpmcounter number) = ImplementationDefined
 csr_kind_of csr.Cycle = Counter CY
 csr_kind_of csr.Time = Counter TM
 csr_kind_of csr.Instret = Counter IR
-csr_kind_of (csr.Hpmcounter number) = ClosedCounter
-csr_kind_of csr.Mvendorid = OfCore
-csr_kind_of csr.Marchid = OfCore
-csr_kind_of csr.Mimpid = OfCore
-csr_kind_of csr.Mhartid = OfCore
-csr_kind_of csr.Mconfigptr = OfCore
+csr_kind_of (csr.Hpmcounter number) = UnimplementedCounter
+csr_kind_of csr.Mvendorid = ImplementationDefined
+csr_kind_of csr.Marchid = ImplementationDefined
+csr_kind_of csr.Mimpid = ImplementationDefined
+csr_kind_of csr.Mhartid = ImplementationDefined
+csr_kind_of csr.Mconfigptr = ImplementationDefined

@@ -1,6 +1,7 @@
 -- What each register reads as, and what a write leaves, from the Privileged Architecture's chapters
 -- "Machine-Level ISA" and "Supervisor-Level ISA".
-use Rattle.std.specs.Prelude.{ℕ, ◌+◌, ◌-◌, ◌*◌, ◌/◌, ◌%◌, ◌^◌, Bool, ◌&&◌, ◌||◌, ◌==◌, nat_le, nat_lt, if◌then◌else◌, bit_and, bit_or, map, slice_set}
+use Rattle.std.specs.Prelude.{ℕ, ◌+◌, ◌-◌, ◌*◌, ◌/◌, ◌%◌, ◌^◌, Bool, ◌&&◌, ◌||◌, ◌==◌, nat_le, nat_lt, if◌then◌else◌}
+use Rattle.std.specs.Prelude.{bit_and, bit_or, map, slice_set}
 use Rattle.std.specs.List.{range_with_len}
 use Rattle.std.specs.Int.{w64, from_le_bytes}
 use Rattle.hart_words.specs.Words.{bit_field}
@@ -11,12 +12,17 @@ use Rattle.csr_table.specs.declared.registers.Csr.TheVariants as csr
 use Rattle.csr_file.specs.declared.csrs.Csrs.{Csrs}
 use Rattle.csr_file.specs.declared.stored_csr.StoredCsr.TheVariants.{Mstatus, Mideleg, Mie, Mip, Satp}
 use Rattle.csr_file.specs.declared.csr_kind.CsrKind.{CsrKind}
-use Rattle.csr_file.specs.declared.csr_kind.CsrKind.TheVariants.{Stored, Status, Pending, SupervisorStatus, SupervisorEnables, SupervisorPending, Translation, LowConfigurations, HighConfigurations, EntryAddress, Constant, OfCore, Counter, ClosedCounter}
+use Rattle.csr_file.specs.declared.csr_kind.CsrKind.TheVariants.{Stored, Status, Pending, SupervisorStatus}
+use Rattle.csr_file.specs.declared.csr_kind.CsrKind.TheVariants.{SupervisorEnables, SupervisorPending, Translation}
+use Rattle.csr_file.specs.declared.csr_kind.CsrKind.TheVariants.{LowConfigurations, HighConfigurations, EntryAddress}
+use Rattle.csr_file.specs.declared.csr_kind.CsrKind.TheVariants.{Constant, ImplementationDefined, Counter}
+use Rattle.csr_file.specs.declared.csr_kind.CsrKind.TheVariants.{UnimplementedCounter}
 use Rattle.csr_file.specs.declared.access.CsrRead.{CsrRead}
 use Rattle.csr_file.specs.Registers.{at, with_at, pmp_entry_of}
 use Rattle.csr_file.specs.declared.fields.TheConstants.{PMP_MATCHING, PMP_LOCK}
-use Rattle.csr_file.specs.Fields.{all_bits, bit_is_set, is_supported_mode, merged, satp_mode_of}
-use Rattle.csr_file.specs.Table.{csr_kind_of, line_bits, sip_writable, sstatus_shown, sstatus_writable, status_written_bits, writable_bits}
+use Rattle.csr_file.specs.Fields.{all_bits, bit_is_set, is_supported_mode, masked_update, satp_mode_of}
+use Rattle.csr_file.specs.Table.{csr_kind_of, line_bits, sip_writable, sstatus_shown, sstatus_writable}
+use Rattle.csr_file.specs.Table.{status_written_bits, writable_bits}
 
 -- the interrupts that are pending: those stored in mip, and the lines from outside
 unfoldable pub pending_interrupts_of : Csrs → ℕ → ℕ
@@ -47,9 +53,9 @@ csr_value_of csrs LowConfigurations lines = packed_pmpcfg_of csrs 0
 csr_value_of csrs HighConfigurations lines = packed_pmpcfg_of csrs 8
 csr_value_of csrs (EntryAddress number) lines = entry_address_of csrs number
 csr_value_of csrs (Constant number) lines = number
-csr_value_of csrs OfCore lines = 0
+csr_value_of csrs ImplementationDefined lines = 0
 csr_value_of csrs (Counter bit) lines = 0
-csr_value_of csrs ClosedCounter lines = 0
+csr_value_of csrs UnimplementedCounter lines = 0
 
 -- what the set and clear forms start from: the value read, but of mip the stored bits alone
 unfoldable pub csr_base_of : Csrs → CsrKind → ℕ → ℕ
@@ -64,59 +70,64 @@ csr_base_of csrs LowConfigurations lines = csr_value_of csrs LowConfigurations l
 csr_base_of csrs HighConfigurations lines = csr_value_of csrs HighConfigurations lines
 csr_base_of csrs (EntryAddress number) lines = csr_value_of csrs (EntryAddress number) lines
 csr_base_of csrs (Constant number) lines = csr_value_of csrs (Constant number) lines
-csr_base_of csrs OfCore lines = csr_value_of csrs OfCore lines
+csr_base_of csrs ImplementationDefined lines = csr_value_of csrs ImplementationDefined lines
 csr_base_of csrs (Counter bit) lines = csr_value_of csrs (Counter bit) lines
-csr_base_of csrs ClosedCounter lines = csr_value_of csrs ClosedCounter lines
+csr_base_of csrs UnimplementedCounter lines = csr_value_of csrs UnimplementedCounter lines
 
 -- the bits that may be lines and are not stored
 abbrev pub open_lines_of : Csrs → ℕ
 open_lines_of csrs = bit_and (all_bits - at csrs Mip) line_bits
 
 -- the bits of a value that the core decides, or that may be lines: of sip those under mideleg
-unfoldable pub free_bits_of : Csrs → CsrKind → ℕ
-free_bits_of csrs (Stored stored) = 0
-free_bits_of csrs Status = 0
-free_bits_of csrs Pending = open_lines_of csrs
-free_bits_of csrs SupervisorStatus = 0
-free_bits_of csrs SupervisorEnables = 0
-free_bits_of csrs SupervisorPending = bit_and (open_lines_of csrs) (at csrs Mideleg)
-free_bits_of csrs Translation = 0
-free_bits_of csrs LowConfigurations = 0
-free_bits_of csrs HighConfigurations = 0
-free_bits_of csrs (EntryAddress number) = 0
-free_bits_of csrs (Constant number) = 0
-free_bits_of csrs OfCore = all_bits
-free_bits_of csrs (Counter bit) = all_bits
-free_bits_of csrs ClosedCounter = all_bits
+unfoldable pub adoptable_bits_of : Csrs → CsrKind → ℕ
+adoptable_bits_of csrs (Stored stored) = 0
+adoptable_bits_of csrs Status = 0
+adoptable_bits_of csrs Pending = open_lines_of csrs
+adoptable_bits_of csrs SupervisorStatus = 0
+adoptable_bits_of csrs SupervisorEnables = 0
+adoptable_bits_of csrs SupervisorPending = bit_and (open_lines_of csrs) (at csrs Mideleg)
+adoptable_bits_of csrs Translation = 0
+adoptable_bits_of csrs LowConfigurations = 0
+adoptable_bits_of csrs HighConfigurations = 0
+adoptable_bits_of csrs (EntryAddress number) = 0
+adoptable_bits_of csrs (Constant number) = 0
+adoptable_bits_of csrs ImplementationDefined = all_bits
+adoptable_bits_of csrs (Counter bit) = all_bits
+adoptable_bits_of csrs UnimplementedCounter = all_bits
 
 -- the bits of a value that are taken from the row, where the row shows these lines: they take nothing away
 -- from what the core decides
-abbrev pub taken_bits_of : Csrs → CsrKind → ℕ → ℕ
-taken_bits_of csrs (Stored stored) shown = free_bits_of csrs (Stored stored)
-taken_bits_of csrs Status shown = free_bits_of csrs Status
-taken_bits_of csrs Pending shown = bit_and (free_bits_of csrs Pending) (all_bits - shown)
-taken_bits_of csrs SupervisorStatus shown = free_bits_of csrs SupervisorStatus
-taken_bits_of csrs SupervisorEnables shown = free_bits_of csrs SupervisorEnables
-taken_bits_of csrs SupervisorPending shown =
-    bit_and (free_bits_of csrs SupervisorPending) (all_bits - shown)
-taken_bits_of csrs Translation shown = free_bits_of csrs Translation
-taken_bits_of csrs LowConfigurations shown = free_bits_of csrs LowConfigurations
-taken_bits_of csrs HighConfigurations shown = free_bits_of csrs HighConfigurations
-taken_bits_of csrs (EntryAddress number) shown = free_bits_of csrs (EntryAddress number)
-taken_bits_of csrs (Constant number) shown = free_bits_of csrs (Constant number)
-taken_bits_of csrs OfCore shown = free_bits_of csrs OfCore
-taken_bits_of csrs (Counter bit) shown = free_bits_of csrs (Counter bit)
-taken_bits_of csrs ClosedCounter shown = free_bits_of csrs ClosedCounter
+abbrev pub adopted_bits_of : Csrs → CsrKind → ℕ → ℕ
+adopted_bits_of csrs (Stored stored) shown = adoptable_bits_of csrs (Stored stored)
+adopted_bits_of csrs Status shown = adoptable_bits_of csrs Status
+adopted_bits_of csrs Pending shown = bit_and (adoptable_bits_of csrs Pending) (all_bits - shown)
+adopted_bits_of csrs SupervisorStatus shown = adoptable_bits_of csrs SupervisorStatus
+adopted_bits_of csrs SupervisorEnables shown = adoptable_bits_of csrs SupervisorEnables
+adopted_bits_of csrs SupervisorPending shown =
+    bit_and (adoptable_bits_of csrs SupervisorPending) (all_bits - shown)
+adopted_bits_of csrs Translation shown = adoptable_bits_of csrs Translation
+adopted_bits_of csrs LowConfigurations shown = adoptable_bits_of csrs LowConfigurations
+adopted_bits_of csrs HighConfigurations shown = adoptable_bits_of csrs HighConfigurations
+adopted_bits_of csrs (EntryAddress number) shown = adoptable_bits_of csrs (EntryAddress number)
+adopted_bits_of csrs (Constant number) shown = adoptable_bits_of csrs (Constant number)
+adopted_bits_of csrs ImplementationDefined shown = adoptable_bits_of csrs ImplementationDefined
+adopted_bits_of csrs (Counter bit) shown = adoptable_bits_of csrs (Counter bit)
+adopted_bits_of csrs UnimplementedCounter shown = adoptable_bits_of csrs UnimplementedCounter
 
 -- what a read of a register gives
 unfoldable pub csr_read_of : Csrs → CsrKind → ℕ → CsrRead
 csr_read_of csrs kind lines =
-    record { value = csr_value_of csrs kind lines; free = free_bits_of csrs kind; base = csr_base_of csrs kind lines }
+    record {
+      value =
+          csr_value_of csrs kind lines;
+      free = adoptable_bits_of csrs kind;
+      base = csr_base_of csrs kind lines;
+    }
 
 -- the registers after a write of mstatus
 unfoldable pub status_write_of : Csrs → ℕ → Csrs
 status_write_of csrs value =
-    with_at csrs Mstatus (merged (status_written_bits value) (at csrs Mstatus) value)
+    with_at csrs Mstatus (masked_update (status_written_bits value) (at csrs Mstatus) value)
 
 -- the registers after a write of satp: where it selects a mode that the hart has not, the whole write has no effect
 unfoldable pub translation_write_of : Csrs → ℕ → Csrs
@@ -129,20 +140,20 @@ configuration_after old byte =
     if bit_is_set old PMP_LOCK || (byte % 4 == 2) then old else byte % 2 ^ 5 + byte / 2 ^ PMP_LOCK % 2 * 2 ^ PMP_LOCK
 
 -- the configuration of an entry after a write of the eight from one on, each byte by itself
-unfoldable pub configuration_written : Csrs → ℕ → ℕ → ℕ → ℕ
-configuration_written csrs first value number =
+unfoldable pub configuration_after_write : Csrs → ℕ → ℕ → ℕ → ℕ
+configuration_after_write csrs first value number =
     if nat_le first number && nat_lt number (first + 8)
     then configuration_after (configuration_of csrs number) (bit_field (8 * (number - first)) 8 value)
     else configuration_of csrs number
 
 -- the entry after that write
-abbrev pub entry_written : Csrs → ℕ → ℕ → ℕ → PmpEntry
-entry_written csrs first value number =
-    record (pmp_entry_of csrs number) { cfg = configuration_written csrs first value number }
+abbrev pub entry_after_write : Csrs → ℕ → ℕ → ℕ → PmpEntry
+entry_after_write csrs first value number =
+    record (pmp_entry_of csrs number) { cfg = configuration_after_write csrs first value number }
 
 unfoldable pub configurations_write_of : Csrs → ℕ → ℕ → Csrs
 configurations_write_of csrs first value =
-    record csrs { entries = map (entry_written csrs first value) (range_with_len 0 16) }
+    record csrs { entries = map (entry_after_write csrs first value) (range_with_len 0 16) }
 
 abbrev pub is_locked_from_below : ℕ → Bool
 is_locked_from_below configuration = bit_is_set configuration PMP_LOCK && (configuration / 2 ^ PMP_MATCHING % 4 == 1)
@@ -169,18 +180,18 @@ csr_write_of csrs (Stored stored) value = with_at csrs stored (bit_and value (wr
 csr_write_of csrs Status value = status_write_of csrs value
 csr_write_of csrs Pending value = with_at csrs Mip (bit_and value (writable_bits Mip))
 csr_write_of csrs SupervisorStatus value =
-    with_at csrs Mstatus (merged sstatus_writable (at csrs Mstatus) value)
-csr_write_of csrs SupervisorEnables value = with_at csrs Mie (merged (at csrs Mideleg) (at csrs Mie) value)
+    with_at csrs Mstatus (masked_update sstatus_writable (at csrs Mstatus) value)
+csr_write_of csrs SupervisorEnables value = with_at csrs Mie (masked_update (at csrs Mideleg) (at csrs Mie) value)
 csr_write_of csrs SupervisorPending value =
-    with_at csrs Mip (merged (bit_and (at csrs Mideleg) sip_writable) (at csrs Mip) value)
+    with_at csrs Mip (masked_update (bit_and (at csrs Mideleg) sip_writable) (at csrs Mip) value)
 csr_write_of csrs Translation value = translation_write_of csrs value
 csr_write_of csrs LowConfigurations value = configurations_write_of csrs 0 value
 csr_write_of csrs HighConfigurations value = configurations_write_of csrs 8 value
 csr_write_of csrs (EntryAddress number) value = entry_address_write_of csrs number value
 csr_write_of csrs (Constant number) value = csrs
-csr_write_of csrs OfCore value = csrs
+csr_write_of csrs ImplementationDefined value = csrs
 csr_write_of csrs (Counter bit) value = csrs
-csr_write_of csrs ClosedCounter value = csrs
+csr_write_of csrs UnimplementedCounter value = csrs
 
 -- the value that a trace shows of a register
 unfoldable pub shown_csr : Csrs → CsrName → ℕ → ℕ

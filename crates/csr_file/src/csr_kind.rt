@@ -1,4 +1,4 @@
-//! What each register is: what stands behind its address, and who decides its bits. From the
+//! What each register is: what its address names, and who decides its bits. From the
 //! Privileged Architecture's chapters "Machine-Level ISA" and "Supervisor-Level ISA".
 
 ghost use Rattle.std.specs.Prelude.{◌≡◌};
@@ -34,11 +34,11 @@ pub enum CsrKind {
     /// Reads as this number.
     Constant(u64),
     /// The core decides all bits, and no write changes them.
-    OfCore,
+    ImplementationDefined,
     /// The same of a counter that S and U may read where the enables have this bit.
     Counter(u8),
     /// The same of a counter that only M may read.
-    ClosedCounter,
+    UnimplementedCounter,
 }
 
 impl CsrKind {
@@ -77,13 +77,13 @@ impl CsrKind {
             Csr::Pmpcfg0 => CsrKind::LowConfigurations,
             Csr::Pmpcfg2 => CsrKind::HighConfigurations,
             Csr::Pmpaddr(number) => CsrKind::EntryAddress(number),
-            Csr::Mcycle | Csr::Minstret | Csr::Mhpmcounter(_) => CsrKind::OfCore,
+            Csr::Mcycle | Csr::Minstret | Csr::Mhpmcounter(_) => CsrKind::ImplementationDefined,
             Csr::Cycle => CsrKind::Counter(CY),
             Csr::Time => CsrKind::Counter(TM),
             Csr::Instret => CsrKind::Counter(IR),
-            Csr::Hpmcounter(_) => CsrKind::ClosedCounter,
-            Csr::Mvendorid | Csr::Marchid | Csr::Mimpid => CsrKind::OfCore,
-            Csr::Mhartid | Csr::Mconfigptr => CsrKind::OfCore,
+            Csr::Hpmcounter(_) => CsrKind::UnimplementedCounter,
+            Csr::Mvendorid | Csr::Marchid | Csr::Mimpid => CsrKind::ImplementationDefined,
+            Csr::Mhartid | Csr::Mconfigptr => CsrKind::ImplementationDefined,
         }
     }
 }

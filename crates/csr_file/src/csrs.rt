@@ -3,16 +3,18 @@
 //! and "Supervisor-Level ISA".
 
 ghost use Rattle.std.specs.Prelude.{◌≡◌, ◌≤◌, ◌<◌, ◌+◌, ◌-◌, ◌^◌, Ok, Err, OnOk, OnErr};
-ghost use Rattle.csr_file.specs.Fields.{is_supported_mode, merged};
+ghost use Rattle.csr_file.specs.Fields.{is_supported_mode, masked_update};
 ghost use Rattle.csr_file.specs.Table.{csr_kind_of, status_written_bits};
 ghost use Rattle.csr_file.specs.Registers.{at, with_at, csrs_at_reset, pmp_entries_of, pmp_entry_of};
-ghost use Rattle.csr_file.specs.Values.{pending_interrupts_of, csr_value_of, csr_base_of, free_bits_of, taken_bits_of, csr_read_of, status_write_of, translation_write_of, csr_write_of, packed_pmpcfg_of, entry_address_of, configuration_after, configuration_written, configurations_write_of, is_locked_from_below, address_is_locked, entry_address_write_of, shown_csr};
-ghost use Rattle.csr_file.specs.Access.{counter_is_enabled, translation_is_open, is_enabled, may_read, may_write, read_at, write_at};
+ghost use Rattle.csr_file.specs.Values.{pending_interrupts_of, csr_value_of, csr_base_of, adoptable_bits_of, adopted_bits_of, csr_read_of, status_write_of, translation_write_of, csr_write_of, packed_pmpcfg_of, entry_address_of, configuration_after, configuration_after_write, configurations_write_of, is_locked_from_below, address_is_locked, entry_address_write_of, shown_csr};
+ghost use Rattle.csr_file.specs.Access.{counter_is_enabled, translation_is_open, is_enabled, may_read, may_write, csr_read_at, csr_write_at};
 ghost use Rattle.csr_file.specs.Legal.{IsLegal};
 
 use crate::access::{CsrRead, Illegal};
 use crate::csr_kind::CsrKind;
-use crate::fields::{BARE, MPP, PMP_LOCK, PMP_MATCHING, SATP_MODE, SV39, TVM, has_bit, merge};
+use crate::fields::{
+    BARE, LINE_BITS, MPP, PMP_LOCK, PMP_MATCHING, SATP_MODE, SV39, TVM, has_bit, merge,
+};
 use crate::stored_csr::{STORED_CSRS, StoredCsr};
 use csr_table::{Csr, CsrRow, row};
 use hart_words::{CsrName, Mode, PmpEntry};
@@ -30,9 +32,6 @@ const SSTATUS_WRITABLE: u64 = 0xC_0122;
 
 /// The bits of mip that a write of sip can set, under mideleg: SSIP.
 const SIP_WRITABLE: u64 = 2;
-
-/// The bits of mip that may be lines from outside: MSIP, MTIP, SEIP, MEIP.
-const LINES: u64 = 0xA88;
 
 /// All control and status registers that the reference hart stores. The entries of physical memory
 /// protection are kept as they are walked at each access, each with its configuration byte and its
@@ -91,9 +90,9 @@ impl Csrs {
 
     /// What a read of the register at `address` gives in a mode, with these interrupt lines (bits
     /// 3, 7, 9 and 11 count).
-    #[tactic(auto, unfolding(crate::specs::Access::read_at))]
+    #[tactic(auto, unfolding(crate::specs::Access::csr_read_at))]
     pub fn read(&self, address: u16, mode: Mode, lines: u64) -> Result<CsrRead, Illegal>
-        ensures { result ≡ read_at self.now address mode lines }
+        ensures { result ≡ csr_read_at self.now address mode lines }
     {
         match row(address) {
             None => Err(Illegal),
@@ -110,29 +109,31 @@ impl Csrs {
     /// The bits of a read value that are to be taken from the row, where the row shows the
     /// interrupt lines `shown_lines` in csr_mip_rdata: all of what the core decides, and of mip and
     /// sip those that may be lines and are neither stored nor shown.
-    pub fn taken_bits(&self, csr: Csr, shown_lines: u64) -> u64
-        ensures { result ≡ taken_bits_of self.now (csr_kind_of csr) shown_lines }
+    pub fn adopted_bits(&self, csr: Csr, shown_lines: u64) -> u64
+        ensures { result ≡ adopted_bits_of self.now (csr_kind_of csr) shown_lines }
     {
         let kind = CsrKind::of(csr);
         match kind {
-            CsrKind::Pending | CsrKind::SupervisorPending => self.free_bits(kind) & !shown_lines,
-            CsrKind::OfCore | CsrKind::Counter(_) | CsrKind::ClosedCounter => self.free_bits(kind),
-            CsrKind::Stored(_) | CsrKind::Status | CsrKind::SupervisorStatus => self.free_bits(
+            CsrKind::Pending | CsrKind::SupervisorPending => self.adoptable_bits(kind)
+                & !shown_lines,
+            CsrKind::ImplementationDefined | CsrKind::Counter(_) | CsrKind::UnimplementedCounter =>
+                self.adoptable_bits(kind),
+            CsrKind::Stored(_) | CsrKind::Status | CsrKind::SupervisorStatus => self.adoptable_bits(
                 kind,
             ),
-            CsrKind::SupervisorEnables | CsrKind::Constant(_) => self.free_bits(kind),
-            CsrKind::Translation => self.free_bits(kind),
-            CsrKind::LowConfigurations | CsrKind::HighConfigurations => self.free_bits(kind),
-            CsrKind::EntryAddress(_) => self.free_bits(kind),
+            CsrKind::SupervisorEnables | CsrKind::Constant(_) => self.adoptable_bits(kind),
+            CsrKind::Translation => self.adoptable_bits(kind),
+            CsrKind::LowConfigurations | CsrKind::HighConfigurations => self.adoptable_bits(kind),
+            CsrKind::EntryAddress(_) => self.adoptable_bits(kind),
         }
     }
 
     /// Writes the register at `address` in a mode. A register without writable bits stays as it
     /// was; a refused write changes nothing.
-    #[tactic(auto, unfolding(crate::specs::Access::write_at))]
+    #[tactic(auto, unfolding(crate::specs::Access::csr_write_at))]
     pub fn write(&mut self, address: u16, mode: Mode, value: u64) -> Result<(), Illegal>
-        ensures ok { OnOk result (write_at self.old address mode value ≡ Ok self.new) }
-        ensures err { OnErr result (write_at self.old address mode value ≡ Err (record {})) }
+        ensures ok { OnOk result (csr_write_at self.old address mode value ≡ Ok self.new) }
+        ensures err { OnErr result (csr_write_at self.old address mode value ≡ Err (record {})) }
         ensures unchanged { OnErr result (self.new ≡ self.old) }
         ensures legal { IsLegal self.old → IsLegal self.new }
     {
@@ -185,7 +186,7 @@ impl Csrs {
     pub fn pending_interrupts(&self, lines: u64) -> u64
         ensures { result ≡ pending_interrupts_of self.now lines }
     {
-        self.get(StoredCsr::Mip) | lines & LINES
+        self.get(StoredCsr::Mip) | lines & LINE_BITS
     }
 
     #[tactic(auto, unfolding(crate::specs::Access::may_read))]
@@ -209,11 +210,12 @@ impl Csrs {
     {
         match kind {
             CsrKind::Counter(bit) => self.counter_is_enabled(mode, bit),
-            CsrKind::ClosedCounter => matches!(mode, Mode::Machine),
+            CsrKind::UnimplementedCounter => matches!(mode, Mode::Machine),
             CsrKind::Translation => self.translation_is_open(mode),
             CsrKind::Stored(_) | CsrKind::Status | CsrKind::Pending => true,
             CsrKind::SupervisorStatus | CsrKind::SupervisorEnables => true,
-            CsrKind::SupervisorPending | CsrKind::Constant(_) | CsrKind::OfCore => true,
+            CsrKind::SupervisorPending | CsrKind::Constant(_) | CsrKind::ImplementationDefined =>
+                true,
             CsrKind::LowConfigurations | CsrKind::HighConfigurations => true,
             CsrKind::EntryAddress(_) => true,
         }
@@ -250,7 +252,7 @@ impl Csrs {
     {
         CsrRead {
             value: self.value(kind, lines),
-            free: self.free_bits(kind),
+            free: self.adoptable_bits(kind),
             base: self.base(kind, lines),
         }
     }
@@ -276,7 +278,8 @@ impl Csrs {
             CsrKind::HighConfigurations => self.packed_pmpcfg(8),
             CsrKind::EntryAddress(number) => self.entry_address(number),
             CsrKind::Constant(number) => number,
-            CsrKind::OfCore | CsrKind::Counter(_) | CsrKind::ClosedCounter => 0,
+            CsrKind::ImplementationDefined | CsrKind::Counter(_) | CsrKind::UnimplementedCounter =>
+                0,
         }
     }
 
@@ -290,24 +293,25 @@ impl Csrs {
             CsrKind::Stored(_) | CsrKind::Status => self.value(kind, lines),
             CsrKind::SupervisorStatus | CsrKind::SupervisorEnables => self.value(kind, lines),
             CsrKind::SupervisorPending | CsrKind::Constant(_) => self.value(kind, lines),
-            CsrKind::OfCore | CsrKind::Counter(_) => self.value(kind, lines),
+            CsrKind::ImplementationDefined | CsrKind::Counter(_) => self.value(kind, lines),
             CsrKind::Translation => self.value(kind, lines),
-            CsrKind::ClosedCounter | CsrKind::EntryAddress(_) => self.value(kind, lines),
+            CsrKind::UnimplementedCounter | CsrKind::EntryAddress(_) => self.value(kind, lines),
             CsrKind::LowConfigurations | CsrKind::HighConfigurations => self.value(kind, lines),
         }
     }
 
     /// The bits of a register's value that the core decides, or that may be lines.
-    #[tactic(auto, unfolding(crate::specs::Values::free_bits_of))]
-    fn free_bits(&self, kind: CsrKind) -> u64
-        ensures { result ≡ free_bits_of self.now kind }
+    #[tactic(auto, unfolding(crate::specs::Values::adoptable_bits_of))]
+    fn adoptable_bits(&self, kind: CsrKind) -> u64
+        ensures { result ≡ adoptable_bits_of self.now kind }
     {
         match kind {
-            CsrKind::Pending => !self.get(StoredCsr::Mip) & LINES,
+            CsrKind::Pending => !self.get(StoredCsr::Mip) & LINE_BITS,
             CsrKind::SupervisorPending => {
-                !self.get(StoredCsr::Mip) & LINES & self.get(StoredCsr::Mideleg)
+                !self.get(StoredCsr::Mip) & LINE_BITS & self.get(StoredCsr::Mideleg)
             }
-            CsrKind::OfCore | CsrKind::Counter(_) | CsrKind::ClosedCounter => u64::MAX,
+            CsrKind::ImplementationDefined | CsrKind::Counter(_) | CsrKind::UnimplementedCounter =>
+                u64::MAX,
             CsrKind::Stored(_) | CsrKind::Status | CsrKind::SupervisorStatus => 0,
             CsrKind::SupervisorEnables | CsrKind::Constant(_) => 0,
             CsrKind::Translation => 0,
@@ -339,8 +343,8 @@ impl Csrs {
             CsrKind::LowConfigurations => self.write_configurations(0, value),
             CsrKind::HighConfigurations => self.write_configurations(8, value),
             CsrKind::EntryAddress(number) => self.write_entry_address(number, value),
-            CsrKind::Constant(_) | CsrKind::OfCore => {}
-            CsrKind::Counter(_) | CsrKind::ClosedCounter => {}
+            CsrKind::Constant(_) | CsrKind::ImplementationDefined => {}
+            CsrKind::Counter(_) | CsrKind::UnimplementedCounter => {}
         }
     }
 
@@ -369,7 +373,7 @@ impl Csrs {
 
     /// Writes the bits of a mask.
     fn write_bits(&mut self, stored: StoredCsr, mask: u64, value: u64)
-        ensures { self.new ≡ with_at self.old stored (merged mask (at self.old stored) value) }
+        ensures { self.new ≡ with_at self.old stored (masked_update mask (at self.old stored) value) }
     {
         self.set(stored, merge(mask, self.get(stored), value));
     }
@@ -403,7 +407,7 @@ impl Csrs {
         let mut written = [PmpEntry { cfg: 0, addr: 0 }; 16];
         for i in 0..16 {
             written[i] = PmpEntry {
-                cfg: self.configuration_written(first, value, i),
+                cfg: self.configuration_after_write(first, value, i),
                 addr: self.entry(i).addr,
             };
         }
@@ -411,11 +415,11 @@ impl Csrs {
     }
 
     /// The configuration of an entry after that write.
-    #[tactic(auto, unfolding(crate::specs::Values::configuration_written))]
-    fn configuration_written(&self, first: u8, value: u64, number: usize) -> u8
+    #[tactic(auto, unfolding(crate::specs::Values::configuration_after_write))]
+    fn configuration_after_write(&self, first: u8, value: u64, number: usize) -> u8
         requires first { first ≤ 8 }
         requires number { number < 16 }
-        ensures { result ≡ configuration_written self.now first value number }
+        ensures { result ≡ configuration_after_write self.now first value number }
     {
         let first = usize::from(first);
         if first <= number && number < first + 8 {

@@ -2,7 +2,7 @@
 //! chapters "Machine-Level ISA" and "Supervisor-Level ISA".
 
 ghost use Rattle.std.specs.Prelude.{◌≡◌};
-ghost use Rattle.csr_file.specs.Fields.{bit_is_set, merged, mode_numbered};
+ghost use Rattle.csr_file.specs.Fields.{bit_is_set, masked_update, mode_of_encoding};
 
 use hart_words::Mode;
 
@@ -49,6 +49,9 @@ pub const SEIP: u8 = 9;
 
 pub const MEIP: u8 = 11;
 
+/// The bits of mip that may be lines from outside.
+pub const LINE_BITS: u64 = 1 << MSIP | 1 << MTIP | 1 << SEIP | 1 << MEIP;
+
 // The bits of mcounteren, scounteren and mcountinhibit.
 pub const CY: u8 = 0;
 
@@ -81,16 +84,16 @@ pub fn has_bit(value: u64, bit: u8) -> bool
 }
 
 /// The bits of a mask from `value`, all others from `old`.
-#[tactic(auto, unfolding(crate::specs::Fields::merged))]
+#[tactic(auto, unfolding(crate::specs::Fields::masked_update))]
 pub fn merge(mask: u64, old: u64, value: u64) -> u64
-    ensures { result ≡ merged mask old value }
+    ensures { result ≡ masked_update mask old value }
 {
     old & !mask | value & mask
 }
 
 /// The mode of an encoding, as MPP and SPP hold it; 2 is none, and MPP never has it.
-pub fn mode_numbered(number: u64) -> Mode
-    ensures { result ≡ mode_numbered number }
+pub fn mode_of_encoding(number: u64) -> Mode
+    ensures { result ≡ mode_of_encoding number }
 {
     match number {
         3 => Mode::Machine,

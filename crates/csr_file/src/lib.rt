@@ -15,7 +15,7 @@ mod stored_csr;
 
 pub use access::{CsrRead, Illegal};
 pub use csrs::Csrs;
-pub use fields::{has_bit, merge, mode_numbered};
+pub use fields::{has_bit, merge, mode_of_encoding};
 pub use stored_csr::{STORED_CSRS, StoredCsr};
 
 #[cfg(test)]

@@ -284,11 +284,11 @@ fn takes_from_the_row(rt: HostRuntime) -> Result<(), Fail> {
         (Csr::Satp, 0, 0),
     ];
     for (csr, shown, wanted) in cases {
-        assert_eq!(rt; csrs.taken_bits(csr, shown), wanted, "{shown}");
+        assert_eq!(rt; csrs.adopted_bits(csr, shown), wanted, "{shown}");
     }
     csrs.write(0x344, Mode::Machine, 0x200)?;
-    assert_eq!(rt; csrs.taken_bits(Csr::Mip, 0x888), 0);
-    assert_eq!(rt; csrs.taken_bits(Csr::Mip, 0), 0x888);
+    assert_eq!(rt; csrs.adopted_bits(Csr::Mip, 0x888), 0);
+    assert_eq!(rt; csrs.adopted_bits(Csr::Mip, 0), 0x888);
     Ok(())
 }
 

@@ -1,5 +1,6 @@
 -- Ranges of which one ends before the other begins have no address in common.
-use Rattle.std.proofs.Common.{◌≡◌, ℕ, ◌<◌, ◌≤◌, ◌⊎◌, inl, inr, Bool, true, false, ◌&&◌, ◌||◌, List, [], ◌∷◌, nat_lt, nat_le, All, refl, arith, get_or}
+use Rattle.std.proofs.Common.{◌≡◌, ℕ, ◌<◌, ◌≤◌, ◌⊎◌, inl, inr, Bool, true, false, ◌&&◌, ◌||◌, List, [], ◌∷◌, nat_lt}
+use Rattle.std.proofs.Common.{nat_le, All, refl, arith, get_or}
 use Rattle.std.specs.List.{list_all}
 use Rattle.std.proofs.lemmas.List.Kept.{AllPairs-cons}
 use Rattle.std.proofs.lemmas.Bool.Decides.{nat_tests}
@@ -18,7 +19,8 @@ both : (a b : Bool) → (a && b) ≡ true → (a ≡ true) × (b ≡ true)
 both true b h = (refl, h)
 both false b h = cc
 
-within : (first last address : ℕ) → (nat_le first address && nat_le address last) ≡ true → (first ≤ address) × (address ≤ last)
+within : (first last address : ℕ) → (nat_le first address && nat_le address last) ≡ true
+    → (first ≤ address) × (address ≤ last)
 within first last address h =
     let parts = both (nat_le first address) (nat_le address last) h in
     (grind (arith, nat_tests, parts.0), grind (arith, nat_tests, parts.1))
@@ -32,7 +34,8 @@ never this other apart address here there =
     let high = within other.first other.last address there in
     elim (ordered this.last other.first other.last this.first apart) [ inl lt ↦ omega arith | inr lt ↦ omega arith ]
 
-each : (range : CsrRange) (rest : List CsrRange) → list_all (are_apart range) rest ≡ true → All (NeverBoth lists range) rest
+each : (range : CsrRange) (rest : List CsrRange) → list_all (are_apart range) rest ≡ true
+    → All (NeverBoth lists range) rest
 each range rest h k d inside = never range (get_or rest k d) (AllPass-from_list_all (are_apart range) rest h k d inside)
 
 no_two_meet : (part : List CsrRange) → all_apart part ≡ true → MeetsOneAtMost lists part

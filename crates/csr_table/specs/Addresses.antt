@@ -2,7 +2,13 @@
 -- and Status Registers (CSRs)".
 use Rattle.std.specs.Prelude.{ℕ, ◌/◌, ◌%◌, ◌^◌, Bool, ◌&&◌, nat_le, ◌==◌, List, [], ◌∷◌, ◌++◌, Option, option_map, find}
 use Rattle.csr_table.specs.declared.registers.Csr.{Csr}
-use Rattle.csr_table.specs.declared.registers.Csr.TheVariants.{Mstatus, Misa, Medeleg, Mideleg, Mie, Mtvec, Mcounteren, Menvcfg, Mcountinhibit, Mhpmevent, Mscratch, Mepc, Mcause, Mtval, Mip, Pmpcfg0, Pmpcfg2, Pmpaddr, Sstatus, Sie, Stvec, Scounteren, Senvcfg, Sscratch, Sepc, Scause, Stval, Sip, Satp, Mcycle, Minstret, Mhpmcounter, Cycle, Time, Instret, Hpmcounter, Mvendorid, Marchid, Mimpid, Mhartid, Mconfigptr}
+use Rattle.csr_table.specs.declared.registers.Csr.TheVariants.{Mstatus, Misa, Medeleg, Mideleg, Mie, Mtvec, Mcounteren}
+use Rattle.csr_table.specs.declared.registers.Csr.TheVariants.{Menvcfg, Mcountinhibit, Mhpmevent, Mscratch, Mepc}
+use Rattle.csr_table.specs.declared.registers.Csr.TheVariants.{Mcause, Mtval, Mip, Pmpcfg0, Pmpcfg2, Pmpaddr, Sstatus}
+use Rattle.csr_table.specs.declared.registers.Csr.TheVariants.{Sie, Stvec, Scounteren, Senvcfg, Sscratch, Sepc, Scause}
+use Rattle.csr_table.specs.declared.registers.Csr.TheVariants.{Stval, Sip, Satp, Mcycle, Minstret, Mhpmcounter, Cycle}
+use Rattle.csr_table.specs.declared.registers.Csr.TheVariants.{Time, Instret, Hpmcounter, Mvendorid, Marchid, Mimpid}
+use Rattle.csr_table.specs.declared.registers.Csr.TheVariants.{Mhartid, Mconfigptr}
 use Rattle.csr_table.specs.declared.registers.CsrRow.{CsrRow}
 
 -- an entry of the table: the addresses from one to another, and what each of them names

@@ -22,8 +22,8 @@ abbrev pub StandsIfSome : List ℕ → Option (Box (Reader (Bor (List ℕ))) Glo
 StandsIfSome text None = Unit {0}
 StandsIfSome text (Some reader) = StandsAt text reader.value
 
--- the fields are those of the line, and the reader stands behind it
-pub record ReadsOn (line rest : List ℕ) (fields : List (List ℕ)) (reader : Reader (Bor (List ℕ)))
+-- the fields are those of the line, and the reader stands after it
+pub record ReadsLineFields (line rest : List ℕ) (fields : List (List ℕ)) (reader : Reader (Bor (List ℕ)))
     : Type 0 where
   pub fields_are : fields ≡ fields_of_line line
   pub stands : StandsAt rest reader

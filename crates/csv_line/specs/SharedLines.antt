@@ -14,16 +14,16 @@ abbrev pub EndsNoRecord : ℕ → Type 0
 EndsNoRecord byte = (byte ≢ 10) × (byte ≢ 13)
 
 -- where csv's machine stands
-abbrev pub state_of : Place → State
-state_of Start = StartField
-state_of Plain = InField
-state_of Quoted = InQuoted
-state_of Closed = AfterQuote
+abbrev pub machine_state_of : Place → State
+machine_state_of Start = StartField
+machine_state_of Plain = InField
+machine_state_of Quoted = InQuoted
+machine_state_of Closed = AfterQuote
 
 -- the state of the machine after these bytes
-unfoldable pub state_after : State → List ℕ → State
-state_after state [] = state
-state_after state (byte ∷ bytes) = state_after (step default_config state byte).0 bytes
+unfoldable pub machine_state_after : State → List ℕ → State
+machine_state_after state [] = state
+machine_state_after state (byte ∷ bytes) = machine_state_after (step default_config state byte).0 bytes
 
 -- and it is no quote
 abbrev pub IsPlain : ℕ → Type 0
@@ -37,7 +37,7 @@ pub record IsUnmarked (line : List ℕ) : Type 0 where
 -- nothing in the line ends a record, each quote that opens a field is closed, and csv drops no mark
 pub record IsShareable (line : List ℕ) : Type 0 where
   pub bytes : All EndsNoRecord line
-  pub outside : state_after StartField line ≢ InQuoted
+  pub outside : machine_state_after StartField line ≢ InQuoted
   pub unmarked : IsUnmarked line
 
 -- the first line feed stands at this place
@@ -47,7 +47,7 @@ pub record EndsAt (text : List ℕ) (end : ℕ) : Type 0 where
   pub line : IsLine (take end text)
 
 -- csv reads one record from the line alone, and the same from a text in which a line feed and more
--- follow the line; then it stands behind the line feed
+-- follow the line; then it stands after the line feed
 pub record IsShared (text line rest : List ℕ) : Type 0 where
   pub parts : text ≡ line ++ line_feed ∷ rest
   pub unmarked : strip_bom text ≡ text

@@ -2,12 +2,12 @@
 
 ghost use Rattle.std.specs.Prelude.{◌≡◌, ◌≢◌, ◌<◌, ◌≤◌, ◌∷◌, ℕ, length, IsTrue, take, slice_index, false};
 ghost use Rattle.std.specs.List.{All};
-ghost use Rattle.line_text.specs.Lines.{lines_in, IsLine, line_feed};
+ghost use Rattle.line_text.specs.Lines.{text_lines, IsLine, line_feed};
 ghost use Rattle.csv.specs.Machine.{step};
 ghost use Rattle.csv.specs.Reading.{default_config};
 ghost use Rattle.csv.specs.declared.parser.State.TheVariants.{StartField, InQuoted};
 ghost use Rattle.csv_line.specs.Fields.{has_return_in};
-ghost use Rattle.csv_line.specs.SharedLines.{EndsAt, IsPlain, IsUnmarked, IsShareable, IsShared, state_after, state_of, EndsNoRecord};
+ghost use Rattle.csv_line.specs.SharedLines.{EndsAt, IsPlain, IsUnmarked, IsShareable, IsShared, machine_state_after, machine_state_of, EndsNoRecord};
 
 use memchr::{memchr, memchr3};
 
@@ -28,7 +28,7 @@ pub struct FirstLine<'t> {
 /// The first line of a text that has one.
 pub fn first_line(text: &[u8]) -> FirstLine<'_>
     requires { 0 < length text.now }
-    ensures lines { lines_in text.now ≡ result.line.now ∷ lines_in result.rest.now }
+    ensures lines { text_lines text.now ≡ result.line.now ∷ text_lines result.rest.now }
     ensures returns { result.has_return ≡ has_return_in result.line.now }
     ensures shared { IsTrue result.is_shared
         → IsShared text.now result.line.now result.rest.now }
@@ -50,7 +50,7 @@ fn plain_line(text: &[u8], end: usize) -> FirstLine<'_>
     requires within { end < length text.now }
     requires feed { slice_index text.now end ≡ line_feed }
     requires plain { All IsPlain (take end text.now) }
-    ensures lines { lines_in text.now ≡ result.line.now ∷ lines_in result.rest.now }
+    ensures lines { text_lines text.now ≡ result.line.now ∷ text_lines result.rest.now }
     ensures returns { result.has_return ≡ has_return_in result.line.now }
     ensures shared { IsTrue result.is_shared
         → IsShared text.now result.line.now result.rest.now }
@@ -62,7 +62,7 @@ fn plain_line(text: &[u8], end: usize) -> FirstLine<'_>
 /// The first line of a text in which a quote or a carriage return stands.
 fn other_line(text: &[u8]) -> FirstLine<'_>
     requires { 0 < length text.now }
-    ensures lines { lines_in text.now ≡ result.line.now ∷ lines_in result.rest.now }
+    ensures lines { text_lines text.now ≡ result.line.now ∷ text_lines result.rest.now }
     ensures returns { result.has_return ≡ has_return_in result.line.now }
     ensures shared { IsTrue result.is_shared
         → IsShared text.now result.line.now result.rest.now }
@@ -80,9 +80,9 @@ fn other_line(text: &[u8]) -> FirstLine<'_>
 
 /// A text that is one line without a line feed.
 fn last_line(text: &[u8]) -> FirstLine<'_>
-    requires some { 0 < length text.now }
+    requires nonempty { 0 < length text.now }
     requires line { IsLine text.now }
-    ensures lines { lines_in text.now ≡ result.line.now ∷ lines_in result.rest.now }
+    ensures lines { text_lines text.now ≡ result.line.now ∷ text_lines result.rest.now }
     ensures returns { result.has_return ≡ has_return_in result.line.now }
     ensures shared { result.is_shared ≡ false }
 {
@@ -99,7 +99,7 @@ fn ended_line(text: &[u8], end: usize, has_return: bool, is_shared: bool) -> Fir
     requires ended { EndsAt text.now end }
     requires returns { has_return ≡ has_return_in (take end text.now) }
     requires shareable { IsTrue is_shared → IsShareable (take end text.now) }
-    ensures lines { lines_in text.now ≡ result.line.now ∷ lines_in result.rest.now }
+    ensures lines { text_lines text.now ≡ result.line.now ∷ text_lines result.rest.now }
     ensures returns { result.has_return ≡ has_return_in result.line.now }
     ensures shared { IsTrue result.is_shared
         → IsShared text.now result.line.now result.rest.now }
@@ -150,14 +150,14 @@ enum Place {
     Plain,
     /// Inside quotes.
     Quoted,
-    /// Behind a quote that closes the field, or is the first of two that stand for one.
+    /// After a quote that closes the field, or is the first of two that stand for one.
     Closed,
 }
 
 /// Whether all quotes that open a field are closed.
 fn closes_quotes(line: &[u8]) -> bool
     requires { All EndsNoRecord line.now }
-    ensures { IsTrue result → state_after StartField line.now ≢ InQuoted }
+    ensures { IsTrue result → machine_state_after StartField line.now ≢ InQuoted }
 {
     let mut place = Place::Start;
     'bytes: for byte in line {
@@ -168,7 +168,7 @@ fn closes_quotes(line: &[u8]) -> bool
 
 /// Whether it is outside quotes.
 fn is_outside(place: Place) -> bool
-    ensures { IsTrue result → state_of place ≢ InQuoted }
+    ensures { IsTrue result → machine_state_of place ≢ InQuoted }
 {
     match place {
         Place::Quoted => false,
@@ -178,7 +178,7 @@ fn is_outside(place: Place) -> bool
 
 /// Where a field stands after one more byte.
 fn next_place(place: Place, byte: u8) -> Place
-    ensures { EndsNoRecord byte → state_of result ≡ (step default_config (state_of place) byte).0 }
+    ensures { EndsNoRecord byte → machine_state_of result ≡ (step default_config (machine_state_of place) byte).0 }
 {
     match (place, byte) {
         (Place::Quoted, b'"') => Place::Closed,

@@ -1,11 +1,11 @@
 //! The fields of lines, one after the other.
 
-ghost use Rattle.std.specs.Prelude.{◌≡◌, List, ℕ, true, IfOk, OnOk, OnErr, map};
-ghost use Rattle.line_text.specs.Lines.{lines_in};
+ghost use Rattle.std.specs.Prelude.{◌≡◌, List, ℕ, true, IfOk, IfSome, OnErr, map};
+ghost use Rattle.line_text.specs.Lines.{text_lines};
 ghost use Rattle.csv.specs.Records.{fields_of};
 ghost use Rattle.csv.specs.Reading.{strip_bom};
 ghost use Rattle.csv_line.specs.Fields.{trimmed_of};
-ghost use Rattle.csv_line.specs.Readers.{StandsAt, StandsIfSome, ReadsOn};
+ghost use Rattle.csv_line.specs.Readers.{StandsAt, StandsIfSome, ReadsLineFields};
 ghost use Rattle.csv_line.specs.SharedLines.{IsShared};
 ghost use Rattle.csv_line.specs.Next.{ReadsNext};
 
@@ -35,21 +35,21 @@ pub struct LineReader<'t> {
 
 impl<'t> Model for LineReader<'t> {
     ghost use Rattle.std.specs.Prelude.{List, ℕ};
-    ghost use Rattle.line_text.specs.Lines.{lines_in};
+    ghost use Rattle.line_text.specs.Lines.{text_lines};
     ghost use Rattle.csv_line.specs.Readers.{StandsIfSome};
 
     ghost Value = { List (List ℕ) };
 
-    ghost view = { λ lines. lines_in lines.rest.now };
+    ghost view = { λ lines. text_lines lines.rest.now };
 
     ghost invariant = { λ lines. StandsIfSome lines.rest.now lines.reader };
 }
 
 impl<'t> LineReader<'t> {
     /// A reader of the lines of `text`, each of which is followed by a line feed; it may be missing
-    /// behind the last.
+    /// after the last.
     pub fn new(alloc: Global, text: &'t [u8]) -> LineReader<'t>
-        ensures { result ≡ lines_in text.now }
+        ensures { result ≡ text_lines text.now }
     {
         LineReader {
             alloc,
@@ -75,10 +75,11 @@ impl<'t> LineReader<'t> {
         };
         let reader = self.reader.take();
         if first.is_shared {
-            let reader = read_among(self.alloc, reader, self.rest, fields)?;
-            self.reader = Some(reader);
-            self.rest = first.rest;
-            return Ok(Some(read));
+            if let Some(reader) = read_among(self.alloc, reader, self.rest, fields)? {
+                self.reader = Some(reader);
+                self.rest = first.rest;
+                return Ok(Some(read));
+            }
         }
         *fields = line_fields(self.alloc, first.line)?;
         self.rest = first.rest;
@@ -86,20 +87,24 @@ impl<'t> LineReader<'t> {
     }
 }
 
-/// Reads the line at the front of `text` by a reader that stands there, or by a new one.
+/// Reads the line at the front of `text` by a reader that stands there, or by a new one, and gives
+/// the reader where it found a record.
 fn read_among<'t>(
     alloc: Global,
     reader: Option<Box<Reader<&'t [u8]>>>,
     text: &'t [u8],
     fields: &mut Fields,
-) -> Result<Box<Reader<&'t [u8]>>, AllocError>
+) -> Result<Option<Box<Reader<&'t [u8]>>>, AllocError>
     requires { StandsIfSome text.now reader }
-    ensures { IfOk result (λ reader. (line rest : List ℕ) → IsShared text.now line rest
-        → ReadsOn line rest fields.new reader.value) }
+    ensures { IfOk result (λ found. IfSome found (λ reader. (line rest : List ℕ)
+        → IsShared text.now line rest → ReadsLineFields line rest fields.new reader.value)) }
 {
     let mut reader = standing(alloc, reader, text)?;
-    read_on(&mut reader, &mut fields.record)?;
-    Ok(reader)
+    if read_on(&mut reader, &mut fields.record)? {
+        Ok(Some(reader))
+    } else {
+        Ok(None)
+    }
 }
 
 /// The reader, or a new one where there is none.
@@ -128,21 +133,21 @@ fn reader_at<'t>(alloc: Global, text: &'t [u8]) -> Reader<&'t [u8]>
         .from_reader(alloc, text)
 }
 
-/// Reads one record.
-fn read_on(reader: &mut Reader<&[u8]>, row: &mut ByteRecord) -> Result<(), AllocError>
-    ensures { OnOk result ((text line rest : List ℕ) → StandsAt text reader.old
-        → IsShared text line rest
-        → ReadsOn line rest (map trimmed_of (fields_of row.new)) reader.new) }
+/// Reads one record, and says whether there was one.
+fn read_on(reader: &mut Reader<&[u8]>, row: &mut ByteRecord) -> Result<bool, AllocError>
+    ensures { IfOk result (λ found. found ≡ true → (text line rest : List ℕ)
+        → StandsAt text reader.old → IsShared text line rest
+        → ReadsLineFields line rest (map trimmed_of (fields_of row.new)) reader.new) }
 {
-    taken(reader.read_byte_record(row))
+    found_of(reader.read_byte_record(row))
 }
 
-/// Whether a record was read. A reader that stands at a line has one, unless memory was refused.
-fn taken(read: Result<bool, Error>) -> Result<(), AllocError>
-    ensures { OnOk result (read ≡ Ok true) }
+/// Whether there was a record. Over a slice a read fails only where memory is refused.
+fn found_of(read: Result<bool, Error>) -> Result<bool, AllocError>
+    ensures { IfOk result (λ found. read ≡ Ok found) }
 {
     match read {
-        Ok(true) => Ok(()),
-        Ok(false) | Err(_) => Err(AllocError),
+        Ok(found) => Ok(found),
+        Err(_) => Err(AllocError),
     }
 }

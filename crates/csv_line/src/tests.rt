@@ -53,7 +53,7 @@ fn check_next(
     Ok(())
 }
 
-/// Reads lines as one text, whose last line feed may be missing behind a line with bytes.
+/// Reads lines as one text, whose last line feed may be missing after a line with bytes.
 fn check_all(rt: &impl Abort, alloc: Global, lines: &[Vec<u8>], closed: bool) -> Result<(), Fail> {
     let mut text = Vec::new(alloc);
     for (index, line) in lines.iter().enumerate() {
@@ -147,7 +147,7 @@ fn push_quoted(numbers: &mut Numbers, line: &mut Vec<u8>) -> Result<(), Fail> {
     Ok(())
 }
 
-/// A line of at most 20 bytes: behind a byte order mark, with fields in quotes, or of any bytes.
+/// A line of at most 20 bytes: after a byte order mark, with fields in quotes, or of any bytes.
 fn any_line(alloc: Global, numbers: &mut Numbers) -> Result<Vec<u8>, Fail> {
     let mut line = Vec::new(alloc);
     match numbers.below(8) {

@@ -1,9 +1,8 @@
 -- In S and U nothing depends on a byte that protection refuses them.
-use Rattle.std.proofs.Common.{◌≡◌, ◌≢◌, ℕ, zero, suc, ◌+◌, ◌<◌, ◌≤◌, true, List, [], ◌∷◌, refl, sym, ap, ◌∙◌, subst, inl, inr, arith, All, Option, Some}
-use Rattle.std.proofs.lemmas.List.Elements.{All-head, All-tail, All-weaker}
-use Rattle.std.proofs.lemmas.Bool.{and_parts}
+use Rattle.std.proofs.Common.{◌≡◌, ◌≢◌, ℕ, zero, suc, ◌+◌, ◌%◌, ◌^◌, ◌<◌, ◌≤◌, Bool, true, false, List, [], ◌∷◌, get_or}
+use Rattle.std.proofs.Common.{refl, sym, ap, ◌∙◌, subst, arith, All, Option, Some, if◌then◌else◌}
+use Rattle.std.proofs.lemmas.List.Elements.{All-append, All-head, All-map, All-nil, All-tail}
 use Rattle.hart_words.specs.declared.privilege.Access.{Access}
-use Rattle.hart_words.specs.declared.privilege.Access.TheVariants as kind
 use Rattle.hart_words.specs.declared.privilege.Mode.{Mode}
 use Rattle.hart_words.specs.declared.privilege.Mode.TheVariants.{User, Supervisor, Machine}
 use Rattle.hart_words.specs.declared.privilege.PmpEntry.{PmpEntry}
@@ -13,7 +12,7 @@ use Rattle.hart_words.specs.AccessSizes.{bytes_of}
 use Rattle.hart_words.specs.Frames.{AgreeOn-after_writes}
 use Rattle.hart_words.specs.Memory.{AgreeOn, Bytes, SameBytes, after_writes}
 use Rattle.hart_words.specs.Signals.{Shown}
-use Rattle.hart_words.specs.Spans.{holds_all}
+use Rattle.hart_words.specs.declared.map.Map.{Map}
 use Rattle.rv_integer.specs.declared.int_result.IntResult.{IntResult}
 use Rattle.rv_integer.specs.declared.int_result.IntResult.TheVariants as results
 use Rattle.rv_integer.specs.declared.int_result.MemoryOp.{MemoryOp}
@@ -24,52 +23,57 @@ use Rattle.csr_file.specs.declared.csrs.Csrs.{Csrs}
 use Rattle.csr_file.specs.Registers.{pmp_entries_of}
 use Rattle.mem_access.specs.declared.place.AccessRequest.{AccessRequest}
 use Rattle.mem_access.specs.Accesses.{parcel_fetch}
-use Rattle.mem_access.specs.Laws.{IsGrantedRead, IsTableRead}
 use Rattle.mem_access.specs.Places.{data_mode_of}
+use Rattle.mem_access.specs.Reads.{CheckedRead, IsPermittedRead, access_reads_of, fetch_reads_of, reads_in}
+use Rattle.mem_access.specs.Reads.{walk_reads_of}
+use Rattle.mem_access.proofs.Orders.{access_all, data_all, fetch_all, walk_all}
 use Rattle.hart_step.specs.declared.state.Core.{Core}
 use Rattle.hart_step.specs.Rows.{HartState, RunBelowMachine, after_row, after_rows}
-use Rattle.hart_step.specs.Steps.{begun, stepped}
-use Rattle.hart_step.specs.Laws.{asked}
-use Rattle.hart_step.specs.ProtectionLaws.{check_by, check_of, IsDataRead, IsStepRead, AgreeWhereGranted, StepsAlike, ComeToTheSame, RowsGoAlike}
+use Rattle.hart_step.specs.Steps.{before_instruction, step_of}
+use Rattle.hart_step.specs.Laws.{request_at_pc}
+use Rattle.hart_step.specs.ProtectionLaws.{asked_reads_of, check_by, check_of, instruction_reads_of, reads_its_bytes}
+use Rattle.hart_step.specs.ProtectionLaws.{step_reads_of, AgreeWherePermitted, StepsAlike, ComeToTheSame, RowsGoAlike}
 use Rattle.hart_step.proofs.Entries.{SameEntries, begun_entries, lower_modes_leave}
-use Rattle.hart_step.proofs.Granted.{step_granted}
+use Rattle.hart_step.proofs.Permitted.{step_granted}
 
 -- the bytes of an access that is granted below M
-same_bytes : (len pa : ℕ) (one other : Bytes) → ((byte : ℕ) → pa ≤ byte → byte < pa + len → other byte ≡ one byte) → SameBytes pa len one other
+same_bytes : (len pa : ℕ) (one other : Bytes) → ((byte : ℕ) → pa ≤ byte → byte < pa + len → other byte ≡ one byte)
+    → SameBytes pa len one other
 unfolding SameBytes
 same_bytes zero pa one other same = tt
-same_bytes (suc len) pa one other same =
-    (same pa (omega arith) (omega arith), same_bytes len (pa + 1) one other (λ byte low high. same byte (omega (arith, low)) (omega (arith, high))))
+same_bytes (suc len) pa one other same = (
+  same pa (omega arith) (omega arith),
+  same_bytes len (pa + 1) one other (λ byte low high. same byte (omega (arith, low)) (omega (arith, high))),
+)
 
-as_supervisor : (mode : Mode) (entries : List PmpEntry) (byte : ℕ) (access : Access) → mode ≢ Machine → is_allowed entries mode byte 1 access ≡ true → is_allowed entries Supervisor byte 1 access ≡ true
+as_supervisor : (mode : Mode) (entries : List PmpEntry) (byte : ℕ) (access : Access) → mode ≢ Machine
+    → is_allowed entries mode byte 1 access ≡ true → is_allowed entries Supervisor byte 1 access ≡ true
 as_supervisor Machine entries byte access lower allowed = absurd (lower refl)
 as_supervisor Supervisor entries byte access lower allowed = allowed
 as_supervisor User entries byte access lower allowed = sym (both_alike entries byte 1 access) ∙ allowed
 
-bytes_granted : (core : Core) (one other : Bytes) (mode : Mode) (pa len : ℕ) (access : Access) → AgreeWhereGranted core one other → mode ≢ Machine → is_allowed (pmp_entries_of core.csrs) mode pa len access ≡ true → SameBytes pa len one other
+bytes_granted : (core : Core) (one other : Bytes) (mode : Mode) (pa len : ℕ) (access : Access)
+    → AgreeWherePermitted core one other → mode ≢ Machine
+    → is_allowed (pmp_entries_of core.csrs) mode pa len access ≡ true → SameBytes pa len one other
 bytes_granted core one other mode pa len access agree lower allowed =
     let entries = pmp_entries_of core.csrs in
-    same_bytes len pa one other (λ byte low high. agree byte access (as_supervisor mode entries byte access lower (byte_allowed entries mode pa len access byte allowed low high)))
+    same_bytes len pa one other
+    (λ byte low high. agree byte access
+    (as_supervisor mode entries byte access lower (byte_allowed entries mode pa len access byte allowed low high)))
 
 -- those of a read
 SameAt : Bytes → Bytes → Read → Type 0
 SameAt one other read = SameBytes read.pa read.len one other
 
-of_length : (one other : Bytes) (read : Read) (len : ℕ) → read.len ≡ len → SameBytes read.pa len one other → SameAt one other read
+-- a read that is permitted to a mode below M
+permitted_same : (core : Core) (one other : Bytes) (check : CheckedRead) → AgreeWherePermitted core one other
+    → check.mode ≢ Machine → IsPermittedRead core.csrs core.map check → SameAt one other check.read
 unfolding SameAt
-of_length one other read len is same = subst (λ (n : ℕ). SameBytes read.pa n one other) (sym is) same
-
-granted_same : (core : Core) (one other : Bytes) (request : AccessRequest) (read : Read) → AgreeWhereGranted core one other → request.mode ≢ Machine → IsGrantedRead core.csrs core.map request read → SameAt one other read
-granted_same core one other request read agree lower is =
-    of_length one other read request.len is.0 (bytes_granted core one other request.mode read.pa request.len request.access agree lower is.1.1)
+permitted_same core one other check agree lower permitted =
+    bytes_granted core one other check.mode check.read.pa check.read.len check.access agree lower permitted.1
 
 supervisor_lower : Supervisor ≢ Machine
 supervisor_lower is = cc
-
-table_same : (core : Core) (one other : Bytes) (read : Read) → AgreeWhereGranted core one other → IsTableRead core.csrs core.map read → SameAt one other read
-table_same core one other read agree is =
-    let parts = and_parts (holds_all core.map.ram read.pa 8) (is_allowed (pmp_entries_of core.csrs) Supervisor read.pa 8 kind.Load) is.1 in
-    of_length one other read 8 is.0 (bytes_granted core one other Supervisor read.pa 8 kind.Load agree supervisor_lower parts.1)
 
 data_lower : (csrs : Csrs) (mode : Mode) → mode ≢ Machine → data_mode_of csrs mode ≢ Machine
 unfolding data_mode_of
@@ -77,7 +81,8 @@ data_lower csrs Machine lower = absurd (lower refl)
 data_lower csrs Supervisor lower = lower
 data_lower csrs User lower = lower
 
-check_mode : (core : Core) (len : ℕ) (op : MemoryOp) → (check_by core len op).mode ≡ data_mode_of core.csrs core.mode
+pub check_mode : (core : Core) (len : ℕ) (op : MemoryOp) → (check_by core len op).mode
+    ≡ data_mode_of core.csrs core.mode
 check_mode core len (Load signed) = refl
 check_mode core len LoadReserved = refl
 check_mode core len (Store value) = refl
@@ -87,60 +92,117 @@ check_mode core len (Amo op width b) = refl
 check_lower : (core : Core) (len : ℕ) (op : MemoryOp) → core.mode ≢ Machine → (check_by core len op).mode ≢ Machine
 check_lower core len op lower is = data_lower core.csrs core.mode lower (sym (check_mode core len op) ∙ is)
 
-data_same : (core : Core) (one other : Bytes) (asks : Option IntResult) (read : Read) → core.mode ≢ Machine → AgreeWhereGranted core one other → IsDataRead core asks read → SameAt one other read
-data_same core one other (Some (results.Access request)) read lower agree is =
-    granted_same core one other (check_of core request) read agree (check_lower core (bytes_of request.size) request.op lower) is.1
-data_same core one other _ read lower agree is = absurd is
+-- each read of an instruction in S or U is made below M
+abbrev IsLower : CheckedRead → Type 0
+IsLower check = check.mode ≢ Machine
 
-read_same : (core : Core) (one other : Bytes) (asks : Option IntResult) (read : Read) → core.mode ≢ Machine → AgreeWhereGranted core one other → IsStepRead core asks read → SameAt one other read
-read_same core one other asks read lower agree is = elim is [
-  | inl fetch ↦ elim fetch [
-    | inl table ↦ table_same core one other read agree table
-    | inr parcel ↦ granted_same core one other (parcel_fetch core.mode) read agree lower parcel
-  ]
-  | inr data_read ↦ data_same core one other asks read lower agree data_read
-]
+walk_lower : (csrs : Csrs) (map : Map) (mode : Mode) (va : ℕ) (bytes : Bytes)
+    → All IsLower (walk_reads_of csrs map mode va bytes)
+walk_lower csrs map mode va bytes = walk_all IsLower csrs map mode va bytes (λ pa can. supervisor_lower)
+
+access_lower : (csrs : Csrs) (map : Map) (request : AccessRequest) (va : ℕ) (bytes : Bytes) → request.mode ≢ Machine
+    → All IsLower (access_reads_of csrs map request va bytes)
+access_lower csrs map request va bytes lower =
+    access_all IsLower csrs map request va bytes (λ pa can. supervisor_lower) (λ place is memory. lower)
+
+fetch_lower : (core : Core) (bytes : Bytes) → core.mode ≢ Machine → All IsLower
+    (fetch_reads_of core.csrs core.map core.mode core.pc bytes)
+fetch_lower core bytes lower =
+    fetch_all IsLower core.csrs core.map core.mode core.pc bytes
+    (access_lower core.csrs core.map (parcel_fetch core.mode) core.pc bytes lower)
+    (access_lower core.csrs core.map (parcel_fetch core.mode) ((core.pc + 2) % 2 ^ 64) bytes lower)
+
+asked_lower : (core : Core) (asks : Option IntResult) (bytes : Bytes) → core.mode ≢ Machine
+    → All IsLower (asked_reads_of core asks bytes)
+asked_lower core (Some (results.Access request)) bytes lower =
+    let check = check_of core request in
+    data_all IsLower core.csrs core.map check (reads_its_bytes request.op) request.address bytes
+    (λ aligned. access_lower core.csrs core.map check request.address bytes
+    (check_lower core (bytes_of request.size) request.op lower))
+    (walk_lower core.csrs core.map check.mode request.address bytes)
+asked_lower core _ bytes lower = All-nil IsLower
+
+instruction_lower : (core : Core) (bytes : Bytes) → core.mode ≢ Machine → All IsLower (instruction_reads_of core bytes)
+unfolding instruction_reads_of
+instruction_lower core bytes lower =
+    All-append IsLower (fetch_reads_of core.csrs core.map core.mode core.pc bytes)
+    (asked_reads_of core (request_at_pc core bytes) bytes)
+    (fetch_lower core bytes lower) (asked_lower core (request_at_pc core bytes) bytes lower)
+
+step_lower : (core : Core) (shown : Shown) (bytes : Bytes) → (before_instruction core shown).mode ≢ Machine
+    → All IsLower (step_reads_of core shown bytes)
+unfolding step_reads_of
+step_lower core shown bytes lower = by core.halted
+  where
+    by : (halted : Bool)
+        → All IsLower (if halted then [] else instruction_reads_of (before_instruction core shown) bytes)
+    by true = All-nil IsLower
+    by false = instruction_lower (before_instruction core shown) bytes lower
+
+checks_same : (core : Core) (one other : Bytes) (checks : List CheckedRead) → AgreeWherePermitted core one other
+    → All (IsPermittedRead core.csrs core.map) checks → All IsLower checks
+    → All (λ check. SameAt one other check.read) checks
+checks_same core one other checks agree permitted lower = λ k d below.
+    permitted_same core one other (get_or checks k d) agree (lower k d below) (permitted k d below)
 
 reads_same : (reads : List Read) (one other : Bytes) → All (SameAt one other) reads → AgreeOn reads one other
 unfolding AgreeOn SameAt
 reads_same [] one other same = tt
-reads_same (read ∷ reads) one other same =
-    (All-head (λ r. SameBytes r.pa r.len one other) read reads same, reads_same reads one other (All-tail (λ r. SameBytes r.pa r.len one other) read reads same))
+reads_same (read ∷ reads) one other same = (
+  All-head (λ r. SameBytes r.pa r.len one other) read reads same,
+  reads_same reads one other (All-tail (λ r. SameBytes r.pa r.len one other) read reads same),
+)
 
 -- a step
-agree_begun : (core : Core) (shown : Shown) (one other : Bytes) → AgreeWhereGranted core one other → AgreeWhereGranted (begun core shown) one other
+agree_begun : (core : Core) (shown : Shown) (one other : Bytes) → AgreeWherePermitted core one other
+    → AgreeWherePermitted (before_instruction core shown) one other
 agree_begun core shown one other agree byte access allowed =
-    agree byte access (sym (ap (λ entries. is_allowed entries Supervisor byte 1 access) (begun_entries core shown)) ∙ allowed)
+    agree byte access
+    (sym (ap (λ entries. is_allowed entries Supervisor byte 1 access) (begun_entries core shown)) ∙ allowed)
 
 pub steps_alike : (core : Core) (shown : Shown) (one other : Bytes) → StepsAlike core shown one other
 steps_alike core shown one other lower agree =
-    let begins = begun core shown in
-    let asks = asked begins one in
-    let reads = ((stepped core shown).run one).reads in
-    let same : All (SameAt one other) reads =
-    All-weaker (IsStepRead begins asks) (SameAt one other) (λ read is. read_same begins one other asks read lower (agree_begun core shown one other agree) is) reads (step_granted core shown one).reads in
-    (stepped core shown).framed one other (reads_same reads one other same)
+    let begins = before_instruction core shown in
+    let checks = step_reads_of core shown one in
+    let granted = (step_granted core shown one).reads in
+    let same : All (λ check. SameAt one other check.read) checks =
+    checks_same begins one other checks (agree_begun core shown one other agree) granted.permitted
+    (step_lower core shown one lower) in
+    let all : All (SameAt one other) (reads_in checks) = All-map (SameAt one other) (λ check. check.read) checks same in
+    let Same : List Read → Type 0 = All (SameAt one other) in
+    (step_of core shown).framed one other
+    (reads_same ((step_of core shown).run one).reads one other (subst Same (sym granted.order) all))
 
 -- what it writes it writes to both
-written_alike : (wrote : List Write) (one other : Bytes) (byte : ℕ) → other byte ≡ one byte → after_writes wrote other byte ≡ after_writes wrote one byte
+written_alike : (wrote : List Write) (one other : Bytes) (byte : ℕ) → other byte ≡ one byte
+    → after_writes wrote other byte ≡ after_writes wrote one byte
 unfolding AgreeOn SameBytes
 written_alike wrote one other byte same =
     let read : Read = record { pa = byte; len = 1 } in
     (AgreeOn-after_writes (read ∷ []) wrote one other ((same, tt), tt)).0.0
 
 -- rows, the memories of which agree where the entries of the first hart grant an access
-came_same : (core : Core) (one other : HartState) → SameEntries core.csrs one.core.csrs → other.core ≡ one.core → AgreeWhereGranted core one.bytes other.bytes → (rows : List Shown) → RunBelowMachine one rows → ComeToTheSame core (after_rows one rows) (after_rows other rows)
+came_same : (core : Core) (one other : HartState) → SameEntries core.csrs one.core.csrs → other.core ≡ one.core
+    → AgreeWherePermitted core one.bytes other.bytes → (rows : List Shown) → RunBelowMachine one rows
+    → ComeToTheSame core (after_rows one rows) (after_rows other rows)
 unfolding after_rows RunBelowMachine
 came_same core one other entries cores agree [] below = record { cores = cores; memories = agree }
 came_same core one other entries cores agree (shown ∷ rows) below =
-    let still : AgreeWhereGranted one.core one.bytes other.bytes = λ byte access allowed.
+    let still : AgreeWherePermitted one.core one.bytes other.bytes = λ byte access allowed.
     agree byte access (sym (ap (λ e. is_allowed e Supervisor byte 1 access) entries) ∙ allowed) in
-    let wrote = ((stepped one.core shown).run one.bytes).wrote in
-    let both : (stepped other.core shown).run other.bytes ≡ (stepped one.core shown).run one.bytes =
-    ap (λ k. (stepped k shown).run other.bytes) cores ∙ steps_alike one.core shown one.bytes other.bytes below.0 still in
-    let memories : AgreeWhereGranted core (after_writes wrote one.bytes) (after_writes ((stepped other.core shown).run other.bytes).wrote other.bytes) = λ byte access allowed.
-    ap (λ r. after_writes r.wrote other.bytes byte) both ∙ written_alike wrote one.bytes other.bytes byte (agree byte access allowed) in
-    came_same core (after_row one shown) (after_row other shown) (lower_modes_leave one.core shown one.bytes below.0 ∙ entries) (ap (λ r. r.value.next) both) memories rows below.1
+    let wrote = ((step_of one.core shown).run one.bytes).wrote in
+    let both : (step_of other.core shown).run other.bytes ≡ (step_of one.core shown).run one.bytes =
+    ap (λ k. (step_of k shown).run other.bytes) cores
+    ∙ steps_alike one.core shown one.bytes other.bytes below.0 still in
+    let memories : AgreeWherePermitted core (after_writes wrote one.bytes)
+    (after_writes ((step_of other.core shown).run other.bytes).wrote other.bytes) = λ byte access allowed.
+    ap (λ r. after_writes r.wrote other.bytes byte) both
+    ∙ written_alike wrote one.bytes other.bytes byte (agree byte access allowed) in
+    came_same core (after_row one shown) (after_row other shown)
+    (lower_modes_leave one.core shown one.bytes below.0 ∙ entries) (ap (λ r. r.value.next) both) memories rows
+    below.1
 
 pub rows_alike : (core : Core) (rows : List Shown) (one other : Bytes) → RowsGoAlike core rows one other
-rows_alike core rows one other below agree = came_same core (record { core = core; bytes = one }) (record { core = core; bytes = other }) refl refl agree rows below
+rows_alike core rows one other below agree =
+    came_same core (record { core = core; bytes = one }) (record { core = core; bytes = other }) refl refl agree rows
+    below

@@ -1,5 +1,6 @@
 -- A row decides nothing but its choices.
-use Rattle.std.proofs.Common.{◌≡◌, ℕ, ◌%◌, ◌^◌, Bool, true, false, not, ◌&&◌, refl, sym, ap, ◌∙◌, subst, inl, inr, Ok, Err, Result, Option, Some, None, bit_and, bit_or, if◌then◌else◌}
+use Rattle.std.proofs.Common.{◌≡◌, ℕ, ◌%◌, ◌^◌, Bool, true, false, not, ◌&&◌, refl, sym, ap, ◌∙◌, subst, inl, inr, Ok}
+use Rattle.std.proofs.Common.{Err, Result, Option, Some, None, bit_and, bit_or, if◌then◌else◌}
 use Rattle.std.specs.Prelude.{◌==◌}
 use Rattle.std.specs.Option.{is_none, unwrap_or}
 use Rattle.std.proofs.lemmas.Bool.{cases_Bool}
@@ -12,7 +13,7 @@ use Rattle.hart_words.specs.Actions.{Action, pure, mapped, followed_by}
 use Rattle.hart_words.specs.Results.{◌>>=◌}
 use Rattle.hart_words.proofs.Runs.{run_then-is}
 use Rattle.rv_decode.specs.declared.operation.Op.{Op}
-use Rattle.rv_decode.specs.Operands.{destination_of}
+use Rattle.rv_decode.specs.Operands.{operands_of}
 use Rattle.rv_integer.specs.declared.int_result.IntResult.{IntResult}
 use Rattle.rv_integer.specs.declared.int_result.IntResult.TheVariants as results
 use Rattle.rv_integer.specs.declared.int_result.SystemRequest.{SystemRequest}
@@ -21,7 +22,7 @@ use Rattle.rv_integer.specs.declared.int_result.MemoryRequest.{MemoryRequest}
 use Rattle.rv_integer.specs.declared.int_result.MemoryOp.{MemoryOp}
 use Rattle.rv_integer.specs.declared.int_result.MemoryOp.TheVariants as memory
 use Rattle.rv_integer.specs.declared.int_result.CsrRequest.{CsrRequest}
-use Rattle.rv_integer.specs.Results.{computed}
+use Rattle.rv_integer.specs.Results.{result_of}
 use Rattle.csr_table.specs.declared.registers.Csr.{Csr}
 use Rattle.csr_table.specs.declared.registers.Csr.TheVariants.{Time}
 use Rattle.csr_table.specs.declared.registers.CsrRow.{CsrRow}
@@ -33,273 +34,407 @@ use Rattle.csr_file.specs.declared.fields.TheConstants.{TW}
 use Rattle.csr_file.specs.declared.csr_kind.CsrKind.{CsrKind}
 use Rattle.csr_file.specs.declared.csr_kind.CsrKind.TheVariants as kinds
 use Rattle.csr_file.specs.Table.{csr_kind_of}
-use Rattle.csr_file.specs.Values.{free_bits_of, taken_bits_of}
-use Rattle.csr_file.specs.Access.{read_at}
+use Rattle.csr_file.specs.Values.{adoptable_bits_of, adopted_bits_of}
+use Rattle.csr_file.specs.Access.{csr_read_at}
 use Rattle.interrupt_pick.specs.Interrupts.{pick_of}
 use Rattle.rvfi_rows.specs.declared.expected.Expected.TheVariants.{Retired}
 use Rattle.mem_access.specs.declared.place.Place.{Place}
-use Rattle.mem_access.specs.Accesses.{Exception, fetched}
+use Rattle.mem_access.specs.Accesses.{Exception, fetch_result}
 use Rattle.mem_access.proofs.Writes.{fetch_writes_nothing}
 use Rattle.hart_step.specs.declared.state.Core.{Core}
-use Rattle.hart_step.specs.declared.choices.Choices.{Choices}
+use Rattle.hart_step.specs.declared.choices.RowChoices.{RowChoices}
 use Rattle.hart_step.specs.declared.choices.Lines.{Lines}
 use Rattle.hart_step.specs.declared.instruction.Instruction.{Instruction}
-use Rattle.hart_step.specs.declared.memory.Answer.{Answer}
-use Rattle.hart_step.specs.Choices.{shows, order_after, asks_interrupt, lines_of, choices_of, bytes_shown, device_value, told_by_register, says_stored}
+use Rattle.hart_step.specs.declared.memory.AccessResult.{AccessResult}
+use Rattle.hart_step.specs.Choices.{shows, order_after, asks_interrupt, pending_lines_of, choices_of, load_bytes_shown}
+use Rattle.hart_step.specs.Choices.{device_value, register_says_stored, says_stored}
 use Rattle.rv_atomic.specs.declared.reservation.Reservation.{Reservation}
 use Rattle.rv_atomic.specs.Blocks.{is_covered}
-use Rattle.hart_step.specs.MemoryAccess.{Found, placed, access_at, extended, value_found, is_stored, answer_by, answer_of, written_by, put, answered, accessed}
-use Rattle.hart_step.specs.CsrAccess.{Old, traps_at, old_by, old_of, written_of, csr_accessed}
-use Rattle.hart_step.specs.Returns.{is_supervised, waits_by_trap}
-use Rattle.hart_step.specs.Instructions.{Done, after_access, after_csr, done_if, goes_on, system_executed, executed, executed_by, first_value, second_value, Ran, ended, op_of, decoded_run, fetched_run, ran}
-use Rattle.hart_step.specs.Steps.{counted, interrupt_of, interrupted_by, interrupted, lacks_interrupt, begun, insn_of, effects_of, finished_by, finished, expected_of, gave_of}
-use Rattle.hart_step.specs.Laws.{AgreeOnRow, AgreeOnTime, AgreeOnRead, AgreeOnSystem, AgreeOnAccess, AgreeOnInstruction, RowsDecideAlike, SameAt, is_adopted, asked_by, asked_from, asked}
+use Rattle.hart_step.specs.MemoryAccess.{LocatedValue, located_access, expected_access, loaded_value, value_found}
+use Rattle.hart_step.specs.MemoryAccess.{is_stored, access_result_by, access_result_of, number_written, put}
+use Rattle.hart_step.specs.MemoryAccess.{access_after_location, memory_access}
+use Rattle.hart_step.specs.CsrAccess.{OldValue, traps_at, old_value_by, old_value_of, csrs_after_request}
+use Rattle.hart_step.specs.CsrAccess.{csr_access_result}
+use Rattle.hart_step.specs.Returns.{may_use_supervisor_instruction, wfi_traps}
+use Rattle.hart_step.specs.Instructions.{Completion, after_access, after_csr, completion_if, core_at_next}
+use Rattle.hart_step.specs.Instructions.{system_execution, execution_of, execution_by, first_value, second_value}
+use Rattle.hart_step.specs.Instructions.{InstructionRun, run_of_result, op_of, run_of_decoded, run_of_fetched}
+use Rattle.hart_step.specs.Instructions.{instruction_run}
+use Rattle.hart_step.specs.Steps.{core_after_count, interrupt_of, core_after_interrupt_by, core_after_interrupt}
+use Rattle.hart_step.specs.Steps.{lacks_interrupt, before_instruction, insn_of, effects_of, core_after_outcome}
+use Rattle.hart_step.specs.Steps.{core_after_run, expected_of, step_result_of}
+use Rattle.hart_step.specs.Laws.{AgreeOnRow, AgreeOnTime, AgreeOnRead, AgreeOnSystem, AgreeOnAccess, AgreeOnInstruction}
+use Rattle.hart_step.specs.Laws.{RowsDecideAlike, SameAt, is_row_dependent, request_by, request_from, request_at_pc}
 use Rattle.hart_step.proofs.Phases.{running, halting}
 
 -- the phases before the fetch
-counted_same : (core : Core) (one other : Shown) → AgreeOnRow one other → counted core other ≡ counted core one
-unfolding counted
-counted_same core one other agree = ap (λ order. record core { next_order = order_after core.next_order order }) agree.order
+counted_same : (core : Core) (one other : Shown) → AgreeOnRow one other
+    → core_after_count core other ≡ core_after_count core one
+unfolding core_after_count
+counted_same core one other agree =
+    ap (λ order. record core { next_order = order_after core.next_order order }) agree.order
 
-entry_same : (asks trapped : Bool) (shown shown' : Option ℕ) (pc : ℕ) → (asks ≡ true → shown' ≡ shown) → (asks && not (trapped && shows shown' pc)) ≡ (asks && not (trapped && shows shown pc))
+entry_same : (asks trapped : Bool) (shown shown' : Option ℕ) (pc : ℕ) → (asks ≡ true → shown' ≡ shown)
+    → (asks && not (trapped && shows shown' pc)) ≡ (asks && not (trapped && shows shown pc))
 entry_same false trapped shown shown' pc same = refl
 entry_same true trapped shown shown' pc same = ap (λ s. not (trapped && shows s pc)) (same refl)
 
-asks_same : (core : Core) (one other : Shown) → AgreeOnRow one other → asks_interrupt core other ≡ asks_interrupt core one
+asks_same : (core : Core) (one other : Shown) → AgreeOnRow one other
+    → asks_interrupt core other ≡ asks_interrupt core one
 unfolding asks_interrupt
 asks_same core one other agree =
     ap (λ i. shows i 1 && not (core.trapped_last && shows (other PcRdata) core.pc)) agree.intr
     ∙ entry_same (shows (one Intr) 1) core.trapped_last (one PcRdata) (other PcRdata) core.pc agree.pc_rdata
 
-interrupt_same : (core : Core) (one other : Shown) → AgreeOnRow one other → interrupt_of core other ≡ interrupt_of core one
+interrupt_same : (core : Core) (one other : Shown) → AgreeOnRow one other
+    → interrupt_of core other ≡ interrupt_of core one
 interrupt_same core one other agree = ap (λ l. pick_of core.csrs core.mode l.up) agree.lines
 
-interrupted_same : (core : Core) (one other : Shown) → AgreeOnRow one other → interrupted core other ≡ interrupted core one
-unfolding interrupted
+interrupted_same : (core : Core) (one other : Shown) → AgreeOnRow one other
+    → core_after_interrupt core other ≡ core_after_interrupt core one
+unfolding core_after_interrupt
 interrupted_same core one other agree =
-    ap (λ asks. if asks then interrupted_by core (interrupt_of core other) else core) (asks_same core one other agree)
-    ∙ ap (λ pick. if asks_interrupt core one then interrupted_by core pick else core) (interrupt_same core one other agree)
+    ap (λ asks. if asks then core_after_interrupt_by core (interrupt_of core other) else core)
+    (asks_same core one other agree)
+    ∙ ap (λ pick. if asks_interrupt core one then core_after_interrupt_by core pick else core)
+    (interrupt_same core one other agree)
 
-lacks_same : (core : Core) (one other : Shown) → AgreeOnRow one other → lacks_interrupt core other ≡ lacks_interrupt core one
+lacks_same : (core : Core) (one other : Shown) → AgreeOnRow one other
+    → lacks_interrupt core other ≡ lacks_interrupt core one
 unfolding lacks_interrupt
 lacks_same core one other agree =
     ap (λ asks. if asks then is_none (interrupt_of core other) else false) (asks_same core one other agree)
     ∙ ap (λ pick. if asks_interrupt core one then is_none pick else false) (interrupt_same core one other agree)
 
-begun_same : (core : Core) (one other : Shown) → AgreeOnRow one other → begun core other ≡ begun core one
-unfolding begun
-begun_same core one other agree = ap (λ k. interrupted k other) (counted_same core one other agree) ∙ interrupted_same (counted core one) one other agree
+begun_same : (core : Core) (one other : Shown) → AgreeOnRow one other
+    → before_instruction core other ≡ before_instruction core one
+unfolding before_instruction
+begun_same core one other agree =
+    ap (λ k. core_after_interrupt k other) (counted_same core one other agree)
+    ∙ interrupted_same (core_after_count core one) one other agree
 
 -- the end of a step, and the facts about it
-finished_same : (done : Ran) (one other : Shown) → AgreeOnRow one other → finished done other ≡ finished done one
-unfolding finished
-finished_same done one other agree = ap (λ halt. record (finished_by done.core done.executed) { halted = shows halt 1 }) agree.halt
+finished_same : (done : InstructionRun) (one other : Shown) → AgreeOnRow one other
+    → core_after_run done other ≡ core_after_run done one
+unfolding core_after_run
+finished_same done one other agree =
+    ap (λ halt. record (core_after_outcome done.core done.executed) { halted = shows halt 1 }) agree.halt
 
-gave_same : (core : Core) (done : Ran) (one other : Shown) → AgreeOnRow one other → gave_of core other done ≡ gave_of core one done
-unfolding gave_of expected_of
+gave_same : (core : Core) (done : InstructionRun) (one other : Shown) → AgreeOnRow one other
+    → step_result_of core other done ≡ step_result_of core one done
+unfolding step_result_of expected_of
 gave_same core done one other agree =
     let p = begun_same core one other agree in
-    let l = ap (λ k. lacks_interrupt k other) (counted_same core one other agree) ∙ lacks_same (counted core one) one other agree in
+    let l =
+    ap (λ k. lacks_interrupt k other) (counted_same core one other agree)
+    ∙ lacks_same (core_after_count core one) one other agree in
     let e = ap (λ b. effects_of b done.core done.executed) p in
     let after = finished_same done one other agree in
     let up = agree.lines in
     λ i. record {
       next = after i;
-      expected = Retired (record { order = core.next_order; lacks_interrupt = l i; pc = (p i).pc; mode = (p i).mode; insn = insn_of done.executed; effects = e i; csrs_before = (p i).csrs; csrs_after = (after i).csrs; lines = (up i).up });
+      expected =
+          Retired
+          (record {
+            order =
+                core.next_order;
+            lacks_interrupt =
+                l i;
+            pc =
+                (p i).pc;
+            mode =
+                (p i).mode;
+            insn =
+                insn_of done.executed;
+            effects =
+                e i;
+            csrs_before = (p i).csrs;
+            csrs_after = (after i).csrs;
+            lines = (up i).up;
+          });
     }
 
 -- what an access takes from its row
-device_same : (one other : Choices) (va len : ℕ) → other.rd_wdata ≡ one.rd_wdata → other.mem_addr ≡ one.mem_addr → other.mem_rdata ≡ one.mem_rdata → device_value other va len ≡ device_value one va len
+device_same : (one other : RowChoices) (va len : ℕ) → other.rd_wdata ≡ one.rd_wdata → other.mem_addr ≡ one.mem_addr
+    → other.mem_rdata ≡ one.mem_rdata → device_value other va len ≡ device_value one va len
 unfolding device_value
 device_same one other va len rd address held =
-    ap (λ a. unwrap_or (bytes_shown va len a other.mem_rdata) (unwrap_or other.rd_wdata 0 % 256 ^ len)) address
-    ∙ ap (λ d. unwrap_or (bytes_shown va len one.mem_addr d) (unwrap_or other.rd_wdata 0 % 256 ^ len)) held
-    ∙ ap (λ r. unwrap_or (bytes_shown va len one.mem_addr one.mem_rdata) (unwrap_or r 0 % 256 ^ len)) rd
+    ap (λ a. unwrap_or (load_bytes_shown va len a other.mem_rdata) (unwrap_or other.rd_wdata 0 % 256 ^ len)) address
+    ∙ ap (λ d. unwrap_or (load_bytes_shown va len one.mem_addr d) (unwrap_or other.rd_wdata 0 % 256 ^ len)) held
+    ∙ ap (λ r. unwrap_or (load_bytes_shown va len one.mem_addr one.mem_rdata) (unwrap_or r 0 % 256 ^ len)) rd
 
-told_same : (one other : Choices) → other.rd_wdata ≡ one.rd_wdata → other.mem_wmask ≡ one.mem_wmask → says_stored other ≡ says_stored one
+told_same : (one other : RowChoices) → other.rd_wdata ≡ one.rd_wdata → other.mem_wmask ≡ one.mem_wmask
+    → says_stored other ≡ says_stored one
 unfolding says_stored
-told_same one other rd mask = ap (λ r. told_by_register r other.mem_wmask) rd ∙ ap (λ m. told_by_register one.rd_wdata m) mask
+told_same one other rd mask =
+    ap (λ r. register_says_stored r other.mem_wmask) rd ∙ ap (λ m. register_says_stored one.rd_wdata m) mask
 
-rd_same : (one other : Shown) (rd : ℕ) → SameAt RdWdata one other → (choices_of other rd).rd_wdata ≡ (choices_of one rd).rd_wdata
+rd_same : (one other : Shown) (rd : ℕ) → SameAt RdWdata one other
+    → (choices_of other rd).rd_wdata ≡ (choices_of one rd).rd_wdata
 unfolding choices_of
 rd_same one other rd same = ap (λ v. if rd == 0 then None else v) same
 
-found_by : (one other : Choices) (request : MemoryRequest) (io : Bool) (held : ℕ) → (io ≡ true → device_value other request.address (bytes_of request.size) ≡ device_value one request.address (bytes_of request.size))
-    → (if io then device_value other request.address (bytes_of request.size) else held) ≡ (if io then device_value one request.address (bytes_of request.size) else held)
+found_by : (one other : RowChoices) (request : MemoryRequest) (io : Bool) (held : ℕ)
+    → (io ≡ true
+    → device_value other request.address (bytes_of request.size)
+    ≡ device_value one request.address (bytes_of request.size))
+    → (if io then device_value other request.address (bytes_of request.size) else held)
+    ≡ (if io then device_value one request.address (bytes_of request.size) else held)
 found_by one other request true held same = same refl
 found_by one other request false held same = refl
 
-found_same : (one other : Shown) (rd : ℕ) (request : MemoryRequest) (place : Place) (held : ℕ) (signed : Bool) → AgreeOnAccess (Ok (place, held)) (memory.Load signed) one other
+found_same : (one other : Shown) (rd : ℕ) (request : MemoryRequest) (place : Place) (held : ℕ) (signed : Bool)
+    → AgreeOnAccess (Ok (place, held)) (memory.Load signed) one other
     → value_found (choices_of other rd) request place held ≡ value_found (choices_of one rd) request place held
 unfolding choices_of
 found_same one other rd request place held signed agree =
     found_by (choices_of one rd) (choices_of other rd) request place.io held (λ io.
-    device_same (choices_of one rd) (choices_of other rd) request.address (bytes_of request.size) (rd_same one other rd (agree io).0) (agree io).1.0 (agree io).1.1)
+    device_same (choices_of one rd) (choices_of other rd) request.address (bytes_of request.size)
+    (rd_same one other rd (agree io).0) (agree io).1.0 (agree io).1.1)
 
-stored_same : (core : Core) (one other : Shown) (rd value : ℕ) (request : MemoryRequest) (place : Place) (held : ℕ) → AgreeOnAccess (Ok (place, held)) (memory.StoreConditional value) one other
+stored_same : (core : Core) (one other : Shown) (rd value : ℕ) (request : MemoryRequest) (place : Place) (held : ℕ)
+    → AgreeOnAccess (Ok (place, held)) (memory.StoreConditional value) one other
     → is_stored core (choices_of other rd) request place ≡ is_stored core (choices_of one rd) request place
 unfolding choices_of
 stored_same core one other rd value request place held agree =
-    ap (λ says. is_covered core.reservation.block place.pa (bytes_of request.size) && says) (told_same (choices_of one rd) (choices_of other rd) (rd_same one other rd agree.0) agree.1)
+    ap (λ says. is_covered core.reservation.block place.pa (bytes_of request.size) && says)
+    (told_same (choices_of one rd) (choices_of other rd) (rd_same one other rd agree.0) agree.1)
 
-answer_same : (core : Core) (one other : Shown) (rd : ℕ) (request : MemoryRequest) (place : Place) (held : ℕ) (op : MemoryOp) → AgreeOnAccess (Ok (place, held)) op one other
-    → answer_by core (choices_of other rd) request place held op ≡ answer_by core (choices_of one rd) request place held op
+answer_same : (core : Core) (one other : Shown) (rd : ℕ) (request : MemoryRequest) (place : Place) (held : ℕ)
+    (op : MemoryOp) → AgreeOnAccess (Ok (place, held)) op one other
+    → access_result_by core (choices_of other rd) request place held op
+    ≡ access_result_by core (choices_of one rd) request place held op
 answer_same core one other rd request place held (memory.Load signed) agree =
-    ap (λ value. record { value = extended signed request value; access = access_at request place (Some value) None; reservation = core.reservation }) (found_same one other rd request place held signed agree)
+    ap (λ value.
+    record {
+      value =
+          loaded_value signed request value;
+      access =
+          expected_access request place (Some value) None;
+      reservation = core.reservation;
+    })
+    (found_same one other rd request place held signed agree)
 answer_same core one other rd request place held memory.LoadReserved agree = refl
 answer_same core one other rd request place held (memory.Store value) agree = refl
 answer_same core one other rd request place held (memory.StoreConditional value) agree =
     let free : Reservation = record { block = None } in
-    let yes : Answer = record { value = 0; access = access_at request place None (Some value); reservation = free } in
-    let not_so : Answer = record { value = 1; access = None; reservation = free } in
+    let yes : AccessResult =
+    record { value = 0; access = expected_access request place None (Some value); reservation = free } in
+    let not_so : AccessResult = record { value = 1; access = None; reservation = free } in
     ap (λ stored. if stored then yes else not_so) (stored_same core one other rd value request place held agree)
 answer_same core one other rd request place held (memory.Amo op width b) agree = refl
 
-answered_same : (core : Core) (one other : Shown) (rd : ℕ) (request : MemoryRequest) (found : Result Found Exception) (bytes : Bytes) → AgreeOnAccess found request.op one other
-    → (answered core (choices_of other rd) request found).run bytes ≡ (answered core (choices_of one rd) request found).run bytes
-unfolding answer_of
+answered_same : (core : Core) (one other : Shown) (rd : ℕ) (request : MemoryRequest)
+    (found : Result LocatedValue Exception) (bytes : Bytes) → AgreeOnAccess found request.op one other
+    → (access_after_location core (choices_of other rd) request found).run bytes
+    ≡ (access_after_location core (choices_of one rd) request found).run bytes
+unfolding access_result_of
 answered_same core one other rd request (Err exception) bytes agree = refl
 answered_same core one other rd request (Ok found) bytes agree =
-    let given : Answer → Unit {0} → Result Answer Exception = λ a _. Ok a in
-    ap (λ answer. (mapped (given answer) (put found.0 (bytes_of request.size) (written_by answer.access))).run bytes) (answer_same core one other rd request found.0 found.1 request.op agree)
+    let given : AccessResult → Unit {0} → Result AccessResult Exception = λ a _. Ok a in
+    ap (λ answer. (mapped (given answer) (put found.0 (bytes_of request.size) (number_written answer.access))).run
+    bytes) (answer_same core one other rd request found.0 found.1 request.op agree)
 
-access_same : (core : Core) (one other : Shown) (rd : ℕ) (request : MemoryRequest) (bytes : Bytes) → AgreeOnAccess ((placed core request).run bytes).value request.op one other
-    → (accessed core (choices_of other rd) request).run bytes ≡ (accessed core (choices_of one rd) request).run bytes
-unfolding accessed
+access_same : (core : Core) (one other : Shown) (rd : ℕ) (request : MemoryRequest) (bytes : Bytes)
+    → AgreeOnAccess ((located_access core request).run bytes).value request.op one other
+    → (memory_access core (choices_of other rd) request).run bytes
+    ≡ (memory_access core (choices_of one rd) request).run bytes
+unfolding memory_access
 access_same core one other rd request bytes agree =
-    let before = (placed core request).run bytes in
-    run_then-is (placed core request) (answered core (choices_of other rd) request) bytes
-    ∙ ap (followed_by before) (answered_same core one other rd request before.value (after_writes before.wrote bytes) agree)
-    ∙ sym (run_then-is (placed core request) (answered core (choices_of one rd) request) bytes)
+    let before = (located_access core request).run bytes in
+    run_then-is (located_access core request) (access_after_location core (choices_of other rd) request) bytes
+    ∙ ap (followed_by before)
+    (answered_same core one other rd request before.value (after_writes before.wrote bytes) agree)
+    ∙ sym (run_then-is (located_access core request) (access_after_location core (choices_of one rd) request) bytes)
 
 -- what an access to a register takes
-abbrev TakesSame : Choices → Choices → Csr → Type 0
-TakesSame one other csr = (traps_at csr other ≡ traps_at csr one) × (is_adopted (csr_kind_of csr) ≡ true → other.rd_wdata ≡ one.rd_wdata)
+abbrev TakesSame : RowChoices → RowChoices → Csr → Type 0
+TakesSame one other csr =
+    (traps_at csr other ≡ traps_at csr one)
+    × (is_row_dependent (csr_kind_of csr) ≡ true → other.rd_wdata ≡ one.rd_wdata)
 
 none_taken : (one other taken : ℕ) → taken ≡ 0 → bit_and other taken ≡ bit_and one taken
-none_taken one other taken nothing = ap (bit_and other) nothing ∙ and_zero_r other ∙ sym (and_zero_r one) ∙ sym (ap (bit_and one) nothing)
+none_taken one other taken nothing =
+    ap (bit_and other) nothing ∙ and_zero_r other ∙ sym (and_zero_r one) ∙ sym (ap (bit_and one) nothing)
 
-taken_same : (csrs : Csrs) (one other : Choices) (kind : CsrKind) (shown : ℕ) → (is_adopted kind ≡ true → other.rd_wdata ≡ one.rd_wdata)
-    → bit_and (unwrap_or other.rd_wdata 0) (taken_bits_of csrs kind shown) ≡ bit_and (unwrap_or one.rd_wdata 0) (taken_bits_of csrs kind shown)
-unfolding free_bits_of
-taken_same csrs one other (kinds.Stored stored) shown same = none_taken (unwrap_or one.rd_wdata 0) (unwrap_or other.rd_wdata 0) 0 refl
-taken_same csrs one other kinds.Status shown same = none_taken (unwrap_or one.rd_wdata 0) (unwrap_or other.rd_wdata 0) 0 refl
-taken_same csrs one other kinds.Pending shown same = ap (λ v. bit_and (unwrap_or v 0) (taken_bits_of csrs kinds.Pending shown)) (same refl)
-taken_same csrs one other kinds.SupervisorStatus shown same = none_taken (unwrap_or one.rd_wdata 0) (unwrap_or other.rd_wdata 0) 0 refl
-taken_same csrs one other kinds.SupervisorEnables shown same = none_taken (unwrap_or one.rd_wdata 0) (unwrap_or other.rd_wdata 0) 0 refl
-taken_same csrs one other kinds.SupervisorPending shown same = ap (λ v. bit_and (unwrap_or v 0) (taken_bits_of csrs kinds.SupervisorPending shown)) (same refl)
-taken_same csrs one other kinds.Translation shown same = none_taken (unwrap_or one.rd_wdata 0) (unwrap_or other.rd_wdata 0) 0 refl
-taken_same csrs one other kinds.LowConfigurations shown same = none_taken (unwrap_or one.rd_wdata 0) (unwrap_or other.rd_wdata 0) 0 refl
-taken_same csrs one other kinds.HighConfigurations shown same = none_taken (unwrap_or one.rd_wdata 0) (unwrap_or other.rd_wdata 0) 0 refl
-taken_same csrs one other (kinds.EntryAddress number) shown same = none_taken (unwrap_or one.rd_wdata 0) (unwrap_or other.rd_wdata 0) 0 refl
-taken_same csrs one other (kinds.Constant number) shown same = none_taken (unwrap_or one.rd_wdata 0) (unwrap_or other.rd_wdata 0) 0 refl
-taken_same csrs one other kinds.OfCore shown same = ap (λ v. bit_and (unwrap_or v 0) (taken_bits_of csrs kinds.OfCore shown)) (same refl)
-taken_same csrs one other (kinds.Counter bit) shown same = ap (λ v. bit_and (unwrap_or v 0) (taken_bits_of csrs (kinds.Counter bit) shown)) (same refl)
-taken_same csrs one other kinds.ClosedCounter shown same = ap (λ v. bit_and (unwrap_or v 0) (taken_bits_of csrs kinds.ClosedCounter shown)) (same refl)
+taken_same : (csrs : Csrs) (one other : RowChoices) (kind : CsrKind) (shown : ℕ)
+    → (is_row_dependent kind ≡ true → other.rd_wdata ≡ one.rd_wdata)
+    → bit_and (unwrap_or other.rd_wdata 0) (adopted_bits_of csrs kind shown)
+    ≡ bit_and (unwrap_or one.rd_wdata 0) (adopted_bits_of csrs kind shown)
+unfolding adoptable_bits_of
+taken_same csrs one other (kinds.Stored stored) shown same =
+    none_taken (unwrap_or one.rd_wdata 0) (unwrap_or other.rd_wdata 0) 0 refl
+taken_same csrs one other kinds.Status shown same =
+    none_taken (unwrap_or one.rd_wdata 0) (unwrap_or other.rd_wdata 0) 0 refl
+taken_same csrs one other kinds.Pending shown same =
+    ap (λ v. bit_and (unwrap_or v 0) (adopted_bits_of csrs kinds.Pending shown)) (same refl)
+taken_same csrs one other kinds.SupervisorStatus shown same =
+    none_taken (unwrap_or one.rd_wdata 0) (unwrap_or other.rd_wdata 0) 0 refl
+taken_same csrs one other kinds.SupervisorEnables shown same =
+    none_taken (unwrap_or one.rd_wdata 0) (unwrap_or other.rd_wdata 0) 0 refl
+taken_same csrs one other kinds.SupervisorPending shown same =
+    ap (λ v. bit_and (unwrap_or v 0) (adopted_bits_of csrs kinds.SupervisorPending shown)) (same refl)
+taken_same csrs one other kinds.Translation shown same =
+    none_taken (unwrap_or one.rd_wdata 0) (unwrap_or other.rd_wdata 0) 0 refl
+taken_same csrs one other kinds.LowConfigurations shown same =
+    none_taken (unwrap_or one.rd_wdata 0) (unwrap_or other.rd_wdata 0) 0 refl
+taken_same csrs one other kinds.HighConfigurations shown same =
+    none_taken (unwrap_or one.rd_wdata 0) (unwrap_or other.rd_wdata 0) 0 refl
+taken_same csrs one other (kinds.EntryAddress number) shown same =
+    none_taken (unwrap_or one.rd_wdata 0) (unwrap_or other.rd_wdata 0) 0 refl
+taken_same csrs one other (kinds.Constant number) shown same =
+    none_taken (unwrap_or one.rd_wdata 0) (unwrap_or other.rd_wdata 0) 0 refl
+taken_same csrs one other kinds.ImplementationDefined shown same =
+    ap (λ v. bit_and (unwrap_or v 0) (adopted_bits_of csrs kinds.ImplementationDefined shown)) (same refl)
+taken_same csrs one other (kinds.Counter bit) shown same =
+    ap (λ v. bit_and (unwrap_or v 0) (adopted_bits_of csrs (kinds.Counter bit) shown)) (same refl)
+taken_same csrs one other kinds.UnimplementedCounter shown same =
+    ap (λ v. bit_and (unwrap_or v 0) (adopted_bits_of csrs kinds.UnimplementedCounter shown)) (same refl)
 
-old_by_same : (core : Core) (one other : Choices) (address : ℕ) (row : CsrRow) → other.lines ≡ one.lines → TakesSame one other row.csr → old_by core other address (Some row) ≡ old_by core one address (Some row)
+old_by_same : (core : Core) (one other : RowChoices) (address : ℕ) (row : CsrRow) → other.lines ≡ one.lines
+    → TakesSame one other row.csr
+    → old_value_by core other address (Some row) ≡ old_value_by core one address (Some row)
 old_by_same core one other address row lines takes =
-    let refused : Result Old Illegal = Err (record {}) in
-    let old : Choices → Lines → CsrRead → Result Old Illegal = λ choices l read. Ok (bit_or read.value (bit_and (unwrap_or choices.rd_wdata 0) (taken_bits_of core.csrs (csr_kind_of row.csr) l.shown)), read.base) in
+    let refused : Result OldValue Illegal = Err (record {}) in
+    let old : RowChoices → Lines → CsrRead → Result OldValue Illegal =
+    λ choices l read. Ok (
+      bit_or read.value
+          (bit_and (unwrap_or choices.rd_wdata 0) (adopted_bits_of core.csrs (csr_kind_of row.csr) l.shown)),
+      read.base,
+    ) in
     let value : (read : CsrRead) → old other other.lines read ≡ old one one.lines read = λ read.
-    ap (λ l. old other l read) lines ∙ ap (λ v. Ok (bit_or read.value v, read.base)) (taken_same core.csrs one other (csr_kind_of row.csr) one.lines.shown takes.1) in
-    let by : (read : Result CsrRead Illegal) → (read >>= old other other.lines) ≡ (read >>= old one one.lines) = λ read. elim read as (λ r. (r >>= old other other.lines) ≡ (r >>= old one one.lines)) [ Ok x ↦ value x | Err e ↦ refl ] in
-    ap (λ traps. if traps then refused else (read_at core.csrs address core.mode other.lines.up >>= old other other.lines)) takes.0
-    ∙ ap (λ l. if traps_at row.csr one then refused else (read_at core.csrs address core.mode l.up >>= old other other.lines)) lines
-    ∙ ap (λ r. if traps_at row.csr one then refused else r) (by (read_at core.csrs address core.mode one.lines.up))
+    ap (λ l. old other l read) lines
+    ∙ ap (λ v. Ok (bit_or read.value v, read.base))
+    (taken_same core.csrs one other (csr_kind_of row.csr) one.lines.shown takes.1) in
+    let by : (read : Result CsrRead Illegal) → (read >>= old other other.lines) ≡ (read >>= old one one.lines) =
+    λ read. elim read as (λ r. (r >>= old other other.lines) ≡ (r >>= old one one.lines))
+    [ Ok x ↦ value x | Err e ↦ refl ] in
+    ap (λ traps. if traps then refused
+    else (csr_read_at core.csrs address core.mode other.lines.up >>= old other other.lines)) takes.0
+    ∙ ap (λ l. if traps_at row.csr one then refused
+    else (csr_read_at core.csrs address core.mode l.up >>= old other other.lines)) lines
+    ∙ ap (λ r. if traps_at row.csr one then refused else r) (by (csr_read_at core.csrs address core.mode one.lines.up))
 
-traps_same : (one other : Shown) (rd : ℕ) → SameAt Trap one other → (choices_of other rd).traps ≡ (choices_of one rd).traps
+traps_same : (one other : Shown) (rd : ℕ) → SameAt Trap one other
+    → (choices_of other rd).traps ≡ (choices_of one rd).traps
 unfolding choices_of
 traps_same one other rd same = ap (λ t. shows t 1) same
 
-traps_at_same : (one other : Shown) (rd : ℕ) (csr : Csr) → AgreeOnTime csr one other → traps_at csr (choices_of other rd) ≡ traps_at csr (choices_of one rd)
+traps_at_same : (one other : Shown) (rd : ℕ) (csr : Csr) → AgreeOnTime csr one other
+    → traps_at csr (choices_of other rd) ≡ traps_at csr (choices_of one rd)
 traps_at_same one other rd Time agree = traps_same one other rd agree
 traps_at_same one other rd _ agree = refl
 
-lines_same : (one other : Shown) (rd : ℕ) → lines_of other ≡ lines_of one → (choices_of other rd).lines ≡ (choices_of one rd).lines
+lines_same : (one other : Shown) (rd : ℕ) → pending_lines_of other ≡ pending_lines_of one
+    → (choices_of other rd).lines ≡ (choices_of one rd).lines
 unfolding choices_of
 lines_same one other rd same = same
 
-row_same : (core : Core) (one other : Shown) (rd address : ℕ) (row : Option CsrRow) → lines_of other ≡ lines_of one → AgreeOnRead row one other → old_by core (choices_of other rd) address row ≡ old_by core (choices_of one rd) address row
+row_same : (core : Core) (one other : Shown) (rd address : ℕ) (row : Option CsrRow)
+    → pending_lines_of other ≡ pending_lines_of one → AgreeOnRead row one other
+    → old_value_by core (choices_of other rd) address row ≡ old_value_by core (choices_of one rd) address row
 row_same core one other rd address None lines agree = refl
 row_same core one other rd address (Some row) lines agree =
-    old_by_same core (choices_of one rd) (choices_of other rd) address row (lines_same one other rd lines) (traps_at_same one other rd row.csr agree.0, λ adopted. rd_same one other rd (agree.1 adopted))
+    old_by_same core (choices_of one rd) (choices_of other rd) address row (lines_same one other rd lines)
+    (traps_at_same one other rd row.csr agree.0, λ adopted. rd_same one other rd (agree.1 adopted))
 
-read_same : (core : Core) (one other : Shown) (rd : ℕ) (address : ℕ) (reads : Bool) → lines_of other ≡ lines_of one → (reads ≡ true → AgreeOnRead (csr_row_of address) one other)
-    → (if reads then old_by core (choices_of other rd) address (csr_row_of address) else Ok (0, 0)) ≡ (if reads then old_by core (choices_of one rd) address (csr_row_of address) else Ok (0, 0))
-read_same core one other rd address true lines agree = row_same core one other rd address (csr_row_of address) lines (agree refl)
+read_same : (core : Core) (one other : Shown) (rd : ℕ) (address : ℕ) (reads : Bool)
+    → pending_lines_of other ≡ pending_lines_of one → (reads ≡ true → AgreeOnRead (csr_row_of address) one other)
+    → (if reads then old_value_by core (choices_of other rd) address (csr_row_of address) else Ok (0, 0))
+    ≡ (if reads then old_value_by core (choices_of one rd) address (csr_row_of address) else Ok (0, 0))
+read_same core one other rd address true lines agree =
+    row_same core one other rd address (csr_row_of address) lines (agree refl)
 read_same core one other rd address false lines agree = refl
 
-csr_same : (core : Core) (one other : Shown) (rd : ℕ) (request : CsrRequest) → lines_of other ≡ lines_of one → AgreeOnSystem (system.Csr request) one other
-    → csr_accessed core (choices_of other rd) request ≡ csr_accessed core (choices_of one rd) request
-unfolding csr_accessed old_of
+csr_same : (core : Core) (one other : Shown) (rd : ℕ) (request : CsrRequest)
+    → pending_lines_of other ≡ pending_lines_of one → AgreeOnSystem (system.Csr request) one other
+    → csr_access_result core (choices_of other rd) request ≡ csr_access_result core (choices_of one rd) request
+unfolding csr_access_result old_value_of
 csr_same core one other rd request lines agree =
-    let rest : Old → Result (ℕ × Csrs) Illegal = λ old. (written_of core request old.1 >>= λ csrs. Ok (old.0, csrs)) in
+    let rest : OldValue → Result (ℕ × Csrs) Illegal =
+    λ old. (csrs_after_request core request old.1 >>= λ csrs. Ok (old.0, csrs)) in
     ap (λ old. old >>= rest) (read_same core one other rd request.address request.reads lines agree)
 
-system_same : (core : Core) (one other : Shown) (rd : ℕ) (i : Instruction) (request : SystemRequest) → lines_of other ≡ lines_of one → AgreeOnSystem request one other
-    → system_executed core (choices_of other rd) i request ≡ system_executed core (choices_of one rd) i request
-unfolding system_executed waits_by_trap
-system_same core one other rd i (system.Csr request) lines agree = ap (after_csr core i) (csr_same core one other rd request lines agree)
+system_same : (core : Core) (one other : Shown) (rd : ℕ) (i : Instruction) (request : SystemRequest)
+    → pending_lines_of other ≡ pending_lines_of one → AgreeOnSystem request one other
+    → system_execution core (choices_of other rd) i request ≡ system_execution core (choices_of one rd) i request
+unfolding system_execution wfi_traps
+system_same core one other rd i (system.Csr request) lines agree =
+    ap (after_csr core i) (csr_same core one other rd request lines agree)
 system_same core one other rd i system.EnvironmentCall lines agree = refl
 system_same core one other rd i system.Breakpoint lines agree = refl
 system_same core one other rd i system.MachineReturn lines agree = refl
 system_same core one other rd i system.SupervisorReturn lines agree = refl
 system_same core one other rd i system.WaitForInterrupt lines agree =
-    ap (λ traps. done_if (not (not (is_supervised core TW) && traps)) (goes_on core i 0) i) (traps_same one other rd agree)
+    ap (λ traps. completion_if (not (not (may_use_supervisor_instruction core TW) && traps)) (core_at_next core i 0)
+    i) (traps_same one other rd agree)
 system_same core one other rd i system.TranslationFence lines agree = refl
 
 -- what stands at pc
-executed_by_same : (core : Core) (one other : Shown) (rd : ℕ) (i : Instruction) (result : IntResult) (bytes : Bytes) → lines_of other ≡ lines_of one → AgreeOnInstruction core bytes (Some result) one other
-    → (executed_by core (choices_of other rd) i result).run bytes ≡ (executed_by core (choices_of one rd) i result).run bytes
+executed_by_same : (core : Core) (one other : Shown) (rd : ℕ) (i : Instruction) (result : IntResult) (bytes : Bytes)
+    → pending_lines_of other ≡ pending_lines_of one → AgreeOnInstruction core bytes (Some result) one other
+    → (execution_by core (choices_of other rd) i result).run bytes
+    ≡ (execution_by core (choices_of one rd) i result).run bytes
 unfolding mapped
 executed_by_same core one other rd i (results.Value value) bytes lines agree = refl
 executed_by_same core one other rd i (results.Jump link target) bytes lines agree = refl
 executed_by_same core one other rd i (results.Continue next_pc) bytes lines agree = refl
 executed_by_same core one other rd i (results.Access request) bytes lines agree =
-    ap (λ r. record { value = after_access core i r.value; reads = r.reads; wrote = r.wrote }) (access_same core one other rd request bytes agree)
+    ap (λ r. record { value = after_access core i r.value; reads = r.reads; wrote = r.wrote })
+    (access_same core one other rd request bytes agree)
 executed_by_same core one other rd i (results.System request) bytes lines agree =
-    let did : Result Done Exception → Action (Result Done Exception) = λ d. pure d in
+    let did : Result Completion Exception → Action (Result Completion Exception) = λ d. pure d in
     ap (λ d. (did d).run bytes) (system_same core one other rd i request lines agree)
 
-decoded_same : (core : Core) (one other : Shown) (bits len : ℕ) (op : Option Op) (bytes : Bytes) → lines_of other ≡ lines_of one → AgreeOnInstruction core bytes (asked_by core len op) one other
-    → (decoded_run core other bits len op).run bytes ≡ (decoded_run core one bits len op).run bytes
-unfolding mapped executed
+decoded_same : (core : Core) (one other : Shown) (bits len : ℕ) (op : Option Op) (bytes : Bytes)
+    → pending_lines_of other ≡ pending_lines_of one → AgreeOnInstruction core bytes (request_by core len op) one other
+    → (run_of_decoded core other bits len op).run bytes ≡ (run_of_decoded core one bits len op).run bytes
+unfolding mapped execution_of
 decoded_same core one other bits len None bytes lines agree = refl
 decoded_same core one other bits len (Some op) bytes lines agree =
     let i : Instruction = record { op = op; bits = bits; len = len } in
-    let result = computed op (first_value core op) (second_value core op) core.pc len in
-    ap (λ r. record { value = ended core i r.value; reads = r.reads; wrote = r.wrote }) (executed_by_same core one other (destination_of op) i result bytes lines agree)
+    let result = result_of op (first_value core op) (second_value core op) core.pc len in
+    ap (λ r. record { value = run_of_result core i r.value; reads = r.reads; wrote = r.wrote })
+    (executed_by_same core one other (operands_of op).rd i result bytes lines agree)
 
-fetched_same : (core : Core) (one other : Shown) (word : Result (ℕ × ℕ) Exception) (bytes : Bytes) → lines_of other ≡ lines_of one → AgreeOnInstruction core bytes (asked_from core word) one other
-    → (fetched_run core other word).run bytes ≡ (fetched_run core one word).run bytes
+fetched_same : (core : Core) (one other : Shown) (word : Result (ℕ × ℕ) Exception) (bytes : Bytes)
+    → pending_lines_of other ≡ pending_lines_of one → AgreeOnInstruction core bytes (request_from core word) one other
+    → (run_of_fetched core other word).run bytes ≡ (run_of_fetched core one word).run bytes
 fetched_same core one other (Err exception) bytes lines agree = refl
-fetched_same core one other (Ok word) bytes lines agree = decoded_same core one other word.0 word.1 (op_of word.0 word.1) bytes lines agree
+fetched_same core one other (Ok word) bytes lines agree =
+    decoded_same core one other word.0 word.1 (op_of word.0 word.1) bytes lines agree
 
-unchanged : (core : Core) (bytes : Bytes) → bytes ≡ after_writes ((fetched core.csrs core.map core.mode core.pc).run bytes).wrote bytes
+unchanged : (core : Core) (bytes : Bytes)
+    → bytes ≡ after_writes ((fetch_result core.csrs core.map core.mode core.pc).run bytes).wrote bytes
 unfolding after_writes
-unchanged core bytes = ap (λ w. after_writes w bytes) (sym (fetch_writes_nothing core.csrs core.map core.mode core.pc bytes))
+unchanged core bytes =
+    ap (λ w. after_writes w bytes) (sym (fetch_writes_nothing core.csrs core.map core.mode core.pc bytes))
 
-ran_same : (core : Core) (one other : Shown) (bytes : Bytes) → lines_of other ≡ lines_of one → AgreeOnInstruction core bytes (asked core bytes) one other → (ran core other).run bytes ≡ (ran core one).run bytes
-unfolding ran asked
+ran_same : (core : Core) (one other : Shown) (bytes : Bytes) → pending_lines_of other ≡ pending_lines_of one
+    → AgreeOnInstruction core bytes (request_at_pc core bytes) one other
+    → (instruction_run core other).run bytes ≡ (instruction_run core one).run bytes
+unfolding instruction_run request_at_pc
 ran_same core one other bytes lines agree =
-    let fetch = fetched core.csrs core.map core.mode core.pc in
+    let fetch = fetch_result core.csrs core.map core.mode core.pc in
     let before = fetch.run bytes in
-    let P : Bytes → Type 0 = λ m. AgreeOnInstruction core m (asked_from core before.value) one other in
-    run_then-is fetch (fetched_run core other) bytes
-    ∙ ap (followed_by before) (fetched_same core one other before.value (after_writes before.wrote bytes) lines (subst P (unchanged core bytes) agree))
-    ∙ sym (run_then-is fetch (fetched_run core one) bytes)
+    let P : Bytes → Type 0 = λ m. AgreeOnInstruction core m (request_from core before.value) one other in
+    run_then-is fetch (run_of_fetched core other) bytes
+    ∙ ap (followed_by before)
+    (fetched_same core one other before.value (after_writes before.wrote bytes) lines
+    (subst P (unchanged core bytes) agree))
+    ∙ sym (run_then-is fetch (run_of_fetched core one) bytes)
 
 pub decide_alike : (core : Core) (bytes : Bytes) (one other : Shown) → RowsDecideAlike core bytes one other
 unfolding mapped
 decide_alike core bytes one other agree on = elim (cases_Bool core.halted) [
   | inl halted ↦ halting core other bytes halted ∙ sym (halting core one bytes halted)
   | inr runs ↦
-      let before = ran_same (begun core one) one other bytes agree.lines on in
-      let did = ap (λ k. (ran k other).run bytes) (begun_same core one other agree) ∙ before in
-      let one_run = (ran (begun core one) one).run bytes in
+      let before = ran_same (before_instruction core one) one other bytes agree.lines on in
+      let did = ap (λ k. (instruction_run k other).run bytes) (begun_same core one other agree) ∙ before in
+      let one_run = (instruction_run (before_instruction core one) one).run bytes in
       running core other bytes runs
-      ∙ ap (λ r. record { value = gave_of core other r.value; reads = r.reads; wrote = r.wrote }) did
-      ∙ ap (λ g. record { value = g; reads = one_run.reads; wrote = one_run.wrote }) (gave_same core one_run.value one other agree)
+      ∙ ap (λ r. record { value = step_result_of core other r.value; reads = r.reads; wrote = r.wrote }) did
+      ∙ ap (λ g. record { value = g; reads = one_run.reads; wrote = one_run.wrote })
+      (gave_same core one_run.value one other agree)
       ∙ sym (running core one bytes runs)
 ]

@@ -1,5 +1,6 @@
 -- A locked entry outlasts every step.
-use Rattle.std.proofs.Common.{◌≡◌, ◌↔◌, ℕ, zero, suc, ◌-◌, ◌/◌, ◌%◌, ◌^◌, ◌<◌, Bool, true, false, inl, inr, refl, sym, ap, ◌∙◌, subst, arith, if◌then◌else◌}
+use Rattle.std.proofs.Common.{◌≡◌, ◌↔◌, ℕ, zero, suc, ◌-◌, ◌/◌, ◌%◌, ◌^◌, ◌<◌, Bool, true, false, inl, inr, refl, sym}
+use Rattle.std.proofs.Common.{ap, ◌∙◌, subst, arith, if◌then◌else◌}
 use Rattle.std.specs.Prelude.{◌==◌, slice_index_or}
 use Rattle.std.proofs.lemmas.Bool.{cases_Bool, and_from}
 use Rattle.hart_words.specs.declared.privilege.PmpEntry.{PmpEntry}
@@ -16,18 +17,21 @@ use Rattle.csr_file.specs.Values.{configuration_of, is_locked_from_below}
 use Rattle.csr_file.specs.Laws.{KeepsLocked}
 use Rattle.csr_file.proofs.Writes.{leaves_locked}
 use Rattle.hart_step.specs.declared.state.Core.{Core}
-use Rattle.hart_step.specs.Instructions.{ran}
-use Rattle.hart_step.specs.Steps.{begun, finished}
+use Rattle.hart_step.specs.Instructions.{instruction_run}
+use Rattle.hart_step.specs.Steps.{before_instruction, core_after_run}
 use Rattle.hart_step.specs.Laws.{next_of}
-use Rattle.hart_step.specs.ProtectionLaws.{is_locked, CoversTheSame, LocksOutlast}
+use Rattle.hart_step.specs.ProtectionLaws.{is_locked, CoversTheSame, LocksArePreserved}
 use Rattle.hart_step.proofs.Phases.{next_running, next_halted}
 use Rattle.hart_step.proofs.Entries.{SameEntries, ChangesIn, ran_changes, begun_entries, finished_entries}
 
-same_entry : (before after : Csrs) (number : ℕ) → SameEntries before after → pmp_entry_of after number ≡ pmp_entry_of before number
+same_entry : (before after : Csrs) (number : ℕ) → SameEntries before after
+    → pmp_entry_of after number ≡ pmp_entry_of before number
 same_entry before after number same = ap (λ entries. slice_index_or entries number no_entry) same
 
-same_lock : (before after : Csrs) (number : ℕ) → SameEntries before after → is_locked before number ≡ true → is_locked after number ≡ true
-same_lock before after number same locked = ap (λ entries. bit_is_set (slice_index_or entries number no_entry).cfg PMP_LOCK) same ∙ locked
+same_lock : (before after : Csrs) (number : ℕ) → SameEntries before after → is_locked before number ≡ true
+    → is_locked after number ≡ true
+same_lock before after number same locked =
+    ap (λ entries. bit_is_set (slice_index_or entries number no_entry).cfg PMP_LOCK) same ∙ locked
 
 -- one that the same entries, a write or nothing leaves
 kept_by_same : (before after : Csrs) (number : ℕ) → SameEntries before after → KeepsLocked before after number
@@ -36,13 +40,16 @@ kept_by_same before after number same = record {
   below = λ begins. ap (λ entry. entry.addr) (same_entry before after (number - 1) same);
 }
 
-kept_after : (one two three : Csrs) (number : ℕ) → KeepsLocked one two number → KeepsLocked two three number → KeepsLocked one three number
+kept_after : (one two three : Csrs) (number : ℕ) → KeepsLocked one two number → KeepsLocked two three number
+    → KeepsLocked one three number
 kept_after one two three number first second = record {
   entry = second.entry ∙ first.entry;
-  below = λ begins. second.below (ap (λ entry. is_locked_from_below entry.cfg) first.entry ∙ begins) ∙ first.below begins;
+  below =
+      λ begins. second.below (ap (λ entry. is_locked_from_below entry.cfg) first.entry ∙ begins) ∙ first.below begins;
 }
 
-kept_by_change : (core : Core) (after : Csrs) (number : ℕ) → number < 16 → is_locked core.csrs number ≡ true → ChangesIn core.mode core.csrs after → KeepsLocked core.csrs after number
+kept_by_change : (core : Core) (after : Csrs) (number : ℕ) → number < 16 → is_locked core.csrs number ≡ true
+    → ChangesIn core.mode core.csrs after → KeepsLocked core.csrs after number
 kept_by_change core after number below locked changes = elim changes [
   | inl same ↦ kept_by_same core.csrs after number same
   | inr write ↦
@@ -50,20 +57,27 @@ kept_by_change core after number below locked changes = elim changes [
       subst P (sym write.written) (leaves_locked core.csrs write.csr write.value number below locked)
 ]
 
-kept_running : (core : Core) (shown : Shown) (bytes : Bytes) (number : ℕ) → core.halted ≡ false → number < 16 → is_locked core.csrs number ≡ true → KeepsLocked core.csrs (next_of core shown bytes).csrs number
+kept_running : (core : Core) (shown : Shown) (bytes : Bytes) (number : ℕ) → core.halted ≡ false → number < 16
+    → is_locked core.csrs number ≡ true → KeepsLocked core.csrs (next_of core shown bytes).csrs number
 kept_running core shown bytes number runs below locked =
-    let begins = begun core shown in
-    let done = ((ran begins shown).run bytes).value in
+    let begins = before_instruction core shown in
+    let done = ((instruction_run begins shown).run bytes).value in
     let P : Core → Type 0 = λ k. KeepsLocked core.csrs k.csrs number in
     let entry = kept_by_same core.csrs begins.csrs number (begun_entries core shown) in
-    let runs_on = kept_by_change begins done.core.csrs number below (same_lock core.csrs begins.csrs number (begun_entries core shown) locked) (ran_changes begins shown bytes) in
-    let ends = kept_by_same done.core.csrs (finished done shown).csrs number (finished_entries done shown) in
+    let runs_on =
+    kept_by_change begins done.core.csrs number below
+    (same_lock core.csrs begins.csrs number (begun_entries core shown) locked) (ran_changes begins shown bytes) in
+    let ends = kept_by_same done.core.csrs (core_after_run done shown).csrs number (finished_entries done shown) in
     subst P (sym (next_running core shown bytes runs))
-    (kept_after core.csrs begins.csrs (finished done shown).csrs number entry (kept_after begins.csrs done.core.csrs (finished done shown).csrs number runs_on ends))
+    (kept_after core.csrs begins.csrs (core_after_run done shown).csrs number entry
+    (kept_after begins.csrs done.core.csrs (core_after_run done shown).csrs number runs_on ends))
 
-kept : (core : Core) (shown : Shown) (bytes : Bytes) (number : ℕ) → number < 16 → is_locked core.csrs number ≡ true → KeepsLocked core.csrs (next_of core shown bytes).csrs number
+kept : (core : Core) (shown : Shown) (bytes : Bytes) (number : ℕ) → number < 16 → is_locked core.csrs number ≡ true
+    → KeepsLocked core.csrs (next_of core shown bytes).csrs number
 kept core shown bytes number below locked = elim (cases_Bool core.halted) [
-  | inl halted ↦ kept_by_same core.csrs (next_of core shown bytes).csrs number (ap (λ k. pmp_entries_of k.csrs) (next_halted core shown bytes halted))
+  | inl halted ↦
+      kept_by_same core.csrs (next_of core shown bytes).csrs number
+      (ap (λ k. pmp_entries_of k.csrs) (next_halted core shown bytes halted))
   | inr runs ↦ kept_running core shown bytes number runs below locked
 ]
 
@@ -72,52 +86,67 @@ by_matching : (off top four : Bool) (addr one other a : ℕ) → (top ≡ true �
     → CoversAs (if off then Off else if top then TopOfRange else if four then FourBytes else PowerOfTwo) one addr a
     → CoversAs (if off then Off else if top then TopOfRange else if four then FourBytes else PowerOfTwo) other addr a
 by_matching true top four addr one other a same covers = covers
-by_matching false true four addr one other a same covers = subst (λ (b : ℕ). CoversAs TopOfRange b addr a) (sym (same refl)) covers
+by_matching false true four addr one other a same covers =
+    subst (λ (b : ℕ). CoversAs TopOfRange b addr a) (sym (same refl)) covers
 by_matching false false true addr one other a same covers = covers
 by_matching false false false addr one other a same covers = covers
 
-same_bytes : (cfg addr one other a : ℕ) → ((cfg / 2 ^ 3 % 4 == 1) ≡ true → other ≡ one) → CoversAs (matching_of cfg) one addr a → CoversAs (matching_of cfg) other addr a
-same_bytes cfg addr one other a same = by_matching (cfg / 2 ^ 3 % 4 == 0) (cfg / 2 ^ 3 % 4 == 1) (cfg / 2 ^ 3 % 4 == 2) addr one other a same
+same_bytes : (cfg addr one other a : ℕ) → ((cfg / 2 ^ 3 % 4 == 1) ≡ true → other ≡ one)
+    → CoversAs (matching_of cfg) one addr a → CoversAs (matching_of cfg) other addr a
+same_bytes cfg addr one other a same =
+    by_matching (cfg / 2 ^ 3 % 4 == 0) (cfg / 2 ^ 3 % 4 == 1) (cfg / 2 ^ 3 % 4 == 2) addr one other a same
 
 -- the address of the entry before a locked one, where it counts
-before_it : (before after : Csrs) (number : ℕ) → is_locked before number ≡ true → KeepsLocked before after number → (configuration_of before number / 2 ^ 3 % 4 == 1) ≡ true
+before_it : (before after : Csrs) (number : ℕ) → is_locked before number ≡ true → KeepsLocked before after number
+    → (configuration_of before number / 2 ^ 3 % 4 == 1) ≡ true
     → register_before 0 (pmp_entries_of after) number ≡ register_before 0 (pmp_entries_of before) number
 before_it before after zero locked keeps top = refl
 before_it before after (suc number) locked keeps top =
-    let begins : is_locked_from_below (configuration_of before (suc number)) ≡ true = and_from (is_locked before (suc number)) (configuration_of before (suc number) / 2 ^ 3 % 4 == 1) locked top in
+    let begins : is_locked_from_below (configuration_of before (suc number)) ≡ true =
+    and_from (is_locked before (suc number)) (configuration_of before (suc number) / 2 ^ 3 % 4 == 1) locked top in
     let is : suc number - 1 ≡ number = omega arith in
     let P : ℕ → Type 0 = λ n. (pmp_entry_of after n).addr ≡ (pmp_entry_of before n).addr in
     subst P is (keeps.below begins)
 
-covers_same : (before after : Csrs) (number : ℕ) → is_locked before number ≡ true → KeepsLocked before after number → CoversTheSame before after number
+covers_same : (before after : Csrs) (number : ℕ) → is_locked before number ≡ true → KeepsLocked before after number
+    → CoversTheSame before after number
 covers_same before after number locked keeps a =
     let entry = pmp_entry_of before number in
     let now = register_before 0 (pmp_entries_of after) number in
     let was = register_before 0 (pmp_entries_of before) number in
     let top = before_it before after number locked keeps in
-    let P : PmpEntry → Type 0 = λ e. CoversAs (matching_of e.cfg) now e.addr a ↔ CoversAs (matching_of entry.cfg) was entry.addr a in
+    let P : PmpEntry → Type 0 =
+    λ e. CoversAs (matching_of e.cfg) now e.addr a ↔ CoversAs (matching_of entry.cfg) was entry.addr a in
     subst P (sym keeps.entry) (
       same_bytes entry.cfg entry.addr now was a (λ h. sym (top h)),
       same_bytes entry.cfg entry.addr was now a top,
     )
 
-pub locks_outlast : (core : Core) (shown : Shown) (bytes : Bytes) → LocksOutlast core.csrs (next_of core shown bytes).csrs
+pub locks_outlast : (core : Core) (shown : Shown) (bytes : Bytes)
+    → LocksArePreserved core.csrs (next_of core shown bytes).csrs
 locks_outlast core shown bytes number below locked =
     let keeps = kept core shown bytes number below locked in
     record { keeps = keeps; covers = covers_same core.csrs (next_of core shown bytes).csrs number locked keeps }
 
 -- one after the other
-pub same_outlasts : (csrs : Csrs) → LocksOutlast csrs csrs
-same_outlasts csrs number below locked = record { keeps = kept_by_same csrs csrs number refl; covers = λ a. (λ covers. covers, λ covers. covers) }
+pub same_outlasts : (csrs : Csrs) → LocksArePreserved csrs csrs
+same_outlasts csrs number below locked =
+    record { keeps = kept_by_same csrs csrs number refl; covers = λ a. (λ covers. covers, λ covers. covers) }
 
-still_locked : (before after : Csrs) (number : ℕ) → KeepsLocked before after number → is_locked before number ≡ true → is_locked after number ≡ true
+pub still_locked : (before after : Csrs) (number : ℕ) → KeepsLocked before after number
+    → is_locked before number ≡ true → is_locked after number ≡ true
 still_locked before after number keeps locked = ap (λ entry. bit_is_set entry.cfg PMP_LOCK) keeps.entry ∙ locked
 
-pub locks_after : (one two three : Csrs) → LocksOutlast one two → LocksOutlast two three → LocksOutlast one three
+pub locks_after : (one two three : Csrs) → LocksArePreserved one two → LocksArePreserved two three
+    → LocksArePreserved one three
 locks_after one two three first second number below locked =
     let early = first number below locked in
     let late = second number below (still_locked one two number early.keeps locked) in
     record {
       keeps = kept_after one two three number early.keeps late.keeps;
-      covers = λ a. (λ covers. (early.covers a).0 ((late.covers a).0 covers), λ covers. (late.covers a).1 ((early.covers a).1 covers));
+      covers =
+          λ a. (
+            λ covers. (early.covers a).0 ((late.covers a).0 covers),
+            λ covers. (late.covers a).1 ((early.covers a).1 covers),
+          );
     }

@@ -1,5 +1,6 @@
 -- The registers of protection are M's, by their addresses.
-use Rattle.std.proofs.Common.{◌≡◌, ℕ, ◌/◌, ◌%◌, ◌^◌, ◌≤◌, Bool, true, false, not, cond, ◌&&◌, ◌||◌, List, [], ◌∷◌, Option, Some, None, refl, sym, ap, ◌∙◌, nat_le, arith}
+use Rattle.std.proofs.Common.{◌≡◌, ℕ, ◌/◌, ◌%◌, ◌^◌, ◌≤◌, Bool, true, false, not, cond, ◌&&◌, ◌||◌, List, [], ◌∷◌}
+use Rattle.std.proofs.Common.{Option, Some, None, refl, sym, ap, ◌∙◌, nat_le, arith}
 use Rattle.std.specs.List.{find, list_all}
 use Rattle.std.specs.Option.{option_map}
 use Rattle.std.proofs.lemmas.Bool.{and_parts}
@@ -32,44 +33,62 @@ record Lists (address : ℕ) (range : CsrRange) : Type 0 where
   pub listed : lists range address ≡ true
   pub apt : is_apt address range ≡ true
 
-step : (address : ℕ) (this other : CsrRange) (rest : Option CsrRange) (b : Bool) → lists this address ≡ b → is_apt address this ≡ true → (rest ≡ Some other → Lists address other) → cond b (Some this) rest ≡ Some other → Lists address other
+step : (address : ℕ) (this other : CsrRange) (rest : Option CsrRange) (b : Bool) → lists this address ≡ b
+    → is_apt address this ≡ true → (rest ≡ Some other → Lists address other) → cond b (Some this) rest ≡ Some other
+    → Lists address other
 step address this other rest true here apt later is =
     let same : this ≡ other = cc in
-    record { listed = ap (λ range. lists range address) (sym same) ∙ here; apt = ap (λ range. is_apt address range) (sym same) ∙ apt }
+    record {
+      listed =
+          ap (λ range. lists range address) (sym same) ∙ here;
+      apt = ap (λ range. is_apt address range) (sym same) ∙ apt;
+    }
 step address this other rest false here apt later is = later is
 
-found : (address : ℕ) (part : List CsrRange) (range : CsrRange) → list_all (is_apt address) part ≡ true → find (λ r. lists r address) part ≡ Some range → Lists address range
+found : (address : ℕ) (part : List CsrRange) (range : CsrRange) → list_all (is_apt address) part ≡ true
+    → find (λ r. lists r address) part ≡ Some range → Lists address range
 found address [] range apt is = cc
 found address (this ∷ rest) range apt is =
     let parts = and_parts (is_apt address this) (list_all (is_apt address) rest) apt in
-    step address this range (find (λ r. lists r address) rest) (lists this address) refl parts.0 (found address rest range parts.1) is
+    step address this range (find (λ r. lists r address) rest) (lists this address) refl parts.0
+    (found address rest range parts.1) is
 
-third : (first last address : ℕ) → 0x300 ≤ first → last ≤ 0x3FF → first ≤ address → address ≤ last → address / 2 ^ 8 % 4 ≡ 3
+third : (first last address : ℕ) → 0x300 ≤ first → last ≤ 0x3FF → first ≤ address → address ≤ last
+    → address / 2 ^ 8 % 4 ≡ 3
 third first last address low high from to = omega arith
 
-by_range : (address : ℕ) (range : CsrRange) (ours : Bool) → Lists address range → (nat_le 0x300 range.first && nat_le range.last 0x3FF) ≡ ours → protects (range.names address) ≡ true → address / 2 ^ 8 % 4 ≡ 3
+by_range : (address : ℕ) (range : CsrRange) (ours : Bool) → Lists address range
+    → (nat_le 0x300 range.first && nat_le range.last 0x3FF) ≡ ours → protects (range.names address) ≡ true
+    → address / 2 ^ 8 % 4 ≡ 3
 by_range address range true has is protective =
     let ends = and_parts (nat_le 0x300 range.first) (nat_le range.last 0x3FF) is in
     let here = and_parts (nat_le range.first address) (nat_le address range.last) has.listed in
-    third range.first range.last address (grind (arith, nat_tests, ends.0)) (grind (arith, nat_tests, ends.1)) (grind (arith, nat_tests, here.0)) (grind (arith, nat_tests, here.1))
-by_range address range false has is protective = other (nat_le 0x300 range.first && nat_le range.last 0x3FF) (protects (range.names address)) has.apt is protective
+    third range.first range.last address (grind (arith, nat_tests, ends.0)) (grind (arith, nat_tests, ends.1))
+    (grind (arith, nat_tests, here.0)) (grind (arith, nat_tests, here.1))
+by_range address range false has is protective =
+    other (nat_le 0x300 range.first && nat_le range.last 0x3FF) (protects (range.names address)) has.apt is protective
   where
     other : (a b : Bool) → (a || not b) ≡ true → a ≡ false → b ≡ true → address / 2 ^ 8 % 4 ≡ 3
     other true b h off on = cc
     other false true h off on = cc
     other false false h off on = cc
 
-by_found : (address : ℕ) (range : Option CsrRange) (row : CsrRow) → find (λ r. lists r address) csr_ranges ≡ range → option_map (csr_row_with address) (option_map (λ r. r.names address) range) ≡ Some row → protects row.csr ≡ true → row.least_mode ≡ 3
+by_found : (address : ℕ) (range : Option CsrRange) (row : CsrRow) → find (λ r. lists r address) csr_ranges ≡ range
+    → option_map (csr_row_with address) (option_map (λ r. r.names address) range) ≡ Some row → protects row.csr ≡ true
+    → row.least_mode ≡ 3
 by_found address None row is has protective = cc
 by_found address (Some range) row is has protective =
     let same : csr_row_with address (range.names address) ≡ row = cc in
     let level : address / 2 ^ 8 % 4 ≡ 3 =
-    by_range address range (nat_le 0x300 range.first && nat_le range.last 0x3FF) (found address csr_ranges range (all_apt address) is) refl (ap (λ r. protects r.csr) same ∙ protective) in
+    by_range address range (nat_le 0x300 range.first && nat_le range.last 0x3FF)
+    (found address csr_ranges range (all_apt address) is) refl (ap (λ r. protects r.csr) same ∙ protective) in
     ap (λ r. r.least_mode) (sym same) ∙ level
 
-protective_row : (address : ℕ) (row : CsrRow) → csr_row_of address ≡ Some row → protects row.csr ≡ true → row.least_mode ≡ 3
+protective_row : (address : ℕ) (row : CsrRow) → csr_row_of address ≡ Some row → protects row.csr ≡ true
+    → row.least_mode ≡ 3
 unfolding csr_row_of csr_in
-protective_row address row is protective = by_found address (find (λ r. lists r address) csr_ranges) row refl is protective
+protective_row address row is protective =
+    by_found address (find (λ r. lists r address) csr_ranges) row refl is protective
 
 machine_alone : (mode : Mode) → 3 ≤ mode_number mode → mode ≡ Machine
 machine_alone Machine high = refl
@@ -77,10 +96,14 @@ machine_alone Supervisor high = absurd (omega (arith, high))
 machine_alone User high = absurd (omega (arith, high))
 
 -- a write of a register of protection is M's
-pub protective_in_machine : (csrs : Csrs) (address : ℕ) (mode : Mode) (row : CsrRow) → csr_row_of address ≡ Some row → may_write csrs mode row ≡ true → is_protective (csr_kind_of row.csr) ≡ true → mode ≡ Machine
+pub protective_in_machine : (csrs : Csrs) (address : ℕ) (mode : Mode) (row : CsrRow) → csr_row_of address ≡ Some row
+    → may_write csrs mode row ≡ true → is_protective (csr_kind_of row.csr) ≡ true → mode ≡ Machine
 unfolding may_write may_read
 protective_in_machine csrs address mode row is may protective =
-    let read = and_parts (nat_le row.least_mode (mode_number mode) && is_enabled csrs mode (csr_kind_of row.csr)) (not row.read_only) may in
-    let level = and_parts (nat_le row.least_mode (mode_number mode)) (is_enabled csrs mode (csr_kind_of row.csr)) read.0 in
+    let read =
+    and_parts (nat_le row.least_mode (mode_number mode) && is_enabled csrs mode (csr_kind_of row.csr))
+    (not row.read_only) may in
+    let level =
+    and_parts (nat_le row.least_mode (mode_number mode)) (is_enabled csrs mode (csr_kind_of row.csr)) read.0 in
     let least : row.least_mode ≡ 3 = protective_row address row is protective in
     machine_alone mode (grind (arith, nat_tests, level.0, least))

@@ -1,5 +1,6 @@
 -- An SC writes nothing outside the reserved block.
-use Rattle.std.proofs.Common.{◌≡◌, ℕ, Bool, true, false, ◌&&◌, List, [], ◌++◌, refl, sym, ap, ◌∙◌, subst, inl, inr, Ok, Err, Result, Option, Some, None, All, if◌then◌else◌}
+use Rattle.std.proofs.Common.{◌≡◌, ℕ, Bool, true, false, ◌&&◌, List, [], ◌++◌, refl, sym, ap, ◌∙◌, subst, inl, inr, Ok}
+use Rattle.std.proofs.Common.{Err, Result, Option, Some, None, All, if◌then◌else◌}
 use Rattle.std.proofs.lemmas.Bool.{cases_Bool}
 use Rattle.std.proofs.lemmas.List.Elements.{All-nil, All-push}
 use Rattle.hart_words.specs.declared.accesses.Write.{Write}
@@ -9,51 +10,68 @@ use Rattle.hart_words.specs.Signals.{Shown}
 use Rattle.hart_words.specs.Actions.{pure, mapped, write_memory}
 use Rattle.hart_words.proofs.Runs.{run_then-is}
 use Rattle.rv_decode.specs.declared.operation.Op.{Op}
-use Rattle.rv_decode.specs.Operands.{destination_of}
+use Rattle.rv_decode.specs.Operands.{operands_of}
 use Rattle.rv_integer.specs.declared.int_result.IntResult.{IntResult}
 use Rattle.rv_integer.specs.declared.int_result.IntResult.TheVariants.{Access}
 use Rattle.rv_integer.specs.declared.int_result.MemoryRequest.{MemoryRequest}
 use Rattle.rv_integer.specs.declared.int_result.MemoryOp.{MemoryOp}
 use Rattle.rv_integer.specs.declared.int_result.MemoryOp.TheVariants.{StoreConditional}
-use Rattle.rv_integer.specs.Results.{computed}
+use Rattle.rv_integer.specs.Results.{result_of}
 use Rattle.rv_atomic.specs.declared.reservation.Reservation.{Reservation}
 use Rattle.rv_atomic.specs.Blocks.{is_covered}
 use Rattle.mem_access.specs.declared.place.Place.{Place}
-use Rattle.mem_access.specs.Accesses.{Exception, fetched}
+use Rattle.mem_access.specs.Accesses.{Exception, fetch_result}
 use Rattle.mem_access.proofs.Writes.{fetch_writes_nothing}
 use Rattle.hart_step.specs.declared.state.Core.{Core}
-use Rattle.hart_step.specs.declared.choices.Choices.{Choices}
+use Rattle.hart_step.specs.declared.choices.RowChoices.{RowChoices}
 use Rattle.hart_step.specs.declared.instruction.Instruction.{Instruction}
-use Rattle.hart_step.specs.declared.memory.Answer.{Answer}
+use Rattle.hart_step.specs.declared.memory.AccessResult.{AccessResult}
 use Rattle.hart_step.specs.Choices.{choices_of, says_stored}
-use Rattle.hart_step.specs.MemoryAccess.{Found, placed, access_at, is_stored, answer_by, answer_of, written_by, put_to, put, answered, accessed}
-use Rattle.hart_step.specs.Instructions.{executed, executed_by, first_value, second_value, op_of, decoded_run, fetched_run, ran}
-use Rattle.hart_step.specs.Steps.{begun, stepped}
-use Rattle.hart_step.specs.Laws.{asked_by, asked_from, asked, InReservedBlock}
+use Rattle.hart_step.specs.MemoryAccess.{LocatedValue, located_access, expected_access, is_stored, access_result_by}
+use Rattle.hart_step.specs.MemoryAccess.{access_result_of, number_written, put_to, put, access_after_location}
+use Rattle.hart_step.specs.MemoryAccess.{memory_access}
+use Rattle.hart_step.specs.Instructions.{execution_of, execution_by, first_value, second_value, op_of, run_of_decoded}
+use Rattle.hart_step.specs.Instructions.{run_of_fetched, instruction_run}
+use Rattle.hart_step.specs.Steps.{before_instruction, step_of}
+use Rattle.hart_step.specs.Laws.{request_by, request_from, request_at_pc, InReservedBlock}
 use Rattle.hart_step.proofs.Phases.{wrote_running, wrote_halted, begun_reservation}
 use Rattle.hart_step.proofs.Traps.{placed_writes}
 
 abbrev pub IsCovered : Core → Write → Type 0
 IsCovered core write = is_covered core.reservation.block write.pa write.len ≡ true
 
-put_in : (core : Core) (place : Place) (len value : ℕ) (io : Bool) (bytes : Bytes) → is_covered core.reservation.block place.pa len ≡ true → InReservedBlock core ((put_to place len value io).run bytes).wrote
+put_in : (core : Core) (place : Place) (len value : ℕ) (io : Bool) (bytes : Bytes)
+    → is_covered core.reservation.block place.pa len ≡ true
+    → InReservedBlock core ((put_to place len value io).run bytes).wrote
 unfolding pure write_memory
 put_in core place len value true bytes covered = All-nil (IsCovered core)
 put_in core place len value false bytes covered =
     let write : Write = record { pa = place.pa; len = len; value = value } in
     All-push (IsCovered core) [] write (All-nil (IsCovered core)) covered
 
-abbrev pub answer_for : MemoryRequest → Place → ℕ → Bool → Answer
-answer_for request place value true = record { value = 0; access = access_at request place None (Some value); reservation = record { block = None } }
+abbrev pub answer_for : MemoryRequest → Place → ℕ → Bool → AccessResult
+answer_for request place value true =
+    record {
+      value =
+          0;
+      access = expected_access request place None (Some value);
+      reservation = record { block = None };
+    }
 answer_for request place value false = record { value = 1; access = None; reservation = record { block = None } }
 
-answer_if : (core : Core) (request : MemoryRequest) (place : Place) (value : ℕ) (stored : Bool) (bytes : Bytes) → (stored ≡ true → is_covered core.reservation.block place.pa (bytes_of request.size) ≡ true)
-    → InReservedBlock core ((put place (bytes_of request.size) (written_by (answer_for request place value stored).access)).run bytes).wrote
+answer_if : (core : Core) (request : MemoryRequest) (place : Place) (value : ℕ) (stored : Bool) (bytes : Bytes)
+    → (stored ≡ true → is_covered core.reservation.block place.pa (bytes_of request.size) ≡ true)
+    → InReservedBlock core
+    ((put place (bytes_of request.size) (number_written (answer_for request place value stored).access)).run
+    bytes).wrote
 unfolding put pure
-answer_if core request place value true bytes covered = put_in core place (bytes_of request.size) value place.io bytes (covered refl)
+answer_if core request place value true bytes covered =
+    put_in core place (bytes_of request.size) value place.io bytes (covered refl)
 answer_if core request place value false bytes covered = All-nil (IsCovered core)
 
-if_is : (request : MemoryRequest) (place : Place) (value : ℕ) (stored : Bool) → (if stored then answer_for request place value true else answer_for request place value false) ≡ answer_for request place value stored
+if_is : (request : MemoryRequest) (place : Place) (value : ℕ) (stored : Bool)
+    → (if stored then answer_for request place value true else answer_for request place value false)
+    ≡ answer_for request place value stored
 if_is request place value true = refl
 if_is request place value false = refl
 
@@ -61,69 +79,96 @@ left_of : (a b : Bool) → (a && b) ≡ true → a ≡ true
 left_of true b both = refl
 left_of false b both = cc
 
-answered_in : (core : Core) (choices : Choices) (request : MemoryRequest) (op : MemoryOp) (value : ℕ) (found : Result Found Exception) (bytes : Bytes) → op ≡ StoreConditional value → request.op ≡ op → InReservedBlock core ((answered core choices request found).run bytes).wrote
-unfolding pure mapped answer_of
+answered_in : (core : Core) (choices : RowChoices) (request : MemoryRequest) (op : MemoryOp) (value : ℕ)
+    (found : Result LocatedValue Exception) (bytes : Bytes) → op ≡ StoreConditional value → request.op ≡ op
+    → InReservedBlock core ((access_after_location core choices request found).run bytes).wrote
+unfolding pure mapped access_result_of
 answered_in core choices request op value (Err exception) bytes is named = All-nil (IsCovered core)
 answered_in core choices request op value (Ok found) bytes is named =
-    let P : MemoryOp → Type 0 = λ o. InReservedBlock core ((put found.0 (bytes_of request.size) (written_by (answer_by core choices request found.0 found.1 o).access)).run bytes).wrote in
-    let both : is_stored core choices request found.0 ≡ true → is_covered core.reservation.block found.0.pa (bytes_of request.size) ≡ true = left_of (is_covered core.reservation.block found.0.pa (bytes_of request.size)) (says_stored choices) in
-    let Q : Answer → Type 0 = λ a. InReservedBlock core ((put found.0 (bytes_of request.size) (written_by a.access)).run bytes).wrote in
+    let P : MemoryOp → Type 0 =
+    λ o. InReservedBlock core
+    ((put found.0 (bytes_of request.size)
+    (number_written (access_result_by core choices request found.0 found.1 o).access)).run bytes).wrote in
+    let both : is_stored core choices request found.0 ≡ true
+    → is_covered core.reservation.block found.0.pa (bytes_of request.size) ≡ true =
+    left_of (is_covered core.reservation.block found.0.pa (bytes_of request.size)) (says_stored choices) in
+    let Q : AccessResult → Type 0 =
+    λ a. InReservedBlock core ((put found.0 (bytes_of request.size) (number_written a.access)).run bytes).wrote in
     let stored = is_stored core choices request found.0 in
-    subst P (sym (named ∙ is)) (subst Q (sym (if_is request found.0 value stored)) (answer_if core request found.0 value stored bytes both))
+    subst P (sym (named ∙ is))
+    (subst Q (sym (if_is request found.0 value stored)) (answer_if core request found.0 value stored bytes both))
 
-access_in : (core : Core) (choices : Choices) (request : MemoryRequest) (value : ℕ) (bytes : Bytes) → request.op ≡ StoreConditional value → InReservedBlock core ((accessed core choices request).run bytes).wrote
-unfolding accessed
+access_in : (core : Core) (choices : RowChoices) (request : MemoryRequest) (value : ℕ) (bytes : Bytes)
+    → request.op ≡ StoreConditional value → InReservedBlock core ((memory_access core choices request).run bytes).wrote
+unfolding memory_access
 access_in core choices request value bytes is =
-    let before = (placed core request).run bytes in
+    let before = (located_access core request).run bytes in
     let now = after_writes before.wrote bytes in
-    let after = (answered core choices request before.value).run now in
+    let after = (access_after_location core choices request before.value).run now in
     let P : List Write → Type 0 = λ w. InReservedBlock core w in
-    let whole = ap (λ t. t.wrote) (run_then-is (placed core request) (answered core choices request) bytes) in
-    subst P (sym (whole ∙ ap (λ w. w ++ after.wrote) (placed_writes core request bytes))) (answered_in core choices request request.op value before.value now is refl)
+    let whole =
+    ap (λ t. t.wrote)
+    (run_then-is (located_access core request) (access_after_location core choices request) bytes) in
+    subst P (sym (whole ∙ ap (λ w. w ++ after.wrote) (placed_writes core request bytes)))
+    (answered_in core choices request request.op value before.value now is refl)
 
-executed_in : (core : Core) (choices : Choices) (i : Instruction) (result : IntResult) (request : MemoryRequest) (value : ℕ) (bytes : Bytes) → result ≡ Access request → request.op ≡ StoreConditional value → InReservedBlock core ((executed_by core choices i result).run bytes).wrote
+executed_in : (core : Core) (choices : RowChoices) (i : Instruction) (result : IntResult) (request : MemoryRequest)
+    (value : ℕ) (bytes : Bytes) → result ≡ Access request → request.op ≡ StoreConditional value
+    → InReservedBlock core ((execution_by core choices i result).run bytes).wrote
 unfolding mapped
 executed_in core choices i result request value bytes asks is =
-    let P : IntResult → Type 0 = λ r. InReservedBlock core ((executed_by core choices i r).run bytes).wrote in
+    let P : IntResult → Type 0 = λ r. InReservedBlock core ((execution_by core choices i r).run bytes).wrote in
     subst P (sym asks) (access_in core choices request value bytes is)
 
 some_is : (one other : IntResult) → Some one ≡ Some other → one ≡ other
 some_is one other is = cc
 
-decoded_in : (core : Core) (shown : Shown) (bits len : ℕ) (op : Option Op) (request : MemoryRequest) (value : ℕ) (bytes : Bytes) → asked_by core len op ≡ Some (Access request) → request.op ≡ StoreConditional value → InReservedBlock core ((decoded_run core shown bits len op).run bytes).wrote
-unfolding mapped executed pure
+decoded_in : (core : Core) (shown : Shown) (bits len : ℕ) (op : Option Op) (request : MemoryRequest) (value : ℕ)
+    (bytes : Bytes) → request_by core len op ≡ Some (Access request) → request.op ≡ StoreConditional value
+    → InReservedBlock core ((run_of_decoded core shown bits len op).run bytes).wrote
+unfolding mapped execution_of pure
 decoded_in core shown bits len None request value bytes asks is = cc
 decoded_in core shown bits len (Some op) request value bytes asks is =
     let i : Instruction = record { op = op; bits = bits; len = len } in
-    let result = computed op (first_value core op) (second_value core op) core.pc len in
-    executed_in core (choices_of shown (destination_of op)) i result request value bytes (some_is result (Access request) asks) is
+    let result = result_of op (first_value core op) (second_value core op) core.pc len in
+    executed_in core (choices_of shown (operands_of op).rd) i result request value bytes
+    (some_is result (Access request) asks) is
 
-fetched_in : (core : Core) (shown : Shown) (word : Result (ℕ × ℕ) Exception) (request : MemoryRequest) (value : ℕ) (bytes : Bytes) → asked_from core word ≡ Some (Access request) → request.op ≡ StoreConditional value → InReservedBlock core ((fetched_run core shown word).run bytes).wrote
+fetched_in : (core : Core) (shown : Shown) (word : Result (ℕ × ℕ) Exception) (request : MemoryRequest) (value : ℕ)
+    (bytes : Bytes) → request_from core word ≡ Some (Access request) → request.op ≡ StoreConditional value
+    → InReservedBlock core ((run_of_fetched core shown word).run bytes).wrote
 unfolding pure
 fetched_in core shown (Err exception) request value bytes asks is = cc
-fetched_in core shown (Ok word) request value bytes asks is = decoded_in core shown word.0 word.1 (op_of word.0 word.1) request value bytes asks is
+fetched_in core shown (Ok word) request value bytes asks is =
+    decoded_in core shown word.0 word.1 (op_of word.0 word.1) request value bytes asks is
 
-ran_in : (core : Core) (shown : Shown) (request : MemoryRequest) (value : ℕ) (bytes : Bytes) → asked core bytes ≡ Some (Access request) → request.op ≡ StoreConditional value → InReservedBlock core ((ran core shown).run bytes).wrote
-unfolding ran asked
+ran_in : (core : Core) (shown : Shown) (request : MemoryRequest) (value : ℕ) (bytes : Bytes)
+    → request_at_pc core bytes ≡ Some (Access request) → request.op ≡ StoreConditional value
+    → InReservedBlock core ((instruction_run core shown).run bytes).wrote
+unfolding instruction_run request_at_pc
 ran_in core shown request value bytes asks is =
-    let fetch = fetched core.csrs core.map core.mode core.pc in
+    let fetch = fetch_result core.csrs core.map core.mode core.pc in
     let before = fetch.run bytes in
     let now = after_writes before.wrote bytes in
-    let after = (fetched_run core shown before.value).run now in
+    let after = (run_of_fetched core shown before.value).run now in
     let P : List Write → Type 0 = λ w. InReservedBlock core w in
-    let whole = ap (λ t. t.wrote) (run_then-is fetch (fetched_run core shown) bytes) in
-    subst P (sym (whole ∙ ap (λ w. w ++ after.wrote) (fetch_writes_nothing core.csrs core.map core.mode core.pc bytes))) (fetched_in core shown before.value request value now asks is)
+    let whole = ap (λ t. t.wrote) (run_then-is fetch (run_of_fetched core shown) bytes) in
+    subst P (sym (whole ∙ ap (λ w. w ++ after.wrote) (fetch_writes_nothing core.csrs core.map core.mode core.pc
+    bytes))) (fetched_in core shown before.value request value now asks is)
 
-pub stores_in_block : (core : Core) (shown : Shown) (bytes : Bytes) (request : MemoryRequest) (value : ℕ) → asked (begun core shown) bytes ≡ Some (Access request) → request.op ≡ StoreConditional value → InReservedBlock core ((stepped core shown).run bytes).wrote
+pub stores_in_block : (core : Core) (shown : Shown) (bytes : Bytes) (request : MemoryRequest) (value : ℕ)
+    → request_at_pc (before_instruction core shown) bytes ≡ Some (Access request)
+    → request.op ≡ StoreConditional value → InReservedBlock core ((step_of core shown).run bytes).wrote
 stores_in_block core shown bytes request value asks is = elim (cases_Bool core.halted) [
   | inl halted ↦
       let P : List Write → Type 0 = λ w. InReservedBlock core w in
       subst P (sym (wrote_halted core shown bytes halted)) (All-nil (IsCovered core))
   | inr runs ↦
-      let begins = begun core shown in
-      let wrote = ((stepped core shown).run bytes).wrote in
+      let begins = before_instruction core shown in
+      let wrote = ((step_of core shown).run bytes).wrote in
       let P : List Write → Type 0 = λ w. InReservedBlock begins w in
-      let here = subst P (sym (wrote_running core shown bytes runs)) (ran_in begins shown request value bytes asks is) in
+      let here =
+      subst P (sym (wrote_running core shown bytes runs)) (ran_in begins shown request value bytes asks is) in
       let Q : Reservation → Type 0 = λ r. All (λ write. is_covered r.block write.pa write.len ≡ true) wrote in
       subst Q (begun_reservation core shown) here
 ]

@@ -1,199 +1,326 @@
 -- Each way through a step does what its definition says there.
-use Rattle.std.proofs.Common.{◌≡◌, ℕ, Bool, true, false, List, [], ◌∷◌, ◌++◌, sym, ap, ◌∙◌, subst, Ok, Err, Result, Option, Some, None, if◌then◌else◌}
+use Rattle.std.proofs.Common.{◌≡◌, ℕ, Bool, true, false, List, [], ◌∷◌, ◌++◌, sym, ap, ◌∙◌, subst, Ok, Err, Result}
+use Rattle.std.proofs.Common.{Option, Some, None, if◌then◌else◌}
 use Rattle.hart_words.specs.declared.accesses.Read.{Read}
 use Rattle.hart_words.specs.declared.accesses.Write.{Write}
 use Rattle.hart_words.specs.AccessSizes.{bytes_of}
-use Rattle.hart_words.specs.Memory.{Bytes, number_at, stored}
+use Rattle.hart_words.specs.Memory.{Bytes, number_at, bytes_after_store}
 use Rattle.hart_words.specs.Signals.{Shown}
 use Rattle.hart_words.specs.Actions.{Observes, Performs, pure, mapped, read_memory, ◌>>=◌}
-use Rattle.hart_words.proofs.Runs.{Observes-pure, Observes-read_memory, Observes-mapped, Observes-then, Performs-observed, Performs-pure, Performs-then, Performs-mapped, Performs-write_memory}
+use Rattle.hart_words.proofs.Runs.{Observes-pure, Observes-read_memory, Observes-mapped, Observes-then}
+use Rattle.hart_words.proofs.Runs.{Performs-observed, Performs-pure, Performs-then, Performs-mapped}
+use Rattle.hart_words.proofs.Runs.{Performs-write_memory}
 use Rattle.rv_decode.specs.declared.operation.Op.{Op}
 use Rattle.hart_words.specs.Registers.{register_of}
-use Rattle.rv_decode.specs.Operands.{destination_of, first_source_of, second_source_of}
+use Rattle.rv_decode.specs.declared.operation.Operands.{Operands}
+use Rattle.rv_decode.specs.Operands.{operands_of}
 use Rattle.rv_integer.specs.declared.int_result.IntResult.{IntResult}
 use Rattle.rv_integer.specs.declared.int_result.MemoryRequest.{MemoryRequest}
 use Rattle.rv_integer.specs.declared.int_result.MemoryOp.{MemoryOp}
-use Rattle.rv_integer.specs.Results.{computed}
+use Rattle.rv_integer.specs.Results.{result_of}
 use Rattle.rvfi_rows.specs.declared.expected.Expected.TheVariants.{Halted, Retired}
 use Rattle.rvfi_rows.specs.declared.expected.Effects.{Effects}
 use Rattle.hart_words.specs.declared.privilege.Cause.{Cause}
 use Rattle.mem_access.specs.declared.place.Place.{Place}
-use Rattle.mem_access.specs.Accesses.{Exception, fetched, store_place_of}
+use Rattle.mem_access.specs.Accesses.{Exception, fetch_result, store_place_of}
 use Rattle.hart_step.specs.declared.state.Core.{Core}
-use Rattle.hart_step.specs.declared.choices.Choices.{Choices}
+use Rattle.hart_step.specs.declared.choices.RowChoices.{RowChoices}
 use Rattle.hart_step.specs.declared.choices.Lines.{Lines}
 use Rattle.hart_step.specs.declared.instruction.Instruction.{Instruction}
-use Rattle.hart_step.specs.declared.memory.Answer.{Answer}
-use Rattle.hart_step.specs.Choices.{choices_of, lines_of}
-use Rattle.hart_step.specs.MemoryAccess.{Found, read_at, placed, placed_by, answer_of, written_by, put_to, put, answered, accessed}
-use Rattle.hart_step.specs.Instructions.{Done, goes_on, after_access, executed, executed_by, first_value, second_value, Ran, raised, ended, op_of, decoded_run, fetched_run, ran}
-use Rattle.hart_step.specs.Steps.{Gave, counted, interrupted, lacks_interrupt, begun, finished, insn_of, effects_of, expected_of, gave_of, stepped}
+use Rattle.hart_step.specs.declared.memory.AccessResult.{AccessResult}
+use Rattle.hart_step.specs.Choices.{choices_of, pending_lines_of}
+use Rattle.hart_step.specs.MemoryAccess.{LocatedValue, found_with_read, located_access, located_access_by}
+use Rattle.hart_step.specs.MemoryAccess.{access_result_of, number_written, put_to, put, access_after_location}
+use Rattle.hart_step.specs.MemoryAccess.{memory_access}
+use Rattle.hart_step.specs.Instructions.{Completion, core_at_next, after_access, execution_of, execution_by}
+use Rattle.hart_step.specs.Instructions.{first_value, second_value, InstructionRun, run_of_exception, run_of_result}
+use Rattle.hart_step.specs.Instructions.{op_of, run_of_decoded, run_of_fetched, instruction_run}
+use Rattle.hart_step.specs.Steps.{StepResult, core_after_count, core_after_interrupt, lacks_interrupt}
+use Rattle.hart_step.specs.Steps.{before_instruction, core_after_run, insn_of, effects_of, expected_of, step_result_of}
+use Rattle.hart_step.specs.Steps.{step_of}
 
 -- a place is looked for as the kind of the access has it
-pub placed_as : (core : Core) (request : MemoryRequest) (op : MemoryOp) (len : ℕ) (found : Result Found Exception) (s0 s1 : List Read) (bytes : Bytes)
-    → request.op ≡ op → len ≡ bytes_of request.size → Observes (placed_by core request.address len op) found s0 s1 bytes → Observes (placed core request) found s0 s1 bytes
-unfolding placed
+pub placed_as : (core : Core) (request : MemoryRequest) (op : MemoryOp) (len : ℕ)
+    (found : Result LocatedValue Exception) (s0 s1 : List Read) (bytes : Bytes)
+    → request.op ≡ op → len ≡ bytes_of request.size
+    → Observes (located_access_by core request.address len op) found s0 s1 bytes
+    → Observes (located_access core request) found s0 s1 bytes
+unfolding located_access
 placed_as core request op len found s0 s1 bytes is length look =
-    let P : MemoryOp → Type 0 = λ o. Observes (placed_by core request.address (bytes_of request.size) o) found s0 s1 bytes in
-    let Q : ℕ → Type 0 = λ n. Observes (placed_by core request.address n op) found s0 s1 bytes in
+    let P : MemoryOp → Type 0 =
+    λ o. Observes (located_access_by core request.address (bytes_of request.size) o) found s0 s1 bytes in
+    let Q : ℕ → Type 0 = λ n. Observes (located_access_by core request.address n op) found s0 s1 bytes in
     subst P (sym is) (subst Q length look)
 
 pub exchange_refused : (core : Core) (va len : ℕ) (exception : Exception) (s0 s1 : List Read) (bytes : Bytes)
     → Observes (store_place_of core.csrs core.map core.mode va len true) (Err exception) s0 s1 bytes
-    → Observes (store_place_of core.csrs core.map core.mode va len true >>= read_at len) (Err exception) s0 s1 bytes
+    → Observes (store_place_of core.csrs core.map core.mode va len true >>= found_with_read len) (Err exception) s0 s1
+    bytes
 exchange_refused core va len exception s0 s1 bytes look =
-    Observes-then (store_place_of core.csrs core.map core.mode va len true) (read_at len) (Err exception) (Err exception) s0 s1 s1 bytes look (Observes-pure (Err exception) s1 bytes)
+    Observes-then (store_place_of core.csrs core.map core.mode va len true) (found_with_read len) (Err exception)
+    (Err exception) s0 s1 s1 bytes look (Observes-pure (Err exception) s1 bytes)
 
 pub exchange_placed : (core : Core) (va len : ℕ) (place : Place) (held : ℕ) (s0 s1 s2 : List Read) (bytes : Bytes)
-    → Observes (store_place_of core.csrs core.map core.mode va len true) (Ok place) s0 s1 bytes → held ≡ number_at bytes place.pa len
-    → s2 ≡ s1 ++ record { pa = place.pa; len = len } ∷ [] → Observes (store_place_of core.csrs core.map core.mode va len true >>= read_at len) (Ok (place, held)) s0 s2 bytes
+    → Observes (store_place_of core.csrs core.map core.mode va len true) (Ok place) s0 s1 bytes
+    → held ≡ number_at bytes place.pa len
+    → s2 ≡ s1 ++ record { pa = place.pa; len = len } ∷ []
+    → Observes (store_place_of core.csrs core.map core.mode va len true >>= found_with_read len)
+    (Ok (place, held)) s0 s2 bytes
 exchange_placed core va len place held s0 s1 s2 bytes look read noted =
     let asked : Read = record { pa = place.pa; len = len } in
-    let P : List Read → Type 0 = λ s. Observes (read_at len (Ok place)) (Ok (place, held)) s1 s bytes in
-    let reads = subst P (sym noted) (Observes-mapped (λ n. Ok (place, n)) (read_memory asked) held s1 (s1 ++ asked ∷ []) bytes (Observes-read_memory asked held s1 bytes read)) in
-    Observes-then (store_place_of core.csrs core.map core.mode va len true) (read_at len) (Ok place) (Ok (place, held)) s0 s1 s2 bytes look reads
+    let P : List Read → Type 0 = λ s. Observes (found_with_read len (Ok place)) (Ok (place, held)) s1 s bytes in
+    let reads =
+    subst P (sym noted)
+    (Observes-mapped (λ n. Ok (place, n)) (read_memory asked) held s1 (s1 ++ asked ∷ []) bytes
+    (Observes-read_memory asked held s1 bytes read)) in
+    Observes-then (store_place_of core.csrs core.map core.mode va len true) (found_with_read len) (Ok place)
+    (Ok (place, held)) s0 s1 s2 bytes look reads
 
 -- what is written
-pub put_nothing : (place : Place) (len : ℕ) (seen : List Read) (wrote : List Write) (bytes : Bytes) → Performs (put place len None) tt seen seen wrote wrote bytes bytes
+pub put_nothing : (place : Place) (len : ℕ) (seen : List Read) (wrote : List Write) (bytes : Bytes)
+    → Performs (put place len None) tt seen seen wrote wrote bytes bytes
 unfolding put
 put_nothing place len seen wrote bytes = Performs-pure tt seen wrote bytes
 
-pub put_as : (place : Place) (len : ℕ) (written known : Option ℕ) (seen : List Read) (wrote wrote' : List Write) (bytes bytes' : Bytes)
-    → written ≡ known → Performs (put place len known) tt seen seen wrote wrote' bytes bytes' → Performs (put place len written) tt seen seen wrote wrote' bytes bytes'
+pub put_as : (place : Place) (len : ℕ) (written known : Option ℕ) (seen : List Read) (wrote wrote' : List Write)
+    (bytes bytes' : Bytes)
+    → written ≡ known → Performs (put place len known) tt seen seen wrote wrote' bytes bytes'
+    → Performs (put place len written) tt seen seen wrote wrote' bytes bytes'
 put_as place len written known seen wrote wrote' bytes bytes' is did =
     let P : Option ℕ → Type 0 = λ w. Performs (put place len w) tt seen seen wrote wrote' bytes bytes' in
     subst P (sym is) did
 
-pub put_device : (place : Place) (len value : ℕ) (seen : List Read) (wrote : List Write) (bytes : Bytes) → place.io ≡ true → Performs (put place len (Some value)) tt seen seen wrote wrote bytes bytes
+pub put_device : (place : Place) (len value : ℕ) (seen : List Read) (wrote : List Write) (bytes : Bytes)
+    → place.io ≡ true → Performs (put place len (Some value)) tt seen seen wrote wrote bytes bytes
 unfolding put
 put_device place len value seen wrote bytes io =
     let P : Bool → Type 0 = λ b. Performs (put_to place len value b) tt seen seen wrote wrote bytes bytes in
     subst P (sym io) (Performs-pure tt seen wrote bytes)
 
-pub put_memory : (place : Place) (len value : ℕ) (seen : List Read) (wrote wrote' : List Write) (bytes bytes' : Bytes) → place.io ≡ false
-    → wrote' ≡ wrote ++ record { pa = place.pa; len = len; value = value } ∷ [] → bytes' ≡ stored place.pa len value bytes → Performs (put place len (Some value)) tt seen seen wrote wrote' bytes bytes'
+pub put_memory : (place : Place) (len value : ℕ) (seen : List Read) (wrote wrote' : List Write) (bytes bytes' : Bytes)
+    → place.io ≡ false
+    → wrote' ≡ wrote ++ record { pa = place.pa; len = len; value = value } ∷ []
+    → bytes' ≡ bytes_after_store place.pa len value bytes
+    → Performs (put place len (Some value)) tt seen seen wrote wrote' bytes bytes'
 unfolding put
 put_memory place len value seen wrote wrote' bytes bytes' io noted is =
     let P : Bool → Type 0 = λ b. Performs (put_to place len value b) tt seen seen wrote wrote' bytes bytes' in
-    subst P (sym io) (rw (noted, is) (Performs-write_memory (record { pa = place.pa; len = len; value = value }) seen wrote bytes))
+    subst P (sym io)
+    (rw (noted, is) (Performs-write_memory (record { pa = place.pa; len = len; value = value }) seen wrote bytes))
 
 -- an access that is refused, and one that is made
-pub access_refused : (core : Core) (choices : Choices) (request : MemoryRequest) (exception : Exception) (s0 s1 : List Read) (wrote : List Write) (bytes : Bytes)
-    → Observes (placed core request) (Err exception) s0 s1 bytes → Performs (accessed core choices request) (Err exception) s0 s1 wrote wrote bytes bytes
-unfolding accessed
+pub access_refused : (core : Core) (choices : RowChoices) (request : MemoryRequest) (exception : Exception)
+    (s0 s1 : List Read) (wrote : List Write) (bytes : Bytes)
+    → Observes (located_access core request) (Err exception) s0 s1 bytes
+    → Performs (memory_access core choices request) (Err exception) s0 s1 wrote wrote bytes bytes
+unfolding memory_access
 access_refused core choices request exception s0 s1 wrote bytes look =
-    Performs-then (placed core request) (answered core choices request) (Err exception) (Err exception) s0 s1 s1 wrote wrote wrote bytes bytes bytes
-    (Performs-observed (placed core request) (Err exception) s0 s1 wrote bytes look) (Performs-pure (Err exception) s1 wrote bytes)
+    Performs-then (located_access core request) (access_after_location core choices request) (Err exception)
+    (Err exception) s0 s1 s1 wrote wrote wrote bytes bytes bytes
+    (Performs-observed (located_access core request) (Err exception) s0 s1 wrote bytes look)
+    (Performs-pure (Err exception) s1 wrote bytes)
 
-pub access_made : (core : Core) (choices : Choices) (request : MemoryRequest) (found : Found) (answer : Answer) (s0 s1 : List Read) (wrote wrote' : List Write) (bytes bytes' : Bytes)
-    → Observes (placed core request) (Ok found) s0 s1 bytes → answer ≡ answer_of core choices request found
-    → Performs (put found.0 (bytes_of request.size) (written_by answer.access)) tt s1 s1 wrote wrote' bytes bytes' → Performs (accessed core choices request) (Ok answer) s0 s1 wrote wrote' bytes bytes'
-unfolding accessed
+pub access_made : (core : Core) (choices : RowChoices) (request : MemoryRequest) (found : LocatedValue)
+    (answer : AccessResult) (s0 s1 : List Read) (wrote wrote' : List Write) (bytes bytes' : Bytes)
+    → Observes (located_access core request) (Ok found) s0 s1 bytes
+    → answer ≡ access_result_of core choices request found
+    → Performs (put found.0 (bytes_of request.size) (number_written answer.access)) tt s1 s1 wrote wrote' bytes bytes'
+    → Performs (memory_access core choices request) (Ok answer) s0 s1 wrote wrote' bytes bytes'
+unfolding memory_access
 access_made core choices request found answer s0 s1 wrote wrote' bytes bytes' look is made =
-    let given : Answer → Unit {0} → Result Answer Exception = λ a _. Ok a in
-    let P : Answer → Type 0 = λ a. Performs (mapped (given a) (put found.0 (bytes_of request.size) (written_by a.access))) (Ok answer) s1 s1 wrote wrote' bytes bytes' in
-    Performs-then (placed core request) (answered core choices request) (Ok found) (Ok answer) s0 s1 s1 wrote wrote wrote' bytes bytes bytes'
-    (Performs-observed (placed core request) (Ok found) s0 s1 wrote bytes look)
-    (subst P is (Performs-mapped (given answer) (put found.0 (bytes_of request.size) (written_by answer.access)) tt s1 s1 wrote wrote' bytes bytes' made))
+    let given : AccessResult → Unit {0} → Result AccessResult Exception = λ a _. Ok a in
+    let P : AccessResult → Type 0 =
+    λ a. Performs (mapped (given a) (put found.0 (bytes_of request.size) (number_written a.access))) (Ok answer)
+    s1 s1 wrote wrote' bytes bytes' in
+    Performs-then (located_access core request) (access_after_location core choices request) (Ok found) (Ok answer) s0
+    s1 s1 wrote wrote wrote' bytes bytes bytes'
+    (Performs-observed (located_access core request) (Ok found) s0 s1 wrote bytes look)
+    (subst P is (Performs-mapped (given answer) (put found.0 (bytes_of request.size) (number_written answer.access))
+    tt s1 s1 wrote wrote' bytes bytes' made))
 
 -- an instruction does what its result asks for
-pub executed_as : (core : Core) (choices : Choices) (i : Instruction) (result : IntResult) (rs1 rs2 a b : ℕ) (done : Result Done Exception) (s0 s1 : List Read) (w0 w1 : List Write) (b0 b1 : Bytes)
-    → rs1 ≡ first_source_of i.op → a ≡ register_of core.registers rs1 → rs2 ≡ second_source_of i.op → b ≡ register_of core.registers rs2 → result ≡ computed i.op a b core.pc i.len
-    → Performs (executed_by core choices i result) done s0 s1 w0 w1 b0 b1 → Performs (executed core choices i) done s0 s1 w0 w1 b0 b1
-unfolding executed
-executed_as core choices i result rs1 rs2 a b done s0 s1 w0 w1 b0 b1 from1 first from2 second is did =
-    let one : a ≡ first_value core i.op = first ∙ ap (register_of core.registers) from1 in
-    let two : b ≡ second_value core i.op = second ∙ ap (register_of core.registers) from2 in
-    let P : ℕ → Type 0 = λ n. Performs (executed_by core choices i (computed i.op (first_value core i.op) n core.pc i.len)) done s0 s1 w0 w1 b0 b1 in
-    let Q : ℕ → Type 0 = λ n. Performs (executed_by core choices i (computed i.op n b core.pc i.len)) done s0 s1 w0 w1 b0 b1 in
-    let R : IntResult → Type 0 = λ r. Performs (executed_by core choices i r) done s0 s1 w0 w1 b0 b1 in
+pub executed_as : (core : Core) (choices : RowChoices) (i : Instruction) (result : IntResult) (operands : Operands)
+    (a b : ℕ) (done : Result Completion Exception) (s0 s1 : List Read) (w0 w1 : List Write) (b0 b1 : Bytes)
+    → operands ≡ operands_of i.op → a ≡ register_of core.registers operands.rs1
+    → b ≡ register_of core.registers operands.rs2 → result ≡ result_of i.op a b core.pc i.len
+    → Performs (execution_by core choices i result) done s0 s1 w0 w1 b0 b1
+    → Performs (execution_of core choices i) done s0 s1 w0 w1 b0 b1
+unfolding execution_of
+executed_as core choices i result operands a b done s0 s1 w0 w1 b0 b1 from first second is did =
+    let one : a ≡ first_value core i.op = first ∙ ap (λ o. register_of core.registers o.rs1) from in
+    let two : b ≡ second_value core i.op = second ∙ ap (λ o. register_of core.registers o.rs2) from in
+    let P : ℕ → Type 0 =
+    λ n. Performs (execution_by core choices i (result_of i.op (first_value core i.op) n core.pc i.len)) done s0
+    s1 w0 w1 b0 b1 in
+    let Q : ℕ → Type 0 =
+    λ n. Performs (execution_by core choices i (result_of i.op n b core.pc i.len)) done s0 s1 w0 w1 b0 b1 in
+    let R : IntResult → Type 0 = λ r. Performs (execution_by core choices i r) done s0 s1 w0 w1 b0 b1 in
     subst P two (subst Q one (subst R is did))
 
 -- one that does not access memory
-pub executed_pure : {A : Type 0} (meant done : A) (seen : List Read) (wrote : List Write) (bytes : Bytes) → done ≡ meant → Performs (pure meant) done seen seen wrote wrote bytes bytes
+pub executed_pure : {A : Type 0} (meant done : A) (seen : List Read) (wrote : List Write) (bytes : Bytes)
+    → done ≡ meant → Performs (pure meant) done seen seen wrote wrote bytes bytes
 executed_pure meant done seen wrote bytes is = rw is (Performs-pure meant seen wrote bytes)
 
 -- one that does
-pub executed_access : (core : Core) (choices : Choices) (i : Instruction) (request : MemoryRequest) (answer : Result Answer Exception) (s0 s1 : List Read) (w0 w1 : List Write) (b0 b1 : Bytes)
-    → Performs (accessed core choices request) answer s0 s1 w0 w1 b0 b1 → Performs (mapped (after_access core i) (accessed core choices request)) (after_access core i answer) s0 s1 w0 w1 b0 b1
+pub executed_access : (core : Core) (choices : RowChoices) (i : Instruction) (request : MemoryRequest)
+    (answer : Result AccessResult Exception) (s0 s1 : List Read) (w0 w1 : List Write) (b0 b1 : Bytes)
+    → Performs (memory_access core choices request) answer s0 s1 w0 w1 b0 b1
+    → Performs (mapped (after_access core i) (memory_access core choices request)) (after_access core i answer) s0
+    s1 w0 w1 b0 b1
 executed_access core choices i request answer s0 s1 w0 w1 b0 b1 did =
-    Performs-mapped (after_access core i) (accessed core choices request) answer s0 s1 w0 w1 b0 b1 did
+    Performs-mapped (after_access core i) (memory_access core choices request) answer s0 s1 w0 w1 b0 b1 did
 
-pub executed_answer : (core next : Core) (choices : Choices) (i : Instruction) (request : MemoryRequest) (answer : Answer) (s0 s1 : List Read) (w0 w1 : List Write) (b0 b1 : Bytes)
-    → next ≡ goes_on (record core { reservation = answer.reservation }) i answer.value → Performs (accessed core choices request) (Ok answer) s0 s1 w0 w1 b0 b1
-    → Performs (mapped (after_access core i) (accessed core choices request)) (Ok (record { core = next; access = answer.access })) s0 s1 w0 w1 b0 b1
+pub executed_answer : (core next : Core) (choices : RowChoices) (i : Instruction) (request : MemoryRequest)
+    (answer : AccessResult) (s0 s1 : List Read) (w0 w1 : List Write) (b0 b1 : Bytes)
+    → next ≡ core_at_next (record core { reservation = answer.reservation }) i answer.value
+    → Performs (memory_access core choices request) (Ok answer) s0 s1 w0 w1 b0 b1
+    → Performs (mapped (after_access core i) (memory_access core choices request))
+    (Ok (record { core = next; access = answer.access })) s0 s1 w0 w1 b0 b1
 unfolding after_access
 executed_answer core next choices i request answer s0 s1 w0 w1 b0 b1 is did =
-    let P : Core → Type 0 = λ k. Performs (mapped (after_access core i) (accessed core choices request)) (Ok (record { core = k; access = answer.access })) s0 s1 w0 w1 b0 b1 in
+    let P : Core → Type 0 =
+    λ k. Performs (mapped (after_access core i) (memory_access core choices request))
+    (Ok (record { core = k; access = answer.access })) s0 s1 w0 w1 b0 b1 in
     subst P (sym is) (executed_access core choices i request (Ok answer) s0 s1 w0 w1 b0 b1 did)
 
 -- what stands at pc
-pub ran_refused : (core : Core) (shown : Shown) (exception : Exception) (s0 s1 : List Read) (wrote : List Write) (bytes : Bytes)
-    → Observes (fetched core.csrs core.map core.mode core.pc) (Err exception) s0 s1 bytes → Performs (ran core shown) (raised core None exception) s0 s1 wrote wrote bytes bytes
-unfolding ran
+pub ran_refused : (core : Core) (shown : Shown) (exception : Exception) (s0 s1 : List Read) (wrote : List Write)
+    (bytes : Bytes)
+    → Observes (fetch_result core.csrs core.map core.mode core.pc) (Err exception) s0 s1 bytes
+    → Performs (instruction_run core shown) (run_of_exception core None exception) s0 s1 wrote wrote bytes bytes
+unfolding instruction_run
 ran_refused core shown exception s0 s1 wrote bytes look =
-    Performs-then (fetched core.csrs core.map core.mode core.pc) (fetched_run core shown) (Err exception) (raised core None exception) s0 s1 s1 wrote wrote wrote bytes bytes bytes
-    (Performs-observed (fetched core.csrs core.map core.mode core.pc) (Err exception) s0 s1 wrote bytes look)
-    (Performs-pure (raised core None exception) s1 wrote bytes)
+    Performs-then (fetch_result core.csrs core.map core.mode core.pc) (run_of_fetched core shown) (Err exception)
+    (run_of_exception core None exception) s0 s1 s1 wrote wrote wrote bytes bytes bytes
+    (Performs-observed (fetch_result core.csrs core.map core.mode core.pc) (Err exception) s0 s1 wrote bytes look)
+    (Performs-pure (run_of_exception core None exception) s1 wrote bytes)
 
-pub ran_decoded : (core : Core) (shown : Shown) (word len : ℕ) (op : Option Op) (done : Ran) (s0 s1 s2 : List Read) (w0 w1 : List Write) (b0 b1 : Bytes)
-    → Observes (fetched core.csrs core.map core.mode core.pc) (Ok (word, len)) s0 s1 b0 → op ≡ op_of word len
-    → Performs (decoded_run core shown word len op) done s1 s2 w0 w1 b0 b1 → Performs (ran core shown) done s0 s2 w0 w1 b0 b1
-unfolding ran
+pub ran_decoded : (core : Core) (shown : Shown) (word len : ℕ) (op : Option Op) (done : InstructionRun)
+    (s0 s1 s2 : List Read) (w0 w1 : List Write) (b0 b1 : Bytes)
+    → Observes (fetch_result core.csrs core.map core.mode core.pc) (Ok (word, len)) s0 s1 b0 → op ≡ op_of word len
+    → Performs (run_of_decoded core shown word len op) done s1 s2 w0 w1 b0 b1
+    → Performs (instruction_run core shown) done s0 s2 w0 w1 b0 b1
+unfolding instruction_run
 ran_decoded core shown word len op done s0 s1 s2 w0 w1 b0 b1 look is did =
-    let P : Option Op → Type 0 = λ o. Performs (decoded_run core shown word len o) done s1 s2 w0 w1 b0 b1 in
-    Performs-then (fetched core.csrs core.map core.mode core.pc) (fetched_run core shown) (Ok (word, len)) done s0 s1 s2 w0 w0 w1 b0 b0 b1
-    (Performs-observed (fetched core.csrs core.map core.mode core.pc) (Ok (word, len)) s0 s1 w0 b0 look)
+    let P : Option Op → Type 0 = λ o. Performs (run_of_decoded core shown word len o) done s1 s2 w0 w1 b0 b1 in
+    Performs-then (fetch_result core.csrs core.map core.mode core.pc) (run_of_fetched core shown) (Ok (word, len))
+    done s0 s1 s2 w0 w0 w1 b0 b0 b1
+    (Performs-observed (fetch_result core.csrs core.map core.mode core.pc) (Ok (word, len)) s0 s1 w0 b0 look)
     (subst P is did)
 
-pub ran_executed : (core : Core) (shown : Shown) (word len : ℕ) (op : Op) (choices : Choices) (done : Result Done Exception) (s0 s1 : List Read) (w0 w1 : List Write) (b0 b1 : Bytes)
-    → choices ≡ choices_of shown (destination_of op) → Performs (executed core choices (record { op = op; bits = word; len = len })) done s0 s1 w0 w1 b0 b1
-    → Performs (decoded_run core shown word len (Some op)) (ended core (record { op = op; bits = word; len = len }) done) s0 s1 w0 w1 b0 b1
+pub ran_executed : (core : Core) (shown : Shown) (word len : ℕ) (op : Op) (choices : RowChoices)
+    (done : Result Completion Exception) (s0 s1 : List Read) (w0 w1 : List Write) (b0 b1 : Bytes)
+    → choices ≡ choices_of shown (operands_of op).rd
+    → Performs (execution_of core choices (record { op = op; bits = word; len = len })) done s0 s1 w0 w1 b0 b1
+    → Performs (run_of_decoded core shown word len (Some op))
+    (run_of_result core (record { op = op; bits = word; len = len }) done) s0 s1 w0 w1 b0 b1
 ran_executed core shown word len op choices done s0 s1 w0 w1 b0 b1 chosen did =
     let i : Instruction = record { op = op; bits = word; len = len } in
-    let P : Choices → Type 0 = λ c. Performs (executed core c i) done s0 s1 w0 w1 b0 b1 in
-    Performs-mapped (ended core i) (executed core (choices_of shown (destination_of op)) i) done s0 s1 w0 w1 b0 b1 (subst P chosen did)
+    let P : RowChoices → Type 0 = λ c. Performs (execution_of core c i) done s0 s1 w0 w1 b0 b1 in
+    Performs-mapped (run_of_result core i) (execution_of core (choices_of shown (operands_of op).rd) i) done s0 s1 w0
+    w1 b0 b1 (subst P chosen did)
 
 -- an exception leaves the hart
-pub ran_raised : (core next : Core) (shown : Shown) (insn : Option ℕ) (exception : Exception) (s0 s1 : List Read) (w0 w1 : List Write) (b0 b1 : Bytes)
-    → next ≡ core → Performs (ran core shown) (raised core insn exception) s0 s1 w0 w1 b0 b1 → Performs (ran core shown) (raised next insn exception) s0 s1 w0 w1 b0 b1
+pub ran_raised : (core next : Core) (shown : Shown) (insn : Option ℕ) (exception : Exception) (s0 s1 : List Read)
+    (w0 w1 : List Write) (b0 b1 : Bytes)
+    → next ≡ core → Performs (instruction_run core shown) (run_of_exception core insn exception) s0 s1 w0 w1 b0 b1
+    → Performs (instruction_run core shown) (run_of_exception next insn exception) s0 s1 w0 w1 b0 b1
 ran_raised core next shown insn exception s0 s1 w0 w1 b0 b1 is did =
-    let P : Core → Type 0 = λ k. Performs (ran core shown) (raised k insn exception) s0 s1 w0 w1 b0 b1 in
+    let P : Core → Type 0 =
+    λ k. Performs (instruction_run core shown) (run_of_exception k insn exception) s0 s1 w0 w1 b0 b1 in
     subst P (sym is) did
 
 -- a step
-pub step_halted : (core : Core) (shown : Shown) (seen : List Read) (wrote : List Write) (bytes : Bytes) → core.halted ≡ true → Performs (stepped core shown) (record { next = core; expected = Halted }) seen seen wrote wrote bytes bytes
-unfolding stepped
+pub step_halted : (core : Core) (shown : Shown) (seen : List Read) (wrote : List Write) (bytes : Bytes)
+    → core.halted ≡ true
+    → Performs (step_of core shown) (record { next = core; expected = Halted }) seen seen wrote wrote bytes bytes
+unfolding step_of
 step_halted core shown seen wrote bytes halted =
-    let gave : Gave = record { next = core; expected = Halted } in
-    let P : Bool → Type 0 = λ b. Performs (if b then pure gave else mapped (gave_of core shown) (ran (begun core shown) shown)) gave seen seen wrote wrote bytes bytes in
+    let gave : StepResult = record { next = core; expected = Halted } in
+    let P : Bool → Type 0 =
+    λ b. Performs
+    (if b then pure gave else mapped (step_result_of core shown)
+    (instruction_run (before_instruction core shown) shown)) gave seen seen wrote wrote bytes bytes in
     subst P (sym halted) (Performs-pure gave seen wrote bytes)
 
-pub step_done : (core : Core) (shown : Shown) (done : Ran) (gave : Gave) (s0 s1 : List Read) (w0 w1 : List Write) (b0 b1 : Bytes) → core.halted ≡ false → gave ≡ gave_of core shown done
-    → Performs (ran (begun core shown) shown) done s0 s1 w0 w1 b0 b1 → Performs (stepped core shown) gave s0 s1 w0 w1 b0 b1
-unfolding stepped
+pub step_done : (core : Core) (shown : Shown) (done : InstructionRun) (gave : StepResult) (s0 s1 : List Read)
+    (w0 w1 : List Write) (b0 b1 : Bytes) → core.halted ≡ false → gave ≡ step_result_of core shown done
+    → Performs (instruction_run (before_instruction core shown) shown) done s0 s1 w0 w1 b0 b1
+    → Performs (step_of core shown) gave s0 s1 w0 w1 b0 b1
+unfolding step_of
 step_done core shown done gave s0 s1 w0 w1 b0 b1 running is did =
-    let halted : Gave = record { next = core; expected = Halted } in
-    let P : Bool → Type 0 = λ b. Performs (if b then pure halted else mapped (gave_of core shown) (ran (begun core shown) shown)) gave s0 s1 w0 w1 b0 b1 in
-    let Q : Gave → Type 0 = λ g. Performs (mapped (gave_of core shown) (ran (begun core shown) shown)) g s0 s1 w0 w1 b0 b1 in
-    subst P (sym running) (subst Q (sym is) (Performs-mapped (gave_of core shown) (ran (begun core shown) shown) done s0 s1 w0 w1 b0 b1 did))
+    let halted : StepResult = record { next = core; expected = Halted } in
+    let P : Bool → Type 0 =
+    λ b. Performs
+    (if b then pure halted else mapped (step_result_of core shown)
+    (instruction_run (before_instruction core shown) shown)) gave s0 s1 w0 w1 b0 b1 in
+    let Q : StepResult → Type 0 =
+    λ g. Performs (mapped (step_result_of core shown) (instruction_run (before_instruction core shown) shown)) g
+    s0 s1 w0 w1 b0 b1 in
+    subst P (sym running)
+    (subst Q (sym is)
+    (Performs-mapped (step_result_of core shown) (instruction_run (before_instruction core shown) shown) done s0
+    s1 w0 w1 b0 b1 did))
 
 -- the hart as the row's instruction finds it
-pub began : (core counts before : Core) (shown : Shown) → counts ≡ counted core shown → before ≡ interrupted counts shown → before ≡ begun core shown
-unfolding begun
-began core counts before shown count is = is ∙ ap (λ c. interrupted c shown) count
+pub began : (core counts before : Core) (shown : Shown) → counts ≡ core_after_count core shown
+    → before ≡ core_after_interrupt counts shown → before ≡ before_instruction core shown
+unfolding before_instruction
+began core counts before shown count is = is ∙ ap (λ c. core_after_interrupt c shown) count
 
-pub gave_parts : (core counts before next : Core) (shown : Shown) (done : Ran) (lacks : Bool) (insn : Option ℕ) (effects : Result Effects Cause) (lines : Lines)
-    → counts ≡ counted core shown → before ≡ interrupted counts shown → lacks ≡ lacks_interrupt counts shown → insn ≡ insn_of done.executed → effects ≡ effects_of before done.core done.executed
-    → next ≡ finished done shown → lines ≡ lines_of shown
-    → record { next = next; expected = Retired (record { order = core.next_order; lacks_interrupt = lacks; pc = before.pc; mode = before.mode; insn = insn; effects = effects; csrs_before = before.csrs; csrs_after = next.csrs; lines = lines.up }) }
-    ≡ gave_of core shown done
-unfolding gave_of expected_of
+pub gave_parts : (core counts before next : Core) (shown : Shown) (done : InstructionRun) (lacks : Bool)
+    (insn : Option ℕ) (effects : Result Effects Cause) (lines : Lines)
+    → counts ≡ core_after_count core shown → before ≡ core_after_interrupt counts shown
+    → lacks ≡ lacks_interrupt counts shown → insn ≡ insn_of done.executed
+    → effects ≡ effects_of before done.core done.executed
+    → next ≡ core_after_run done shown → lines ≡ pending_lines_of shown
+    → record {
+      next =
+          next;
+      expected =
+          Retired
+          (record {
+            order =
+                core.next_order;
+            lacks_interrupt =
+                lacks;
+            pc =
+                before.pc;
+            mode =
+                before.mode;
+            insn =
+                insn;
+            effects = effects;
+            csrs_before = before.csrs;
+            csrs_after = next.csrs;
+            lines = lines.up;
+          });
+    }
+    ≡ step_result_of core shown done
+unfolding step_result_of expected_of
 gave_parts core counts before next shown done lacks insn effects lines count is lacking bits did after up =
     let p = began core counts before shown count is in
     let l = lacking ∙ ap (λ c. lacks_interrupt c shown) count in
     let e = did ∙ ap (λ b. effects_of b done.core done.executed) p in
     λ i. record {
       next = after i;
-      expected = Retired (record { order = core.next_order; lacks_interrupt = l i; pc = (p i).pc; mode = (p i).mode; insn = bits i; effects = e i; csrs_before = (p i).csrs; csrs_after = (after i).csrs; lines = (up i).up });
+      expected =
+          Retired
+          (record {
+            order =
+                core.next_order;
+            lacks_interrupt =
+                l i;
+            pc =
+                (p i).pc;
+            mode =
+                (p i).mode;
+            insn =
+                bits i;
+            effects = e i;
+            csrs_before = (p i).csrs;
+            csrs_after = (after i).csrs;
+            lines = (up i).up;
+          });
     }

@@ -4,7 +4,7 @@ use Rattle.std.proofs.lemmas.Nat.{and_mod, and_mask}
 use Rattle.rv_compressed.specs.declared.compressed_op.CompressedOp.{CompressedOp}
 use Rattle.rv_compressed.specs.declared.compressed_op.CompressedOp.TheVariants as c
 use Rattle.rv_compressed.specs.Formats.{r_format, i_format, s_format, b_format, u_format, j_format}
-use Rattle.rv_compressed.specs.Table.{word_of}
+use Rattle.rv_compressed.specs.Table.{encoding_of}
 
 pub both : (a b : Bool) → (a && b) ≡ true → (a ≡ true) × (b ≡ true)
 both true b h = (refl, h)
@@ -28,14 +28,17 @@ low_i : (opcode funct3 rd rs1 immediate : ℕ) → opcode < 128 → i_format opc
 unfolding i_format
 low_i opcode funct3 rd rs1 immediate below = omega arith
 
-low_s_by : (opcode funct3 rs2 rs1 a b : ℕ) → opcode < 128 → (a * 2 ^ 25 + rs2 * 2 ^ 20 + rs1 * 2 ^ 15 + funct3 * 2 ^ 12 + b * 2 ^ 7 + opcode) % 128 ≡ opcode
+low_s_by : (opcode funct3 rs2 rs1 a b : ℕ) → opcode < 128
+    → (a * 2 ^ 25 + rs2 * 2 ^ 20 + rs1 * 2 ^ 15 + funct3 * 2 ^ 12 + b * 2 ^ 7 + opcode) % 128 ≡ opcode
 low_s_by opcode funct3 rs2 rs1 a b below = omega arith
 
 low_s : (opcode funct3 rs2 rs1 offset : ℕ) → opcode < 128 → s_format opcode funct3 rs2 rs1 offset % 128 ≡ opcode
 unfolding s_format
 low_s opcode funct3 rs2 rs1 offset below = low_s_by opcode funct3 rs2 rs1 _ _ below
 
-low_b_by : (opcode funct3 rs1 rs2 a b c d : ℕ) → opcode < 128 → (a * 2 ^ 31 + b * 2 ^ 25 + rs2 * 2 ^ 20 + rs1 * 2 ^ 15 + funct3 * 2 ^ 12 + c * 2 ^ 8 + d * 2 ^ 7 + opcode) % 128 ≡ opcode
+low_b_by : (opcode funct3 rs1 rs2 a b c d : ℕ) → opcode < 128
+    → (a * 2 ^ 31 + b * 2 ^ 25 + rs2 * 2 ^ 20 + rs1 * 2 ^ 15 + funct3 * 2 ^ 12 + c * 2 ^ 8 + d * 2 ^ 7 + opcode) % 128
+    ≡ opcode
 low_b_by opcode funct3 rs1 rs2 a b c d below = omega arith
 
 low_b : (opcode funct3 rs1 rs2 offset : ℕ) → opcode < 128 → b_format opcode funct3 rs1 rs2 offset % 128 ≡ opcode
@@ -46,7 +49,8 @@ low_u : (opcode rd upper : ℕ) → opcode < 128 → u_format opcode rd upper % 
 unfolding u_format
 low_u opcode rd upper below = omega arith
 
-low_j_by : (opcode rd a b c d : ℕ) → opcode < 128 → (a * 2 ^ 31 + b * 2 ^ 21 + c * 2 ^ 20 + d * 2 ^ 12 + rd * 2 ^ 7 + opcode) % 128 ≡ opcode
+low_j_by : (opcode rd a b c d : ℕ) → opcode < 128
+    → (a * 2 ^ 31 + b * 2 ^ 21 + c * 2 ^ 20 + d * 2 ^ 12 + rd * 2 ^ 7 + opcode) % 128 ≡ opcode
 low_j_by opcode rd a b c d below = omega arith
 
 low_j : (opcode rd offset : ℕ) → opcode < 128 → j_format opcode rd offset % 128 ≡ opcode
@@ -87,8 +91,8 @@ opcode_of c.Add = 0x33
 opcode_of c.Swsp = 0x23
 opcode_of c.Sdsp = 0x23
 
-pub word_opcode : (op : CompressedOp) (parcel : ℕ) → word_of op parcel % 128 ≡ opcode_of op
-unfolding word_of
+pub word_opcode : (op : CompressedOp) (parcel : ℕ) → encoding_of op parcel % 128 ≡ opcode_of op
+unfolding encoding_of
 word_opcode c.Addi4spn parcel = low_i 0x13 _ _ _ _ (lit< tt)
 word_opcode c.Lw parcel = low_i 0x03 _ _ _ _ (lit< tt)
 word_opcode c.Ld parcel = low_i 0x03 _ _ _ _ (lit< tt)

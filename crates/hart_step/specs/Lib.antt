@@ -7,6 +7,8 @@ pub mod Instructions
 pub mod Steps
 pub mod PlainRows
 pub mod Laws
+pub mod TrapLaws
 pub mod Rows
 pub mod Harts
 pub mod ProtectionLaws
+pub mod TranslationLaws

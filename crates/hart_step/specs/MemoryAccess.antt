@@ -11,92 +11,100 @@ use Rattle.rv_atomic.specs.Operations.{amo_of}
 use Rattle.rv_atomic.specs.Blocks.{block_of, is_covered}
 use Rattle.rvfi_rows.specs.declared.expected.Accessed.{Accessed}
 use Rattle.mem_access.specs.declared.place.Place.{Place}
-use Rattle.mem_access.specs.Accesses.{Exception, loaded, store_place_of}
+use Rattle.mem_access.specs.Accesses.{Exception, load_result, store_place_of}
 use Rattle.hart_step.specs.declared.state.Core.{Core}
-use Rattle.hart_step.specs.declared.choices.Choices.{Choices}
-use Rattle.hart_step.specs.declared.memory.Answer.{Answer}
+use Rattle.hart_step.specs.declared.choices.RowChoices.{RowChoices}
+use Rattle.hart_step.specs.declared.memory.AccessResult.{AccessResult}
 use Rattle.hart_step.specs.Choices.{device_value, says_stored}
 
 -- a place, with what memory has there
-abbrev pub Found : Type 0
-Found = Place × ℕ
+abbrev pub LocatedValue : Type 0
+LocatedValue = Place × ℕ
 
 -- a store does not look at what memory has
-abbrev pub unread : Result Place Exception → Result Found Exception
-unread (Err exception) = Err exception
-unread (Ok place) = Ok (place, 0)
+abbrev pub found_without_value : Result Place Exception → Result LocatedValue Exception
+found_without_value (Err exception) = Err exception
+found_without_value (Ok place) = Ok (place, 0)
 
 -- an atomic memory operation does
-abbrev pub read_at : ℕ → Result Place Exception → Action (Result Found Exception)
-read_at len (Err exception) = pure (Err exception)
-read_at len (Ok place) = mapped (λ held. Ok (place, held)) (read_memory (record { pa = place.pa; len = len }))
+abbrev pub found_with_read : ℕ → Result Place Exception → Action (Result LocatedValue Exception)
+found_with_read len (Err exception) = pure (Err exception)
+found_with_read len (Ok place) = mapped (λ held. Ok (place, held)) (read_memory (record { pa = place.pa; len = len }))
 
-abbrev pub placed_by : Core → ℕ → ℕ → MemoryOp → Action (Result Found Exception)
-placed_by core va len (Load signed) = loaded core.csrs core.map core.mode va len false
-placed_by core va len LoadReserved = loaded core.csrs core.map core.mode va len true
-placed_by core va len (Store value) = mapped unread (store_place_of core.csrs core.map core.mode va len false)
-placed_by core va len (StoreConditional value) = mapped unread (store_place_of core.csrs core.map core.mode va len true)
-placed_by core va len (Amo op width b) = store_place_of core.csrs core.map core.mode va len true >>= read_at len
+abbrev pub located_access_by : Core → ℕ → ℕ → MemoryOp → Action (Result LocatedValue Exception)
+located_access_by core va len (Load signed) = load_result core.csrs core.map core.mode va len false
+located_access_by core va len LoadReserved = load_result core.csrs core.map core.mode va len true
+located_access_by core va len (Store value) =
+    mapped found_without_value (store_place_of core.csrs core.map core.mode va len false)
+located_access_by core va len (StoreConditional value) =
+    mapped found_without_value (store_place_of core.csrs core.map core.mode va len true)
+located_access_by core va len (Amo op width b) =
+    store_place_of core.csrs core.map core.mode va len true >>= found_with_read len
 
 -- where the access goes, with what memory has there as far as the access reads it
-unfoldable pub placed : Core → MemoryRequest → Action (Result Found Exception)
-placed core request = placed_by core request.address (bytes_of request.size) request.op
+unfoldable pub located_access : Core → MemoryRequest → Action (Result LocatedValue Exception)
+located_access core request = located_access_by core request.address (bytes_of request.size) request.op
 
 -- the access, as the comparison sees it
-abbrev pub access_at : MemoryRequest → Place → Option ℕ → Option ℕ → Option Accessed
-access_at request place read written =
+abbrev pub expected_access : MemoryRequest → Place → Option ℕ → Option ℕ → Option Accessed
+expected_access request place read written =
     Some (record { va = request.address; pa = place.pa; len = bytes_of request.size; read = read; written = written })
 
 -- what a load found: a device gives what the row shows
-abbrev pub value_found : Choices → MemoryRequest → Place → ℕ → ℕ
+abbrev pub value_found : RowChoices → MemoryRequest → Place → ℕ → ℕ
 value_found choices request place held =
     if place.io then device_value choices request.address (bytes_of request.size) else held
 
 -- a number of the access's bytes as a register gets it
-abbrev pub extended : Bool → MemoryRequest → ℕ → ℕ
-extended true request value = sign_extended (8 * bytes_of request.size) value
-extended false request value = value
+abbrev pub loaded_value : Bool → MemoryRequest → ℕ → ℕ
+loaded_value true request value = sign_extended (8 * bytes_of request.size) value
+loaded_value false request value = value
 
 -- an SC stores in the reserved block alone, and there as the row says
-abbrev pub is_stored : Core → Choices → MemoryRequest → Place → Bool
+abbrev pub is_stored : Core → RowChoices → MemoryRequest → Place → Bool
 is_stored core choices request place =
     is_covered core.reservation.block place.pa (bytes_of request.size) && says_stored choices
 
 -- what comes of an access: the destination's value, the access made, and what is reserved after it. SC gives 0
 -- where it stored and 1 where it did not, and leaves nothing reserved; LR reserves the block of its bytes
-abbrev pub answer_by : Core → Choices → MemoryRequest → Place → ℕ → MemoryOp → Answer
-answer_by core choices request place held (Load signed) = record {
-  value = extended signed request (value_found choices request place held);
-  access = access_at request place (Some (value_found choices request place held)) None;
+abbrev pub access_result_by : Core → RowChoices → MemoryRequest → Place → ℕ → MemoryOp → AccessResult
+access_result_by core choices request place held (Load signed) = record {
+  value = loaded_value signed request (value_found choices request place held);
+  access = expected_access request place (Some (value_found choices request place held)) None;
   reservation = core.reservation;
 }
-answer_by core choices request place held LoadReserved = record {
-  value = extended true request held;
-  access = access_at request place (Some held) None;
+access_result_by core choices request place held LoadReserved = record {
+  value = loaded_value true request held;
+  access = expected_access request place (Some held) None;
   reservation = record { block = Some (block_of place.pa) };
 }
-answer_by core choices request place held (Store value) = record {
+access_result_by core choices request place held (Store value) = record {
   value = 0;
-  access = access_at request place None (Some value);
+  access = expected_access request place None (Some value);
   reservation = core.reservation;
 }
-answer_by core choices request place held (StoreConditional value) =
+access_result_by core choices request place held (StoreConditional value) =
     if is_stored core choices request place
-    then record { value = 0; access = access_at request place None (Some value); reservation = record { block = None } }
+    then record {
+      value =
+          0;
+      access = expected_access request place None (Some value);
+      reservation = record { block = None };
+    }
     else record { value = 1; access = None; reservation = record { block = None } }
-answer_by core choices request place held (Amo op width b) = record {
-  value = extended true request held;
-  access = access_at request place (Some held) (Some (amo_of op width held b));
+access_result_by core choices request place held (Amo op width b) = record {
+  value = loaded_value true request held;
+  access = expected_access request place (Some held) (Some (amo_of op width held b));
   reservation = core.reservation;
 }
 
-unfoldable pub answer_of : Core → Choices → MemoryRequest → Found → Answer
-answer_of core choices request found = answer_by core choices request found.0 found.1 request.op
+unfoldable pub access_result_of : Core → RowChoices → MemoryRequest → LocatedValue → AccessResult
+access_result_of core choices request found = access_result_by core choices request found.0 found.1 request.op
 
 -- the number that is written
-abbrev pub written_by : Option Accessed → Option ℕ
-written_by None = None
-written_by (Some access) = access.written
+abbrev pub number_written : Option Accessed → Option ℕ
+number_written None = None
+number_written (Some access) = access.written
 
 -- a device takes a number, and no memory changes
 abbrev pub put_to : Place → ℕ → ℕ → Bool → Action (Unit {0})
@@ -108,12 +116,13 @@ put place len None = pure tt
 put place len (Some value) = put_to place len value place.io
 
 -- nothing is written before the access is known to be allowed
-abbrev pub answered : Core → Choices → MemoryRequest → Result Found Exception → Action (Result Answer Exception)
-answered core choices request (Err exception) = pure (Err exception)
-answered core choices request (Ok found) =
-    let answer = answer_of core choices request found in
-    mapped (λ _. Ok answer) (put found.0 (bytes_of request.size) (written_by answer.access))
+abbrev pub access_after_location : Core → RowChoices → MemoryRequest → Result LocatedValue Exception
+    → Action (Result AccessResult Exception)
+access_after_location core choices request (Err exception) = pure (Err exception)
+access_after_location core choices request (Ok found) =
+    let answer = access_result_of core choices request found in
+    mapped (λ _. Ok answer) (put found.0 (bytes_of request.size) (number_written answer.access))
 
 -- an access
-unfoldable pub accessed : Core → Choices → MemoryRequest → Action (Result Answer Exception)
-accessed core choices request = placed core request >>= answered core choices request
+unfoldable pub memory_access : Core → RowChoices → MemoryRequest → Action (Result AccessResult Exception)
+memory_access core choices request = located_access core request >>= access_after_location core choices request

@@ -1,10 +1,10 @@
 -- What physical memory protection comes to over steps, in the words of a designer of cores.
-use Rattle.std.specs.Prelude.{◌≡◌, ◌≢◌, ◌↔◌, ◌⊎◌, ℕ, ◌<◌, Bool, true, false, IsTrue, List, All, length, Option, Some, None, IfSome, IfOk}
+use Rattle.std.specs.Prelude.{◌≡◌, ◌≢◌, ◌↔◌, ℕ, ◌%◌, ◌<◌, ◌≤◌, Bool, true, false, if◌then◌else◌, IsTrue, List, [], ◌++◌}
+use Rattle.std.specs.Prelude.{All, length, Option, Some, None, Ok, IfSome, IfOk}
 use Rattle.hart_words.specs.declared.privilege.Access.{Access}
 use Rattle.hart_words.specs.declared.privilege.Access.TheVariants as kind
 use Rattle.hart_words.specs.declared.privilege.Mode.TheVariants.{Supervisor, Machine}
 use Rattle.hart_words.specs.declared.privilege.PmpEntry.{PmpEntry}
-use Rattle.hart_words.specs.declared.accesses.Read.{Read}
 use Rattle.hart_words.specs.declared.accesses.Write.{Write}
 use Rattle.hart_words.specs.AccessSizes.{bytes_of}
 use Rattle.hart_words.specs.Actions.{Run}
@@ -28,13 +28,14 @@ use Rattle.rvfi_rows.specs.declared.expected.Accessed.{Accessed}
 use Rattle.rvfi_rows.specs.declared.expected.Expected.{Expected}
 use Rattle.rvfi_rows.specs.declared.expected.Expected.TheVariants.{Halted, Retired}
 use Rattle.mem_access.specs.declared.place.AccessRequest.{AccessRequest}
-use Rattle.mem_access.specs.Accesses.{data_load, data_store, parcel_fetch}
-use Rattle.mem_access.specs.Laws.{IsGrantedRead, IsReadFor}
+use Rattle.mem_access.specs.Accesses.{data_load, data_store}
+use Rattle.mem_access.specs.Laws.{AreReads}
 use Rattle.mem_access.specs.Places.{data_mode_of}
+use Rattle.mem_access.specs.Reads.{CheckedRead, data_reads_of, fetch_reads_of, place_found}
 use Rattle.hart_step.specs.declared.state.Core.{Core}
 use Rattle.hart_step.specs.Rows.{HartState, RunBelowMachine, after_rows}
-use Rattle.hart_step.specs.Steps.{Gave, begun, stepped}
-use Rattle.hart_step.specs.Laws.{asked, next_of}
+use Rattle.hart_step.specs.Steps.{StepResult, before_instruction, step_of}
+use Rattle.hart_step.specs.Laws.{request_at_pc, next_of}
 
 -- the entry with this number is locked
 abbrev pub is_locked : Csrs → ℕ → Bool
@@ -51,14 +52,14 @@ pub record IsAsItWas (before after : Csrs) (number : ℕ) : Type 0 where
   pub covers : CoversTheSame before after number
 
 -- each entry that is locked before is afterwards as it was
-abbrev pub LocksOutlast : Csrs → Csrs → Type 0
-LocksOutlast before after =
+abbrev pub LocksArePreserved : Csrs → Csrs → Type 0
+LocksArePreserved before after =
     (number : ℕ) → number < 16 → is_locked before number ≡ true → IsAsItWas before after number
 
 -- a row whose instruction runs in S or U leaves all entries, whatever it does
 abbrev pub LowerModesLeaveProtection : Core → Shown → Bytes → Type 0
 LowerModesLeaveProtection core shown bytes =
-    (begun core shown).mode ≢ Machine
+    (before_instruction core shown).mode ≢ Machine
     → pmp_entries_of (next_of core shown bytes).csrs ≡ pmp_entries_of core.csrs
 
 -- what the access of an instruction is checked as: SC and the AMOs are stores
@@ -80,16 +81,20 @@ reads_its_bytes (Store value) = false
 reads_its_bytes (StoreConditional value) = false
 reads_its_bytes (Amo op width b) = true
 
--- a read of the bytes that an instruction asks for, which protection grants it
-abbrev pub IsDataRead : Core → Option IntResult → Read → Type 0
-IsDataRead core (Some (results.Access request)) read =
-    IsTrue (reads_its_bytes request.op) × IsGrantedRead core.csrs core.map (check_of core request) read
-IsDataRead core _ read = ⊥
+-- the reads of what an instruction asks for: its access's walk, and its own bytes where it reads them
+abbrev pub asked_reads_of : Core → Option IntResult → Bytes → List CheckedRead
+asked_reads_of core (Some (results.Access request)) bytes =
+    data_reads_of core.csrs core.map (check_of core request) (reads_its_bytes request.op) request.address bytes
+asked_reads_of core _ bytes = []
 
--- a read of an entry of a page table, 8 bytes of RAM that S may load, of a parcel that the mode may fetch, or of
--- such bytes
-abbrev pub IsStepRead : Core → Option IntResult → Read → Type 0
-IsStepRead core asks read = IsReadFor core.csrs core.map (parcel_fetch core.mode) read ⊎ IsDataRead core asks read
+-- the reads of an instruction, in order: those of its fetch at pc, and then those of what it asks for
+unfoldable pub instruction_reads_of : Core → Bytes → List CheckedRead
+instruction_reads_of core bytes =
+    fetch_reads_of core.csrs core.map core.mode core.pc bytes ++ asked_reads_of core (request_at_pc core bytes) bytes
+
+-- those of a step; a halted hart reads nothing
+unfoldable pub step_reads_of : Core → Shown → Bytes → List CheckedRead
+step_reads_of core shown bytes = if core.halted then [] else instruction_reads_of (before_instruction core shown) bytes
 
 -- protection lets the mode of loads and stores make an access
 abbrev pub MayAccess : Core → Access → ℕ → ℕ → Type 0
@@ -110,24 +115,56 @@ kind_by None = kind.Load
 abbrev pub IsStepAccess : Core → Accessed → Type 0
 IsStepAccess core access = MayAccess core (kind_by access.written) access.pa access.len
 
-abbrev pub ExpectsGranted : Core → Expected → Type 0
-ExpectsGranted core Halted = Unit {0}
-ExpectsGranted core (Retired retired) =
-    IfOk retired.effects (λ effects. IfSome effects.access (IsStepAccess core))
+-- an access of this kind, to all the bytes at the place that is found for the instruction's address, a multiple of
+-- their number
+pub record IsFoundFor (core : Core) (request : MemoryRequest) (bytes : Bytes) (access : Access) (pa len : ℕ)
+    (io : Bool) : Type 0 where
+  pub kind : (check_of core request).access ≡ access
+  pub whole : len ≡ bytes_of request.size
+  pub aligned : request.address % bytes_of request.size ≡ 0
+  pub found : place_found core.csrs core.map (check_of core request) request.address bytes
+      ≡ Ok (record { pa = pa; io = io })
 
--- all that a step reads, writes and expects is granted to the hart as its instruction finds it
-pub record IsGrantedStep (begins : Core) (asks : Option IntResult) (step : Run Gave) : Type 0 where
-  pub reads : All (IsStepRead begins asks) step.reads
+-- a write is such a store in RAM
+abbrev pub IsAskedWrite : Core → Option IntResult → Bytes → Write → Type 0
+IsAskedWrite core (Some (results.Access request)) bytes write =
+    IsFoundFor core request bytes kind.Store write.pa write.len false
+IsAskedWrite core _ bytes write = ⊥
+
+-- the access that is expected of a row is such a one, at the instruction's address
+pub record IsAskedFor (core : Core) (request : MemoryRequest) (bytes : Bytes) (access : Accessed) : Type 0 where
+  pub va : access.va ≡ request.address
+  pub io : Bool
+  pub place : IsFoundFor core request bytes (kind_by access.written) access.pa access.len io
+
+abbrev pub IsAskedAccess : Core → Option IntResult → Bytes → Accessed → Type 0
+IsAskedAccess core (Some (results.Access request)) bytes access = IsAskedFor core request bytes access
+IsAskedAccess core _ bytes access = ⊥
+
+-- something holds of the access that is expected, where one is
+abbrev pub OfExpected : (Accessed → Type 0) → Expected → Type 0
+OfExpected P Halted = Unit {0}
+OfExpected P (Retired retired) = IfOk retired.effects (λ effects. IfSome effects.access P)
+
+-- what a step reads, writes and expects is what its instruction asks for, at the places that are found, and is granted
+-- to the hart as the instruction finds it
+pub record IsPermittedStep (begins : Core) (asks : Option IntResult) (bytes : Bytes) (checks : List CheckedRead)
+    (step : Run StepResult) : Type 0 where
+  pub reads : AreReads begins.csrs begins.map checks step.reads
   pub writes : All (IsStepWrite begins) step.wrote
-  pub access : ExpectsGranted begins step.value.expected
+  pub asked_writes : All (IsAskedWrite begins asks bytes) step.wrote
+  pub access : OfExpected (IsStepAccess begins) step.value.expected
+  pub asked_access : OfExpected (IsAskedAccess begins asks bytes) step.value.expected
 
-abbrev pub StepIsGranted : Core → Shown → Bytes → Type 0
-StepIsGranted core shown bytes =
-    let begins = begun core shown in IsGrantedStep begins (asked begins bytes) ((stepped core shown).run bytes)
+abbrev pub StepIsPermitted : Core → Shown → Bytes → Type 0
+StepIsPermitted core shown bytes =
+    let begins = before_instruction core shown in
+    IsPermittedStep begins (request_at_pc begins bytes) bytes (step_reads_of core shown bytes)
+    ((step_of core shown).run bytes)
 
 -- rows that run their instructions in S and U leave a byte as it is
-abbrev pub Outlasts : HartState → List Shown → ℕ → Type 0
-Outlasts state rows byte =
+abbrev pub IsPreserved : HartState → List Shown → ℕ → Type 0
+IsPreserved state rows byte =
     RunBelowMachine state rows → (after_rows state rows).bytes byte ≡ state.bytes byte
 
 -- protection refuses S and U a write of the byte
@@ -141,26 +178,34 @@ pub record ForbidsStores (entries : List PmpEntry) (byte : ℕ) : Type 0 where
   pub decides : Decides entries number byte 1
   pub forbids : permits (entry_at entries number).cfg kind.Store ≡ false
 
+-- the least entry that covers the byte has W clear, and it and all before it are locked, so that they bind every mode
+pub record IsLockedByte (csrs : Csrs) (byte : ℕ) : Type 0 where
+  pub number : ℕ
+  pub there : number < 16
+  pub decides : Decides (pmp_entries_of csrs) number byte 1
+  pub forbids : permits (configuration_of csrs number) kind.Store ≡ false
+  pub locked : (lower : ℕ) → lower ≤ number → is_locked csrs lower ≡ true
+
 -- two memories agree on each byte that protection grants S and U any access to
-abbrev pub AgreeWhereGranted : Core → Bytes → Bytes → Type 0
-AgreeWhereGranted core one other =
+abbrev pub AgreeWherePermitted : Core → Bytes → Bytes → Type 0
+AgreeWherePermitted core one other =
     (byte : ℕ) (access : Access) → IsTrue (is_allowed (pmp_entries_of core.csrs) Supervisor byte 1 access)
     → other byte ≡ one byte
 
 -- such memories give the same step in S and U
 abbrev pub StepsAlike : Core → Shown → Bytes → Bytes → Type 0
 StepsAlike core shown one other =
-    (begun core shown).mode ≢ Machine → AgreeWhereGranted core one other
-    → (stepped core shown).run other ≡ (stepped core shown).run one
+    (before_instruction core shown).mode ≢ Machine → AgreeWherePermitted core one other
+    → (step_of core shown).run other ≡ (step_of core shown).run one
 
 -- and so do rows, one after another: the same hart, over memories that still agree
 pub record ComeToTheSame (core : Core) (one other : HartState) : Type 0 where
   pub cores : other.core ≡ one.core
-  pub memories : AgreeWhereGranted core one.bytes other.bytes
+  pub memories : AgreeWherePermitted core one.bytes other.bytes
 
 abbrev pub RowsGoAlike : Core → List Shown → Bytes → Bytes → Type 0
 RowsGoAlike core rows one other =
     let first : HartState = record { core = core; bytes = one } in
     let second : HartState = record { core = core; bytes = other } in
-    RunBelowMachine first rows → AgreeWhereGranted core one other
+    RunBelowMachine first rows → AgreeWherePermitted core one other
     → ComeToTheSame core (after_rows first rows) (after_rows second rows)

@@ -9,7 +9,7 @@ use Rattle.csr_file.specs.Registers.{at}
 use Rattle.csr_file.specs.Fields.{bit_is_set}
 use Rattle.trap_entry.specs.Returns.{mret_of, sret_of, mode_by_mret, mode_by_sret}
 use Rattle.hart_step.specs.declared.state.Core.{Core}
-use Rattle.hart_step.specs.declared.choices.Choices.{Choices}
+use Rattle.hart_step.specs.declared.choices.RowChoices.{RowChoices}
 
 -- MRET is for M alone
 abbrev pub may_mret : Mode → Bool
@@ -23,17 +23,17 @@ may_in_mode Machine status bit = true
 may_in_mode Supervisor status bit = not (bit_is_set status bit)
 may_in_mode User status bit = false
 
-unfoldable pub is_supervised : Core → ℕ → Bool
-is_supervised core bit = may_in_mode core.mode (at core.csrs Mstatus) bit
+unfoldable pub may_use_supervisor_instruction : Core → ℕ → Bool
+may_use_supervisor_instruction core bit = may_in_mode core.mode (at core.csrs Mstatus) bit
 
 -- WFI may trap where it is not so allowed by TW, and there it does as the row says
-unfoldable pub waits_by_trap : Core → Choices → Bool
-waits_by_trap core choices = not (is_supervised core TW) && choices.traps
+unfoldable pub wfi_traps : Core → RowChoices → Bool
+wfi_traps core choices = not (may_use_supervisor_instruction core TW) && choices.traps
 
 -- MRET
-unfoldable pub returned_by_mret : Core → Core
-returned_by_mret core = record core { csrs = mret_of core.csrs; mode = mode_by_mret core.csrs; pc = at core.csrs Mepc }
+unfoldable pub core_after_mret : Core → Core
+core_after_mret core = record core { csrs = mret_of core.csrs; mode = mode_by_mret core.csrs; pc = at core.csrs Mepc }
 
 -- SRET
-unfoldable pub returned_by_sret : Core → Core
-returned_by_sret core = record core { csrs = sret_of core.csrs; mode = mode_by_sret core.csrs; pc = at core.csrs Sepc }
+unfoldable pub core_after_sret : Core → Core
+core_after_sret core = record core { csrs = sret_of core.csrs; mode = mode_by_sret core.csrs; pc = at core.csrs Sepc }

@@ -1,11 +1,11 @@
 //! What the standard leaves to a core, and a step takes from the row that it is stepped by.
 
-ghost use Rattle.std.specs.Prelude.{◌≡◌, ◌≤◌, ◌<◌, ◌+◌, ◌*◌, ◌/◌, ◌%◌, ◌^◌, IfSome};
+ghost use Rattle.std.specs.Prelude.{◌≡◌, ◌≤◌, ◌<◌, ◌+◌, ◌*◌, ◌%◌, ◌^◌, IfSome};
 ghost use Rattle.rvfi_rows.specs.Cells.{shown_in};
-ghost use Rattle.hart_step.specs.Choices.{shows, order_after, lines_under, lines_of, choices_of, bytes_at, bytes_shown, device_value, told_by_mask, told_by_register, says_stored};
+ghost use Rattle.hart_step.specs.Choices.{shows, order_after, pending_lines_under, pending_lines_of, choices_of, bytes_at, load_bytes_shown, device_value, mask_says_stored, register_says_stored, says_stored};
 
 use hart_words::{CsrName, CsrSide, Signal};
-use rvfi_rows::{Row, distance_in_window};
+use rvfi_rows::{Row, distance_in_window, moved_down};
 
 /// The interrupt lines that a row shows, by their bits in mip.
 #[derive(Clone, Copy, Debug)]
@@ -19,7 +19,7 @@ pub struct Lines {
 /// What an instruction takes from its row, where it reads what the core decides: a counter, an
 /// interrupt line that is not shown, a device, or whether an SC stored.
 #[derive(Clone, Copy, Debug)]
-pub struct Choices {
+pub struct RowChoices {
     /// The destination's value; none where it is x0.
     pub rd_wdata: Option<u64>,
     pub mem_addr: Option<u64>,
@@ -54,9 +54,9 @@ pub fn order_after(known: Option<u64>, shown: Option<u64>) -> Option<u64>
 }
 
 /// The interrupt lines at a row.
-#[tactic(auto, unfolding(crate::specs::Choices::lines_of))]
+#[tactic(auto, unfolding(crate::specs::Choices::pending_lines_of))]
 pub fn lines_of(row: &Row) -> Lines
-    ensures { result ≡ lines_of (shown_in row.now) }
+    ensures { result ≡ pending_lines_of (shown_in row.now) }
 {
     lines_under(
         row.shown(Signal::Csr(CsrName::Mip, CsrSide::Rdata)),
@@ -65,7 +65,7 @@ pub fn lines_of(row: &Row) -> Lines
 }
 
 fn lines_under(mip: Option<u64>, mask: Option<u64>) -> Lines
-    ensures { result ≡ lines_under mip mask }
+    ensures { result ≡ pending_lines_under mip mask }
 {
     match mip {
         None => Lines { up: 0, shown: 0 },
@@ -81,10 +81,10 @@ fn lines_under(mip: Option<u64>, mask: Option<u64>) -> Lines
 
 /// What an instruction with the destination `rd` takes from its row.
 #[tactic(auto, unfolding(crate::specs::Choices::choices_of))]
-pub fn choices_of(row: &Row, rd: u8) -> Choices
+pub fn choices_of(row: &Row, rd: u8) -> RowChoices
     ensures { result ≡ choices_of (shown_in row.now) rd }
 {
-    Choices {
+    RowChoices {
         rd_wdata: if rd == 0 {
             None
         } else {
@@ -98,7 +98,7 @@ pub fn choices_of(row: &Row, rd: u8) -> Choices
     }
 }
 
-impl Choices {
+impl RowChoices {
     /// The `len` bytes that a device gave at `va`, as far as the row shows them, else 0.
     #[tactic(auto, unfolding(crate::specs::Choices::device_value))]
     pub fn device_value(&self, va: u64, len: u8) -> u64
@@ -117,7 +117,7 @@ impl Choices {
         ensures { result ≡ says_stored self.now }
     {
         match self.rd_wdata {
-            None => told_by_mask(self.mem_wmask),
+            None => mask_says_stored(self.mem_wmask),
             Some(value) => value == 0,
         }
     }
@@ -125,7 +125,7 @@ impl Choices {
 
 fn bytes_shown(va: u64, len: u8, address: Option<u64>, read: Option<u64>) -> Option<u64>
     requires { len ≤ 8 }
-    ensures { result ≡ bytes_shown va len address read }
+    ensures { result ≡ load_bytes_shown va len address read }
 {
     match address {
         None => None,
@@ -138,7 +138,7 @@ fn bytes_shown(va: u64, len: u8, address: Option<u64>, read: Option<u64>) -> Opt
 
 /// The bytes of an access that begins so far above the eight that are shown.
 fn bytes_at(len: u8, read: u64, distance: Option<u64>) -> Option<u64>
-    requires few { len ≤ 8 }
+    requires at_most_8 { len ≤ 8 }
     requires near { IfSome distance (λ away. away ≤ 8) }
     ensures { result ≡ bytes_at len read distance }
 {
@@ -146,13 +146,6 @@ fn bytes_at(len: u8, read: u64, distance: Option<u64>) -> Option<u64>
         None => None,
         Some(away) => Some(low_bytes(moved_down(read, away), len)),
     }
-}
-
-pub(crate) fn moved_down(value: u64, bytes: u64) -> u64
-    requires { bytes ≤ 8 }
-    ensures { result ≡ value / 256 ^ bytes }
-{
-    (u128::from(value) / 256u128.pow(bytes as u32)) as u64
 }
 
 /// The low bytes of a number.
@@ -164,8 +157,8 @@ fn low_bytes(value: u64, len: u8) -> u64
     (u128::from(value) % 256u128.pow(u32::from(len))) as u64
 }
 
-fn told_by_mask(mask: Option<u64>) -> bool
-    ensures { result ≡ told_by_mask mask }
+fn mask_says_stored(mask: Option<u64>) -> bool
+    ensures { result ≡ mask_says_stored mask }
 {
     match mask {
         None => true,

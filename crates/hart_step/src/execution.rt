@@ -5,13 +5,13 @@ ghost use Rattle.hart_words.specs.Actions.{Performs};
 ghost use Rattle.rvfi_rows.specs.Cells.{shown_in};
 ghost use Rattle.rv_decode.specs.Operands.{HasEvenOffset};
 ghost use Rattle.hart_step.specs.Cores.{IsSound};
-ghost use Rattle.hart_step.specs.CsrAccess.{csr_accessed};
-ghost use Rattle.hart_step.specs.Instructions.{behind, retired, goes_on, call_from, after_csr, done_with, without_access, system_executed, executed, op_of, ran};
+ghost use Rattle.hart_step.specs.CsrAccess.{csr_access_result};
+ghost use Rattle.hart_step.specs.Instructions.{next_address, core_after_retirement, core_at_next, call_from, after_csr, completion_with, without_access, system_execution, execution_of, op_of, instruction_run};
 
-use crate::choices::{Choices, choices_of};
-use crate::instruction::{Exception, Executed, Instruction};
+use crate::accesses::Accesses;
+use crate::choices::{RowChoices, choices_of};
+use crate::instruction::{Exception, Instruction, InstructionOutcome};
 use crate::state::Core;
-use crate::touched::Touched;
 use csr_file::fields::{TSR, TVM};
 use hart_words::{Cause, Mode, NoMemory, PhysMem};
 use mem_access::{FETCH_READS, fetch};
@@ -27,15 +27,15 @@ impl Core {
         &mut self,
         mem: &mut M,
         row: &Row,
-        touched: &mut Touched,
-    ) -> Result<Executed, NoMemory>
+        accesses: &mut Accesses,
+    ) -> Result<InstructionOutcome, NoMemory>
         requires sound { IsSound self.old }
         requires ram { M.ram mem.old ≡ self.old.map.ram }
-        requires room { length touched.old.seen ≤ 0 }
-        requires blank { length touched.old.wrote ≤ 1 }
-        ensures ran { IfOk result (λ done. Performs (ran self.old (shown_in row.now))
+        requires room { length accesses.old.seen ≤ 0 }
+        requires blank { length accesses.old.wrote ≤ 1 }
+        ensures ran { IfOk result (λ done. Performs (instruction_run self.old (shown_in row.now))
             (record { core = self.new; executed = done })
-            touched.old.seen touched.new.seen touched.old.wrote touched.new.wrote
+            accesses.old.seen accesses.new.seen accesses.old.wrote accesses.new.wrote
             (M.bytes mem.old) (M.bytes mem.new)) }
         ensures err { OnErr result (M.bytes mem.new ≡ M.bytes mem.old) }
         ensures sound { IsSound self.new }
@@ -48,11 +48,11 @@ impl Core {
             &self.map,
             self.mode,
             self.pc,
-            &mut touched.seen,
+            &mut accesses.seen,
         );
         let (word, len) = match fetched {
             Ok(word) => word,
-            Err(exception) => return Ok(Executed::Trapped {
+            Err(exception) => return Ok(InstructionOutcome::Trapped {
                 insn: None,
                 exception,
             }),
@@ -60,7 +60,7 @@ impl Core {
         let bits = u64::from(word);
         let op = match op_of(word, len) {
             Some(op) => op,
-            None => return Ok(Executed::Trapped {
+            None => return Ok(InstructionOutcome::Trapped {
                 insn: Some(bits),
                 exception: (Cause::IllegalInstruction, bits),
             }),
@@ -70,13 +70,13 @@ impl Core {
             bits,
             len: u64::from(len),
         };
-        let choices = choices_of(row, op.destination());
-        match self.execute(&instruction, &choices, mem, touched)? {
-            Ok(access) => Ok(Executed::Retired {
+        let choices = choices_of(row, op.operands().rd);
+        match self.execute(&instruction, &choices, mem, accesses)? {
+            Ok(access) => Ok(InstructionOutcome::Retired {
                 instruction,
                 access,
             }),
-            Err(exception) => Ok(Executed::Trapped {
+            Err(exception) => Ok(InstructionOutcome::Trapped {
                 insn: Some(bits),
                 exception,
             }),
@@ -88,19 +88,19 @@ impl Core {
     fn execute<M: PhysMem>(
         &mut self,
         instruction: &Instruction,
-        choices: &Choices,
+        choices: &RowChoices,
         mem: &mut M,
-        touched: &mut Touched,
+        accesses: &mut Accesses,
     ) -> Result<Result<Option<Accessed>, Exception>, NoMemory>
         requires sound { IsSound self.old }
         requires ram { M.ram mem.old ≡ self.old.map.ram }
-        requires room { length touched.old.seen ≤ FETCH_READS }
-        requires blank { length touched.old.wrote ≤ 1 }
+        requires room { length accesses.old.seen ≤ FETCH_READS }
+        requires blank { length accesses.old.wrote ≤ 1 }
         requires even { instruction.now.len % 2 ≡ 0 }
         requires offset { HasEvenOffset instruction.now.op }
         ensures executed { IfOk result (λ done. Performs
-            (executed self.old choices.now instruction.now) (done_with self.new done)
-            touched.old.seen touched.new.seen touched.old.wrote touched.new.wrote
+            (execution_of self.old choices.now instruction.now) (completion_with self.new done)
+            accesses.old.seen accesses.new.seen accesses.old.wrote accesses.new.wrote
             (M.bytes mem.old) (M.bytes mem.new)) }
         ensures trapped { IfOk result (λ done. OnErr done (self.new ≡ self.old)) }
         ensures err { OnErr result (M.bytes mem.new ≡ M.bytes mem.old) }
@@ -108,8 +108,9 @@ impl Core {
         ensures map { self.new.map ≡ self.old.map }
         ensures ram_stays { M.ram mem.new ≡ M.ram mem.old }
     {
-        let a = self.registers.get(instruction.op.first_source());
-        let b = self.registers.get(instruction.op.second_source());
+        let operands = instruction.op.operands();
+        let a = self.registers.get(operands.rs1);
+        let b = self.registers.get(operands.rs2);
         match compute(instruction.op, a, b, self.pc, instruction.len) {
             IntResult::Value(value) => {
                 self.go_on(instruction, value);
@@ -124,7 +125,7 @@ impl Core {
                 Ok(Ok(None))
             }
             IntResult::Access(request) => {
-                let answer = match self.access(&request, choices, mem, touched)? {
+                let answer = match self.access(&request, choices, mem, accesses)? {
                     Ok(answer) => answer,
                     Err(exception) => return Ok(Err(exception)),
                 };
@@ -141,17 +142,17 @@ impl Core {
 
     /// Executes an instruction of the opcode SYSTEM, or gives the exception that it raises, which
     /// leaves the hart as it was.
-    #[tactic(auto, unfolding(crate::specs::Instructions::system_executed))]
+    #[tactic(auto, unfolding(crate::specs::Instructions::system_execution))]
     fn execute_system(
         &mut self,
         instruction: &Instruction,
         request: SystemRequest,
-        choices: &Choices,
+        choices: &RowChoices,
     ) -> Result<(), Exception>
         requires sound { IsSound self.old }
         requires even { instruction.now.len % 2 ≡ 0 }
         ensures executed { without_access self.new result
-            ≡ system_executed self.old choices.now instruction.now request }
+            ≡ system_execution self.old choices.now instruction.now request }
         ensures trapped { OnErr result (self.new ≡ self.old) }
         ensures sound { IsSound self.new }
         ensures map { self.new.map ≡ self.old.map }
@@ -168,21 +169,21 @@ impl Core {
                 Ok(())
             }
             SystemRequest::SupervisorReturn => {
-                if !self.is_supervised(TSR) {
+                if !self.may_use_supervisor_instruction(TSR) {
                     return Err(illegal(instruction));
                 }
                 self.return_by_sret();
                 Ok(())
             }
             SystemRequest::WaitForInterrupt => {
-                if self.waits_by_trap(choices) {
+                if self.wfi_traps(choices) {
                     return Err(illegal(instruction));
                 }
                 self.go_on(instruction, 0);
                 Ok(())
             }
             SystemRequest::TranslationFence => {
-                if !self.is_supervised(TVM) {
+                if !self.may_use_supervisor_instruction(TVM) {
                     return Err(illegal(instruction));
                 }
                 self.go_on(instruction, 0);
@@ -197,12 +198,12 @@ impl Core {
         &mut self,
         instruction: &Instruction,
         request: &CsrRequest,
-        choices: &Choices,
+        choices: &RowChoices,
     ) -> Result<(), Exception>
         requires sound { IsSound self.old }
         requires even { instruction.now.len % 2 ≡ 0 }
         ensures executed { without_access self.new result ≡ after_csr self.old instruction.now
-            (csr_accessed self.old choices.now request.now) }
+            (csr_access_result self.old choices.now request.now) }
         ensures trapped { OnErr result (self.new ≡ self.old) }
         ensures sound { IsSound self.new }
         ensures map { self.new.map ≡ self.old.map }
@@ -217,9 +218,9 @@ impl Core {
         }
     }
 
-    /// The destination gets its value, and the hart goes on behind the instruction.
+    /// The destination gets its value, and the hart goes on after the instruction.
     fn go_on(&mut self, instruction: &Instruction, value: u64)
-        ensures state { self.new ≡ goes_on self.old instruction.now value }
+        ensures state { self.new ≡ core_at_next self.old instruction.now value }
         ensures sound { IsSound self.old → instruction.now.len % 2 ≡ 0 → IsSound self.new }
         ensures map { self.new.map ≡ self.old.map }
     {
@@ -227,13 +228,13 @@ impl Core {
     }
 
     /// The destination gets its value, and the hart goes on at `next_pc`.
-    #[tactic(auto, unfolding(crate::specs::Instructions::retired))]
+    #[tactic(auto, unfolding(crate::specs::Instructions::core_after_retirement))]
     fn retire(&mut self, instruction: &Instruction, value: u64, next_pc: u64)
-        ensures state { self.new ≡ retired self.old instruction.now value next_pc }
+        ensures state { self.new ≡ core_after_retirement self.old instruction.now value next_pc }
         ensures sound { IsSound self.old → next_pc % 2 ≡ 0 → IsSound self.new }
         ensures map { self.new.map ≡ self.old.map }
     {
-        self.registers.set(instruction.op.destination(), value);
+        self.registers.set(instruction.op.operands().rd, value);
         self.pc = next_pc;
     }
 }

@@ -5,16 +5,8 @@ ghost use Rattle.hart_words.specs.Actions.{Performs};
 ghost use Rattle.rvfi_rows.specs.Cells.{shown_in};
 
 use crate::state::Core;
-use hart_words::{Map, NoMemory, PhysMem, Seen, Wrote};
-use rvfi_rows::{Expected, Row};
-
-/// What a step gave: what the reference hart did, and what was read from memory and written to it.
-#[derive(Debug, Drop)]
-pub struct Stepped {
-    pub expected: Expected,
-    pub seen: Seen,
-    pub wrote: Wrote,
-}
+use hart_words::{Map, NoMemory, PhysMem};
+use rvfi_rows::{Row, Stepped};
 
 /// A hart: its state, and the memory that it runs over, whose RAM is that of its map.
 #[derive(Drop)]
@@ -25,7 +17,7 @@ pub struct Hart<M> {
 
 impl<M: PhysMem + Drop> Hart<M> {
     ghost use Rattle.hart_step.specs.Cores.{core_at_reset, IsSound};
-    ghost use Rattle.hart_step.specs.Steps.{stepped};
+    ghost use Rattle.hart_step.specs.Steps.{step_of};
 
     /// A hart at reset over a memory: in M, at `pc`, with all registers 0.
     pub fn reset(mem: M, pc: u64, map: Map) -> Hart<M>
@@ -50,7 +42,7 @@ impl<M: PhysMem + Drop> Hart<M> {
     pub fn step(&mut self, row: &Row) -> Result<Stepped, NoMemory>
         requires sound { IsSound self.old.core }
         requires ram { M.ram self.old.mem ≡ self.old.core.map.ram }
-        ensures stepped { IfOk result (λ now. Performs (stepped self.old.core (shown_in row.now))
+        ensures stepped { IfOk result (λ now. Performs (step_of self.old.core (shown_in row.now))
             (record { next = self.new.core; expected = now.expected }) [] now.seen [] now.wrote
             (M.bytes self.old.mem) (M.bytes self.new.mem)) }
         ensures err { OnErr result ((self.new.core ≡ self.old.core)

@@ -20,7 +20,7 @@ pub struct Instruction {
 
 /// What became of the instruction at pc.
 #[derive(Clone, Copy, Debug)]
-pub enum Executed {
+pub enum InstructionOutcome {
     /// It raised an exception; its bits are known where it could be fetched.
     Trapped {
         insn: Option<u64>,
@@ -33,14 +33,14 @@ pub enum Executed {
     },
 }
 
-impl Executed {
+impl InstructionOutcome {
     /// The bits that were fetched.
     pub fn insn(&self) -> Option<u64>
         ensures { result ≡ insn_of self.now }
     {
         match self {
-            Executed::Trapped { insn, .. } => *insn,
-            Executed::Retired { instruction, .. } => Some(instruction.bits),
+            InstructionOutcome::Trapped { insn, .. } => *insn,
+            InstructionOutcome::Retired { instruction, .. } => Some(instruction.bits),
         }
     }
 }

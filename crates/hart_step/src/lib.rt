@@ -11,6 +11,7 @@
 //! that their instructions change (`specs/PlainRows.antt`).
 #![tactic(auto)]
 
+mod accesses;
 mod choices;
 mod csr_access;
 mod execution;
@@ -27,7 +28,7 @@ mod shown_store;
 mod state;
 mod step;
 mod taken_rows;
-mod touched;
+pub mod translation_laws;
 
-pub use hart::{Hart, Stepped};
+pub use hart::Hart;
 pub use state::Core;

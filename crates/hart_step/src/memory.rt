@@ -2,15 +2,15 @@
 
 ghost use Rattle.std.specs.Prelude.{◌≡◌, ◌≤◌, ◌<◌, ◌*◌, ◌^◌, false, List, length, IfOk, OnErr};
 ghost use Rattle.hart_words.specs.declared.accesses.Read.{Read};
-ghost use Rattle.hart_words.specs.Memory.{IsPlace};
+ghost use Rattle.hart_words.specs.Spans.{IsPlace};
 ghost use Rattle.hart_words.specs.Actions.{Observes, Performs};
 ghost use Rattle.hart_words.specs.AccessSizes.{IsLength, bytes_of};
-ghost use Rattle.hart_step.specs.MemoryAccess.{placed, access_at, value_found, extended, is_stored, answer_of, written_by, put, accessed};
+ghost use Rattle.hart_step.specs.MemoryAccess.{located_access, expected_access, value_found, loaded_value, is_stored, access_result_of, number_written, put, memory_access};
 
-use crate::choices::Choices;
+use crate::accesses::Accesses;
+use crate::choices::RowChoices;
 use crate::instruction::Exception;
 use crate::state::Core;
-use crate::touched::Touched;
 use hart_words::{AccessSize, NoMemory, PhysMem, Seen, Wrote, sext};
 use mem_access::{FETCH_READS, Place, load, store_place};
 use rv_atomic::{Reservation, amo};
@@ -19,7 +19,7 @@ use rvfi_rows::Accessed;
 
 /// What comes of an access.
 #[derive(Clone, Copy, Debug)]
-pub struct Answer {
+pub struct AccessResult {
     /// The destination's value.
     pub value: u64,
     /// The access that was made; a failed SC makes none.
@@ -34,21 +34,21 @@ impl Core {
     pub(crate) fn access<M: PhysMem>(
         &self,
         request: &MemoryRequest,
-        choices: &Choices,
+        choices: &RowChoices,
         mem: &mut M,
-        touched: &mut Touched,
-    ) -> Result<Result<Answer, Exception>, NoMemory>
+        accesses: &mut Accesses,
+    ) -> Result<Result<AccessResult, Exception>, NoMemory>
         requires ram { M.ram mem.old ≡ self.now.map.ram }
-        requires room { length touched.old.seen ≤ FETCH_READS }
-        requires blank { length touched.old.wrote ≤ 1 }
+        requires room { length accesses.old.seen ≤ FETCH_READS }
+        requires blank { length accesses.old.wrote ≤ 1 }
         ensures accessed { IfOk result (λ done. Performs
-            (accessed self.now choices.now request.now) done
-            touched.old.seen touched.new.seen touched.old.wrote touched.new.wrote
+            (memory_access self.now choices.now request.now) done
+            accesses.old.seen accesses.new.seen accesses.old.wrote accesses.new.wrote
             (M.bytes mem.old) (M.bytes mem.new)) }
         ensures err { OnErr result (M.bytes mem.new ≡ M.bytes mem.old) }
         ensures ram_stays { M.ram mem.new ≡ M.ram mem.old }
     {
-        let (place, held) = match self.place(request, mem, &mut touched.seen) {
+        let (place, held) = match self.place(request, mem, &mut accesses.seen) {
             Ok(found) => found,
             Err(exception) => return Ok(Err(exception)),
         };
@@ -58,13 +58,13 @@ impl Core {
             request.size,
             written_by(answer.access),
             mem,
-            &mut touched.wrote,
+            &mut accesses.wrote,
         )?;
         Ok(Ok(answer))
     }
 
     /// Where an access goes, with what memory has there as far as the access reads it.
-    #[tactic(auto, unfolding(crate::specs::MemoryAccess::placed))]
+    #[tactic(auto, unfolding(crate::specs::MemoryAccess::located_access))]
     fn place<M: PhysMem>(
         &self,
         request: &MemoryRequest,
@@ -73,7 +73,7 @@ impl Core {
     ) -> Result<(Place, u64), Exception>
         requires ram { M.ram mem.now ≡ self.now.map.ram }
         requires room { length seen.old ≤ FETCH_READS }
-        ensures placed { Observes (placed self.now request.now) result
+        ensures placed { Observes (located_access self.now request.now) result
             seen.old seen.new (M.bytes mem.now) }
         ensures in_ram { IfOk result (λ found. found.0.io ≡ false
             → IsPlace self.now.map.ram found.0.pa (bytes_of request.now.size)) }
@@ -112,14 +112,20 @@ impl Core {
     }
 
     /// What comes of an access to a place where memory has this number.
-    #[tactic(auto, unfolding(crate::specs::MemoryAccess::answer_of))]
-    fn answer(&self, request: &MemoryRequest, choices: &Choices, place: Place, held: u64) -> Answer
-        ensures { result ≡ answer_of self.now choices.now request.now (place, held) }
+    #[tactic(auto, unfolding(crate::specs::MemoryAccess::access_result_of))]
+    fn answer(
+        &self,
+        request: &MemoryRequest,
+        choices: &RowChoices,
+        place: Place,
+        held: u64,
+    ) -> AccessResult
+        ensures { result ≡ access_result_of self.now choices.now request.now (place, held) }
     {
         match request.op {
             MemoryOp::Load { signed } => {
                 let value = value_found(choices, request, place, held);
-                Answer {
+                AccessResult {
                     value: extended(signed, request, value),
                     access: access_at(request, place, Some(value), None),
                     reservation: self.reservation,
@@ -128,13 +134,13 @@ impl Core {
             MemoryOp::LoadReserved => {
                 let mut reservation = self.reservation;
                 reservation.set(place.pa);
-                Answer {
+                AccessResult {
                     value: extended(true, request, held),
                     access: access_at(request, place, Some(held), None),
                     reservation,
                 }
             }
-            MemoryOp::Store { value } => Answer {
+            MemoryOp::Store { value } => AccessResult {
                 value: 0,
                 access: access_at(request, place, None, Some(value)),
                 reservation: self.reservation,
@@ -142,13 +148,13 @@ impl Core {
             MemoryOp::StoreConditional { value } => {
                 let stored = self.is_stored(choices, request, place);
                 let access = access_at(request, place, None, Some(value));
-                Answer {
+                AccessResult {
                     value: if stored { 0 } else { 1 },
                     access: if stored { access } else { None },
                     reservation: Reservation::NONE,
                 }
             }
-            MemoryOp::Amo { op, width, b } => Answer {
+            MemoryOp::Amo { op, width, b } => AccessResult {
                 value: extended(true, request, held),
                 access: access_at(request, place, Some(held), Some(amo(op, width, held, b))),
                 reservation: self.reservation,
@@ -157,7 +163,7 @@ impl Core {
     }
 
     /// Whether an SC stores: in the reserved block alone, and there as the row says.
-    fn is_stored(&self, choices: &Choices, request: &MemoryRequest, place: Place) -> bool
+    fn is_stored(&self, choices: &RowChoices, request: &MemoryRequest, place: Place) -> bool
         ensures { result ≡ is_stored self.now choices.now request.now place }
     {
         self.reservation.covers(place.pa, request.size.bytes()) && choices.says_stored()
@@ -171,7 +177,7 @@ fn access_at(
     read: Option<u64>,
     written: Option<u64>,
 ) -> Option<Accessed>
-    ensures { result ≡ access_at request.now place read written }
+    ensures { result ≡ expected_access request.now place read written }
 {
     Some(Accessed {
         va: request.address,
@@ -183,7 +189,7 @@ fn access_at(
 }
 
 /// What a load found: a device gives what the row shows.
-fn value_found(choices: &Choices, request: &MemoryRequest, place: Place, held: u64) -> u64
+fn value_found(choices: &RowChoices, request: &MemoryRequest, place: Place, held: u64) -> u64
     ensures { result ≡ value_found choices.now request.now place held }
 {
     if place.io {
@@ -195,7 +201,7 @@ fn value_found(choices: &Choices, request: &MemoryRequest, place: Place, held: u
 
 /// A number of the access's bytes as a register gets it.
 fn extended(signed: bool, request: &MemoryRequest, value: u64) -> u64
-    ensures { result ≡ extended signed request.now value }
+    ensures { result ≡ loaded_value signed request.now value }
 {
     if signed {
         sext(value, 8 * u32::from(request.size.bytes()))
@@ -206,7 +212,7 @@ fn extended(signed: bool, request: &MemoryRequest, value: u64) -> u64
 
 /// The number that is written.
 fn written_by(access: Option<Accessed>) -> Option<u64>
-    ensures { result ≡ written_by access }
+    ensures { result ≡ number_written access }
 {
     match access {
         None => None,

@@ -3,7 +3,7 @@
 ghost use Rattle.std.specs.Prelude.{◌≡◌, ◌⊎◌, ◌<◌, ◌%◌, ◌^◌, Option, true};
 ghost use Rattle.rvfi_rows.specs.Cells.{shown_in};
 ghost use Rattle.hart_step.specs.Instructions.{op_of};
-ghost use Rattle.hart_step.specs.PlainRows.{bits_of, insn_shown, is_plain, is_store, is_system_or_atomic, is_undisturbed, length_of, shows_bytes, shows_store, translates_data};
+ghost use Rattle.hart_step.specs.PlainRows.{insn_bits_of, insn_shown, is_plain, is_store, is_system_or_atomic, is_undisturbed, insn_length_of, shows_bytes, shows_store, translates_data};
 
 use crate::choices::row_shows;
 use crate::execution::op_of;
@@ -77,7 +77,7 @@ pub(crate) fn insn_shown(row: &Row) -> u64
 
 /// The length of the instruction that a word begins with.
 pub(crate) fn length_of(word: u64) -> u8
-    ensures value { result ≡ length_of word }
+    ensures value { result ≡ insn_length_of word }
     ensures lengths { (result ≡ 2) ⊎ (result ≡ 4) }
 {
     if word % 4 == 3 { 4 } else { 2 }
@@ -85,8 +85,8 @@ pub(crate) fn length_of(word: u64) -> u8
 
 /// The bits of the instruction that a word begins with.
 fn bits_of(word: u64) -> u32
-    ensures value { result ≡ bits_of word }
-    ensures short { length_of word ≡ 2 → result < 2 ^ 16 }
+    ensures value { result ≡ insn_bits_of word }
+    ensures short { insn_length_of word ≡ 2 → result < 2 ^ 16 }
 {
     if word % 4 == 3 {
         (word % (1 << 32)) as u32
@@ -120,7 +120,7 @@ pub(crate) fn shows_store(row: &Row) -> bool
 /// of its funct3. So few words are decoded.
 #[tactic(auto, using(crate::proofs::StoreWords::store_opcode, crate::proofs::StoreWords::store_parcel))]
 fn may_store(word: u64) -> bool
-    ensures { is_store (op_of (bits_of word) (length_of word)) ≡ true → result ≡ true }
+    ensures { is_store (op_of (insn_bits_of word) (insn_length_of word)) ≡ true → result ≡ true }
 {
     if word % 4 == 3 {
         (word % 128) as u32 == STORE

@@ -9,15 +9,15 @@ ghost use Rattle.hart_step.specs.declared.state.Core.{Core};
 ghost use Rattle.hart_step.specs.Cores.{IsSound};
 ghost use Rattle.hart_step.specs.Laws.{next_of};
 ghost use Rattle.hart_step.specs.Rows.{HartState, RunBelowMachine, after_rows};
-ghost use Rattle.hart_step.specs.ProtectionLaws.{ForbidsStores, IsRefused, LocksOutlast, LowerModesLeaveProtection, Outlasts, RowsGoAlike, StepIsGranted, StepsAlike};
+ghost use Rattle.hart_step.specs.ProtectionLaws.{ForbidsStores, IsLockedByte, IsRefused, LocksArePreserved, LowerModesLeaveProtection, IsPreserved, RowsGoAlike, StepIsPermitted, StepsAlike};
 
 /// No step, and so no rows, change the configuration or the address of a locked entry, nor the
 /// bytes that it covers: where it begins at the address of the entry before it, that stays too.
-pub fn locked_entries_outlast_steps()
+pub fn locked_entries_are_preserved()
     ensures step { (core : Core) (shown : Shown) (bytes : Bytes)
-        → LocksOutlast core.csrs (next_of core shown bytes).csrs }
+        → LocksArePreserved core.csrs (next_of core shown bytes).csrs }
     ensures rows { (state : HartState) (rows : List Shown)
-        → LocksOutlast state.core.csrs (after_rows state rows).core.csrs }
+        → LocksArePreserved state.core.csrs (after_rows state rows).core.csrs }
 {}
 
 /// A step whose instruction runs in S or U leaves every entry; so do rows of which each is such.
@@ -28,26 +28,37 @@ pub fn lower_modes_leave_protection()
         → pmp_entries_of (after_rows state rows).core.csrs ≡ pmp_entries_of state.core.csrs }
 {}
 
-/// Each read of a step is of an entry of a page table, 8 bytes of RAM that S may load, of a parcel
-/// that the mode may fetch, or of the bytes that the instruction asks for, which the mode of loads
-/// and stores may load, or may store where an AMO reads them. Each write is of bytes of RAM that
-/// this mode may store, and the access that is expected of the row is one that it may make.
-pub fn steps_access_what_is_granted()
-    ensures { (core : Core) (shown : Shown) (bytes : Bytes) → StepIsGranted core shown bytes }
+/// What a step reads is, in order, what its fetch at pc reads, and then what its instruction asks
+/// for: of each parcel, and of the access, the entries of page tables on its way, read as by loads
+/// of S, and then its own bytes at the place that is found, in the mode that makes the access. Each
+/// read is of RAM and granted to that mode. Each write is of the bytes of RAM at the place that is
+/// found for the store that the instruction asks for, which the mode of loads and stores may make;
+/// and the access that is expected of the row is the one that the instruction asks for, at its
+/// address and at that place, which this mode may make.
+pub fn steps_access_what_is_permitted()
+    ensures { (core : Core) (shown : Shown) (bytes : Bytes) → StepIsPermitted core shown bytes }
+{}
+
+/// Rows leave each byte whose lowest-numbered covering entry is locked with W clear, where all
+/// lower-numbered entries are locked too, in every mode, M among them.
+pub fn locked_bytes_are_preserved()
+    ensures { (state : HartState) (rows : List Shown) (byte : ℕ)
+        → IsSound state.core → IsLockedByte state.core.csrs byte
+        → (after_rows state rows).bytes byte ≡ state.bytes byte }
 {}
 
 /// Rows that run their instructions in S and U leave each byte that protection refuses them to
 /// write: each that the lowest-numbered entry which covers it forbids to store, and each that none
 /// covers.
-pub fn refused_bytes_outlast_rows()
+pub fn refused_bytes_are_preserved()
     ensures refused { (state : HartState) (rows : List Shown) (byte : ℕ)
-        → IsRefused state.core byte → Outlasts state rows byte }
+        → IsRefused state.core byte → IsPreserved state rows byte }
     ensures forbidden { (state : HartState) (rows : List Shown) (byte : ℕ)
         → IsSound state.core → ForbidsStores (pmp_entries_of state.core.csrs) byte
-        → Outlasts state rows byte }
+        → IsPreserved state rows byte }
     ensures uncovered { (state : HartState) (rows : List Shown) (byte : ℕ)
         → IsSound state.core → NoneCovers (pmp_entries_of state.core.csrs) byte 1
-        → Outlasts state rows byte }
+        → IsPreserved state rows byte }
 {}
 
 /// In S and U nothing depends on a byte that protection refuses them: memories that agree on all

@@ -3,9 +3,9 @@
 
 ghost use Rattle.std.specs.Prelude.{◌≡◌};
 ghost use Rattle.hart_step.specs.Cores.{IsSound};
-ghost use Rattle.hart_step.specs.Returns.{may_mret, is_supervised, waits_by_trap, returned_by_mret, returned_by_sret};
+ghost use Rattle.hart_step.specs.Returns.{may_mret, may_use_supervisor_instruction, wfi_traps, core_after_mret, core_after_sret};
 
-use crate::choices::Choices;
+use crate::choices::RowChoices;
 use crate::state::Core;
 use csr_file::fields::TW;
 use csr_file::{StoredCsr, has_bit};
@@ -22,9 +22,9 @@ impl Core {
 
     /// Whether an instruction of S is legal: in M, and in S unless this bit of mstatus makes it
     /// trap there.
-    #[tactic(auto, unfolding(crate::specs::Returns::is_supervised))]
-    pub(crate) fn is_supervised(&self, bit: u8) -> bool
-        ensures { result ≡ is_supervised self.now bit }
+    #[tactic(auto, unfolding(crate::specs::Returns::may_use_supervisor_instruction))]
+    pub(crate) fn may_use_supervisor_instruction(&self, bit: u8) -> bool
+        ensures { result ≡ may_use_supervisor_instruction self.now bit }
     {
         match self.mode {
             Mode::Machine => true,
@@ -34,25 +34,25 @@ impl Core {
     }
 
     /// Whether WFI traps: where it may, and the row says so.
-    #[tactic(auto, unfolding(crate::specs::Returns::waits_by_trap))]
-    pub(crate) fn waits_by_trap(&self, choices: &Choices) -> bool
-        ensures { result ≡ waits_by_trap self.now choices.now }
+    #[tactic(auto, unfolding(crate::specs::Returns::wfi_traps))]
+    pub(crate) fn wfi_traps(&self, choices: &RowChoices) -> bool
+        ensures { result ≡ wfi_traps self.now choices.now }
     {
-        !self.is_supervised(TW) && choices.traps
+        !self.may_use_supervisor_instruction(TW) && choices.traps
     }
 
-    #[tactic(auto, unfolding(crate::specs::Returns::returned_by_mret))]
+    #[tactic(auto, unfolding(crate::specs::Returns::core_after_mret))]
     pub(crate) fn return_by_mret(&mut self)
-        ensures state { self.new ≡ returned_by_mret self.old }
+        ensures state { self.new ≡ core_after_mret self.old }
         ensures sound { IsSound self.old → IsSound self.new }
         ensures map { self.new.map ≡ self.old.map }
     {
         (self.mode, self.pc) = mret(&mut self.csrs);
     }
 
-    #[tactic(auto, unfolding(crate::specs::Returns::returned_by_sret))]
+    #[tactic(auto, unfolding(crate::specs::Returns::core_after_sret))]
     pub(crate) fn return_by_sret(&mut self)
-        ensures state { self.new ≡ returned_by_sret self.old }
+        ensures state { self.new ≡ core_after_sret self.old }
         ensures sound { IsSound self.old → IsSound self.new }
         ensures map { self.new.map ≡ self.old.map }
     {

@@ -1,14 +1,13 @@
 //! The bytes that a row shows a store to put into memory.
 
 ghost use Rattle.std.specs.Prelude.{◌≡◌, ◌<◌, ◌≤◌, ◌-◌, ◌/◌, ◌^◌, ℕ, IfSome, IsOk, IsTrue, OnErr, OnOk, true, unwrap_or};
-ghost use Rattle.hart_words.specs.Memory.{Bytes, IsPlace, stored};
-ghost use Rattle.hart_words.specs.Spans.{is_in};
+ghost use Rattle.hart_words.specs.Memory.{Bytes, bytes_after_store};
+ghost use Rattle.hart_words.specs.Spans.{IsPlace, is_in};
 ghost use Rattle.rvfi_rows.specs.Cells.{shown_in};
 
-use crate::choices::moved_down;
 use csr_file::has_bit;
 use hart_words::{NoMemory, PAGE_SIZE, PhysMem, Signal, Span};
-use rvfi_rows::Row;
+use rvfi_rows::{Row, moved_down};
 
 /// Where a store's bytes go, which of eight bytes do, and the eight, the lowest first.
 #[derive(Clone, Copy, Debug)]
@@ -20,7 +19,7 @@ pub struct ShownStore {
 }
 
 impl ShownStore {
-    ghost use Rattle.hart_step.specs.PlainRows.{byte_place, byte_put, bytes_put, has_byte, store_shown, AreReady};
+    ghost use Rattle.hart_step.specs.PlainRows.{byte_place, byte_put, bytes_put, stores_byte, store_shown, AreReady};
 
     /// The store that the row shows: at `mem_paddr`, or at `mem_addr` where that is not shown.
     #[tactic(auto, unfolding(crate::specs::PlainRows::store_shown))]
@@ -53,10 +52,10 @@ impl ShownStore {
     fn len_at_once(&self, ram: &Span) -> Option<u8>
         ensures place { IfSome result (λ len. IsPlace ram.now self.now.place len) }
         ensures whole { IfSome result (λ len. (bytes : Bytes) → bytes_put ram.now self.now 8 bytes
-            ≡ stored self.now.place len self.now.value bytes) }
+            ≡ bytes_after_store self.now.place len self.now.value bytes) }
     {
         match len_of_mask(self.mask) {
-            Some(len) if is_place(ram, self.place, len) => Some(len),
+            Some(len) if ram.is_place(self.place, len) => Some(len),
             _ => None,
         }
     }
@@ -93,7 +92,7 @@ impl ShownStore {
     /// Takes what memory the page of a byte needs, where the byte is stored.
     fn ready_byte<M: PhysMem>(&self, mem: &mut M, ram: &Span, number: u8) -> Result<(), NoMemory>
         requires ram { M.ram mem.old ≡ ram.now }
-        ensures ready { OnOk result (has_byte ram.now self.now number ≡ true
+        ensures ready { OnOk result (stores_byte ram.now self.now number ≡ true
             → M.is_ready mem.new (byte_place self.now number / PAGE_SIZE)) }
         ensures kept { (page : ℕ) → M.is_ready mem.old page → M.is_ready mem.new page }
         ensures bytes { M.bytes mem.new ≡ M.bytes mem.old }
@@ -108,9 +107,9 @@ impl ShownStore {
     /// Puts a byte at its place, where it is stored; this is not refused where its page is ready.
     fn put_byte<M: PhysMem>(&self, mem: &mut M, ram: &Span, number: u8) -> Result<(), NoMemory>
         requires ram { M.ram mem.old ≡ ram.now }
-        requires few { number < 8 }
+        requires below_8 { number < 8 }
         ensures ok { OnOk result (M.bytes mem.new ≡ byte_put ram.now self.now number (M.bytes mem.old)) }
-        ensures admitted { (has_byte ram.now self.now number ≡ true
+        ensures admitted { (stores_byte ram.now self.now number ≡ true
             → M.is_ready mem.old (byte_place self.now number / PAGE_SIZE)) → IsOk result }
         ensures kept { (page : ℕ) → M.is_ready mem.old page → M.is_ready mem.new page }
         ensures ram_stays { M.ram mem.new ≡ M.ram mem.old }
@@ -124,7 +123,7 @@ impl ShownStore {
 
     /// Whether a byte is stored: the mask has it, and its place is RAM.
     fn has_byte(&self, ram: &Span, number: u8) -> bool
-        ensures value { result ≡ has_byte ram.now self.now number }
+        ensures value { result ≡ stores_byte ram.now self.now number }
         ensures place { IsTrue result → IsPlace ram.now (byte_place self.now number) 1 }
     {
         has_bit(self.mask, number) && is_byte_of(ram, self.byte_place(number))
@@ -150,8 +149,6 @@ fn place_shown(physical: Option<u64>, address: Option<u64>) -> u64
 /// How many bytes a mask has, where these are the low 1, 2, 4 or 8.
 fn len_of_mask(mask: u64) -> Option<u8>
     ensures mask { IfSome result (λ len. mask ≡ 2 ^ len - 1) }
-    ensures some { IfSome result (λ len. 1 ≤ len) }
-    ensures few { IfSome result (λ len. len ≤ 8) }
 {
     match mask {
         0x01 => Some(1),
@@ -160,15 +157,6 @@ fn len_of_mask(mask: u64) -> Option<u8>
         0xff => Some(8),
         _ => None,
     }
-}
-
-/// Whether `len` bytes from an address on lie in one page of RAM.
-fn is_place(ram: &Span, pa: u64, len: u8) -> bool
-    requires some { 1 ≤ len }
-    requires few { len ≤ 8 }
-    ensures { IsTrue result → IsPlace ram.now pa len }
-{
-    ram.holds(pa, len) && pa % PAGE_SIZE + u64::from(len) <= PAGE_SIZE
 }
 
 /// Whether the byte at an address is one of RAM.

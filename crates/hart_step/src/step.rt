@@ -5,16 +5,15 @@ ghost use Rattle.hart_words.specs.Actions.{Performs};
 ghost use Rattle.rvfi_rows.specs.Cells.{shown_in};
 ghost use Rattle.hart_step.specs.Cores.{IsSound};
 ghost use Rattle.hart_step.specs.Choices.{asks_interrupt};
-ghost use Rattle.hart_step.specs.Steps.{counted, entered, interrupted, lacks_interrupt, finished, effects_of, stepped};
+ghost use Rattle.hart_step.specs.Steps.{core_after_count, core_after_entry, core_after_interrupt, lacks_interrupt, core_after_run, effects_of, step_of};
 
+use crate::accesses::Accesses;
 use crate::choices::{lines_of, order_after, row_shows};
-use crate::hart::Stepped;
-use crate::instruction::Executed;
+use crate::instruction::InstructionOutcome;
 use crate::state::Core;
-use crate::touched::Touched;
 use hart_words::{Cause, NoMemory, PhysMem, Signal};
 use interrupt_pick::pick;
-use rvfi_rows::{Effects, Expected, Retired, Row};
+use rvfi_rows::{Effects, Expected, Retired, Row, Stepped};
 use trap_entry::enter;
 
 impl Core {
@@ -23,7 +22,7 @@ impl Core {
     pub fn step<M: PhysMem>(&mut self, mem: &mut M, row: &Row) -> Result<Stepped, NoMemory>
         requires sound { IsSound self.old }
         requires ram { M.ram mem.old ≡ self.old.map.ram }
-        ensures stepped { IfOk result (λ now. Performs (stepped self.old (shown_in row.now))
+        ensures stepped { IfOk result (λ now. Performs (step_of self.old (shown_in row.now))
             (record { next = self.new; expected = now.expected }) [] now.seen [] now.wrote
             (M.bytes mem.old) (M.bytes mem.new)) }
         ensures err { OnErr result ((self.new ≡ self.old) × (M.bytes mem.new ≡ M.bytes mem.old)) }
@@ -31,19 +30,19 @@ impl Core {
         ensures map { self.new.map ≡ self.old.map }
         ensures ram { M.ram mem.new ≡ M.ram mem.old }
     {
-        let mut touched = Touched::nothing();
+        let mut accesses = Accesses::nothing();
         if self.halted {
             return Ok(Stepped {
                 expected: Expected::Halted,
-                seen: touched.seen,
-                wrote: touched.wrote,
+                seen: accesses.seen,
+                wrote: accesses.wrote,
             });
         }
         let mut next = *self;
         next.count(row);
         let lacks_interrupt = next.take_interrupt(row);
         let before = next;
-        let executed = next.run(mem, row, &mut touched)?;
+        let executed = next.run(mem, row, &mut accesses)?;
         let effects = effects_of(&before, &next, &executed);
         next.finish(&executed, row);
         let retired = Retired {
@@ -60,15 +59,15 @@ impl Core {
         *self = next;
         Ok(Stepped {
             expected: Expected::Retired(retired),
-            seen: touched.seen,
-            wrote: touched.wrote,
+            seen: accesses.seen,
+            wrote: accesses.wrote,
         })
     }
 
     /// The order index moves on.
-    #[tactic(auto, unfolding(crate::specs::Steps::counted))]
+    #[tactic(auto, unfolding(crate::specs::Steps::core_after_count))]
     pub(crate) fn count(&mut self, row: &Row)
-        ensures state { self.new ≡ counted self.old (shown_in row.now) }
+        ensures state { self.new ≡ core_after_count self.old (shown_in row.now) }
         ensures sound { IsSound self.old → IsSound self.new }
         ensures map { self.new.map ≡ self.old.map }
     {
@@ -77,9 +76,9 @@ impl Core {
 
     /// Where the row asks for an interrupt, enters the one that can be taken. Says whether the row
     /// asks for one and none can be taken.
-    #[tactic(auto, unfolding(crate::specs::Steps::interrupted, crate::specs::Steps::lacks_interrupt))]
+    #[tactic(auto, unfolding(crate::specs::Steps::core_after_interrupt, crate::specs::Steps::lacks_interrupt))]
     fn take_interrupt(&mut self, row: &Row) -> bool
-        ensures state { self.new ≡ interrupted self.old (shown_in row.now) }
+        ensures state { self.new ≡ core_after_interrupt self.old (shown_in row.now) }
         ensures lacks { result ≡ lacks_interrupt self.old (shown_in row.now) }
         ensures sound { IsSound self.old → IsSound self.new }
         ensures map { self.new.map ≡ self.old.map }
@@ -106,9 +105,9 @@ impl Core {
     }
 
     /// Enters a trap: an interrupt or an exception, by its code, with a trap value.
-    #[tactic(auto, unfolding(crate::specs::Steps::entered))]
+    #[tactic(auto, unfolding(crate::specs::Steps::core_after_entry))]
     fn enter(&mut self, interrupt: bool, code: u8, value: u64)
-        ensures state { self.new ≡ entered self.old interrupt code value }
+        ensures state { self.new ≡ core_after_entry self.old interrupt code value }
         ensures sound { IsSound self.old → IsSound self.new }
         ensures map { self.new.map ≡ self.old.map }
     {
@@ -117,42 +116,45 @@ impl Core {
 
     /// An exception is entered, an instruction that retired is done; and the hart halts where the
     /// row says so.
-    #[tactic(auto, unfolding(crate::specs::Steps::finished))]
-    fn finish(&mut self, executed: &Executed, row: &Row)
-        ensures state { self.new ≡ finished (record { core = self.old; executed = executed.now })
+    #[tactic(auto, unfolding(crate::specs::Steps::core_after_run))]
+    fn finish(&mut self, executed: &InstructionOutcome, row: &Row)
+        ensures state { self.new ≡ core_after_run (record { core = self.old; executed = executed.now })
             (shown_in row.now) }
         ensures sound { IsSound self.old → IsSound self.new }
         ensures map { self.new.map ≡ self.old.map }
     {
         match executed {
-            Executed::Trapped { exception, .. } => {
+            InstructionOutcome::Trapped { exception, .. } => {
                 let (cause, value) = *exception;
                 self.enter(false, cause.code(), value);
                 self.trapped_last = true;
             }
-            Executed::Retired { .. } => self.trapped_last = false,
+            InstructionOutcome::Retired { .. } => self.trapped_last = false,
         }
         self.halted = row_shows(row, Signal::Halt, 1);
     }
 }
 
 /// What the instruction did, from the hart before it to the hart after it, or the cause of its trap.
-fn effects_of(before: &Core, after: &Core, executed: &Executed) -> Result<Effects, Cause>
+fn effects_of(before: &Core, after: &Core, executed: &InstructionOutcome) -> Result<Effects, Cause>
     ensures { result ≡ effects_of before.now after.now executed.now }
 {
     match executed {
-        Executed::Trapped { exception, .. } => Err(exception.0),
-        Executed::Retired {
+        InstructionOutcome::Trapped { exception, .. } => Err(exception.0),
+        InstructionOutcome::Retired {
             instruction,
             access,
-        } => Ok(Effects {
-            registers: before.registers,
-            rs1: instruction.op.first_source(),
-            rs2: instruction.op.second_source(),
-            rd: instruction.op.destination(),
-            rd_value: after.registers.get(instruction.op.destination()),
-            next_pc: after.pc,
-            access: *access,
-        }),
+        } => {
+            let operands = instruction.op.operands();
+            Ok(Effects {
+                registers: before.registers,
+                rs1: operands.rs1,
+                rs2: operands.rs2,
+                rd: operands.rd,
+                rd_value: after.registers.get(operands.rd),
+                next_pc: after.pc,
+                access: *access,
+            })
+        }
     }
 }

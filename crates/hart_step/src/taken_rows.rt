@@ -4,7 +4,7 @@ ghost use Rattle.std.specs.Prelude.{◌≡◌, ◌%◌, OnErr, OnOk};
 ghost use Rattle.hart_words.specs.Registers.{with_register};
 ghost use Rattle.rvfi_rows.specs.Cells.{shown_in};
 ghost use Rattle.hart_step.specs.Cores.{IsSound};
-ghost use Rattle.hart_step.specs.PlainRows.{behind_shown, bytes_shown, core_shown, next_pc_shown, registers_shown};
+ghost use Rattle.hart_step.specs.PlainRows.{next_address_shown, memory_shown, core_shown, next_pc_shown, registers_shown};
 
 use crate::hart::Hart;
 use crate::plain_rows::{insn_shown, length_of, shows_store};
@@ -16,13 +16,13 @@ use rvfi_rows::Row;
 impl<M: PhysMem + Drop> Hart<M> {
     /// Takes the state after a row from what the row shows, as it is after a plain row: rd, pc, the
     /// order index, and a store's bytes. Without memory neither the state nor a byte changes.
-    #[tactic(auto, unfolding(crate::specs::PlainRows::bytes_shown))]
+    #[tactic(auto, unfolding(crate::specs::PlainRows::memory_shown))]
     pub fn take_shown(&mut self, row: &Row) -> Result<(), NoMemory>
         requires sound { IsSound self.old.core }
         requires ram { M.ram self.old.mem ≡ self.old.core.map.ram }
         ensures core { OnOk result (self.new.core ≡ core_shown self.old.core (shown_in row.now)) }
         ensures bytes { OnOk result (M.bytes self.new.mem
-            ≡ bytes_shown self.old.core (shown_in row.now) (M.bytes self.old.mem)) }
+            ≡ memory_shown self.old.core (shown_in row.now) (M.bytes self.old.mem)) }
         ensures err { OnErr result ((self.new.core ≡ self.old.core)
             × (M.bytes self.new.mem ≡ M.bytes self.old.mem)) }
         ensures sound { IsSound self.new.core }
@@ -40,7 +40,7 @@ impl<M: PhysMem + Drop> Hart<M> {
 
 impl Core {
     /// Takes the state after a row, but for memory, from what the row shows.
-    #[tactic(auto, unfolding(crate::specs::PlainRows::core_shown, crate::specs::Steps::counted))]
+    #[tactic(auto, unfolding(crate::specs::PlainRows::core_shown, crate::specs::Steps::core_after_count))]
     pub(crate) fn take_shown(&mut self, row: &Row)
         ensures state { self.new ≡ core_shown self.old (shown_in row.now) }
         ensures sound { IsSound self.old → IsSound self.new }
@@ -80,7 +80,7 @@ fn set_register(registers: &mut Registers, number: u64, value: u64)
     }
 }
 
-/// The address at which the hart goes on: the one that is shown, or else the one behind the
+/// The address at which the hart goes on: the one that is shown, or else the one after the
 /// instruction; bit 0 is cleared.
 fn next_pc_shown(row: &Row) -> u64
     ensures value { result ≡ next_pc_shown (shown_in row.now) }
@@ -88,14 +88,14 @@ fn next_pc_shown(row: &Row) -> u64
 {
     let next = match row.shown(Signal::PcWdata) {
         Some(next) => next,
-        None => behind(row),
+        None => following(row),
     };
     next - next % 2
 }
 
-/// The address behind the row's instruction.
-fn behind(row: &Row) -> u64
-    ensures { result ≡ behind_shown (shown_in row.now) }
+/// The address after the row's instruction.
+fn following(row: &Row) -> u64
+    ensures { result ≡ next_address_shown (shown_in row.now) }
 {
     let pc = row.shown(Signal::PcRdata).unwrap_or(0);
     pc.wrapping_add(u64::from(length_of(insn_shown(row))))

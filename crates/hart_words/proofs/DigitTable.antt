@@ -1,5 +1,6 @@
 -- The table of digits has each byte's value.
-use Rattle.std.proofs.Common.{◌≡◌, ℕ, zero, suc, ◌+◌, ◌<◌, Bool, true, ◌&&◌, List, [], ◌∷◌, length, get_or, nat_eq, refl, arith}
+use Rattle.std.proofs.Common.{◌≡◌, ℕ, zero, suc, ◌+◌, ◌<◌, Bool, true, ◌&&◌, List, [], ◌∷◌, length, get_or, nat_eq}
+use Rattle.std.proofs.Common.{refl, arith}
 use Rattle.std.specs.Char.{digit_value}
 use Rattle.std.proofs.lemmas.Bool.{and_parts}
 use Rattle.std.proofs.lemmas.Bool.Decides.{nat_tests}
@@ -13,12 +14,15 @@ are_values first (value ∷ values) = nat_eq value (digit_value first) && are_va
 same : (a b : ℕ) → nat_eq a b ≡ true → a ≡ b
 same a b h = grind (arith, nat_tests)
 
-value_in : (first : ℕ) (values : List ℕ) (i byte : ℕ) → byte ≡ i + first → i < length values → are_values first values ≡ true → get_or values i 0 ≡ digit_value byte
+value_in : (first : ℕ) (values : List ℕ) (i byte : ℕ) → byte ≡ i + first → i < length values
+    → are_values first values ≡ true → get_or values i 0 ≡ digit_value byte
 value_in first [] i byte at h all = absurd (omega arith)
 value_in first (value ∷ values) zero byte at h all =
     let is : byte ≡ first = omega arith in
     rw is (same value (digit_value first) (and_parts _ _ all).0)
-value_in first (value ∷ values) (suc i) byte at h all = value_in (suc first) values i byte (omega arith) (omega arith) (and_parts (nat_eq value (digit_value first)) _ all).1
+value_in first (value ∷ values) (suc i) byte at h all =
+    value_in (suc first) values i byte (omega arith) (omega arith)
+    (and_parts (nat_eq value (digit_value first)) _ all).1
 
 pub table_value : (byte : ℕ) → byte < 256 → get_or DIGITS byte 0 ≡ digit_value byte
 table_value byte h = value_in 0 DIGITS byte byte (omega arith) h refl

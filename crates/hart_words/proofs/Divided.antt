@@ -1,22 +1,28 @@
 -- Quotients, remainders and halves of products that fit a word.
-use Rattle.std.proofs.Common.{◌≡◌, ◌≢◌, ℕ, zero, suc, ◌+◌, ◌-◌, ◌*◌, ◌/◌, ◌%◌, ◌^◌, ◌<◌, ◌≤◌, true, false, nat_eq, nat_lt, arith, ◌⊎◌, refl, sym, ap, ◌∙◌, inl, inr, ℤ, pos, negsuc, ◌+ℤ◌, ◌*ℤ◌, ◌≤ℤ◌, unsigned_abs, neg_ℤ}
+use Rattle.std.proofs.Common.{◌≡◌, ◌≢◌, ℕ, zero, suc, ◌+◌, ◌-◌, ◌*◌, ◌/◌, ◌%◌, ◌^◌, ◌<◌, ◌≤◌, true, false, nat_eq}
+use Rattle.std.proofs.Common.{nat_lt, arith, ◌⊎◌, refl, sym, ap, ◌∙◌, inl, inr, ℤ, pos, negsuc, ◌+ℤ◌, ◌*ℤ◌, ◌≤ℤ◌}
+use Rattle.std.proofs.Common.{unsigned_abs, neg_ℤ}
 use Rattle.std.specs.Int.{w64, cast_signed, cast_unsigned, int_div_euclid, int_wrap}
 use Rattle.std.specs.Int.RustNames.{int_div, int_rem}
 use Rattle.std.specs.Int.Signed.{mag}
 use Rattle.std.proofs.lemmas.Bool.{cases_lt}
 use Rattle.std.proofs.lemmas.Bool.Decides.{nat_tests}
-use Rattle.std.proofs.lemmas.Int.{ints, int_wrap_fits, quot-rem, rem_below, of_z-to_z, wrapping_mul-bits, int_rem_euclid_is, unsigned_abs-mul}
+use Rattle.std.proofs.lemmas.Int.{ints, int_wrap_fits, quot-rem, rem_below, of_z-to_z, wrapping_mul-bits}
+use Rattle.std.proofs.lemmas.Int.{int_rem_euclid_is, unsigned_abs-mul}
 use Rattle.std.proofs.lemmas.Nat.{div_below, mul-le, mod_below, div-add-mod'}
 use Rattle.std.proofs.Math.Nat.{div-le_self, mod-le}
-use Rattle.hart_words.specs.Words.{residue, quotient_signed, quotient_unsigned, remainder_signed, remainder_unsigned, high_signed, high_mixed, high_unsigned}
-use Rattle.hart_words.specs.WordLaws.{value, IsSignedDivision, DividesSigned, DividesUnsigned, DividesByZero, Overflows, HasHalves}
+use Rattle.hart_words.specs.Words.{residue, quotient_signed, quotient_unsigned, remainder_signed, remainder_unsigned}
+use Rattle.hart_words.specs.Words.{high_signed, high_mixed, high_unsigned}
+use Rattle.hart_words.specs.WordLaws.{value, IsSignedDivision, DividesSigned, DividesUnsigned, DividesByZero, Overflows}
+use Rattle.hart_words.specs.WordLaws.{HasHalves}
 
 -- what fits a word is the signed value of its residue
 wrapped : (z : ℤ) → mag z < 2 ^ 63 → cast_signed w64 (residue w64 z) ≡ z
 unfolding int_wrap
 wrapped z fits = int_wrap_fits w64 z (record { sfits = fits })
 
-pos_or_negsuc : (a : ℕ) → a < 2 ^ 64 → ((a < 2 ^ 63) × (value a ≡ pos a)) ⊎ ((2 ^ 63 ≤ a) × (value a ≡ negsuc (2 ^ 64 - suc a)))
+pos_or_negsuc : (a : ℕ) → a < 2 ^ 64
+    → ((a < 2 ^ 63) × (value a ≡ pos a)) ⊎ ((2 ^ 63 ≤ a) × (value a ≡ negsuc (2 ^ 64 - suc a)))
 pos_or_negsuc a h = elim (cases_lt a (2 ^ 63)) [
   | inl under ↦ let test : nat_lt a (2 ^ 63) ≡ true = grind (arith, nat_tests) in inl (under, rw test refl)
   | inr over ↦ let test : nat_lt a (2 ^ 63) ≡ false = grind (arith, nat_tests) in inr (over, rw test refl)
@@ -70,7 +76,8 @@ quotient_fits (negsuc a) (pos b) fits but =
 quotient_fits (negsuc a) (negsuc zero) fits but =
     let differs : a ≢ 2 ^ 63 - 1 = λ e. but refl (ap negsuc e) in
     div_below (suc a) 1 (2 ^ 63) (omega arith) (omega arith)
-quotient_fits (negsuc a) (negsuc (suc b)) fits but = div_below (suc a) (suc (suc b)) (2 ^ 63) (omega arith) (omega arith)
+quotient_fits (negsuc a) (negsuc (suc b)) fits but =
+    div_below (suc a) (suc (suc b)) (2 ^ 63) (omega arith) (omega arith)
 
 remainder_fits : (x y : ℤ) → mag x < 2 ^ 63 → mag (int_rem x y) < 2 ^ 63
 remainder_fits (pos a) y fits = let less : a % unsigned_abs y ≤ a = mod-le a (unsigned_abs y) in omega arith
@@ -88,7 +95,14 @@ keeps_not_positive (pos a) y h = let less : a % unsigned_abs y ≤ a = mod-le a 
 keeps_not_positive (negsuc a) y h = omega (arith, ints)
 
 parts : (x y q r : ℤ) → q ≡ int_div x y → r ≡ int_rem x y → 0 < unsigned_abs y → IsSignedDivision x y q r
-parts x y q r e f some = rw (e, f) (record { whole = quot-rem x y; smaller = rem_below x y some; not_negative = keeps_not_negative x y; not_positive = keeps_not_positive x y })
+parts x y q r e f some =
+    rw (e, f) (record {
+      whole = quot-rem x y;
+      smaller = rem_below x y some;
+      not_negative =
+          keeps_not_negative x y;
+      not_positive = keeps_not_positive x y;
+    })
 
 pub divided : DividesSigned
 unfolding quotient_signed remainder_signed
@@ -97,8 +111,12 @@ divided a b low high some but =
     let q : quotient_signed w64 a b ≡ residue w64 (int_div (value a) (value b)) = rw test refl in
     let r : remainder_signed w64 a b ≡ residue w64 (int_rem (value a) (value b)) = rw test refl in
     let fits : mag (value a) < 2 ^ 63 = value_fits a low in
-    let apart : value b ≡ negsuc 0 → value a ≢ negsuc (2 ^ 63 - 1) = λ e f. but (omega (arith, word_of b 0 high e)) (omega (arith, word_of a (2 ^ 63 - 1) low f)) in
-    parts (value a) (value b) _ _ (ap value q ∙ wrapped (int_div (value a) (value b)) (quotient_fits (value a) (value b) fits apart)) (ap value r ∙ wrapped (int_rem (value a) (value b)) (remainder_fits (value a) (value b) fits)) (has_size b high some)
+    let apart : value b ≡ negsuc 0 → value a ≢ negsuc (2 ^ 63 - 1) =
+    λ e f. but (omega (arith, word_of b 0 high e)) (omega (arith, word_of a (2 ^ 63 - 1) low f)) in
+    parts (value a) (value b) _ _
+    (ap value q ∙ wrapped (int_div (value a) (value b)) (quotient_fits (value a) (value b) fits apart))
+    (ap value r ∙ wrapped (int_rem (value a) (value b)) (remainder_fits (value a) (value b) fits))
+    (has_size b high some)
 
 pub divided_unsigned : DividesUnsigned
 unfolding quotient_unsigned remainder_unsigned
@@ -108,7 +126,8 @@ divided_unsigned a b some =
 
 pub by_zero : (a : ℕ) → DividesByZero a
 unfolding quotient_signed remainder_signed quotient_unsigned remainder_unsigned
-by_zero a = record { signed_quotient = refl; signed_remainder = refl; unsigned_quotient = refl; unsigned_remainder = refl }
+by_zero a =
+    record { signed_quotient = refl; signed_remainder = refl; unsigned_quotient = refl; unsigned_remainder = refl }
 
 pub overflows : Overflows
 unfolding quotient_signed remainder_signed
@@ -132,7 +151,8 @@ low_signed : (a b : ℕ) → a < 2 ^ 64 → b < 2 ^ 64 → a * b % 2 ^ 64 ≡ re
 unfolding int_wrap
 low_signed a b low high =
     let below : a * b % 2 ^ 64 < 2 ^ 64 = omega arith in
-    sym (of_z-to_z w64 (a * b % 2 ^ 64) below) ∙ ap (cast_unsigned w64) (wrapping_mul-bits w64 a b low high) ∙ of_z-to_z w64 _ (residue_below (value a *ℤ value b))
+    sym (of_z-to_z w64 (a * b % 2 ^ 64) below) ∙ ap (cast_unsigned w64) (wrapping_mul-bits w64 a b low high)
+    ∙ of_z-to_z w64 _ (residue_below (value a *ℤ value b))
 
 difference : (m k j : ℕ) → m + j ≡ k → neg_ℤ (pos m) +ℤ pos k ≡ pos j
 difference m k j e = omega (arith, ints)
@@ -145,22 +165,32 @@ minus a b n e =
 low_mixed : (a b : ℕ) → a < 2 ^ 64 → a * b % 2 ^ 64 ≡ residue w64 (value a *ℤ pos b)
 low_mixed a b low = elim (pos_or_negsuc a low) [
   | inl w ↦ rw w.1 refl
-  | inr w ↦ rw w.1 (sym (ap unsigned_abs (int_rem_euclid_is _ (pos (2 ^ 64)) (2 ^ 64) b (a * b) (omega arith) refl (minus a b (2 ^ 64 - suc a) (omega arith)))))
+  | inr w ↦
+      rw w.1 (sym (ap unsigned_abs (int_rem_euclid_is _ (pos (2 ^ 64)) (2 ^ 64) b (a * b) (omega arith) refl
+      (minus a b (2 ^ 64 - suc a) (omega arith)))))
 ]
 
 size : (x y : ℤ) (m n : ℕ) → unsigned_abs x ≤ m → unsigned_abs y ≤ n → m * n < 2 ^ 127 → unsigned_abs (x *ℤ y) < 2 ^ 127
-size x y m n p q h = let less : unsigned_abs x * unsigned_abs y ≤ m * n = mul-le _ _ m n p q in rw (unsigned_abs-mul x y) (omega arith)
+size x y m n p q h =
+    let less : unsigned_abs x * unsigned_abs y ≤ m * n = mul-le _ _ m n p q in rw (unsigned_abs-mul x y) (omega arith)
 
-joined : (z : ℤ) (h l : ℕ) → value h ≡ int_div_euclid z (pos (2 ^ 64)) → l ≡ residue w64 z → value h *ℤ pos (2 ^ 64) +ℤ pos l ≡ z
+joined : (z : ℤ) (h l : ℕ) → value h ≡ int_div_euclid z (pos (2 ^ 64)) → l ≡ residue w64 z
+    → value h *ℤ pos (2 ^ 64) +ℤ pos l ≡ z
 joined z h l e f = rw (e, f) (euclid z)
 
-halves_of : (z : ℤ) (l : ℕ) → unsigned_abs z < 2 ^ 127 → l ≡ residue w64 z → value (residue w64 (int_div_euclid z (pos (2 ^ 64)))) *ℤ pos (2 ^ 64) +ℤ pos l ≡ z
+halves_of : (z : ℤ) (l : ℕ) → unsigned_abs z < 2 ^ 127 → l ≡ residue w64 z
+    → value (residue w64 (int_div_euclid z (pos (2 ^ 64)))) *ℤ pos (2 ^ 64) +ℤ pos l ≡ z
 halves_of z l fits low = joined z _ l (wrapped (int_div_euclid z (pos (2 ^ 64))) (high_fits z fits)) low
 
 pub halves : (a b : ℕ) → a < 2 ^ 64 → b < 2 ^ 64 → HasHalves a b
 unfolding high_signed high_mixed high_unsigned
 halves a b low high = record {
-  signed = halves_of (value a *ℤ value b) _ (size (value a) (value b) (2 ^ 63) (2 ^ 63) (size_fits a low) (size_fits b high) (omega arith)) (low_signed a b low high);
-  mixed = halves_of (value a *ℤ pos b) _ (size (value a) (pos b) (2 ^ 63) (2 ^ 64 - 1) (size_fits a low) (omega arith) (omega arith)) (low_mixed a b low);
+  signed =
+      halves_of (value a *ℤ value b) _
+      (size (value a) (value b) (2 ^ 63) (2 ^ 63) (size_fits a low) (size_fits b high) (omega arith))
+      (low_signed a b low high);
+  mixed =
+      halves_of (value a *ℤ pos b) _
+      (size (value a) (pos b) (2 ^ 63) (2 ^ 64 - 1) (size_fits a low) (omega arith) (omega arith)) (low_mixed a b low);
   unsigned = div-add-mod' (a * b) (2 ^ 64);
 }

@@ -1,16 +1,19 @@
 -- A number shifted up to the top of a word and back down, with its sign.
 use Rattle.hart_words.specs.WordLaws.{ExtendsSigns}
-use Rattle.std.proofs.Common.{◌≡◌, ℕ, suc, ◌+◌, ◌-◌, ◌*◌, ◌/◌, ◌%◌, ◌^◌, ◌<◌, ◌≤◌, true, false, nat_lt, if◌then◌else◌, arith, refl, sym, ap, ◌∙◌, inl, inr, pos, negsuc, ◌-ℤ◌, ◌⊎◌}
+use Rattle.std.proofs.Common.{◌≡◌, ℕ, suc, ◌+◌, ◌-◌, ◌*◌, ◌/◌, ◌%◌, ◌^◌, ◌<◌, ◌≤◌, true, false, nat_lt, if◌then◌else◌}
+use Rattle.std.proofs.Common.{arith, refl, sym, ap, ◌∙◌, inl, inr, pos, negsuc, ◌-ℤ◌, ◌⊎◌}
 use Rattle.std.specs.Int.{w64, cast_signed, cast_unsigned, int_rem_euclid}
 use Rattle.std.specs.Int.Signed.{shr_z}
 use Rattle.std.proofs.lemmas.Bool.Decides.{nat_tests}
 use Rattle.std.proofs.lemmas.Int.{ints, int_rem_euclid_is}
 use Rattle.std.proofs.lemmas.Nat.{div-mul-add, mod-pow-add, pow-add, pow_pos, mod_below, mod-mul-add}
 use Rattle.std.proofs.lemmas.Bool.{cases_lt}
-use Rattle.std.proofs.Math.Nat.{mul-lt-mul_of_pos_right, mul-le-mul_right, mul-div_cancel, mul-mod_left, le-mul_of_pos_right, pow-suc, mod-eq_of_lt, mod-mod}
+use Rattle.std.proofs.Math.Nat.{mul-lt-mul_of_pos_right, mul-le-mul_right, mul-div_cancel, mul-mod_left}
+use Rattle.std.proofs.Math.Nat.{le-mul_of_pos_right, pow-suc, mod-eq_of_lt, mod-mod}
 use Rattle.hart_words.specs.Words.{sign_extended, residue}
 
-below : (l p q h : ℕ) → 0 < p → p * q ≡ 2 ^ 64 → p * h ≡ 2 ^ 63 → l < h → cast_unsigned w64 (shr_z (cast_signed w64 (l * p)) p) ≡ residue w64 (pos l)
+below : (l p q h : ℕ) → 0 < p → p * q ≡ 2 ^ 64 → p * h ≡ 2 ^ 63 → l < h
+    → cast_unsigned w64 (shr_z (cast_signed w64 (l * p)) p) ≡ residue w64 (pos l)
 below l p q h some whole half lt =
     let less : l * p < h * p = mul-lt-mul_of_pos_right lt some in
     let fits : l * p < 2 ^ 63 = omega arith in
@@ -25,7 +28,8 @@ negative n h = let test : nat_lt n (2 ^ 63) ≡ false = grind (arith, nat_tests)
 gap : (l p q d : ℕ) → 0 < p → p * q ≡ 2 ^ 64 → q ≡ d + suc l → 2 ^ 64 - suc (l * p) ≡ d * p + (p - 1)
 gap l p q d some whole is = let all : p * (d + suc l) ≡ 2 ^ 64 = rw (← is) whole in omega arith
 
-above : (l p q h : ℕ) → 0 < p → p * q ≡ 2 ^ 64 → p * h ≡ 2 ^ 63 → h ≤ l → l < q → cast_unsigned w64 (shr_z (cast_signed w64 (l * p)) p) ≡ residue w64 (pos l -ℤ pos q)
+above : (l p q h : ℕ) → 0 < p → p * q ≡ 2 ^ 64 → p * h ≡ 2 ^ 63 → h ≤ l → l < q
+    → cast_unsigned w64 (shr_z (cast_signed w64 (l * p)) p) ≡ residue w64 (pos l -ℤ pos q)
 above l p q h some whole half le lt =
     let least : h * p ≤ l * p = mul-le-mul_right p le in
     let less : l * p < q * p = mul-lt-mul_of_pos_right lt some in
@@ -34,13 +38,16 @@ above l p q h some whole half le lt =
     let back : ((q - suc l) * p + (p - 1)) / p ≡ q - suc l = div-mul-add (q - suc l) p (p - 1) (omega arith) in
     let small : q ≤ q * p = le-mul_of_pos_right q some in
     let narrow : q ≤ 2 ^ 64 = omega arith in
-    let euclid : int_rem_euclid (pos l -ℤ pos q) (pos (2 ^ 64)) ≡ pos ((l + (2 ^ 64 - q)) % 2 ^ 64) = int_rem_euclid_is _ _ (2 ^ 64) 1 _ (omega arith) refl (omega (arith, ints)) in
+    let euclid : int_rem_euclid (pos l -ℤ pos q) (pos (2 ^ 64)) ≡ pos ((l + (2 ^ 64 - q)) % 2 ^ 64) =
+    int_rem_euclid_is _ _ (2 ^ 64) 1 _ (omega arith) refl (omega (arith, ints)) in
     rw (is, apart, back, euclid) (omega arith)
 
-by_sign : (l p q h : ℕ) → 0 < p → p * q ≡ 2 ^ 64 → p * h ≡ 2 ^ 63 → l < q → cast_unsigned w64 (shr_z (cast_signed w64 (l * p)) p) ≡ residue w64 (if nat_lt l h then pos l else pos l -ℤ pos q)
+by_sign : (l p q h : ℕ) → 0 < p → p * q ≡ 2 ^ 64 → p * h ≡ 2 ^ 63 → l < q
+    → cast_unsigned w64 (shr_z (cast_signed w64 (l * p)) p) ≡ residue w64 (if nat_lt l h then pos l else pos l -ℤ pos q)
 by_sign l p q h some whole half lt = elim (cases_lt l h) [
   | inl under ↦ let test : nat_lt l h ≡ true = grind (arith, nat_tests) in rw test (below l p q h some whole half under)
-  | inr over ↦ let test : nat_lt l h ≡ false = grind (arith, nat_tests) in rw test (above l p q h some whole half over lt)
+  | inr over ↦
+      let test : nat_lt l h ≡ false = grind (arith, nat_tests) in rw test (above l p q h some whole half over lt)
 ]
 
 powers : (n k : ℕ) → 1 ≤ n → n + k ≡ 64 → (2 ^ k * 2 ^ n ≡ 2 ^ 64) × (2 ^ k * 2 ^ (n - 1) ≡ 2 ^ 63)
@@ -51,22 +58,29 @@ powers n k some all =
 
 low_bits : (n k x : ℕ) → n + k ≡ 64 → x * 2 ^ k % 2 ^ 64 ≡ (x % 2 ^ n) * 2 ^ k
 low_bits n k x all =
-    let cut : x * 2 ^ k % 2 ^ (n + k) ≡ (x * 2 ^ k / 2 ^ k % 2 ^ n) * 2 ^ k + x * 2 ^ k % 2 ^ k = mod-pow-add (x * 2 ^ k) n k in
+    let cut : x * 2 ^ k % 2 ^ (n + k) ≡ (x * 2 ^ k / 2 ^ k % 2 ^ n) * 2 ^ k + x * 2 ^ k % 2 ^ k =
+    mod-pow-add (x * 2 ^ k) n k in
     let back : x * 2 ^ k / 2 ^ k ≡ x = mul-div_cancel x (pow_pos k) in
     let none : x * 2 ^ k % 2 ^ k ≡ 0 = mul-mod_left x (2 ^ k) in
     ap (λ e. x * 2 ^ k % 2 ^ e) (sym all) ∙ cut ∙ rw (back, none) (omega arith)
 
-at_width : (n k x : ℕ) → 1 ≤ n → n + k ≡ 64 → cast_unsigned w64 (shr_z (cast_signed w64 (x * 2 ^ k % 2 ^ 64)) (2 ^ k)) ≡ sign_extended n x
+at_width : (n k x : ℕ) → 1 ≤ n → n + k ≡ 64
+    → cast_unsigned w64 (shr_z (cast_signed w64 (x * 2 ^ k % 2 ^ 64)) (2 ^ k)) ≡ sign_extended n x
 unfolding sign_extended
 at_width n k x some all =
     let both = powers n k some all in
-    rw (low_bits n k x all) (by_sign (x % 2 ^ n) (2 ^ k) (2 ^ n) (2 ^ (n - 1)) (pow_pos k) both.0 both.1 (mod_below x (2 ^ n) (pow_pos n)))
+    rw (low_bits n k x all)
+    (by_sign (x % 2 ^ n) (2 ^ k) (2 ^ n) (2 ^ (n - 1)) (pow_pos k) both.0 both.1 (mod_below x (2 ^ n) (pow_pos n)))
 
-pub shifted_back : (bits x : ℕ) → 1 ≤ bits → bits ≤ 64 → cast_unsigned w64 (shr_z (cast_signed w64 (x * 2 ^ (64 - bits) % 2 ^ 64)) (2 ^ (64 - bits))) ≡ sign_extended bits x
+pub shifted_back : (bits x : ℕ) → 1 ≤ bits → bits ≤ 64
+    → cast_unsigned w64 (shr_z (cast_signed w64 (x * 2 ^ (64 - bits) % 2 ^ 64)) (2 ^ (64 - bits)))
+    ≡ sign_extended bits x
 shifted_back bits x some few = at_width bits (64 - bits) x some (omega arith)
 
 -- the same by the number's low bits l, below q = 2 * h
-kept : (l q h : ℕ) → q ≡ h + h → q ≤ 2 ^ 64 → l < h → (residue w64 (pos l) % q ≡ l % q) × ((residue w64 (pos l) < h) ⊎ (2 ^ 64 - h ≤ residue w64 (pos l))) × (residue w64 (pos l) < 2 ^ 64)
+kept : (l q h : ℕ) → q ≡ h + h → q ≤ 2 ^ 64 → l < h
+    → (residue w64 (pos l) % q ≡ l % q) × ((residue w64 (pos l) < h) ⊎ (2 ^ 64 - h ≤ residue w64 (pos l)))
+    × (residue w64 (pos l) < 2 ^ 64)
 kept l q h double narrow lt =
     let is : residue w64 (pos l) ≡ l = omega arith in
     rw is (refl, inl lt, omega arith)
@@ -74,22 +88,32 @@ kept l q h double narrow lt =
 turned : (p q d : ℕ) → p ≡ d + 1 → p * q ≡ 2 ^ 64 → d * q + q ≡ 2 ^ 64
 turned p q d e whole = let all : (d + 1) * q ≡ 2 ^ 64 = rw (← e) whole in omega arith
 
-repeated : (l p q h : ℕ) → 0 < p → p * q ≡ 2 ^ 64 → q ≡ h + h → q ≤ 2 ^ 64 → h ≤ l → l < q → (residue w64 (pos l -ℤ pos q) % q ≡ l % q) × ((residue w64 (pos l -ℤ pos q) < h) ⊎ (2 ^ 64 - h ≤ residue w64 (pos l -ℤ pos q))) × (residue w64 (pos l -ℤ pos q) < 2 ^ 64)
+repeated : (l p q h : ℕ) → 0 < p → p * q ≡ 2 ^ 64 → q ≡ h + h → q ≤ 2 ^ 64 → h ≤ l → l < q
+    → (residue w64 (pos l -ℤ pos q) % q ≡ l % q)
+    × ((residue w64 (pos l -ℤ pos q) < h) ⊎ (2 ^ 64 - h ≤ residue w64 (pos l -ℤ pos q)))
+    × (residue w64 (pos l -ℤ pos q) < 2 ^ 64)
 repeated l p q h some whole double narrow le lt =
-    let euclid : int_rem_euclid (pos l -ℤ pos q) (pos (2 ^ 64)) ≡ pos ((l + (2 ^ 64 - q)) % 2 ^ 64) = int_rem_euclid_is _ _ (2 ^ 64) 1 _ (omega arith) refl (omega (arith, ints)) in
+    let euclid : int_rem_euclid (pos l -ℤ pos q) (pos (2 ^ 64)) ≡ pos ((l + (2 ^ 64 - q)) % 2 ^ 64) =
+    int_rem_euclid_is _ _ (2 ^ 64) 1 _ (omega arith) refl (omega (arith, ints)) in
     let rest : (p - 1) * q + q ≡ 2 ^ 64 = turned p q (p - 1) (omega arith) whole in
     let is : (l + (2 ^ 64 - q)) % 2 ^ 64 ≡ (p - 1) * q + l = omega arith in
     let low : ((p - 1) * q + l) % q ≡ l = mod-mul-add (p - 1) q l lt in
     let same : l % q ≡ l = mod-eq_of_lt lt in
     rw (euclid, is) (low ∙ sym same, inr (omega arith), omega arith)
 
-by_bits : (l p q h : ℕ) → 0 < p → p * q ≡ 2 ^ 64 → q ≡ h + h → l < q → (residue w64 (if nat_lt l h then pos l else pos l -ℤ pos q) % q ≡ l % q) × ((residue w64 (if nat_lt l h then pos l else pos l -ℤ pos q) < h) ⊎ (2 ^ 64 - h ≤ residue w64 (if nat_lt l h then pos l else pos l -ℤ pos q))) × (residue w64 (if nat_lt l h then pos l else pos l -ℤ pos q) < 2 ^ 64)
+by_bits : (l p q h : ℕ) → 0 < p → p * q ≡ 2 ^ 64 → q ≡ h + h → l < q
+    → (residue w64 (if nat_lt l h then pos l else pos l -ℤ pos q) % q ≡ l % q)
+    × ((residue w64 (if nat_lt l h then pos l else pos l -ℤ pos q) < h)
+    ⊎ (2 ^ 64 - h ≤ residue w64 (if nat_lt l h then pos l else pos l -ℤ pos q)))
+    × (residue w64 (if nat_lt l h then pos l else pos l -ℤ pos q) < 2 ^ 64)
 by_bits l p q h some whole double lt =
     let small : q ≤ q * p = le-mul_of_pos_right q some in
     let narrow : q ≤ 2 ^ 64 = omega arith in
     elim (cases_lt l h) [
       | inl under ↦ let test : nat_lt l h ≡ true = grind (arith, nat_tests) in rw test (kept l q h double narrow under)
-      | inr over ↦ let test : nat_lt l h ≡ false = grind (arith, nat_tests) in rw test (repeated l p q h some whole double narrow over lt)
+      | inr over ↦
+          let test : nat_lt l h ≡ false = grind (arith, nat_tests) in
+          rw test (repeated l p q h some whole double narrow over lt)
     ]
 
 doubled : (n : ℕ) → 1 ≤ n → 2 ^ n ≡ 2 ^ (n - 1) + 2 ^ (n - 1)
@@ -101,5 +125,7 @@ extends_signs n x some few =
     let k : n + (64 - n) ≡ 64 = omega arith in
     let below : x % 2 ^ n < 2 ^ n = mod_below x (2 ^ n) (pow_pos n) in
     let twice : x % 2 ^ n % 2 ^ n ≡ x % 2 ^ n = mod-mod x (2 ^ n) in
-    let facts = by_bits (x % 2 ^ n) (2 ^ (64 - n)) (2 ^ n) (2 ^ (n - 1)) (pow_pos (64 - n)) (powers n (64 - n) some k).0 (doubled n some) below in
+    let facts =
+    by_bits (x % 2 ^ n) (2 ^ (64 - n)) (2 ^ n) (2 ^ (n - 1)) (pow_pos (64 - n)) (powers n (64 - n) some k).0
+    (doubled n some) below in
     record { same = facts.0 ∙ twice; equal = facts.1; fits = facts.2 }

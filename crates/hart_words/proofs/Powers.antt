@@ -1,5 +1,6 @@
 -- Powers that count bytes and bits.
-use Rattle.std.proofs.Common.{◌≡◌, ℕ, zero, suc, ◌+◌, ◌*◌, ◌/◌, ◌<◌, ◌≤◌, ◌^◌, nat_eq, nat_lt, inl, inr, refl, arith, lit<}
+use Rattle.std.proofs.Common.{◌≡◌, ℕ, zero, suc, ◌+◌, ◌*◌, ◌/◌, ◌<◌, ◌≤◌, ◌^◌, nat_eq, nat_lt, inl, inr, refl, arith}
+use Rattle.std.proofs.Common.{lit<}
 use Rattle.std.proofs.Math.Nat.{pow-le-pow_right, pow-suc}
 use Rattle.std.proofs.lemmas.Nat.{pow-add, pow_pos, div_below, le-div}
 use Rattle.std.proofs.lemmas.Bool.{cases_lt}

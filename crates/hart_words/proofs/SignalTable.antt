@@ -1,5 +1,6 @@
 -- Every signal stands in the table at its index, and no width is above 64.
-use Rattle.std.proofs.Common.{◌≡◌, ◌≤◌, ℕ, zero, suc, Bool, true, false, List, [], ◌∷◌, Option, Some, refl, sym, subst, arith}
+use Rattle.std.proofs.Common.{◌≡◌, ◌≤◌, ℕ, zero, suc, Bool, true, false, List, [], ◌∷◌, Option, Some, refl, sym, subst}
+use Rattle.std.proofs.Common.{arith}
 use Rattle.std.specs.Prelude.{◌&&◌, nat_le, slice_get}
 use Rattle.std.specs.List.{list_all}
 use Rattle.std.specs.Option.{option_map_or}
@@ -7,9 +8,14 @@ use Rattle.std.proofs.lemmas.Grind.{common_steps}
 use Rattle.hart_words.specs.declared.signal.SignalEntry.{SignalEntry}
 use Rattle.hart_words.specs.declared.signal.TheConstants.{SIGNALS}
 use Rattle.hart_words.specs.declared.signal.Signal.{Signal}
-use Rattle.hart_words.specs.declared.signal.Signal.TheVariants.{Valid, Order, Intr, PcRdata, Mode, Ixl, Trap, Insn, Rs1Addr, Rs1Rdata, Rs2Addr, Rs2Rdata, RdAddr, RdWdata, PcWdata, MemAddr, MemRmask, MemRdata, MemWmask, MemWdata, MemPaddr, Halt, Csr}
+use Rattle.hart_words.specs.declared.signal.Signal.TheVariants.{Valid, Order, Intr, PcRdata, Mode, Ixl, Trap, Insn}
+use Rattle.hart_words.specs.declared.signal.Signal.TheVariants.{Rs1Addr, Rs1Rdata, Rs2Addr, Rs2Rdata, RdAddr, RdWdata}
+use Rattle.hart_words.specs.declared.signal.Signal.TheVariants.{PcWdata, MemAddr, MemRmask, MemRdata, MemWmask}
+use Rattle.hart_words.specs.declared.signal.Signal.TheVariants.{MemWdata, MemPaddr, Halt, Csr}
 use Rattle.hart_words.specs.declared.signal.CsrName.{CsrName}
-use Rattle.hart_words.specs.declared.signal.CsrName.TheVariants.{Mstatus, Misa, Medeleg, Mideleg, Mie, Mtvec, Mscratch, Mepc, Mcause, Mtval, Mip, Satp, Sstatus, Sie, Sip, Stvec, Sscratch, Sepc, Scause, Stval, Pmpcfg0, Pmpcfg2}
+use Rattle.hart_words.specs.declared.signal.CsrName.TheVariants.{Mstatus, Misa, Medeleg, Mideleg, Mie, Mtvec, Mscratch}
+use Rattle.hart_words.specs.declared.signal.CsrName.TheVariants.{Mepc, Mcause, Mtval, Mip, Satp, Sstatus, Sie, Sip}
+use Rattle.hart_words.specs.declared.signal.CsrName.TheVariants.{Stvec, Sscratch, Sepc, Scause, Stval, Pmpcfg0, Pmpcfg2}
 use Rattle.hart_words.specs.declared.signal.CsrSide.{CsrSide}
 use Rattle.hart_words.specs.declared.signal.CsrSide.TheVariants.{Rmask, Wmask, Rdata, Wdata}
 use Rattle.hart_words.specs.Signals.{StandsAtItsIndex, signal_entry_of, index_of, width_of}
@@ -229,7 +235,8 @@ rest_of false b h = cc
 width_within : (width : ℕ) → nat_le width 64 ≡ true → width ≤ 64
 width_within width h = grind (arith, common_steps)
 
-width_at : (entries : List SignalEntry) (i : ℕ) → list_all (λ entry. nat_le entry.width 64) entries ≡ true → option_map_or (λ entry. entry.width) (slice_get entries i) 64 ≤ 64
+width_at : (entries : List SignalEntry) (i : ℕ) → list_all (λ entry. nat_le entry.width 64) entries ≡ true
+    → option_map_or (λ entry. entry.width) (slice_get entries i) 64 ≤ 64
 width_at [] i h = omega arith
 width_at (entry ∷ entries) zero h = width_within entry.width (first_of _ _ h)
 width_at (entry ∷ entries) (suc i) h = width_at entries i (rest_of (nat_le entry.width 64) _ h)

@@ -7,7 +7,8 @@ use Rattle.hart_words.specs.Spans.{is_span, IsSpan, IsSpan-prop, span_with, span
 facts_prop : (base size : ℕ) → IsProp (IsSpan base size)
 facts_prop base size = IsSpan-prop (Prim.hlevel props) (Prim.hlevel props) (Prim.hlevel props) (Prim.hlevel props)
 
-same_with : (base base' size size' : ℕ) → base ≡ base' → size ≡ size' → (one : IsSpan base size) (other : IsSpan base' size') → span_with base size one ≡ span_with base' size' other
+same_with : (base base' size size' : ℕ) → base ≡ base' → size ≡ size'
+    → (one : IsSpan base size) (other : IsSpan base' size') → span_with base size one ≡ span_with base' size' other
 same_with base base' size size' b s one =
     let P : ℕ → Type 0 = λ x. (other : IsSpan x size') → span_with base size one ≡ span_with x size' other in
     let Q : ℕ → Type 0 = λ x. (other : IsSpan base x) → span_with base size one ≡ span_with base x other in
@@ -20,15 +21,18 @@ pub same_span : (one other : Span) → one.base ≡ other.base → one.size ≡ 
 unfolding facts
 same_span one other base size = same_with one.base other.base one.size other.size base size (facts one) (facts other)
 
-by_true : (base size : ℕ) (test : Bool) (is : is_span base size ≡ test) (span : Span) → span.base ≡ base → span.size ≡ size → test ≡ true → Some span ≡ span_by base size test is
+by_true : (base size : ℕ) (test : Bool) (is : is_span base size ≡ test) (span : Span) → span.base ≡ base
+    → span.size ≡ size → test ≡ true → Some span ≡ span_by base size test is
 by_true base size true is span b s test = ap (λ (x : Span). Some x) (same_span span _ b s)
 by_true base size false is span b s test = cc
 
-by_false : (base size : ℕ) (test : Bool) (is : is_span base size ≡ test) → test ≡ false → None ≡ span_by base size test is
+by_false : (base size : ℕ) (test : Bool) (is : is_span base size ≡ test) → test ≡ false
+    → None ≡ span_by base size test is
 by_false base size false is test = refl
 by_false base size true is test = cc
 
-pub some_span : (base size : ℕ) (span : Span) → span.base ≡ base → span.size ≡ size → is_span base size ≡ true → Some span ≡ span_of base size
+pub some_span : (base size : ℕ) (span : Span) → span.base ≡ base → span.size ≡ size → is_span base size ≡ true
+    → Some span ≡ span_of base size
 unfolding span_of
 some_span base size span b s test = by_true base size (is_span base size) refl span b s test
 

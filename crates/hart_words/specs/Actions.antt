@@ -23,7 +23,8 @@ pub record Action (A : Type 0) : Type 0 where
 
 -- one after the other
 abbrev pub followed_by : {A B : Type 0} → Run A → Run B → Run B
-followed_by first second = record { value = second.value; reads = first.reads ++ second.reads; wrote = first.wrote ++ second.wrote }
+followed_by first second =
+    record { value = second.value; reads = first.reads ++ second.reads; wrote = first.wrote ++ second.wrote }
 
 -- a value, with no access
 unfoldable pub pure : {A : Type 0} → A → Action A
@@ -33,12 +34,15 @@ pure x = record { run = λ bytes. record { value = x; reads = []; wrote = [] }; 
 unfoldable pub read_memory : Read → Action ℕ
 read_memory read = record {
   run = λ bytes. record { value = number_at bytes read.pa read.len; reads = read ∷ []; wrote = [] };
-  framed = λ one other agree. ap (λ n. record { value = n; reads = read ∷ []; wrote = [] }) (number_at-read read one other agree);
+  framed =
+      λ one other agree. ap (λ n. record { value = n; reads = read ∷ []; wrote = [] })
+      (number_at-read read one other agree);
 }
 
 -- a write is written
 unfoldable pub write_memory : Write → Action (Unit {0})
-write_memory write = record { run = λ bytes. record { value = tt; reads = []; wrote = write ∷ [] }; framed = λ one other agree. refl }
+write_memory write =
+    record { run = λ bytes. record { value = tt; reads = []; wrote = write ∷ [] }; framed = λ one other agree. refl }
 
 -- the second sees what the first wrote
 unfoldable pub run_then : {A B : Type 0} → Action A → (A → Action B) → Bytes → Run B
@@ -51,9 +55,12 @@ run_then-framed first next one other agree =
     let before = first.run one in
     let after = (next before.value).run (after_writes before.wrote one) in
     let same = first.framed one other (AgreeOn-front before.reads after.reads one other agree) in
-    let later = AgreeOn-after_writes after.reads before.wrote one other (AgreeOn-back before.reads after.reads one other agree) in
+    let later =
+    AgreeOn-after_writes after.reads before.wrote one other
+    (AgreeOn-back before.reads after.reads one other agree) in
     ap (λ traced. followed_by traced ((next traced.value).run (after_writes traced.wrote other))) same
-    ∙ ap (λ traced. followed_by before traced) ((next before.value).framed (after_writes before.wrote one) (after_writes before.wrote other) later)
+    ∙ ap (λ traced. followed_by before traced)
+    ((next before.value).framed (after_writes before.wrote one) (after_writes before.wrote other) later)
 
 infixl 10 ◌>>=◌
 unfoldable pub ◌>>=◌ : {A B : Type 0} → Action A → (A → Action B) → Action B
@@ -62,13 +69,18 @@ first >>= next = record { run = run_then first next; framed = run_then-framed fi
 -- the value is made into another
 unfoldable pub mapped : {A B : Type 0} → (A → B) → Action A → Action B
 mapped f action = record {
-  run = λ bytes. let before = action.run bytes in record { value = f before.value; reads = before.reads; wrote = before.wrote };
-  framed = λ one other agree. ap (λ traced. record { value = f traced.value; reads = traced.reads; wrote = traced.wrote }) (action.framed one other agree);
+  run =
+      λ bytes. let before =
+      action.run bytes in record { value = f before.value; reads = before.reads; wrote = before.wrote };
+  framed =
+      λ one other agree. ap (λ traced. record { value = f traced.value; reads = traced.reads; wrote = traced.wrote })
+      (action.framed one other agree);
 }
 
--- a call did what the action does: it gave its value, noted its reads and writes behind those noted
+-- a call did what the action does: it gave its value, noted its reads and writes after those noted
 -- before, and left the memory that the writes make
-pub record Performs {A : Type 0} (action : Action A) (value : A) (seen seen' : List Read) (wrote wrote' : List Write) (bytes bytes' : Bytes) : Type 0 where
+pub record Performs {A : Type 0} (action : Action A) (value : A) (seen seen' : List Read) (wrote wrote' : List Write)
+    (bytes bytes' : Bytes) : Type 0 where
   pub value_is : value ≡ (action.run bytes).value
   pub seen_is : seen' ≡ seen ++ (action.run bytes).reads
   pub wrote_is : wrote' ≡ wrote ++ (action.run bytes).wrote

@@ -1,22 +1,13 @@
 -- Physical memory: a byte at each address, and what reads and writes of numbers make of it.
-use Rattle.std.specs.Prelude.{◌≡◌, ℕ, zero, suc, ◌+◌, ◌-◌, ◌*◌, ◌/◌, ◌%◌, ◌^◌, ◌≤◌, Bool, ◌&&◌, nat_le, nat_lt, if◌then◌else◌, Option, Some, None, List, [], ◌∷◌}
+use Rattle.std.specs.Prelude.{◌≡◌, ℕ, zero, suc, ◌+◌, ◌-◌, ◌*◌, ◌/◌, ◌%◌, ◌^◌, Bool, ◌&&◌, nat_le, nat_lt}
+use Rattle.std.specs.Prelude.{if◌then◌else◌, Option, Some, None, List, [], ◌∷◌}
 use Rattle.hart_words.specs.declared.span.Span.{Span}
-use Rattle.hart_words.specs.declared.span.TheConstants.{PAGE_SIZE}
 use Rattle.hart_words.specs.declared.accesses.Read.{Read}
 use Rattle.hart_words.specs.declared.accesses.Write.{Write}
 
 -- the byte at each address
 abbrev pub Bytes : Type 0
 Bytes = ℕ → ℕ
-
--- so many bytes from an address on lie in RAM, within one page of 4,096 bytes; a number has at most 8, an address 56 bits
-pub record IsPlace (ram : Span) (pa len : ℕ) : Type 0 where
-  pub low : ram.base ≤ pa
-  pub high : pa + len ≤ ram.base + ram.size
-  pub narrow : pa + len ≤ 2 ^ 56
-  pub page : pa % PAGE_SIZE + len ≤ PAGE_SIZE
-  pub some : 1 ≤ len
-  pub few : len ≤ 8
 
 -- the number that so many bytes from an address on are, little-endian
 unfoldable pub number_at : Bytes → ℕ → ℕ → ℕ
@@ -28,13 +19,14 @@ abbrev pub is_within : ℕ → ℕ → ℕ → Bool
 is_within pa len address = nat_le pa address && nat_lt address (pa + len)
 
 -- the bytes after a number's low bytes were put from an address on; every other byte is as before
-unfoldable pub stored : ℕ → ℕ → ℕ → Bytes → Bytes
-stored pa len value bytes address = if is_within pa len address then value / 256 ^ (address - pa) % 256 else bytes address
+unfoldable pub bytes_after_store : ℕ → ℕ → ℕ → Bytes → Bytes
+bytes_after_store pa len value bytes address =
+    if is_within pa len address then value / 256 ^ (address - pa) % 256 else bytes address
 
 -- the bytes after writes were written, one after another
 unfoldable pub after_writes : List Write → Bytes → Bytes
 after_writes [] bytes = bytes
-after_writes (write ∷ writes) bytes = after_writes writes (stored write.pa write.len write.value bytes)
+after_writes (write ∷ writes) bytes = after_writes writes (bytes_after_store write.pa write.len write.value bytes)
 
 -- two memories have the same bytes from an address on
 unfoldable pub SameBytes : ℕ → ℕ → Bytes → Bytes → Type 0

@@ -1,11 +1,18 @@
--- The encodings of privilege modes and the codes of exceptions, from the Privileged Architecture's chapters "Introduction" and "Machine-Level ISA" (mcause).
+-- The encodings of privilege modes and the codes of exceptions, from the Privileged Architecture's chapters
+-- "Introduction" and "Machine-Level ISA" (mcause).
 use Rattle.std.specs.Prelude.{ℕ}
 use Rattle.hart_words.specs.declared.privilege.Mode.{Mode}
 use Rattle.hart_words.specs.declared.privilege.Mode.TheVariants.{User, Supervisor, Machine}
 use Rattle.hart_words.specs.declared.privilege.Access.{Access}
 use Rattle.hart_words.specs.declared.privilege.Access.TheVariants.{Fetch, Load, Store}
 use Rattle.hart_words.specs.declared.privilege.Cause.{Cause}
-use Rattle.hart_words.specs.declared.privilege.Cause.TheVariants.{InstructionAccessFault, IllegalInstruction, Breakpoint, LoadAddressMisaligned, LoadAccessFault, StoreAddressMisaligned, StoreAccessFault, EnvironmentCallFromUser, EnvironmentCallFromSupervisor, EnvironmentCallFromMachine, InstructionPageFault, LoadPageFault, StorePageFault}
+use Rattle.hart_words.specs.declared.privilege.Cause.TheVariants.{InstructionAccessFault, IllegalInstruction}
+use Rattle.hart_words.specs.declared.privilege.Cause.TheVariants.{Breakpoint, LoadAddressMisaligned, LoadAccessFault}
+use Rattle.hart_words.specs.declared.privilege.Cause.TheVariants.{StoreAddressMisaligned, StoreAccessFault}
+use Rattle.hart_words.specs.declared.privilege.Cause.TheVariants.{EnvironmentCallFromUser}
+use Rattle.hart_words.specs.declared.privilege.Cause.TheVariants.{EnvironmentCallFromSupervisor}
+use Rattle.hart_words.specs.declared.privilege.Cause.TheVariants.{EnvironmentCallFromMachine, InstructionPageFault}
+use Rattle.hart_words.specs.declared.privilege.Cause.TheVariants.{LoadPageFault, StorePageFault}
 
 abbrev pub mode_number : Mode → ℕ
 mode_number User = 0

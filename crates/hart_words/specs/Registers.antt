@@ -1,4 +1,5 @@
--- The integer registers x1 to x31; x0 is always 0. From the Unprivileged ISA's chapter "RV32I Base Integer Instruction Set".
+-- The integer registers x1 to x31; x0 is always 0. From the Unprivileged ISA's chapter "RV32I Base Integer Instruction
+-- Set".
 use Rattle.std.specs.Prelude.{ℕ, ◌-◌, ◌==◌, if◌then◌else◌, slice_index, slice_set, replicate}
 use Rattle.hart_words.specs.declared.registers.Registers.{Registers}
 

@@ -29,6 +29,6 @@ Gives fault_in view (Ok x) meant = meant ≡ Ok (view x)
 Gives fault_in view (Err e) meant = FailsAs (fault_in e) meant
 
 -- what a call returned, its value seen by `view`
-abbrev pub seen_by : {X Y F : Type 0} → (X → Y) → Result X F → Result Y F
-seen_by view (Ok x) = Ok (view x)
-seen_by view (Err fault) = Err fault
+abbrev pub result_view : {X Y F : Type 0} → (X → Y) → Result X F → Result Y F
+result_view view (Ok x) = Ok (view x)
+result_view view (Err fault) = Err fault

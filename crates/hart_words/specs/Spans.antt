@@ -1,5 +1,6 @@
 -- Ranges of physical addresses: whole pages below 2^56.
-use Rattle.std.specs.Prelude.{◌≡◌, ℕ, ◌+◌, ◌%◌, ◌^◌, ◌<◌, ◌≤◌, Bool, true, false, ◌&&◌, ◌||◌, ◌==◌, nat_le, nat_lt, Option, Some, None, refl}
+use Rattle.std.specs.Prelude.{◌≡◌, ℕ, ◌+◌, ◌%◌, ◌^◌, ◌<◌, ◌≤◌, Bool, true, false, ◌&&◌, ◌||◌, ◌==◌, nat_le, nat_lt}
+use Rattle.std.specs.Prelude.{Option, Some, None, refl}
 use Rattle.std.proofs.Common.{arith}
 use Rattle.std.proofs.lemmas.Grind.{common_steps}
 use Rattle.hart_words.specs.declared.span.Span.{Span}
@@ -7,7 +8,8 @@ use Rattle.hart_words.specs.declared.span.TheConstants.{PAGE_SIZE}
 
 -- whole pages, at least one, that end at 2^56 at the latest
 abbrev pub is_span : ℕ → ℕ → Bool
-is_span base size = (base % PAGE_SIZE == 0) && (size % PAGE_SIZE == 0) && nat_le PAGE_SIZE size && nat_le (base + size) (2 ^ 56)
+is_span base size =
+    (base % PAGE_SIZE == 0) && (size % PAGE_SIZE == 0) && nat_le PAGE_SIZE size && nat_le (base + size) (2 ^ 56)
 
 pub record IsSpan (base size : ℕ) : Type 0 where
   pub whole_base : base % PAGE_SIZE ≡ 0
@@ -44,8 +46,8 @@ unfoldable pub span_of : ℕ → ℕ → Option Span
 span_of base size = span_by base size (is_span base size) refl
 
 -- the byte at this address is one of the range
-abbrev pub Lies : ℕ → Span → Type 0
-Lies address span = (span.base ≤ address) × (address < span.base + span.size)
+abbrev pub LiesIn : ℕ → Span → Type 0
+LiesIn address span = (span.base ≤ address) × (address < span.base + span.size)
 
 abbrev pub is_in : Span → ℕ → Bool
 is_in span address = nat_le span.base address && nat_lt address (span.base + span.size)
@@ -53,6 +55,16 @@ is_in span address = nat_le span.base address && nat_lt address (span.base + spa
 -- so many bytes from an address on are bytes of the range
 abbrev pub holds_all : Span → ℕ → ℕ → Bool
 holds_all span pa len = nat_le span.base pa && nat_le (pa + len) (span.base + span.size)
+
+-- so many bytes from an address on lie in the range, within one page of 4,096 bytes; a number has at most 8, an address
+-- 56 bits
+pub record IsPlace (span : Span) (pa len : ℕ) : Type 0 where
+  pub low : span.base ≤ pa
+  pub high : pa + len ≤ span.base + span.size
+  pub narrow : pa + len ≤ 2 ^ 56
+  pub page : pa % PAGE_SIZE + len ≤ PAGE_SIZE
+  pub some : 1 ≤ len
+  pub few : len ≤ 8
 
 -- two ranges with no byte in common
 abbrev pub is_apart_from : Span → Span → Bool

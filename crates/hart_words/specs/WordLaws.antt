@@ -1,13 +1,17 @@
--- What holds of sign extensions, products and quotients, in the words of the Unprivileged ISA's chapters "RV64I Base Integer Instruction Set" and "M Extension for Integer Multiplication and Division".
-use Rattle.std.specs.Prelude.{◌≡◌, ◌≢◌, ℕ, ◌+◌, ◌-◌, ◌*◌, ◌%◌, ◌^◌, ◌<◌, ◌≤◌, ◌⊎◌, ℤ, pos, ◌+ℤ◌, ◌*ℤ◌, ◌≤ℤ◌, unsigned_abs}
+-- What holds of sign extensions, products and quotients, in the words of the Unprivileged ISA's chapters "RV64I Base
+-- Integer Instruction Set" and "M Extension for Integer Multiplication and Division".
+use Rattle.std.specs.Prelude.{◌≡◌, ◌≢◌, ℕ, ◌+◌, ◌-◌, ◌*◌, ◌%◌, ◌^◌, ◌<◌, ◌≤◌, ◌⊎◌, ℤ, pos, ◌+ℤ◌, ◌*ℤ◌, ◌≤ℤ◌}
+use Rattle.std.specs.Prelude.{unsigned_abs}
 use Rattle.std.specs.Int.{w64, cast_signed}
-use Rattle.hart_words.specs.Words.{high_signed, high_mixed, high_unsigned, quotient_signed, quotient_unsigned, remainder_signed, remainder_unsigned, sign_extended}
+use Rattle.hart_words.specs.Words.{high_signed, high_mixed, high_unsigned, quotient_signed, quotient_unsigned}
+use Rattle.hart_words.specs.Words.{remainder_signed, remainder_unsigned, sign_extended}
 
 -- the signed value of a word
 abbrev pub value : ℕ → ℤ
 value x = cast_signed w64 x
 
--- the dividend is quotient times divisor plus remainder; the remainder is smaller than the divisor, and has the dividend's sign or is 0
+-- the dividend is quotient times divisor plus remainder; the remainder is smaller than the divisor, and has the
+-- dividend's sign or is 0
 pub record IsSignedDivision (a b quotient remainder : ℤ) : Type 0 where
   pub whole : quotient *ℤ b +ℤ remainder ≡ a
   pub smaller : unsigned_abs remainder < unsigned_abs b
@@ -16,11 +20,14 @@ pub record IsSignedDivision (a b quotient remainder : ℤ) : Type 0 where
 
 -- signed division does so for every divisor but 0, unless it overflows: where the least number is divided by -1
 abbrev pub DividesSigned : Type 0
-DividesSigned = (a b : ℕ) → a < 2 ^ 64 → b < 2 ^ 64 → 0 < b → (b ≡ 2 ^ 64 - 1 → a ≢ 2 ^ 63) → IsSignedDivision (value a) (value b) (value (quotient_signed w64 a b)) (value (remainder_signed w64 a b))
+DividesSigned =
+    (a b : ℕ) → a < 2 ^ 64 → b < 2 ^ 64 → 0 < b → (b ≡ 2 ^ 64 - 1 → a ≢ 2 ^ 63)
+    → IsSignedDivision (value a) (value b) (value (quotient_signed w64 a b)) (value (remainder_signed w64 a b))
 
 -- unsigned division does so for every divisor but 0
 abbrev pub DividesUnsigned : Type 0
-DividesUnsigned = (a b : ℕ) → 0 < b → (quotient_unsigned w64 a b * b + remainder_unsigned a b ≡ a) × (remainder_unsigned a b < b)
+DividesUnsigned =
+    (a b : ℕ) → 0 < b → (quotient_unsigned w64 a b * b + remainder_unsigned a b ≡ a) × (remainder_unsigned a b < b)
 
 -- a divisor of 0 gives all ones, which is -1, as quotient, and the dividend as remainder
 pub record DividesByZero (a : ℕ) : Type 0 where

@@ -1,4 +1,6 @@
--- Arithmetic on words: whole numbers, read as signed or unsigned, and taken modulo a power of two. From the Unprivileged ISA's chapters "RV64I Base Integer Instruction Set" and "M Extension for Integer Multiplication and Division".
+-- Arithmetic on words: whole numbers, read as signed or unsigned, and taken modulo a power of two. From the
+-- Unprivileged ISA's chapters "RV64I Base Integer Instruction Set" and "M Extension for Integer Multiplication and
+-- Division".
 use Rattle.std.specs.Prelude.{ℕ, ◌-◌, ◌*◌, ◌/◌, ◌%◌, ◌^◌, ◌==◌, nat_lt, if◌then◌else◌, ℤ, pos, ◌-ℤ◌, ◌*ℤ◌, unsigned_abs}
 use Rattle.std.specs.Int.{Width, w64, cast_signed, int_div_euclid, int_rem_euclid}
 use Rattle.std.specs.Int.RustNames.{int_div, int_rem}

@@ -3,7 +3,8 @@
 ghost use Rattle.std.specs.Prelude.{◌≡◌, ◌≤◌, ◌<◌, ◌+◌, ◌*◌, ◌/◌, ◌%◌, ◌^◌, ℕ, Bool, IsOk, IfOk, OnOk, OnErr};
 ghost use Rattle.hart_words.specs.declared.span.Span.{Span};
 ghost use Rattle.hart_words.specs.declared.span.TheConstants.{PAGE_SIZE};
-ghost use Rattle.hart_words.specs.Memory.{Bytes, IsPlace, entry_of, number_at, stored};
+ghost use Rattle.hart_words.specs.Memory.{Bytes, entry_of, number_at, bytes_after_store};
+ghost use Rattle.hart_words.specs.Spans.{IsPlace};
 
 use crate::fault::NoMemory;
 
@@ -29,7 +30,7 @@ pub trait PhysMem: Sized {
     /// Puts the low `len` bytes of a number at an address. A refused write changes nothing.
     fn write(&mut self, pa: u64, len: u8, value: u64) -> Result<(), NoMemory>
         requires { IsPlace (ram self.old) pa len }
-        ensures ok { OnOk result (bytes self.new ≡ stored pa len value (bytes self.old)) }
+        ensures ok { OnOk result (bytes self.new ≡ bytes_after_store pa len value (bytes self.old)) }
         ensures err { OnErr result (bytes self.new ≡ bytes self.old) }
         ensures admitted { is_ready self.old (pa / PAGE_SIZE) → IsOk result }
         ensures ready { (page : ℕ) → is_ready self.old page → is_ready self.new page }
@@ -47,6 +48,9 @@ pub trait PhysMem: Sized {
     fn copy(&self) -> Result<Self, NoMemory>
         ensures bytes { IfOk result (λ other. bytes other ≡ bytes self.now) }
         ensures ram { IfOk result (λ other. ram other ≡ ram self.now) };
+
+    /// What stands at an address is a byte, in every memory.
+    ghost bytes_are_bytes: { (mem : Self) (at : ℕ) → bytes mem at < 256 };
 }
 
 /// What a translation reads: the entries of page tables.

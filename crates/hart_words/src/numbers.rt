@@ -2,7 +2,7 @@
 
 ghost use Rattle.std.specs.Prelude.{length, ◌≡◌, ◌^◌, ◌≤◌, min, option_map, ℕ, ◌+◌, ◌*◌, ◌<◌, Some, None, if◌then◌else◌};
 ghost use Rattle.std.specs.Char.{digit_value, is_digit};
-ghost use Rattle.hart_words.specs.Numbers.{number_within, digits_number, fitted};
+ghost use Rattle.hart_words.specs.Numbers.{number_within, digits_number, result_within};
 
 /// The value of each byte as a digit of base 36, and 36 where it is none.
 const DIGITS: [u8; 256] = [
@@ -48,11 +48,11 @@ pub fn read_number(text: &[u8], width: u32) -> Result<u64, NumberFault>
 
 /// The number of digits in a radix, where it fits in `width` bits; `most` digits always fit in 64.
 fn read_digits(digits: &[u8], radix: u32, most: usize, width: u32) -> Result<u64, NumberFault>
-    requires some { 2 ≤ radix }
-    requires few { radix ≤ 16 }
+    requires at_least_2 { 2 ≤ radix }
+    requires at_most_16 { radix ≤ 16 }
     requires short { radix ^ most ≤ 2 ^ 64 }
     requires within { width ≤ 64 }
-    ensures { result ≡ fitted width (digits_number radix digits.now) }
+    ensures { result ≡ result_within width (digits_number radix digits.now) }
 {
     if digits.len() <= most {
         match short_value_of(digits, radix) {
@@ -71,7 +71,7 @@ fn read_digits(digits: &[u8], radix: u32, most: usize, width: u32) -> Result<u64
 #[tactic(auto, using(crate::proofs::Powers::none_left))]
 fn word_fitted_to(value: u64, width: u32) -> Result<u64, NumberFault>
     requires { width ≤ 64 }
-    ensures { result ≡ fitted width (Some value) }
+    ensures { result ≡ result_within width (Some value) }
 {
     if width == 64 || value >> width == 0 {
         Ok(value)
@@ -83,7 +83,7 @@ fn word_fitted_to(value: u64, width: u32) -> Result<u64, NumberFault>
 /// A value in a width, where it fits.
 fn fitted_to(value: u128, width: u32) -> Result<u64, NumberFault>
     requires { width ≤ 64 }
-    ensures { (v : ℕ) → value ≡ min v (2 ^ 64) → result ≡ fitted width (Some v) }
+    ensures { (v : ℕ) → value ≡ min v (2 ^ 64) → result ≡ result_within width (Some v) }
 {
     if value < 1u128 << width {
         Ok(value as u64)
@@ -95,7 +95,7 @@ fn fitted_to(value: u128, width: u32) -> Result<u64, NumberFault>
 /// The value of digits that are so few that it fits in 64 bits.
 #[tactic(auto, unfolding(crate::specs::Numbers::digits_number))]
 fn short_value_of(digits: &[u8], radix: u32) -> Option<u64>
-    requires some { 1 ≤ radix }
+    requires at_least_1 { 1 ≤ radix }
     requires short { radix ^ length digits.now ≤ 2 ^ 64 }
     ensures { result ≡ digits_number radix digits.now }
 {
@@ -115,8 +115,8 @@ fn short_value_of(digits: &[u8], radix: u32) -> Option<u64>
 /// The value of digits in a radix, or 2^64 where it is larger.
 #[tactic(auto, unfolding(crate::specs::Numbers::digits_number))]
 fn value_of(digits: &[u8], radix: u32) -> Option<u128>
-    requires some { 2 ≤ radix }
-    requires few { radix ≤ 16 }
+    requires at_least_2 { 2 ≤ radix }
+    requires at_most_16 { radix ≤ 16 }
     ensures { result ≡ option_map (λ v. min v (2 ^ 64)) (digits_number radix digits.now) }
 {
     if digits.is_empty() {
@@ -147,10 +147,10 @@ fn value_of_byte(byte: u8) -> u8
     DIGITS[usize::from(byte)]
 }
 
-/// A value, kept up to 2^64, with one more digit behind it.
+/// A value, kept up to 2^64, with one more digit after it.
 fn more(value: u128, radix: u32, digit: u32) -> u128
     requires kept { value ≤ 2 ^ 64 }
-    requires few { radix ≤ 16 }
+    requires at_most_16 { radix ≤ 16 }
     requires small { digit < radix }
     ensures { result ≡ min (value * radix + digit) (2 ^ 64) }
 {

@@ -21,8 +21,8 @@ pub struct Span {
 }
 
 impl Span {
-    ghost use Rattle.std.specs.Prelude.{◌↔◌, IsTrue};
-    ghost use Rattle.hart_words.specs.Spans.{Lies, is_apart_from, is_in, is_span, holds_all, span_of};
+    ghost use Rattle.std.specs.Prelude.{◌↔◌, Decides, IsTrue};
+    ghost use Rattle.hart_words.specs.Spans.{IsPlace, LiesIn, is_apart_from, is_in, is_span, holds_all, span_of};
 
     /// The range of `size` bytes from `base` on, where these are whole pages, at least one, that
     /// end at 2^56 at the latest.
@@ -39,7 +39,7 @@ impl Span {
     /// Whether the byte at `address` lies in the range.
     pub fn contains(&self, address: u64) -> bool
         ensures value { result ≡ is_in self.now address }
-        ensures lies { IsTrue result ↔ Lies address self.now }
+        ensures lies { IsTrue result ↔ LiesIn address self.now }
     {
         self.base <= address && address - self.base < self.size
     }
@@ -51,6 +51,14 @@ impl Span {
     {
         let len = u64::from(len);
         self.base <= pa && pa - self.base <= self.size - len
+    }
+
+    /// Whether `len` bytes from the address `pa` on, 1 to 8 of them, lie in the range and within one
+    /// page.
+    pub fn is_place(&self, pa: u64, len: u8) -> bool
+        ensures { Decides result (IsPlace self.now pa len) }
+    {
+        1 <= len && len <= 8 && self.holds(pa, len) && pa % PAGE_SIZE + u64::from(len) <= PAGE_SIZE
     }
 
     /// Whether the two ranges have no byte in common.

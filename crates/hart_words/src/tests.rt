@@ -109,10 +109,10 @@ fn ranges_are_whole_pages(rt: HostRuntime) -> Result<(), Fail> {
     ] {
         assert_eq!(rt; ram.holds(pa, len), is_held, "{len} bytes at {pa}");
     }
-    let behind = Span::new(0x8000_1000, 0x1000).ok_or("no range")?;
+    let following = Span::new(0x8000_1000, 0x1000).ok_or("no range")?;
     let over = Span::new(0x7fff_f000, 0x2000).ok_or("no range")?;
     assert!(rt; Map::new(ram, None).is_some());
-    assert!(rt; Map::new(ram, Some(behind)).is_some());
+    assert!(rt; Map::new(ram, Some(following)).is_some());
     assert!(rt; Map::new(ram, Some(over)).is_none());
     Ok(())
 }

@@ -8,8 +8,8 @@ ghost use Rattle.hart_words.specs.Words.{sign_extended, residue, high_signed, hi
 /// The low `bits` bits of `x`, from 1 to 64 of them, as a signed number, extended to 64 bits.
 #[tactic(auto, using(crate::proofs::Extended::shifted_back))]
 pub fn sext(x: u64, bits: u32) -> u64
-    requires some { 1 ≤ bits }
-    requires few { bits ≤ 64 }
+    requires at_least_1 { 1 ≤ bits }
+    requires at_most_64 { bits ≤ 64 }
     ensures { result ≡ sign_extended bits x }
 {
     let unused = 64 - bits;

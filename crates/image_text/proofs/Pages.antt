@@ -1,5 +1,7 @@
 -- What a change of one page does to the bytes.
-use Rattle.std.proofs.Common.{◌≡◌, ℕ, ◌/◌, ◌%◌, ◌<◌, true, false, cond, Option, Some, None, is_some, List, length, refl, sym, subst, inl, inr, arith, nat_cmp, if◌then◌else◌, eqb, replicate, ◌&&◌, set}
+use Rattle.std.proofs.Common.{◌≡◌, ℕ, ◌/◌, ◌%◌, ◌<◌, true, false, cond, Option, Some, None, is_some, List, length}
+use Rattle.std.proofs.Common.{slice_index, refl, sym, subst, inl, inr, arith, nat_cmp, if◌then◌else◌, eqb, replicate}
+use Rattle.std.proofs.Common.{◌&&◌, set, lit<}
 use Rattle.std.proofs.Math.Path.{fun_ext}
 use Rattle.std.specs.Prelude.{option_and_then, ◌==◌}
 use Rattle.std.specs.List.{slice_index_or}
@@ -57,11 +59,19 @@ pub added_page : (before after : Pieces) (number : ℕ) (page : _)
     → byte_at after ≡ byte_at before
 unfolding byte_at
 added_page before after number page updates absent empty =
-    fun_ext (λ a. added (λ p k. slice_index_or p.value.bytes k None) (get nat_cmp before.pages) (get nat_cmp after.pages) number page updates absent empty (a / 4096) (a % 4096))
+    fun_ext
+    (λ a. added (λ p k. slice_index_or p.value.bytes k None) (get nat_cmp before.pages) (get nat_cmp after.pages)
+    number page updates absent empty (a / 4096) (a % 4096))
 
 -- an empty page has no byte at any offset
 pub none_at : {X : Type 0} (none : X) (n k : ℕ) → slice_index_or (replicate n none) k none ≡ none
-none_at none n k = elim (cases_lt k n) [ inl below ↦ get_or-replicate n k none none below | inr past ↦ get_or-eq_default (replicate n none) none (rw length-replicate past) ]
+none_at none n k =
+    elim (cases_lt k n) [
+      | inl below ↦
+          get_or-replicate n k none none below
+      | inr past ↦
+          get_or-eq_default (replicate n none) none (rw length-replicate past)
+    ]
 
 pub none_from_test : {X : Type 0} (o : Option X) → is_some o ≡ false → o ≡ None
 none_from_test None h = refl
@@ -74,7 +84,8 @@ pub written : {X : Type 0} (f : X → ℕ → Option ℕ) (before after : ℕ �
     → ((k : ℕ) → f new k ≡ (if k == offset then Some value else f old k))
     → (q k : ℕ) → content f (after q) k ≡ (if q == number && k == offset then Some value else content f (before q) k)
 written f before after number offset value old new updates was writes q k =
-    let P : ℕ → Type 0 = λ n. content f (after n) k ≡ (if n == number && k == offset then Some value else content f (before n) k) in
+    let P : ℕ → Type 0 =
+    λ n. content f (after n) k ≡ (if n == number && k == offset then Some value else content f (before n) k) in
     elim (cases_eq number q) [
       | inl same ↦ subst P same (rw (updates number, is_eq_same number, was, eq_same number) (writes k))
       | inr apart ↦ rw (updates q, is_eq_other number q apart, eq_other q number (λ e. apart (sym e))) refl
@@ -86,18 +97,37 @@ same_place a b = grind (arith, nat_tests)
 
 -- a byte written into a page that is there
 pub written_page : (before after : Pieces) (address value : ℕ) (old new : _)
-    → ((q : ℕ) → get nat_cmp after.pages q ≡ cond (is_eq (nat_cmp (address / 4096) q)) (Some new) (get nat_cmp before.pages q))
+    → ((q : ℕ) → get nat_cmp after.pages q ≡ cond (is_eq (nat_cmp (address / 4096) q)) (Some new)
+    (get nat_cmp before.pages q))
     → get nat_cmp before.pages (address / 4096) ≡ Some old
-    → ((k : ℕ) → slice_index_or new.value.bytes k None ≡ (if k == address % 4096 then Some value else slice_index_or old.value.bytes k None))
+    → ((k : ℕ) → slice_index_or new.value.bytes k None ≡ (if k == address % 4096 then Some value else slice_index_or
+    old.value.bytes k None))
     → byte_at after ≡ with_byte (byte_at before) address value
 unfolding byte_at
 written_page before after address value old new updates was writes =
-    fun_ext (λ a. rw (same_place a address) (written (λ p k. slice_index_or p.value.bytes k None) (get nat_cmp before.pages) (get nat_cmp after.pages) (address / 4096) (address % 4096) value old new updates was writes (a / 4096) (a % 4096)))
+    fun_ext
+    (λ a. rw (same_place a address)
+    (written (λ p k. slice_index_or p.value.bytes k None) (get nat_cmp before.pages) (get nat_cmp after.pages)
+    (address / 4096) (address % 4096) value old new updates was writes (a / 4096) (a % 4096)))
 
 -- a list with one element written
-pub set_at : {X : Type 0} (xs : List X) (offset k : ℕ) (x d : X) → offset < length xs → slice_index_or (set xs offset x) k d ≡ (if k == offset then x else slice_index_or xs k d)
+pub set_at : {X : Type 0} (xs : List X) (offset k : ℕ) (x d : X) → offset < length xs
+    → slice_index_or (set xs offset x) k d ≡ (if k == offset then x else slice_index_or xs k d)
 set_at xs offset k x d below =
     elim (cases_eq k offset) [
       | inl same ↦ rw (same, eq_same offset) (get_or-set_same xs offset x d below)
       | inr apart ↦ rw (eq_other k offset apart) (get_or-set_other xs offset k x d apart)
     ]
+
+-- bytes with another byte among them are bytes
+pub bytes_set : (bytes : List ℕ) (offset byte : ℕ) → offset < length bytes → byte < 256
+    → ((k : ℕ) → slice_index bytes k < 256) → (k : ℕ) → slice_index (set bytes offset byte) k < 256
+bytes_set bytes offset byte below small are k =
+    elim (cases_eq k offset) [
+      | inl same ↦ rw (set_at bytes offset k byte 0 below, same, eq_same offset) small
+      | inr apart ↦ rw (set_at bytes offset k byte 0 below, eq_other k offset apart) (are k)
+    ]
+
+-- zeros are bytes
+pub zeros_are_bytes : (n k : ℕ) → slice_index (replicate n 0) k < 256
+zeros_are_bytes n k = rw (none_at {X = ℕ} 0 n k) (lit< tt)

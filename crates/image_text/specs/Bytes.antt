@@ -9,7 +9,8 @@ use Rattle.hart_words.specs.declared.span.TheConstants.{PAGE_SIZE}
 -- the byte that the pieces have at an address
 unfoldable pub byte_at : Pieces → ℕ → Option ℕ
 byte_at pieces address =
-    option_and_then (λ page. slice_index_or page.value.bytes (address % PAGE_SIZE) None) (get nat_cmp pieces.pages (address / PAGE_SIZE))
+    option_and_then (λ page. slice_index_or page.value.bytes (address % PAGE_SIZE) None)
+    (get nat_cmp pieces.pages (address / PAGE_SIZE))
 
 -- a map of bytes with one more byte
 abbrev pub with_byte : (ℕ → Option ℕ) → ℕ → ℕ → ℕ → Option ℕ

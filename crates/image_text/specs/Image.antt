@@ -1,5 +1,6 @@
 -- The image that a Verilog memory text describes, or its first fault.
-use Rattle.std.specs.Prelude.{ℕ, ◌+◌, ◌%◌, ◌^◌, Bool, ◌==◌, ◌&&◌, nat_le, if◌then◌else◌, List, [], ◌∷◌, length, Option, Some, None, is_some, not, slice_index, Result, Ok, Err}
+use Rattle.std.specs.Prelude.{ℕ, ◌+◌, ◌%◌, ◌^◌, Bool, ◌==◌, ◌&&◌, nat_le, if◌then◌else◌, List, [], ◌∷◌, length, Option}
+use Rattle.std.specs.Prelude.{Some, None, is_some, not, slice_index, Result, Ok, Err}
 use Rattle.std.specs.List.{list_all}
 use Rattle.std.specs.Char.{is_digit}
 use Rattle.std.specs.Str.Parse.{digits_value}
@@ -25,10 +26,10 @@ image_fault errors.NoMemory = None
 abbrev pub are_digits : List ℕ → Bool
 are_digits text = list_all (λ c. is_digit c 16) text
 
--- what a token says: an address in 1 to 16 digits behind `@`, or a byte in two digits
-unfoldable pub word_of : List ℕ → Result Word FaultKind
-word_of [] = Err BadByte
-word_of (first ∷ rest) =
+-- what a token says: an address in 1 to 16 digits after `@`, or a byte in two digits
+unfoldable pub word_of_token : List ℕ → Result Word FaultKind
+word_of_token [] = Err BadByte
+word_of_token (first ∷ rest) =
     if first == 64 then address_in rest
     else if length rest == 1 && opens_block first (slice_index rest 0) then Err OpenComment
     else if length rest == 1 && are_digits (first ∷ rest) then Ok (Byte (digits_value 16 (first ∷ rest)))
@@ -36,13 +37,14 @@ word_of (first ∷ rest) =
   where
     address_in : List ℕ → Result Word FaultKind
     address_in digits =
-        if nat_le 1 (length digits) && nat_le (length digits) 16 && are_digits digits then Ok (Address (digits_value 16 digits))
+        if nat_le 1 (length digits) && nat_le (length digits) 16
+        && are_digits digits then Ok (Address (digits_value 16 digits))
         else Err BadAddress
 
 -- the bytes and the address after a word: an address sets it, and a byte stands at it and moves it on
-unfoldable pub placed : Span → (ℕ → Option ℕ) → ℕ → Word → Result ((ℕ → Option ℕ) × ℕ) FaultKind
-placed ram bytes address (Address next) = Ok (bytes, next)
-placed ram bytes address (Byte value) =
+unfoldable pub bytes_after_word : Span → (ℕ → Option ℕ) → ℕ → Word → Result ((ℕ → Option ℕ) × ℕ) FaultKind
+bytes_after_word ram bytes address (Address next) = Ok (bytes, next)
+bytes_after_word ram bytes address (Byte value) =
     if not (is_in ram address) then Err OutsideRam
     else if is_some (bytes address) then Err Overlap
     else Ok (with_byte bytes address value, (address + 1) % 2 ^ 64)
@@ -56,8 +58,8 @@ in_line line (Err kind) = Err (record { kind = kind; line = line })
 unfoldable pub bytes_after : Span → (ℕ → Option ℕ) → ℕ → List TokenView → Result (ℕ → Option ℕ) ImageFault
 bytes_after ram bytes address [] = Ok bytes
 bytes_after ram bytes address (token ∷ others) = do
-  word ← in_line token.line (word_of token.bytes)
-  next ← in_line token.line (placed ram bytes address word)
+  word ← in_line token.line (word_of_token token.bytes)
+  next ← in_line token.line (bytes_after_word ram bytes address word)
   bytes_after ram next.0 next.1 others
 
 -- the image of a text: no byte at first, and the address 0

@@ -51,11 +51,11 @@ pub record TokenView : Type 0 where
   pub bytes : List ℕ
 
 -- a byte in front of a text whose tokens are known: it is a token, or begins the first of them
-abbrev pub begun_by : ℕ → ℕ → List ℕ → List TokenView → List TokenView
-begun_by line b (c ∷ rest) (first ∷ others) =
+abbrev pub tokens_with_byte : ℕ → ℕ → List ℕ → List TokenView → List TokenView
+tokens_with_byte line b (c ∷ rest) (first ∷ others) =
     if is_blank c then record { line = line; bytes = b ∷ [] } ∷ first ∷ others
     else record { line = first.line; bytes = b ∷ first.bytes } ∷ others
-begun_by line b text tokens = record { line = line; bytes = b ∷ [] } ∷ tokens
+tokens_with_byte line b text tokens = record { line = line; bytes = b ∷ [] } ∷ tokens
 
 -- the runs of bytes that are not blank, in a text that begins in a line
 unfoldable pub runs : ℕ → List ℕ → List TokenView
@@ -63,7 +63,7 @@ runs line [] = []
 runs line (b ∷ rest) =
     if b == 10 then runs (line + 1) rest
     else if is_blank b then runs line rest
-    else begun_by line b rest (runs line rest)
+    else tokens_with_byte line b rest (runs line rest)
 
 -- the tokens of a text that begins in a line and a region
 abbrev pub tokens_from : ℕ → Region → List ℕ → List TokenView

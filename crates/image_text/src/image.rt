@@ -1,7 +1,7 @@
 //! A text read whole.
 
 ghost use Rattle.std.specs.Prelude.{◌≡◌, ℕ, IfOk, IsTrue, is_some};
-ghost use Rattle.hart_words.specs.Spans.{Lies};
+ghost use Rattle.hart_words.specs.Spans.{LiesIn};
 ghost use Rattle.image_text.specs.Bytes.{byte_at};
 ghost use Rattle.hart_words.specs.Results.{Gives};
 ghost use Rattle.image_text.specs.Image.{image_fault, image_of};
@@ -19,7 +19,7 @@ use std::alloc::Global;
 pub fn read_image(alloc: Global, text: &[u8], ram: Span) -> Result<Pieces, ImageError>
     ensures exact { Gives image_fault byte_at result (image_of ram text.now) }
     ensures inside { IfOk result (λ pieces. (a : ℕ) → IsTrue (is_some (byte_at pieces a))
-        → Lies a ram) }
+        → LiesIn a ram) }
 {
     let mut image = PartialImage {
         pieces: Pieces::empty(alloc),

@@ -23,6 +23,7 @@ impl PiecePage {
         ensures len { length result ≡ PAGE_SIZE }
         ensures value { (k : ℕ) → k < PAGE_SIZE
             → slice_index result k ≡ unwrap_or (slice_index_or self.now.bytes k None) 0 }
+        ensures small { (k : ℕ) → slice_index result k < 256 }
     {
         let mut plain = [0; PAGE_BYTES];
         for k in 0..PAGE_BYTES {

@@ -144,7 +144,7 @@ fn run_length(text: &[u8]) -> usize
     len
 }
 
-/// The line behind a byte.
+/// The line after a byte.
 fn line_after(line: u64, byte: u8) -> u64
     requires { line < usize.MAX }
     ensures value { result ≡ (if byte == 10 then line + 1 else line) }

@@ -2,7 +2,7 @@
 
 ghost use Rattle.std.specs.Prelude.{◌≡◌, ◌≤◌, ◌<◌, ◌^◌, length, IfSome, Some, None, if◌then◌else◌};
 ghost use Rattle.std.specs.Str.Parse.{digits_value};
-ghost use Rattle.image_text.specs.Image.{are_digits, word_of};
+ghost use Rattle.image_text.specs.Image.{are_digits, word_of_token};
 
 use crate::fault::FaultKind;
 
@@ -28,9 +28,9 @@ fn digits_of(digits: &[u8]) -> Option<u64>
     Some(value)
 }
 
-#[tactic(auto, unfolding(crate::specs::Image::word_of))]
+#[tactic(auto, unfolding(crate::specs::Image::word_of_token))]
 pub fn read_word(token: &[u8]) -> Result<Word, FaultKind>
-    ensures { result ≡ word_of token.now }
+    ensures { result ≡ word_of_token token.now }
 {
     match token {
         [] => Err(FaultKind::BadByte),

@@ -1,3 +1,4 @@
 pub mod Bits
 pub mod Taken
 pub mod Entered
+pub mod Firsts

@@ -7,39 +7,50 @@ use Rattle.hart_words.specs.Memory.{Bytes}
 use Rattle.rvfi_rows.specs.declared.segment.Segment.{Segment}
 use Rattle.rvfi_rows.specs.Columns.{ColumnList}
 use Rattle.rvfi_rows.specs.Rows.{RowReading, rows_of}
-use Rattle.rvfi_rows.specs.Segments.{lines_of}
+use Rattle.rvfi_rows.specs.Segments.{segment_lines}
 use Rattle.hart_step.specs.declared.hart.Hart.{Hart}
 use Rattle.hart_step.specs.declared.state.Core.{Core}
 use Rattle.hart_step.specs.Harts.{state_of}
 use Rattle.hart_step.specs.Rows.{HartState}
-use Rattle.boundary_guess.specs.Cuts.{lines_through}
+use Rattle.boundary_guess.specs.Cuts.{lines_of_pieces}
 use Rattle.boundary_guess.specs.Guesses.{guesses_of}
 use Rattle.segment_judge.specs.declared.found.Found.{Found}
 use Rattle.segment_judge.specs.Judgements.{Judgement, by_hart}
 use Rattle.verdict_join.specs.Founds.{candidates}
 use Rattle.verdict_join.specs.Joins.{Candidate, Sameness, joined}
-use Rattle.verdict_join.specs.Laws.{HasVerdict, IsLawful, TellsApart, rows_through}
+use Rattle.verdict_join.specs.Laws.{HasVerdict, IsLawfulCandidate, TellsApart, rows_through}
 use Rattle.verdict_join.proofs.Walks.{joins_any_guesses}
 use Rattle.judge_run.specs.Events.{AnyEvents, pieces_rows}
 use Rattle.verdict_join.proofs.Coded.{through}
 use Rattle.verdict_join.proofs.Lawful.{candidates_rows, guess_for_each, left_lawful, pieces_read}
 
-over_rows : (start : HartState) (segments : List (Candidate Core)) (same : Sameness Core) (rows : List RowReading) → TellsApart same → All (IsLawful by_hart) segments → rows_through segments ≡ rows → HasVerdict by_hart start rows (joined by_hart same segments start)
+over_rows : (start : HartState) (segments : List (Candidate Core)) (same : Sameness Core) (rows : List RowReading)
+    → TellsApart same → All (IsLawfulCandidate by_hart) segments → rows_through segments ≡ rows
+    → HasVerdict by_hart start rows (joined by_hart same segments start)
 over_rows start segments same rows tells lawful is =
-    subst (λ rows. HasVerdict by_hart start rows (joined by_hart same segments start)) is (joins_any_guesses by_hart same segments start tells lawful)
+    subst (λ rows. HasVerdict by_hart start rows (joined by_hart same segments start)) is
+    (joins_any_guesses by_hart same segments start tells lawful)
 
-pub any_events : (start : HartState) (columns : ColumnList) (pieces : List (List (List ℕ))) (guesses : List HartState) (events : List Event) (founds : List (Found (Judgement Core))) → AnyEvents start columns pieces guesses events founds
+pub any_events : (start : HartState) (columns : ColumnList) (pieces : List (List (List ℕ))) (guesses : List HartState)
+    (events : List Event) (founds : List (Found (Judgement Core)))
+    → AnyEvents start columns pieces guesses events founds
 any_events start columns pieces guesses events founds one_each left same tells =
     let rows = pieces_rows columns pieces in
     let enough : length guesses ≡ length rows = one_each ∙ sym (length-map pieces (rows_of columns)) in
-    over_rows start (candidates rows guesses founds) same (rows_of columns (lines_through pieces)) tells (left_lawful by_hart rows guesses (length pieces) events founds left)
+    over_rows start (candidates rows guesses founds) same (rows_of columns (lines_of_pieces pieces)) tells
+    (left_lawful by_hart rows guesses (length pieces) events founds left)
     (candidates_rows 0 rows guesses founds enough ∙ pieces_read columns pieces)
 
 -- there is a guess for each segment
-pub guesses_for_each : {M : Type 0} (bytes_of : M → Bytes) (start : HartState) (columns : ColumnList) (segments : List Segment) (guesses : List (Hart M)) → map (state_of bytes_of) guesses ≡ guesses_of start columns (map lines_of segments) → length guesses ≡ length segments
+pub guesses_for_each : {M : Type 0} (bytes_of : M → Bytes) (start : HartState) (columns : ColumnList)
+    (segments : List Segment) (guesses : List (Hart M))
+    → map (state_of bytes_of) guesses ≡ guesses_of start columns (map segment_lines segments)
+    → length guesses ≡ length segments
 guesses_for_each bytes_of start columns segments guesses is =
-    sym (length-map guesses (state_of bytes_of)) ∙ ap length is ∙ guess_for_each start columns (map lines_of segments) ∙ length-map segments lines_of
+    sym (length-map guesses (state_of bytes_of)) ∙ ap length is
+    ∙ guess_for_each start columns (map segment_lines segments) ∙ length-map segments segment_lines
 
 -- the lines of segments that were read are as before
-pub same_lines : (one other : List Segment) → map lines_of one ≡ map lines_of other → flat_map lines_of one ≡ flat_map lines_of other
-same_lines one other same = through one ∙ ap lines_through same ∙ sym (through other)
+pub same_lines : (one other : List Segment) → map segment_lines one ≡ map segment_lines other
+    → flat_map segment_lines one ≡ flat_map segment_lines other
+same_lines one other same = through one ∙ ap lines_of_pieces same ∙ sym (through other)

@@ -1,5 +1,6 @@
 -- The outcome of a told trace.
-use Rattle.std.proofs.Common.{◌≡◌, ℕ, suc, true, List, [], ◌∷◌, length, drop, nat_le, Option, Some, None, IsSome, Ok, Err, refl, sym, ap, subst, ◌∙◌, arith, string_bytes}
+use Rattle.std.proofs.Common.{◌≡◌, ℕ, suc, true, List, [], ◌∷◌, length, drop, nat_le, Option, Some, None, IsSome, Ok}
+use Rattle.std.proofs.Common.{Err, refl, sym, ap, subst, ◌∙◌, arith, string_bytes}
 use Rattle.std.proofs.lemmas.Bool.{le-leb}
 use Rattle.outside_ports.specs.Faults.{MissesWhere}
 use Rattle.outside_ports.specs.Ports.{Files, file_of, IsThere, IsMissing}
@@ -10,9 +11,9 @@ use Rattle.trace_lines.specs.declared.piece.LineError.{LineError}
 use Rattle.trace_lines.specs.declared.piece.LineError.TheVariants as lines
 use Rattle.trace_lines.specs.Errors.{is_read_fault}
 use Rattle.trace_lines.specs.declared.line_taker.LineTaker.{LineTaker}
-use Rattle.trace_lines.specs.Lines.{Left, lines_of}
+use Rattle.trace_lines.specs.Lines.{RemainingLines, file_lines}
 use Rattle.trace_lines.specs.Pieces.{piece_view, front_of, back_of}
-use Rattle.trace_lines.specs.Takers.{Opens, TakesTold, left_of, left_after}
+use Rattle.trace_lines.specs.Takers.{Opens, TakesWhereKnown, remaining_lines_of, lines_left_after}
 use Rattle.rvfi_rows.specs.Columns.{ColumnList}
 use Rattle.rvfi_rows.specs.Rows.{rows_of}
 use Rattle.trace_report.specs.declared.outcome.Outcome.{Outcome}
@@ -24,102 +25,155 @@ use Rattle.hart_step.specs.declared.hart.Hart.{Hart}
 use Rattle.hart_step.specs.Harts.{state_of}
 use Rattle.hart_step.specs.Rows.{HartState}
 use Rattle.segment_judge.specs.Laws.{conclusion_from}
-use Rattle.judge_run.specs.declared.left.Rest.{Rest}
-use Rattle.judge_run.specs.Parts.{IsOutcomeTold, outcome_behind, outcome_in, reached_in}
+use Rattle.judge_run.specs.declared.progress.Rest.{Rest}
+use Rattle.judge_run.specs.declared.progress.TraceEnd.{TraceEnd}
+use Rattle.judge_run.specs.Parts.{IsEndTold, RowsEnd, end_after, end_in, end_of, position_of}
 use Rattle.judge_run.proofs.Passing.{counted_from_none}
-use Rattle.judge_run.specs.Answer.{Step, columns_in, ended, lines_outcome, outcome_of, trace_outcome, verdict_on}
-use Rattle.judge_run.specs.Stops.{MeantBy, MeantTold, MissesStop, LacksFile, line_stop}
+use Rattle.judge_run.specs.Answer.{Step, columns_in, ruling_at_end, first_pc_of, lines_outcome, outcome_of}
+use Rattle.judge_run.specs.Answer.{trace_outcome, verdict_on}
+use Rattle.judge_run.specs.Stops.{MeantBy, MeantWhereKnown, MissesStop, LacksFile, line_stop}
 
 -- the first line of the front is that of all lines
-columns_of_front : (job : JobView) (lines : List (List ℕ)) (ending : Ending) → columns_in job (front_of 1 (record { lines = lines; ending = ending })) ≡ columns_in job (record { lines = lines; ending = ending })
+columns_of_front : (job : JobView) (lines : List (List ℕ)) (ending : Ending)
+    → columns_in job (front_of 1 (record { lines = lines; ending = ending }))
+    ≡ columns_in job (record { lines = lines; ending = ending })
 unfolding columns_in front_of
 columns_of_front job [] ending = refl
 columns_of_front job (header ∷ rows) ending =
     let some : nat_le 1 (suc (length rows)) ≡ true = le-leb 1 (suc (length rows)) (omega arith) in
     rw some refl
 
-first_columns : (job : JobView) (left first : Left) → first ≡ front_of 1 left → columns_in job left ≡ columns_in job first
-first_columns job left first front = sym (columns_of_front job left.lines left.ending) ∙ ap (λ view. columns_in job view) (sym front)
+first_columns : (job : JobView) (left first : RemainingLines) → first ≡ front_of 1 left
+    → columns_in job left ≡ columns_in job first
+first_columns job left first front =
+    sym (columns_of_front job left.lines left.ending) ∙ ap (λ view. columns_in job view) (sym front)
 
 -- what the first line and then the others come to, from a hart at reset
-lines_give : (job : JobView) (memory : ℕ → ℕ) (left first : Left) (columns : ColumnList) (state : HartState) → first ≡ front_of 1 left → columns_in job first ≡ Ok columns → state.core ≡ core_at_reset job.pc job.map → state.bytes ≡ memory → lines_outcome job memory left ≡ Ok (outcome_behind job columns (record { rows = 0; valid = 0; state = state }) (back_of 1 left))
-unfolding lines_outcome outcome_behind back_of conclusion_from
+lines_give : (job : JobView) (memory : ℕ → ℕ) (left first : RemainingLines) (columns : ColumnList) (state : HartState)
+    → first ≡ front_of 1 left → columns_in job first ≡ Ok columns
+    → state.core ≡ core_at_reset (first_pc_of job) job.map → state.bytes ≡ memory
+    → lines_outcome job memory left
+    ≡ Ok (end_after job columns (record { rows = 0; valid = 0; state = state }) (back_of 1 left)).outcome
+unfolding lines_outcome end_after back_of conclusion_from
 lines_give job memory left first columns state front named core bytes =
     let here : columns_in job left ≡ Ok columns = first_columns job left first front ∙ named in
     let verdict = verdict_on job memory (rows_of columns (drop 1 left.lines)) in
-    rw (here, core, bytes) (ap (λ whole. Ok (outcome_of job (ended job left.ending whole))) (sym (counted_from_none verdict)))
+    rw (here, core, bytes)
+    (ap (λ whole. Ok (outcome_of job (ruling_at_end job left.ending whole))) (sym (counted_from_none verdict)))
 
-lines_stop : (job : JobView) (memory : ℕ → ℕ) (left first : Left) (stop : Option Outcome) → first ≡ front_of 1 left → columns_in job first ≡ Err stop → lines_outcome job memory left ≡ Err stop
+lines_stop : (job : JobView) (memory : ℕ → ℕ) (left first : RemainingLines) (stop : Option Outcome)
+    → first ≡ front_of 1 left → columns_in job first ≡ Err stop → lines_outcome job memory left ≡ Err stop
 unfolding lines_outcome
 lines_stop job memory left first stop front stopped =
     let here : columns_in job left ≡ Err stop = first_columns job left first front ∙ stopped in
     rw here refl
 
 -- where a text is there, the trace is that text
-text_decides : (job : JobView) (memory : ℕ → ℕ) (trace : Option (List ℕ)) (text : List ℕ) (outcome : Step Outcome) → trace ≡ Some text → lines_outcome job memory (lines_of job.max_trace text) ≡ outcome → trace_outcome job memory trace ≡ outcome
+text_decides : (job : JobView) (memory : ℕ → ℕ) (trace : Option (List ℕ)) (text : List ℕ) (outcome : Step Outcome)
+    → trace ≡ Some text → lines_outcome job memory (file_lines job.max_trace text) ≡ outcome
+    → trace_outcome job memory trace ≡ outcome
 unfolding trace_outcome
 text_decides job memory trace text outcome here is = rw here is
 
 -- a taker that was opened has all lines left
-all_left : (job : JobView) (name file : List ℕ) (taker : LineTaker) → Opens name job.max_trace taker → left_of file taker ≡ lines_of job.max_trace file
-all_left job name file taker opens = ap (λ cursor. left_after taker.most file cursor) opens.cursor ∙ ap (λ most. lines_of most file) opens.most
+all_left : (job : JobView) (name file : List ℕ) (taker : LineTaker) → Opens name job.max_trace taker
+    → remaining_lines_of file taker ≡ file_lines job.max_trace file
+all_left job name file taker opens =
+    ap (λ cursor. lines_left_after taker.most file cursor) opens.cursor ∙ ap (λ most. file_lines most file) opens.most
 
--- what the rest of a told file comes to, behind its first line
-pub trace_told : {M : Type 0} (bytes_of : M → Bytes) (told : Option Files) (name : List ℕ) (job : JobView) (memory : ℕ → ℕ) (taker middle : LineTaker) (first : Piece) (columns : ColumnList) (hart : Hart M) (outcome : Outcome) → Opens name job.max_trace taker → IsThere told (string_bytes taker.name) → TakesTold (file_of told (string_bytes taker.name)) 1 taker first middle → columns_in job (piece_view first) ≡ Ok columns → hart.core ≡ core_at_reset job.pc job.map → bytes_of hart.mem ≡ memory → IsOutcomeTold job columns bytes_of (file_of told (string_bytes middle.name)) (record { taker = middle; hart = hart; rows = 0; valid = 0 }) outcome → MeantTold told (λ outcome. outcome) (Ok outcome) (λ files. trace_outcome job memory (files name))
-trace_told bytes_of None name job memory taker middle first columns hart outcome opens is one named core bytes gives = tt
-trace_told bytes_of (Some files) name job memory taker middle first columns hart outcome opens is one named core bytes gives = of (files (string_bytes taker.name)) refl is one
+-- what the rest of a told file comes to, after its first line
+pub trace_told : {M : Type 0} (bytes_of : M → Bytes) (known_files : Option Files) (name : List ℕ) (job : JobView)
+    (memory : ℕ → ℕ) (taker middle : LineTaker) (first : Piece) (columns : ColumnList) (hart : Hart M)
+    (end : TraceEnd M) → Opens name job.max_trace taker → IsThere known_files (string_bytes taker.name)
+    → TakesWhereKnown (file_of known_files (string_bytes taker.name)) 1 taker first middle
+    → columns_in job (piece_view first) ≡ Ok columns → hart.core ≡ core_at_reset (first_pc_of job) job.map
+    → bytes_of hart.mem ≡ memory
+    → IsEndTold job columns bytes_of (file_of known_files (string_bytes middle.name))
+    (record { taker = middle; hart = hart; rows = 0; valid = 0 }) end
+    → MeantWhereKnown known_files (λ outcome. outcome) (Ok (end_of job bytes_of end).outcome)
+    (λ files. trace_outcome job memory (files name))
+trace_told bytes_of None name job memory taker middle first columns hart end opens is one named core bytes gives = tt
+trace_told bytes_of (Some files) name job memory taker middle first columns hart end opens is one named core bytes
+    gives = of (files (string_bytes taker.name)) refl is one
   where
-    of : (file : Option (List ℕ)) → files (string_bytes taker.name) ≡ file → IsSome file → TakesTold file 1 taker first middle → trace_outcome job memory (files name) ≡ Ok outcome
+    of : (file : Option (List ℕ)) → files (string_bytes taker.name) ≡ file → IsSome file
+        → TakesWhereKnown file 1 taker first middle
+        → trace_outcome job memory (files name) ≡ Ok (end_of job bytes_of end).outcome
     of None e is one = absurd cc
     of (Some file) e is one =
         let here : files name ≡ Some file = ap files (sym opens.name) ∙ e in
-        let again : files (string_bytes middle.name) ≡ Some file = ap (λ text. files (string_bytes text)) one.name ∙ e in
+        let again : files (string_bytes middle.name) ≡ Some file =
+        ap (λ text. files (string_bytes text)) one.name ∙ e in
         let rest : Rest _ = record { taker = middle; hart = hart; rows = 0; valid = 0 } in
-        let whole : outcome ≡ outcome_in job columns bytes_of file rest = subst (λ told. IsOutcomeTold job columns bytes_of told rest outcome) again gives in
-        let all : left_of file taker ≡ lines_of job.max_trace file = all_left job name file taker opens in
-        let front : piece_view first ≡ front_of 1 (lines_of job.max_trace file) = one.taken ∙ ap (front_of 1) all in
-        let back : left_of file middle ≡ back_of 1 (lines_of job.max_trace file) = one.left ∙ ap (back_of 1) all in
-        text_decides job memory (files name) file (Ok outcome) here
-        (lines_give job memory (lines_of job.max_trace file) (piece_view first) columns (state_of bytes_of hart) front named core bytes
-        ∙ ap (λ left. Ok (outcome_behind job columns (reached_in bytes_of rest) left)) (sym back) ∙ ap Ok (sym whole))
+        let whole : end_of job bytes_of end ≡ end_in job columns bytes_of file rest =
+        subst (λ known_files. IsEndTold job columns bytes_of known_files rest end) again gives in
+        let all : remaining_lines_of file taker ≡ file_lines job.max_trace file = all_left job name file taker opens in
+        let front : piece_view first ≡ front_of 1 (file_lines job.max_trace file) = one.taken ∙ ap (front_of 1) all in
+        let back : remaining_lines_of file middle ≡ back_of 1 (file_lines job.max_trace file) =
+        one.left ∙ ap (back_of 1) all in
+        text_decides job memory (files name) file (Ok (end_of job bytes_of end).outcome) here
+        (lines_give job memory (file_lines job.max_trace file) (piece_view first) columns (state_of bytes_of hart)
+        front named core bytes
+        ∙ ap (λ left. Ok (end_after job columns (position_of bytes_of rest) left).outcome) (sym back)
+        ∙ ap (λ (end : RowsEnd). Ok end.outcome) (sym whole))
 
 -- a header that stops the run
-pub trace_stops : (told : Option Files) (name : List ℕ) (job : JobView) (memory : ℕ → ℕ) (taker middle : LineTaker) (first : Piece) (stop : Stop) → Opens name job.max_trace taker → IsThere told (string_bytes taker.name) → TakesTold (file_of told (string_bytes taker.name)) 1 taker first middle → MeantBy {X = ColumnList} {Y = ColumnList} (λ columns. columns) (Err stop) (columns_in job (piece_view first)) → MeantTold {X = Outcome} told (λ outcome. outcome) (Err stop) (λ files. trace_outcome job memory (files name))
+pub trace_stops : (known_files : Option Files) (name : List ℕ) (job : JobView) (memory : ℕ → ℕ)
+    (taker middle : LineTaker) (first : Piece) (stop : Stop) → Opens name job.max_trace taker
+    → IsThere known_files (string_bytes taker.name)
+    → TakesWhereKnown (file_of known_files (string_bytes taker.name)) 1 taker first middle
+    → MeantBy {X = ColumnList} {Y = ColumnList} (λ columns. columns) (Err stop) (columns_in job (piece_view first))
+    → MeantWhereKnown {X = Outcome} known_files (λ outcome. outcome) (Err stop)
+    (λ files. trace_outcome job memory (files name))
 trace_stops None name job memory taker middle first stop opens is one meant = tt
 trace_stops (Some files) name job memory taker middle first ReadFault opens is one meant = tt
 trace_stops (Some files) name job memory taker middle first NoMemory opens is one meant = tt
-trace_stops (Some files) name job memory taker middle first (Known outcome) opens is one meant = of (files (string_bytes taker.name)) refl is one
+trace_stops (Some files) name job memory taker middle first (Known outcome) opens is one meant =
+    of (files (string_bytes taker.name)) refl is one
   where
-    of : (file : Option (List ℕ)) → files (string_bytes taker.name) ≡ file → IsSome file → TakesTold file 1 taker first middle → trace_outcome job memory (files name) ≡ Err (Some outcome)
+    of : (file : Option (List ℕ)) → files (string_bytes taker.name) ≡ file → IsSome file
+        → TakesWhereKnown file 1 taker first middle → trace_outcome job memory (files name) ≡ Err (Some outcome)
     of None e is one = absurd cc
     of (Some file) e is one =
         let here : files name ≡ Some file = ap files (sym opens.name) ∙ e in
-        let front : piece_view first ≡ front_of 1 (lines_of job.max_trace file) = one.taken ∙ ap (front_of 1) (all_left job name file taker opens) in
-        text_decides job memory (files name) file (Err (Some outcome)) here (lines_stop job memory (lines_of job.max_trace file) (piece_view first) (Some outcome) front meant)
+        let front : piece_view first ≡ front_of 1 (file_lines job.max_trace file) =
+        one.taken ∙ ap (front_of 1) (all_left job name file taker opens) in
+        text_decides job memory (files name) file (Err (Some outcome)) here
+        (lines_stop job memory (file_lines job.max_trace file) (piece_view first) (Some outcome) front meant)
 
 -- a file that was there once is there later
-pub still_there : (told : Option Files) (taker middle : LineTaker) (first : Piece) → IsThere told (string_bytes taker.name) → TakesTold (file_of told (string_bytes taker.name)) 1 taker first middle → IsThere told (string_bytes middle.name)
+pub still_there : (known_files : Option Files) (taker middle : LineTaker) (first : Piece)
+    → IsThere known_files (string_bytes taker.name)
+    → TakesWhereKnown (file_of known_files (string_bytes taker.name)) 1 taker first middle
+    → IsThere known_files (string_bytes middle.name)
 still_there None taker middle first is one = tt
 still_there (Some files) taker middle first is one = of (files (string_bytes taker.name)) refl is one
   where
-    of : (file : Option (List ℕ)) → files (string_bytes taker.name) ≡ file → IsSome file → TakesTold file 1 taker first middle → IsSome (files (string_bytes middle.name))
+    of : (file : Option (List ℕ)) → files (string_bytes taker.name) ≡ file → IsSome file
+        → TakesWhereKnown file 1 taker first middle → IsSome (files (string_bytes middle.name))
     of None e is one = absurd cc
     of (Some file) e is one =
-        let again : files (string_bytes middle.name) ≡ Some file = ap (λ text. files (string_bytes text)) one.name ∙ e in
+        let again : files (string_bytes middle.name) ≡ Some file =
+        ap (λ text. files (string_bytes text)) one.name ∙ e in
         subst IsSome (sym again) refl
 
 -- and is not missed
-pub not_missed : (told : Option Files) (name : List ℕ) → IsThere told name → IsMissing told name → ⊥
+pub not_missed : (known_files : Option Files) (name : List ℕ) → IsThere known_files name → IsMissing known_files name
+    → ⊥
 not_missed None name is missing = missing
 not_missed (Some files) name is missing = cc
 
 -- a file that is missed is one that the trace lacks
-pub trace_lacks : (told : Option Files) (name : List ℕ) (job : JobView) (memory : ℕ → ℕ) → IsMissing told name → LacksFile told (λ files. trace_outcome job memory (files name))
+pub trace_lacks : (known_files : Option Files) (name : List ℕ) (job : JobView) (memory : ℕ → ℕ)
+    → IsMissing known_files name → LacksFile known_files (λ files. trace_outcome job memory (files name))
 unfolding trace_outcome
 trace_lacks None name job memory missing = missing
 trace_lacks (Some files) name job memory missing = rw missing refl
 
 -- a failed call for lines misses what the trace lacks
-pub lines_missed : (error : LineError) (told : Option Files) (name : List ℕ) (meant : Files → Step Outcome) (before now : ℕ) → (IsMissing told name → LacksFile told meant) → MissesWhere (is_read_fault error) told name before now → MissesStop {X = Outcome} (Err (line_stop error)) told meant before now
-lines_missed lines.ReadFault told name meant before now lacks misses = λ rise. lacks (misses rise)
-lines_missed lines.NoMemory told name meant before now lacks misses = misses
+pub lines_missed : (error : LineError) (known_files : Option Files) (name : List ℕ) (meant : Files → Step Outcome)
+    (before now : ℕ) → (IsMissing known_files name → LacksFile known_files meant)
+    → MissesWhere (is_read_fault error) known_files name before now
+    → MissesStop {X = Outcome} (Err (line_stop error)) known_files meant before now
+lines_missed lines.ReadFault known_files name meant before now lacks misses = λ rise. lacks (misses rise)
+lines_missed lines.NoMemory known_files name meant before now lacks misses = misses

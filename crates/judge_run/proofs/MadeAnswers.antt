@@ -1,16 +1,18 @@
 -- The answer to words that ask for a made trace.
-use Rattle.std.proofs.Common.{◌≡◌, ◌∙◌, ◌≤◌, ◌^◌, ◌+◌, ◌*◌, ℕ, false, List, ◌∷◌, length, nat_lt, Option, Some, Ok, refl, ap, arith}
+use Rattle.std.proofs.Common.{◌≡◌, ◌∙◌, ◌≤◌, ◌^◌, ◌+◌, ◌*◌, ℕ, false, List, ◌∷◌, length, nat_lt, Option, Some, Ok, refl}
+use Rattle.std.proofs.Common.{ap, arith}
 use Rattle.std.proofs.lemmas.Bool.{le-ltb}
 use Rattle.std.specs.Prelude.{unwrap_or}
 use Rattle.outside_ports.specs.Ports.{Files}
 use Rattle.judge_words.specs.Job.{IsMadeJob, JobView, job_of}
-use Rattle.judge_words.specs.declared.job.Texts.{Texts}
-use Rattle.judge_words.specs.declared.job.Texts.TheVariants.{Made as MadeOf}
+use Rattle.judge_words.specs.declared.job.Command.{Command}
+use Rattle.judge_words.specs.declared.values.TheConstants.{FIRST_PC}
+use Rattle.judge_words.specs.declared.job.Command.TheVariants.{Make}
 use Rattle.judge_words.proofs.MadeJobs.{made_plain}
 use Rattle.trace_maker.specs.Texts.{made_image, made_trace}
 use Rattle.image_text.specs.Image.{image_of}
 use Rattle.trace_lines.specs.declared.piece.Ending.TheVariants.{End}
-use Rattle.trace_lines.specs.Lines.{Left, lines_of}
+use Rattle.trace_lines.specs.Lines.{RemainingLines, file_lines}
 use Rattle.rvfi_rows.specs.declared.verdict.Verdict.{Verdict}
 use Rattle.rvfi_rows.specs.declared.verdict.Verdict.TheVariants.{Agrees}
 use Rattle.rvfi_rows.specs.Columns.{ColumnList, header_columns}
@@ -25,10 +27,13 @@ use Rattle.made_runs.specs.States.{IsMadeMap}
 use Rattle.made_runs.proofs.ImageTexts.{image_len}
 use Rattle.made_runs.proofs.MadeTexts.{texts_agree}
 use Rattle.made_runs.proofs.TraceLines.{trace_len}
-use Rattle.judge_run.specs.Answer.{answer, as_memory, columns_in, ended, image_in, job_outcome, judged, lines_outcome, made_of, memory_of, outcome_of, settled, text_memory, trace_in, trace_outcome, verdict_on}
+use Rattle.judge_run.specs.Answer.{answer, as_memory, columns_in, ruling_at_end, image_in, job_outcome, outcome_step_of}
+use Rattle.judge_run.specs.Answer.{lines_outcome, made_of, memory_of, outcome_of, outcome_of_step, text_memory}
+use Rattle.judge_run.specs.Answer.{trace_in, trace_outcome, verdict_on}
 
 -- an image that is not too long and has no fault
-memory_is : (job : JobView) (text : List ℕ) (image : ℕ → Option ℕ) → length text ≤ job.max_image → image_of job.map.ram text ≡ Ok image
+memory_is : (job : JobView) (text : List ℕ) (image : ℕ → Option ℕ) → length text ≤ job.max_image
+    → image_of job.map.ram text ≡ Ok image
     → memory_of job (Some text) ≡ Ok (λ address. unwrap_or (image address) 0)
 unfolding memory_of text_memory
 memory_is job text image fits read =
@@ -36,14 +41,17 @@ memory_is job text image fits read =
     rw under (ap (as_memory job) read)
 
 -- a trace whose lines are a header and rows
-lines_are : (job : JobView) (memory : ℕ → ℕ) (header : List ℕ) (rows : List (List ℕ)) (columns : ColumnList) (verdict : Verdict)
+lines_are : (job : JobView) (memory : ℕ → ℕ) (header : List ℕ) (rows : List (List ℕ)) (columns : ColumnList)
+    (verdict : Verdict)
     → header_columns header ≡ Ok columns → verdict_on job memory (rows_of columns rows) ≡ verdict
-    → lines_outcome job memory (record { lines = header ∷ rows; ending = End }) ≡ Ok (outcome_of job (ended job End verdict))
+    → lines_outcome job memory (record { lines = header ∷ rows; ending = End })
+    ≡ Ok (outcome_of job (ruling_at_end job End verdict))
 unfolding lines_outcome columns_in
 lines_are job memory header rows columns verdict named is =
-    rw named (ap (λ verdict. Ok (outcome_of job (ended job End verdict))) is)
+    rw named (ap (λ verdict. Ok (outcome_of job (ruling_at_end job End verdict))) is)
 
-trace_is : (job : JobView) (memory : ℕ → ℕ) (text : List ℕ) (left : Left) → lines_of job.max_trace text ≡ left
+trace_is : (job : JobView) (memory : ℕ → ℕ) (text : List ℕ) (left : RemainingLines)
+    → file_lines job.max_trace text ≡ left
     → trace_outcome job memory (Some text) ≡ lines_outcome job memory left
 unfolding trace_outcome
 trace_is job memory text left is = ap (lines_outcome job memory) is
@@ -56,13 +64,14 @@ both_are job image trace memory read = rw read refl
 
 -- the words, then image and trace
 words_ask : (words : List (List ℕ)) (files : Files) (job : JobView) → job_of words ≡ Some job
-    → answer words files ≡ settled (job_outcome job (image_in job.texts files) (trace_in job.texts files))
-unfolding answer judged
+    → answer words files ≡ outcome_of_step (job_outcome job (image_in job.command files) (trace_in job.command files))
+unfolding answer outcome_step_of
 words_ask words files job asked = rw asked refl
 
 -- the texts that are made agree
 job_agrees : (job : JobView) (number rows : ℕ) → IsMadeJob job number rows
-    → job_outcome job (Some (made_image number)) (Some (made_trace number rows)) ≡ Ok (outcome_of job (rulings.Verdict (Agrees rows rows)))
+    → job_outcome job (Some (made_image number)) (Some (made_trace number rows))
+    ≡ Ok (outcome_of job (rulings.Verdict (Agrees rows rows)))
 job_agrees job number rows plain =
     let few : rows ≤ 2 ^ 18 = plain.few in
     let most_image : job.max_image ≡ 2 ^ 30 = plain.max_image in
@@ -72,17 +81,26 @@ job_agrees job number rows plain =
     let image_fits : length (made_image number) ≤ job.max_image = omega arith in
     let trace_fits : length (made_trace number rows) ≤ job.max_trace = omega arith in
     let is : IsMadeMap job.map = record { base = plain.base; size = plain.size } in
-    let run : MadeRunAgrees job.map number rows job.max_trace = texts_agree job.map number rows job.max_trace is (omega arith) trace_fits in
+    let run : MadeRunAgrees job.map number rows job.max_trace =
+    texts_agree job.map number rows job.max_trace is (omega arith) trace_fits in
     let memory : ℕ → ℕ = λ address. unwrap_or (run.image.bytes address) 0 in
-    both_are job (Some (made_image number)) (Some (made_trace number rows)) memory (memory_is job (made_image number) run.image.bytes image_fits run.image.image)
+    both_are job (Some (made_image number)) (Some (made_trace number rows)) memory
+    (memory_is job (made_image number) run.image.bytes image_fits run.image.image)
     ∙ trace_is job memory (made_trace number rows) (made_left number rows) run.lines
     ∙ lines_are job memory header_line (made_lines number rows) made_columns (Agrees rows rows) run.columns
-    (ap (λ pc. (judgement_of by_hart (core_at_reset pc job.map) (rows_of made_columns (made_lines number rows)) memory).verdict) plain.pc ∙ run.verdict)
+    (ap
+    (λ pc. (judgement_of by_hart (core_at_reset (unwrap_or pc FIRST_PC) job.map)
+    (rows_of made_columns (made_lines number rows)) memory).verdict) plain.pc ∙ run.verdict)
 
-pub made_agree : (words : List (List ℕ)) (job : JobView) (files : Files) (number rows : ℕ) → job_of words ≡ Some job → job.texts ≡ MadeOf number rows
-    → answer words files ≡ Some (record { made = Some (record { number = number; rows = rows }); ruling = rulings.Verdict (Agrees rows rows) })
+pub made_agree : (words : List (List ℕ)) (job : JobView) (files : Files) (number rows : ℕ) → job_of words ≡ Some job
+    → job.command ≡ Make number rows
+    → answer words files
+    ≡ Some
+    (record { made = Some (record { number = number; rows = rows }); ruling = rulings.Verdict (Agrees rows rows) })
 made_agree words job files number rows asked made =
     words_ask words files job asked
-    ∙ ap (λ (texts : Texts (List ℕ)). settled (job_outcome job (image_in texts files) (trace_in texts files))) made
-    ∙ ap settled (job_agrees job number rows (made_plain words job number rows asked made))
-    ∙ ap (λ (texts : Texts (List ℕ)). Some (record { made = made_of texts; ruling = rulings.Verdict (Agrees rows rows) })) made
+    ∙ ap (λ (command : Command (List ℕ)). outcome_of_step
+    (job_outcome job (image_in command files) (trace_in command files))) made
+    ∙ ap outcome_of_step (job_agrees job number rows (made_plain words job number rows asked made))
+    ∙ ap (λ (command : Command (List ℕ)). Some
+    (record { made = made_of command; ruling = rulings.Verdict (Agrees rows rows) })) made

@@ -1,5 +1,6 @@
 -- The memory of a file by what was read of it.
-use Rattle.std.proofs.Common.{◌≡◌, ℕ, true, false, List, length, nat_lt, Option, Some, None, IsSome, Result, Ok, Err, refl, sym, ap, ◌∙◌}
+use Rattle.std.proofs.Common.{◌≡◌, ℕ, true, false, List, length, nat_lt, Option, Some, None, IsSome, Result, Ok, Err}
+use Rattle.std.proofs.Common.{refl, sym, ap, ◌∙◌}
 use Rattle.std.proofs.lemmas.Bool.{ltb-false}
 use Rattle.std.proofs.lemmas.List.{take_all}
 use Rattle.outside_ports.specs.Ports.{Files, file_of, IsThere, IsMissing}
@@ -13,53 +14,74 @@ use Rattle.hart_words.specs.Results.{FailsAs}
 use Rattle.image_text.specs.Image.{image_of, image_fault}
 use Rattle.trace_report.specs.declared.outcome.Ruling.TheVariants as rulings
 use Rattle.hart_words.specs.Results.{◌>>=◌}
-use Rattle.page_image.specs.Bytes.{filled}
+use Rattle.page_image.specs.Bytes.{with_zeros}
 use Rattle.judge_run.specs.declared.stop.Stop.{Stop}
-use Rattle.judge_run.specs.Answer.{text_memory, as_memory, memory_of, outcome_of, there}
+use Rattle.judge_run.specs.Answer.{text_memory, as_memory, memory_of, outcome_of, required_text}
 use Rattle.judge_run.specs.declared.stop.Stop.TheVariants.{Known, ReadFault, NoMemory}
-use Rattle.judge_run.specs.Stops.{MeantBy, MeantTold, LacksFile, image_stop}
+use Rattle.judge_run.specs.Stops.{MeantBy, MeantWhereKnown, LacksFile, image_stop}
 
-pub too_large : (job : JobView) (file : List ℕ) (front : Front) → HasFront file job.max_image front → front.more ≡ true → text_memory job file ≡ Err (Some (outcome_of job (rulings.ImageTooLarge job.max_image)))
+pub too_large : (job : JobView) (file : List ℕ) (front : Front) → HasFront file job.max_image front
+    → front.more ≡ true → text_memory job file ≡ Err (Some (outcome_of job (rulings.ImageTooLarge job.max_image)))
 unfolding text_memory
-too_large job file front is more = let over : nat_lt job.max_image (length file) ≡ true = sym is.more ∙ more in rw over refl
+too_large job file front is more =
+    let over : nat_lt job.max_image (length file) ≡ true = sym is.more ∙ more in rw over refl
 
 -- a file that was read whole
-whole : (job : JobView) (file : List ℕ) (front : Front) → HasFront file job.max_image front → front.more ≡ false → text_memory job file ≡ as_memory job (image_of job.map.ram front.bytes.items)
+whole : (job : JobView) (file : List ℕ) (front : Front) → HasFront file job.max_image front → front.more ≡ false
+    → text_memory job file ≡ as_memory job (image_of job.map.ram front.bytes.items)
 unfolding text_memory
 whole job file front is more =
     let under : nat_lt job.max_image (length file) ≡ false = sym is.more ∙ more in
-    let all : front.bytes.items ≡ file = is.bytes ∙ take_all job.max_image file (ltb-false job.max_image (length file) under) in
+    let all : front.bytes.items ≡ file =
+    is.bytes ∙ take_all job.max_image file (ltb-false job.max_image (length file) under) in
     rw under (ap (λ text. as_memory job (image_of job.map.ram text)) (sym all))
 
 -- what the text describes is the memory
-pub pieces_read : {X : Type 0} (job : JobView) (bytes : X → ℕ → Option ℕ) (pieces : X) (read : Result (ℕ → Option ℕ) ImageFault) → read ≡ Ok (bytes pieces) → as_memory job read ≡ Ok (filled (bytes pieces))
+pub pieces_read : {X : Type 0} (job : JobView) (bytes : X → ℕ → Option ℕ) (pieces : X)
+    (read : Result (ℕ → Option ℕ) ImageFault) → read ≡ Ok (bytes pieces)
+    → as_memory job read ≡ Ok (with_zeros (bytes pieces))
 pieces_read job bytes pieces read is = ap (as_memory job) is
 
-pub pieces_refused : {X : Type 0} (job : JobView) (view : X → ℕ → ℕ) (error : ImageError) (read : Result (ℕ → Option ℕ) ImageFault) → FailsAs (image_fault error) read → MeantBy view (Err (image_stop job error)) (as_memory job read)
+pub pieces_refused : {X : Type 0} (job : JobView) (view : X → ℕ → ℕ) (error : ImageError)
+    (read : Result (ℕ → Option ℕ) ImageFault) → FailsAs (image_fault error) read
+    → MeantBy view (Err (image_stop job error)) (as_memory job read)
 pieces_refused job view (errors.Fault fault) read refused = ap (as_memory job) refused
 pieces_refused job view errors.NoMemory read refused = tt
 
 -- what stops the reading of a whole file stops the run
-pub whole_refused : {X Y : Type 0} (pieces : Y → ℕ → ℕ) (view : X → ℕ → ℕ) (job : JobView) (file : List ℕ) (front : Front) (stop : Stop) → HasFront file job.max_image front → front.more ≡ false → MeantBy pieces (Err stop) (as_memory job (image_of job.map.ram front.bytes.items)) → MeantBy view (Err stop) (text_memory job file)
+pub whole_refused : {X Y : Type 0} (pieces : Y → ℕ → ℕ) (view : X → ℕ → ℕ) (job : JobView) (file : List ℕ)
+    (front : Front) (stop : Stop) → HasFront file job.max_image front → front.more ≡ false
+    → MeantBy pieces (Err stop) (as_memory job (image_of job.map.ram front.bytes.items))
+    → MeantBy view (Err stop) (text_memory job file)
 whole_refused pieces view job file front (Known outcome) is more meant = whole job file front is more ∙ meant
 whole_refused pieces view job file front ReadFault is more meant = tt
 whole_refused pieces view job file front NoMemory is more meant = tt
 
-pub whole_built : (job : JobView) (file : List ℕ) (front : Front) (read memory : ℕ → ℕ) → HasFront file job.max_image front → front.more ≡ false → as_memory job (image_of job.map.ram front.bytes.items) ≡ Ok read → memory ≡ read → text_memory job file ≡ Ok memory
-whole_built job file front read memory is more meant same = whole job file front is more ∙ meant ∙ ap (λ m. Ok m) (sym same)
+pub whole_built : (job : JobView) (file : List ℕ) (front : Front) (read memory : ℕ → ℕ)
+    → HasFront file job.max_image front → front.more ≡ false
+    → as_memory job (image_of job.map.ram front.bytes.items) ≡ Ok read → memory ≡ read
+    → text_memory job file ≡ Ok memory
+whole_built job file front read memory is more meant same =
+    whole job file front is more ∙ meant ∙ ap (λ m. Ok m) (sym same)
 
 -- the memory of a told file by its front
-pub memory_told : {X : Type 0} (view : X → ℕ → ℕ) (told : Option Files) (name : List ℕ) (job : JobView) (front : Front) (result : Result X Stop) → IsThere told name → IsFront (file_of told name) job.max_image front → ((file : List ℕ) → HasFront file job.max_image front → MeantBy view result (text_memory job file)) → MeantTold told view result (λ files. memory_of job (files name))
+pub memory_told : {X : Type 0} (view : X → ℕ → ℕ) (known_files : Option Files) (name : List ℕ) (job : JobView)
+    (front : Front) (result : Result X Stop) → IsThere known_files name
+    → IsFront (file_of known_files name) job.max_image front
+    → ((file : List ℕ) → HasFront file job.max_image front → MeantBy view result (text_memory job file))
+    → MeantWhereKnown known_files view result (λ files. memory_of job (files name))
 unfolding memory_of
 memory_told view None name job front result is front_is meant = tt
 memory_told view (Some files) name job front result is front_is meant = of (files name) refl is front_is
   where
-    of : (file : Option (List ℕ)) → files name ≡ file → IsSome file → IsFront file job.max_image front → MeantBy view result (there (files name) >>= λ text. text_memory job text)
+    of : (file : Option (List ℕ)) → files name ≡ file → IsSome file → IsFront file job.max_image front
+        → MeantBy view result (required_text (files name) >>= λ text. text_memory job text)
     of None e is front_is = cc
     of (Some file) e is front_is = rw e (meant file front_is)
 
 -- a file that is missed is one that the memory lacks
-pub memory_lacks : (told : Option Files) (name : List ℕ) (job : JobView) → IsMissing told name → LacksFile told (λ files. memory_of job (files name))
+pub memory_lacks : (known_files : Option Files) (name : List ℕ) (job : JobView) → IsMissing known_files name
+    → LacksFile known_files (λ files. memory_of job (files name))
 unfolding memory_of
 memory_lacks None name job missing = missing
 memory_lacks (Some files) name job missing = rw missing refl

@@ -1,138 +1,211 @@
 -- The steps towards the answer, one after the other.
-use Rattle.std.proofs.Common.{◌≡◌, ℕ, List, Bool, true, false, is_some, option_and_then, [], ◌∷◌, length, nat_lt, if◌then◌else◌, Option, Some, None, Result, Ok, Err, refl, sym, ap, ap₂, ◌∙◌, subst, string_bytes}
+use Rattle.std.proofs.Common.{◌≡◌, ℕ, List, Bool, true, false, is_some, option_and_then, [], ◌∷◌, length, nat_lt}
+use Rattle.std.proofs.Common.{if◌then◌else◌, Option, Some, None, Result, Ok, Err, refl, sym, ap, ap₂, ◌∙◌, subst}
+use Rattle.std.proofs.Common.{string_bytes}
 use Rattle.outside_ports.specs.Ports.{Files}
-use Rattle.judge_words.specs.Job.{JobView, job_of, job_view, texts_by}
+use Rattle.judge_words.specs.Job.{JobView, job_of, job_view, command_by}
 use Rattle.judge_words.specs.declared.job.Job.{Job}
-use Rattle.judge_words.specs.declared.job.Texts.{Texts}
-use Rattle.judge_words.specs.declared.job.Texts.TheVariants.{Files as FilesOf, Made as MadeOf}
+use Rattle.judge_words.specs.declared.job.Command.{Command}
+use Rattle.judge_words.specs.declared.job.Command.TheVariants.{Judge, Make}
 use Rattle.trace_maker.specs.Texts.{made_image, made_trace}
 use Rattle.trace_report.specs.declared.outcome.Outcome.{Outcome}
 use Rattle.trace_report.specs.declared.outcome.Ruling.TheVariants.{ImageTooLarge, NoJob}
 use Rattle.image_text.specs.declared.fault.ImageFault.{ImageFault}
 use Rattle.image_text.specs.Image.{image_of}
 use Rattle.trace_lines.specs.declared.piece.Ending.{Ending}
-use Rattle.trace_lines.specs.Lines.{lines_of}
+use Rattle.trace_lines.specs.Lines.{file_lines}
 use Rattle.rvfi_rows.specs.declared.fault.HeaderFault.{HeaderFault}
 use Rattle.rvfi_rows.specs.Columns.{ColumnList, header_columns}
 use Rattle.judge_run.specs.declared.stop.Stop.{Stop}
 use Rattle.judge_run.specs.declared.stop.Stop.TheVariants.{Known, ReadFault, NoMemory}
-use Rattle.judge_run.specs.Answer.{Step, as_memory, columns_in, image_in, is_made, job_outcome, judged, lines_outcome, made_of, memory_of, outcome_of, text_memory, trace_in, trace_outcome}
-use Rattle.judge_run.specs.Stops.{MeantBy, MeantTold, MissesStop, LacksFile, WasRead}
+use Rattle.judge_run.specs.Answer.{Step, as_memory, columns_in, image_in, is_made, job_outcome, outcome_step_of}
+use Rattle.judge_run.specs.Answer.{lines_outcome, made_of, memory_of, outcome_of, text_memory, trace_in, trace_outcome}
+use Rattle.judge_run.specs.Stops.{MeantBy, MeantWhereKnown, MissesStop, LacksFile, WasRead}
 
 -- words that ask for no job
-pub judged_no_job : (told : Option Files) (words : List (List ℕ)) → job_of words ≡ None → MeantTold {X = Outcome} told (λ outcome. outcome) (Err (Known (record { made = None; ruling = NoJob }))) (λ files. judged words files)
-unfolding judged
+pub judged_no_job : (known_files : Option Files) (words : List (List ℕ)) → job_of words ≡ None
+    → MeantWhereKnown {X = Outcome} known_files (λ outcome. outcome)
+    (Err (Known (record { made = None; ruling = NoJob }))) (λ files. outcome_step_of words files)
+unfolding outcome_step_of
 judged_no_job None words none = tt
 judged_no_job (Some files) words none = rw none refl
 
 -- ---- the image, then the trace
 
 -- an image that stops the run
-stopped_by : (job : JobView) (image trace : Option (List ℕ)) (stop : Option Outcome) → memory_of job image ≡ Err stop → job_outcome job image trace ≡ Err stop
+stopped_by : (job : JobView) (image trace : Option (List ℕ)) (stop : Option Outcome) → memory_of job image ≡ Err stop
+    → job_outcome job image trace ≡ Err stop
 unfolding job_outcome
 stopped_by job image trace stop refused = rw refused refl
 
-pub job_stop : {X : Type 0} (view : X → ℕ → ℕ) (told : Option Files) (job : JobView) (image trace : List ℕ) (stop : Stop) → MeantTold told view (Err stop) (λ files. memory_of job (files image)) → MeantTold {X = Outcome} told (λ outcome. outcome) (Err stop) (λ files. job_outcome job (files image) (files trace))
+pub job_stop : {X : Type 0} (view : X → ℕ → ℕ) (known_files : Option Files) (job : JobView) (image trace : List ℕ)
+    (stop : Stop) → MeantWhereKnown known_files view (Err stop) (λ files. memory_of job (files image))
+    → MeantWhereKnown {X = Outcome} known_files (λ outcome. outcome) (Err stop)
+    (λ files. job_outcome job (files image) (files trace))
 job_stop view None job image trace stop meant = tt
-job_stop view (Some files) job image trace (Known outcome) meant = stopped_by job (files image) (files trace) (Some outcome) meant
+job_stop view (Some files) job image trace (Known outcome) meant =
+    stopped_by job (files image) (files trace) (Some outcome) meant
 job_stop view (Some files) job image trace ReadFault meant = tt
 job_stop view (Some files) job image trace NoMemory meant = tt
 
-lacks_memory : (told : Option Files) (job : JobView) (image trace : List ℕ) → LacksFile told (λ files. memory_of job (files image)) → LacksFile told (λ files. job_outcome job (files image) (files trace))
+lacks_memory : (known_files : Option Files) (job : JobView) (image trace : List ℕ)
+    → LacksFile known_files (λ files. memory_of job (files image))
+    → LacksFile known_files (λ files. job_outcome job (files image) (files trace))
 lacks_memory None job image trace lacks = lacks
 lacks_memory (Some files) job image trace lacks = stopped_by job (files image) (files trace) None lacks
 
 -- the trace decides where there is a memory
-goes_on : (job : JobView) (image trace : Option (List ℕ)) (memory : ℕ → ℕ) → memory_of job image ≡ Ok memory → job_outcome job image trace ≡ trace_outcome job memory trace
+goes_on : (job : JobView) (image trace : Option (List ℕ)) (memory : ℕ → ℕ) → memory_of job image ≡ Ok memory
+    → job_outcome job image trace ≡ trace_outcome job memory trace
 unfolding job_outcome
 goes_on job image trace memory read = rw read refl
 
-along : {X Y : Type 0} (view : X → Y) (result : Result X Stop) (one other : Step Y) → one ≡ other → MeantBy view result one → MeantBy view result other
-along view result one other same meant = let P : Step _ → Type 0 = λ step. MeantBy view result step in subst P same meant
+along : {X Y : Type 0} (view : X → Y) (result : Result X Stop) (one other : Step Y) → one ≡ other
+    → MeantBy view result one → MeantBy view result other
+along view result one other same meant =
+    let P : Step _ → Type 0 = λ step. MeantBy view result step in subst P same meant
 
-pub job_trace : {X : Type 0} (view : X → ℕ → ℕ) (told : Option Files) (job : JobView) (name trace : List ℕ) (image : X) (result : Result Outcome Stop) → MeantTold told view (Ok image) (λ files. memory_of job (files name)) → MeantTold told (λ outcome. outcome) result (λ files. trace_outcome job (view image) (files trace)) → MeantTold told (λ outcome. outcome) result (λ files. job_outcome job (files name) (files trace))
+pub job_trace : {X : Type 0} (view : X → ℕ → ℕ) (known_files : Option Files) (job : JobView) (name trace : List ℕ)
+    (image : X) (result : Result Outcome Stop)
+    → MeantWhereKnown known_files view (Ok image) (λ files. memory_of job (files name))
+    → MeantWhereKnown known_files (λ outcome. outcome) result (λ files. trace_outcome job (view image) (files trace))
+    → MeantWhereKnown known_files (λ outcome. outcome) result (λ files. job_outcome job (files name) (files trace))
 job_trace view None job name trace image result read meant = tt
 job_trace view (Some files) job name trace image result read meant =
-    along (λ outcome. outcome) result (trace_outcome job (view image) (files trace)) (job_outcome job (files name) (files trace)) (sym (goes_on job (files name) (files trace) (view image) read)) meant
+    along (λ outcome. outcome) result (trace_outcome job (view image) (files trace))
+    (job_outcome job (files name) (files trace)) (sym (goes_on job (files name) (files trace) (view image) read))
+    meant
 
-lacks_trace : {X : Type 0} (view : X → ℕ → ℕ) (told : Option Files) (job : JobView) (name trace : List ℕ) (image : X) → MeantTold told view (Ok image) (λ files. memory_of job (files name)) → LacksFile told (λ files. trace_outcome job (view image) (files trace)) → LacksFile told (λ files. job_outcome job (files name) (files trace))
+lacks_trace : {X : Type 0} (view : X → ℕ → ℕ) (known_files : Option Files) (job : JobView) (name trace : List ℕ)
+    (image : X) → MeantWhereKnown known_files view (Ok image) (λ files. memory_of job (files name))
+    → LacksFile known_files (λ files. trace_outcome job (view image) (files trace))
+    → LacksFile known_files (λ files. job_outcome job (files name) (files trace))
 lacks_trace view None job name trace image read lacks = lacks
-lacks_trace view (Some files) job name trace image read lacks = goes_on job (files name) (files trace) (view image) read ∙ lacks
+lacks_trace view (Some files) job name trace image read lacks =
+    goes_on job (files name) (files trace) (view image) read ∙ lacks
 
 -- the misses
-pub missed_memory : (X : Type 0) (told : Option Files) (job : JobView) (image trace : List ℕ) (stop : Stop) (before now : ℕ) → MissesStop {X = X} (Err stop) told (λ files. memory_of job (files image)) before now → MissesStop {X = Outcome} (Err stop) told (λ files. job_outcome job (files image) (files trace)) before now
-missed_memory X told job image trace (Known outcome) before now misses = misses
-missed_memory X told job image trace NoMemory before now misses = misses
-missed_memory X told job image trace ReadFault before now misses = λ rise. lacks_memory told job image trace (misses rise)
+pub missed_memory : (X : Type 0) (known_files : Option Files) (job : JobView) (image trace : List ℕ) (stop : Stop)
+    (before now : ℕ) → MissesStop {X = X} (Err stop) known_files (λ files. memory_of job (files image)) before now
+    → MissesStop {X = Outcome} (Err stop) known_files (λ files. job_outcome job (files image) (files trace)) before now
+missed_memory X known_files job image trace (Known outcome) before now misses = misses
+missed_memory X known_files job image trace NoMemory before now misses = misses
+missed_memory X known_files job image trace ReadFault before now misses =
+    λ rise. lacks_memory known_files job image trace (misses rise)
 
-pub missed_trace : {X : Type 0} (view : X → ℕ → ℕ) (told : Option Files) (job : JobView) (name trace : List ℕ) (image : X) (result : Result Outcome Stop) (before mid now : ℕ) → MeantTold told view (Ok image) (λ files. memory_of job (files name)) → mid ≡ before → MissesStop result told (λ files. trace_outcome job (view image) (files trace)) mid now → MissesStop result told (λ files. job_outcome job (files name) (files trace)) before now
-missed_trace view told job name trace image (Ok outcome) before mid now read same misses = misses ∙ same
-missed_trace view told job name trace image (Err (Known outcome)) before mid now read same misses = misses ∙ same
-missed_trace view told job name trace image (Err NoMemory) before mid now read same misses = misses ∙ same
-missed_trace view told job name trace image (Err ReadFault) before mid now read same misses = λ rise. lacks_trace view told job name trace image read (misses (rw same rise))
+pub missed_trace : {X : Type 0} (view : X → ℕ → ℕ) (known_files : Option Files) (job : JobView) (name trace : List ℕ)
+    (image : X) (result : Result Outcome Stop) (before mid now : ℕ)
+    → MeantWhereKnown known_files view (Ok image) (λ files. memory_of job (files name)) → mid ≡ before
+    → MissesStop result known_files (λ files. trace_outcome job (view image) (files trace)) mid now
+    → MissesStop result known_files (λ files. job_outcome job (files name) (files trace)) before now
+missed_trace view known_files job name trace image (Ok outcome) before mid now read same misses = misses ∙ same
+missed_trace view known_files job name trace image (Err (Known outcome)) before mid now read same misses = misses ∙ same
+missed_trace view known_files job name trace image (Err NoMemory) before mid now read same misses = misses ∙ same
+missed_trace view known_files job name trace image (Err ReadFault) before mid now read same misses =
+    λ rise. lacks_trace view known_files job name trace image read (misses (rw same rise))
 
 -- ---- the words, then image and trace
 
-judged_as : (words : List (List ℕ)) (files : Files) (job : Job) (texts : Texts _) → job_of words ≡ Some (job_view job) → job.texts ≡ texts → judged words files ≡ job_outcome (job_view job) (image_in (texts_by string_bytes texts) files) (trace_in (texts_by string_bytes texts) files)
-unfolding judged
-judged_as words files job texts is from =
-    (let whole : judged words files ≡ job_outcome (job_view job) (image_in (texts_by string_bytes job.texts) files) (trace_in (texts_by string_bytes job.texts) files) = rw is refl in whole)
-    ∙ ap (λ texts. job_outcome (job_view job) (image_in (texts_by string_bytes texts) files) (trace_in (texts_by string_bytes texts) files)) from
+judged_as : (words : List (List ℕ)) (files : Files) (job : Job) (command : Command _)
+    → job_of words ≡ Some (job_view job) → job.command ≡ command
+    → outcome_step_of words files
+    ≡ job_outcome (job_view job) (image_in (command_by string_bytes command) files)
+    (trace_in (command_by string_bytes command) files)
+unfolding outcome_step_of
+judged_as words files job command is from =
+    (let whole : outcome_step_of words files
+    ≡ job_outcome (job_view job) (image_in (command_by string_bytes job.command) files)
+    (trace_in (command_by string_bytes job.command) files) = rw is refl in whole)
+    ∙ ap (λ command. job_outcome (job_view job) (image_in (command_by string_bytes command) files)
+    (trace_in (command_by string_bytes command) files)) from
 
-named_as : (words : List (List ℕ)) (files : Files) (job : Job) (image trace : _) (one other : List ℕ) → job_of words ≡ Some (job_view job) → job.texts ≡ FilesOf image trace → one ≡ string_bytes image → other ≡ string_bytes trace → judged words files ≡ job_outcome (job_view job) (files one) (files other)
+named_as : (words : List (List ℕ)) (files : Files) (job : Job) (image trace : _) (one other : List ℕ)
+    → job_of words ≡ Some (job_view job) → job.command ≡ Judge image trace → one ≡ string_bytes image
+    → other ≡ string_bytes trace → outcome_step_of words files ≡ job_outcome (job_view job) (files one) (files other)
 named_as words files job image trace one other is from first second =
-    judged_as words files job (FilesOf image trace) is from
+    judged_as words files job (Judge image trace) is from
     ∙ ap₂ (λ one other. job_outcome (job_view job) (files one) (files other)) (sym first) (sym second)
 
-pub judged_files : (told : Option Files) (words : List (List ℕ)) (job : Job) (image trace : _) (one other : List ℕ) (result : Result Outcome Stop) → job_of words ≡ Some (job_view job) → job.texts ≡ FilesOf image trace → one ≡ string_bytes image → other ≡ string_bytes trace → MeantTold told (λ outcome. outcome) result (λ files. job_outcome (job_view job) (files one) (files other)) → MeantTold told (λ outcome. outcome) result (λ files. judged words files)
+pub judged_files : (known_files : Option Files) (words : List (List ℕ)) (job : Job) (image trace : _)
+    (one other : List ℕ) (result : Result Outcome Stop) → job_of words ≡ Some (job_view job)
+    → job.command ≡ Judge image trace → one ≡ string_bytes image → other ≡ string_bytes trace
+    → MeantWhereKnown known_files (λ outcome. outcome) result
+    (λ files. job_outcome (job_view job) (files one) (files other))
+    → MeantWhereKnown known_files (λ outcome. outcome) result (λ files. outcome_step_of words files)
 judged_files None words job image trace one other result is from first second meant = tt
 judged_files (Some files) words job image trace one other result is from first second meant =
-    along (λ outcome. outcome) result (job_outcome (job_view job) (files one) (files other)) (judged words files) (sym (named_as words files job image trace one other is from first second)) meant
+    along (λ outcome. outcome) result (job_outcome (job_view job) (files one) (files other))
+    (outcome_step_of words files) (sym (named_as words files job image trace one other is from first second)) meant
 
-pub missed_files : (told : Option Files) (words : List (List ℕ)) (job : Job) (image trace : _) (one other : List ℕ) (result : Result Outcome Stop) (before now : ℕ) → job_of words ≡ Some (job_view job) → job.texts ≡ FilesOf image trace → one ≡ string_bytes image → other ≡ string_bytes trace → MissesStop result told (λ files. job_outcome (job_view job) (files one) (files other)) before now → MissesStop result told (λ files. judged words files) before now
-missed_files told words job image trace one other (Ok outcome) before now is from first second misses = misses
-missed_files told words job image trace one other (Err (Known outcome)) before now is from first second misses = misses
-missed_files told words job image trace one other (Err NoMemory) before now is from first second misses = misses
-missed_files told words job image trace one other (Err ReadFault) before now is from first second misses = λ rise. by told (misses rise)
+pub missed_files : (known_files : Option Files) (words : List (List ℕ)) (job : Job) (image trace : _)
+    (one other : List ℕ) (result : Result Outcome Stop) (before now : ℕ) → job_of words ≡ Some (job_view job)
+    → job.command ≡ Judge image trace → one ≡ string_bytes image → other ≡ string_bytes trace
+    → MissesStop result known_files (λ files. job_outcome (job_view job) (files one) (files other)) before now
+    → MissesStop result known_files (λ files. outcome_step_of words files) before now
+missed_files known_files words job image trace one other (Ok outcome) before now is from first second misses = misses
+missed_files known_files words job image trace one other (Err (Known outcome)) before now is from first second
+    misses = misses
+missed_files known_files words job image trace one other (Err NoMemory) before now is from first second misses = misses
+missed_files known_files words job image trace one other (Err ReadFault) before now is from first second misses =
+    λ rise. by known_files (misses rise)
   where
-    by : (told : Option Files) → LacksFile told (λ files. job_outcome (job_view job) (files one) (files other)) → LacksFile told (λ files. judged words files)
+    by : (known_files : Option Files)
+        → LacksFile known_files (λ files. job_outcome (job_view job) (files one) (files other))
+        → LacksFile known_files (λ files. outcome_step_of words files)
     by None lacks = lacks
     by (Some files) lacks = named_as words files job image trace one other is from first second ∙ lacks
 
 -- what is made is judged whatever files there are
-pub judged_made : (words : List (List ℕ)) (job : Job) (number rows : ℕ) (result : Result Outcome Stop) → job_of words ≡ Some (job_view job) → job.texts ≡ MadeOf number rows → MeantBy (λ outcome. outcome) result (job_outcome (job_view job) (Some (made_image number)) (Some (made_trace number rows))) → (files : Files) → MeantBy (λ outcome. outcome) result (judged words files)
+pub judged_made : (words : List (List ℕ)) (job : Job) (number rows : ℕ) (result : Result Outcome Stop)
+    → job_of words ≡ Some (job_view job) → job.command ≡ Make number rows
+    → MeantBy (λ outcome. outcome) result
+    (job_outcome (job_view job) (Some (made_image number)) (Some (made_trace number rows))) → (files : Files)
+    → MeantBy (λ outcome. outcome) result (outcome_step_of words files)
 judged_made words job number rows result is from meant files =
-    along (λ outcome. outcome) result (job_outcome (job_view job) (Some (made_image number)) (Some (made_trace number rows))) (judged words files) (sym (judged_as words files job (MadeOf number rows) is from)) meant
+    along (λ outcome. outcome) result
+    (job_outcome (job_view job) (Some (made_image number)) (Some (made_trace number rows)))
+    (outcome_step_of words files) (sym (judged_as words files job (Make number rows) is from)) meant
 
-pub told_anyway : {X Y : Type 0} (view : X → Y) (told : Option Files) (result : Result X Stop) (meant : Files → Step Y) → ((files : Files) → MeantBy view result (meant files)) → MeantTold told view result meant
+pub told_anyway : {X Y : Type 0} (view : X → Y) (known_files : Option Files) (result : Result X Stop)
+    (meant : Files → Step Y) → ((files : Files) → MeantBy view result (meant files))
+    → MeantWhereKnown known_files view result meant
 told_anyway view None result meant all = tt
 told_anyway view (Some files) result meant all = all files
 
-pub read_without_miss : {X Y : Type 0} (told : Option Files) (result : Result X Stop) (meant : Files → Step Y) (count : ℕ) → WasRead result → MissesStop result told meant count count
-read_without_miss told (Ok x) meant count read = refl
-read_without_miss told (Err (Known outcome)) meant count read = refl
-read_without_miss told (Err NoMemory) meant count read = refl
-read_without_miss told (Err ReadFault) meant count read = absurd read
+pub read_without_miss : {X Y : Type 0} (known_files : Option Files) (result : Result X Stop) (meant : Files → Step Y)
+    (count : ℕ) → WasRead result → MissesStop result known_files meant count count
+read_without_miss known_files (Ok x) meant count read = refl
+read_without_miss known_files (Err (Known outcome)) meant count read = refl
+read_without_miss known_files (Err NoMemory) meant count read = refl
+read_without_miss known_files (Err ReadFault) meant count read = absurd read
 
 -- words that ask for no job, or for one over files, ask for nothing that is made
 pub no_job_is_not_made : (words : List (List ℕ)) → job_of words ≡ None → is_made words ≡ true → ⊥
-no_job_is_not_made words none made = let never : false ≡ true = ap (λ job. is_some (option_and_then (λ job. made_of job.texts) job)) (sym none) ∙ made in cc
+no_job_is_not_made words none made =
+    let never : false ≡ true =
+    ap (λ job. is_some (option_and_then (λ job. made_of job.command) job)) (sym none) ∙ made in cc
 
-pub files_are_not_made : (words : List (List ℕ)) (job : Job) (image trace : _) → job_of words ≡ Some (job_view job) → job.texts ≡ FilesOf image trace → is_made words ≡ true → ⊥
+pub files_are_not_made : (words : List (List ℕ)) (job : Job) (image trace : _) → job_of words ≡ Some (job_view job)
+    → job.command ≡ Judge image trace → is_made words ≡ true → ⊥
 files_are_not_made words job image trace is from made =
-    let never : false ≡ true = ap (λ texts. is_some (made_of (texts_by string_bytes texts))) (sym from) ∙ ap (λ job. is_some (option_and_then (λ job. made_of job.texts) job)) (sym is) ∙ made in cc
+    let never : false ≡ true =
+    ap (λ command. is_some (made_of (command_by string_bytes command))) (sym from)
+    ∙ ap (λ job. is_some (option_and_then (λ job. made_of job.command) job)) (sym is) ∙ made in cc
 
 -- where both texts are there, none is lacked
 memory_lacks_none : (job : JobView) (text : List ℕ) → text_memory job text ≡ Err None → ⊥
 unfolding text_memory
 memory_lacks_none job text lacks = by (nat_lt job.max_image (length text)) (image_of job.map.ram text) lacks
   where
-    by : (large : Bool) (image : Result (ℕ → Option ℕ) ImageFault) → (if large then Err (Some (outcome_of job (ImageTooLarge job.max_image))) else as_memory job image) ≡ Err None → ⊥
+    by : (large : Bool) (image : Result (ℕ → Option ℕ) ImageFault)
+        → (if large then Err (Some (outcome_of job (ImageTooLarge job.max_image))) else as_memory job image)
+        ≡ Err None → ⊥
     by true image lacks = cc
     by false (Err fault) lacks = cc
     by false (Ok bytes) lacks = cc
 
-lines_lack_none : (job : JobView) (memory : ℕ → ℕ) (lines : List (List ℕ)) (ending : Ending) → lines_outcome job memory (record { lines = lines; ending = ending }) ≡ Err None → ⊥
+lines_lack_none : (job : JobView) (memory : ℕ → ℕ) (lines : List (List ℕ)) (ending : Ending)
+    → lines_outcome job memory (record { lines = lines; ending = ending }) ≡ Err None → ⊥
 unfolding lines_outcome columns_in
 lines_lack_none job memory [] ending lacks = cc
 lines_lack_none job memory (header ∷ rows) ending lacks = by (header_columns header) refl
@@ -149,6 +222,6 @@ lacks_none job image trace lacks = by (text_memory job image) refl
     by (Err None) is = memory_lacks_none job image is
     by (Err (Some outcome)) is = let stopped = rw is at lacks in cc
     by (Ok memory) is =
-        let left = lines_of job.max_trace trace in
-        let judged : lines_outcome job memory left ≡ Err None = rw is at lacks in
-        lines_lack_none job memory left.lines left.ending judged
+        let left = file_lines job.max_trace trace in
+        let outcome_step_of : lines_outcome job memory left ≡ Err None = rw is at lacks in
+        lines_lack_none job memory left.lines left.ending outcome_step_of

@@ -1,5 +1,7 @@
 -- Lines that are taken, segment by segment.
-use Rattle.std.proofs.Common.{◌≡◌, ℕ, zero, suc, ◌+◌, ◌-◌, ◌*◌, ◌<◌, ◌≤◌, Bool, true, false, List, [], ◌∷◌, ◌++◌, length, take, drop, nat_le, if◌then◌else◌, Option, Some, None, IsSome, Result, Ok, Err, IfOk, refl, sym, ap, ap₂, subst, ◌∙◌, arith, append-nil, string_bytes, take-add}
+use Rattle.std.proofs.Common.{◌≡◌, ℕ, zero, suc, ◌+◌, ◌-◌, ◌*◌, ◌<◌, ◌≤◌, Bool, true, false, List, [], ◌∷◌, ◌++◌}
+use Rattle.std.proofs.Common.{length, take, drop, nat_le, if◌then◌else◌, Option, Some, None, IsSome, Result, Ok, Err}
+use Rattle.std.proofs.Common.{IfOk, refl, sym, ap, ap₂, subst, ◌∙◌, arith, append-nil, string_bytes, take-add}
 use Rattle.std.specs.List.{flat_map}
 use Rattle.std.proofs.lemmas.Bool.{leb-true, leb-false, le-leb}
 use Rattle.std.proofs.Math.Nat.{add-mul}
@@ -8,29 +10,35 @@ use Rattle.std.proofs.lemmas.List.{drop-drop, length-drop, length-take-le, take-
 use Rattle.std.proofs.lemmas.List.Concat.{flat_map-append, flat_map-cons}
 use Rattle.outside_ports.specs.Ports.{Files, IsThere, file_of}
 use Rattle.rvfi_rows.specs.declared.segment.Segment.{Segment}
-use Rattle.rvfi_rows.specs.Segments.{lines_of}
+use Rattle.rvfi_rows.specs.Segments.{segment_lines}
 use Rattle.trace_lines.specs.declared.piece.Ending.{Ending}
 use Rattle.trace_lines.specs.declared.piece.Ending.TheVariants as endings
 use Rattle.trace_lines.specs.declared.line_taker.LineTaker.{LineTaker}
 use Rattle.trace_lines.specs.declared.piece.Piece.{Piece}
-use Rattle.trace_lines.specs.Lines.{Left}
+use Rattle.trace_lines.specs.Lines.{RemainingLines}
 use Rattle.trace_lines.specs.Pieces.{FitsAsked, FitsEnding, back_of, front_of}
-use Rattle.trace_lines.specs.Takers.{TakesTold, left_of, room_of}
+use Rattle.trace_lines.specs.Takers.{TakesWhereKnown, remaining_lines_of, room_of}
 use Rattle.judge_run.specs.declared.taken.Asked.{Asked}
-use Rattle.judge_run.specs.Taking.{IsTaken, TakesBehindTold, TakesLines, TakesLinesTold, TakesSoFar, TakesSoFarTold, behind_ending, left_with, more_turns}
+use Rattle.judge_run.specs.Taking.{TakesSegments, TakesAfterWhereKnown, TakesLines, TakesLinesWhereKnown, TakesSoFar}
+use Rattle.judge_run.specs.Taking.{TakesSoFarWhereKnown, remaining_after, with_lines_before, more_turns}
 
 -- before any call
-pub none_taken : (file : Option (List ℕ)) (taker : LineTaker) → TakesSoFarTold file 0 taker [] taker
+pub none_taken : (file : Option (List ℕ)) (taker : LineTaker) → TakesSoFarWhereKnown file 0 taker [] taker
 unfolding back_of
 none_taken None taker = tt
 none_taken (Some file) taker = record { enough = omega arith; lines = refl; left = refl; name = refl }
 
 -- a call whose lines are as many as were asked for found so many
-pub front_more : (asked : ℕ) (left : Left) (lines : List (List ℕ)) → record { lines = lines; ending = endings.More } ≡ front_of asked left → length lines ≡ asked → (asked ≤ length left.lines) × (lines ≡ take asked left.lines)
+pub front_more : (asked : ℕ) (left : RemainingLines) (lines : List (List ℕ))
+    → record { lines = lines; ending = endings.More } ≡ front_of asked left → length lines ≡ asked
+    → (asked ≤ length left.lines) × (lines ≡ take asked left.lines)
 unfolding front_of
 front_more asked left lines front count = by (nat_le asked (length left.lines)) refl front
   where
-    by : (test : Bool) → nat_le asked (length left.lines) ≡ test → record { lines = lines; ending = endings.More } ≡ (if test then record { lines = take asked left.lines; ending = endings.More } else left) → (asked ≤ length left.lines) × (lines ≡ take asked left.lines)
+    by : (test : Bool) → nat_le asked (length left.lines) ≡ test
+        → record { lines = lines; ending = endings.More }
+        ≡ (if test then record { lines = take asked left.lines; ending = endings.More } else left)
+        → (asked ≤ length left.lines) × (lines ≡ take asked left.lines)
     by true e is = (leb-true _ _ e, ap (λ view. view.lines) is)
     by false e is =
         let fewer = leb-false _ _ e in
@@ -38,45 +46,61 @@ front_more asked left lines front count = by (nat_le asked (length left.lines)) 
         absurd (omega (arith, fewer, same, count))
 
 -- one with fewer lines took all that was left
-pub front_last : (asked : ℕ) (left piece : Left) → piece ≡ front_of asked left → length piece.lines < asked → piece ≡ left
+pub front_last : (asked : ℕ) (left piece : RemainingLines) → piece ≡ front_of asked left → length piece.lines < asked
+    → piece ≡ left
 unfolding front_of
 front_last asked left piece front few = by (nat_le asked (length left.lines)) refl front
   where
-    by : (test : Bool) → nat_le asked (length left.lines) ≡ test → piece ≡ (if test then record { lines = take asked left.lines; ending = endings.More } else left) → piece ≡ left
+    by : (test : Bool) → nat_le asked (length left.lines) ≡ test
+        → piece ≡ (if test then record { lines = take asked left.lines; ending = endings.More } else left)
+        → piece ≡ left
     by true e is =
         let enough : asked ≤ length left.lines = leb-true _ _ e in
-        let many : length piece.lines ≡ asked = ap (λ view. length view.lines) is ∙ length-take-le asked left.lines enough in
+        let many : length piece.lines ≡ asked =
+        ap (λ view. length view.lines) is ∙ length-take-le asked left.lines enough in
         absurd (omega (arith, many, few))
     by false e is = is
 
 -- the back of a back
-back_twice : (first next : ℕ) (left : Left) → back_of next (back_of first left) ≡ back_of (first + next) left
+back_twice : (first next : ℕ) (left : RemainingLines) → back_of next (back_of first left) ≡ back_of (first + next) left
 unfolding back_of
-back_twice first next left = ap (λ lines. record { lines = lines; ending = left.ending }) (drop-drop next first left.lines)
+back_twice first next left =
+    ap (λ lines. record { lines = lines; ending = left.ending }) (drop-drop next first left.lines)
 
-back_lines : (asked : ℕ) (left : Left) → (back_of asked left).lines ≡ drop asked left.lines
+back_lines : (asked : ℕ) (left : RemainingLines) → (back_of asked left).lines ≡ drop asked left.lines
 unfolding back_of
 back_lines asked left = refl
 
-back_ending : (asked : ℕ) (left : Left) → (back_of asked left).ending ≡ left.ending
+back_ending : (asked : ℕ) (left : RemainingLines) → (back_of asked left).ending ≡ left.ending
 unfolding back_of
 back_ending asked left = refl
 
--- one more call, behind which more may follow
-take_on : (file : List ℕ) (first next : ℕ) (before middle after : LineTaker) (lines more : List (List ℕ)) → TakesSoFar file first before lines middle → record { lines = more; ending = endings.More } ≡ front_of next (left_of file middle) → left_of file after ≡ back_of next (left_of file middle) → after.name ≡ middle.name → length more ≡ next → TakesSoFar file (first + next) before (lines ++ more) after
+-- one more call, after which more may follow
+take_on : (file : List ℕ) (first next : ℕ) (before middle after : LineTaker) (lines more : List (List ℕ))
+    → TakesSoFar file first before lines middle
+    → record { lines = more; ending = endings.More } ≡ front_of next (remaining_lines_of file middle)
+    → remaining_lines_of file after ≡ back_of next (remaining_lines_of file middle) → after.name ≡ middle.name
+    → length more ≡ next → TakesSoFar file (first + next) before (lines ++ more) after
 take_on file first next before middle after lines more taken front back name count =
-    let left = left_of file before in
-    let found = front_more next (left_of file middle) more front count in
-    let behind : (left_of file middle).lines ≡ drop first left.lines = ap (λ view. view.lines) taken.left ∙ back_lines first left in
-    let room : length (left_of file middle).lines ≡ length left.lines - first = ap length behind ∙ length-drop first left.lines in
+    let left = remaining_lines_of file before in
+    let found = front_more next (remaining_lines_of file middle) more front count in
+    let following : (remaining_lines_of file middle).lines ≡ drop first left.lines =
+    ap (λ view. view.lines) taken.left ∙ back_lines first left in
+    let room : length (remaining_lines_of file middle).lines ≡ length left.lines - first =
+    ap length following ∙ length-drop first left.lines in
     record {
       enough = omega (arith, found.0, room, taken.enough);
-      lines = ap₂ (λ one other. one ++ other) taken.lines (found.1 ∙ ap (take next) behind) ∙ sym (take-add first next left.lines);
+      lines =
+          ap₂ (λ one other. one ++ other) taken.lines (found.1 ∙ ap (take next) following)
+          ∙ sym (take-add first next left.lines);
       left = back ∙ ap (back_of next) taken.left ∙ back_twice first next left;
       name = name ∙ taken.name;
     }
 
-pub take_on_told : (file : Option (List ℕ)) (first next : ℕ) (before middle after : LineTaker) (lines : List (List ℕ)) (piece : Piece) → TakesSoFarTold file first before lines middle → TakesTold file next middle piece after → piece.ending ≡ endings.More → FitsAsked next piece → TakesSoFarTold file (first + next) before (lines ++ piece.lines) after
+pub take_on_told : (file : Option (List ℕ)) (first next : ℕ) (before middle after : LineTaker) (lines : List (List ℕ))
+    (piece : Piece) → TakesSoFarWhereKnown file first before lines middle
+    → TakesWhereKnown file next middle piece after → piece.ending ≡ endings.More → FitsAsked next piece
+    → TakesSoFarWhereKnown file (first + next) before (lines ++ piece.lines) after
 take_on_told None first next before middle after lines piece taken takes more fits = tt
 take_on_told (Some file) first next before middle after lines piece taken takes more fits =
     let count : length piece.lines ≡ next = subst (λ ending. FitsEnding ending next (length piece.lines)) more fits in
@@ -84,85 +108,124 @@ take_on_told (Some file) first next before middle after lines piece taken takes 
     take_on file first next before middle after lines piece.lines taken front takes.left takes.name count
 
 -- as many as were asked for
-front_whole : (asked : ℕ) (left : Left) → asked ≤ length left.lines → record { lines = take asked left.lines; ending = endings.More } ≡ front_of asked left
+front_whole : (asked : ℕ) (left : RemainingLines) → asked ≤ length left.lines
+    → record { lines = take asked left.lines; ending = endings.More } ≡ front_of asked left
 unfolding front_of
 front_whole asked left enough = let some : nat_le asked (length left.lines) ≡ true = le-leb _ _ enough in rw some refl
 
-pub takes_whole : (file : Option (List ℕ)) (asked : ℕ) (before after : LineTaker) (lines : List (List ℕ)) → TakesSoFarTold file asked before lines after → TakesLinesTold file asked before lines endings.More after
+pub takes_whole : (file : Option (List ℕ)) (asked : ℕ) (before after : LineTaker) (lines : List (List ℕ))
+    → TakesSoFarWhereKnown file asked before lines after
+    → TakesLinesWhereKnown file asked before lines endings.More after
 takes_whole None asked before after lines taken = tt
 takes_whole (Some file) asked before after lines taken = record {
-  taken = ap (λ text. record { lines = text; ending = endings.More }) taken.lines ∙ front_whole asked (left_of file before) taken.enough;
+  taken =
+      ap (λ text. record { lines = text; ending = endings.More }) taken.lines
+      ∙ front_whole asked (remaining_lines_of file before) taken.enough;
   left = λ more. taken.left;
   name = taken.name;
 }
 
 -- a call with fewer lines than were asked for is the last
-front_fewer : (asked : ℕ) (left : Left) → length left.lines < asked → left ≡ front_of asked left
+front_fewer : (asked : ℕ) (left : RemainingLines) → length left.lines < asked → left ≡ front_of asked left
 unfolding front_of
-front_fewer asked left fewer = let none : nat_le asked (length left.lines) ≡ false = not_enough (nat_le asked (length left.lines)) refl in rw none refl
+front_fewer asked left fewer =
+    let none : nat_le asked (length left.lines) ≡ false = not_enough (nat_le asked (length left.lines)) refl in
+    rw none refl
   where
     not_enough : (test : Bool) → nat_le asked (length left.lines) ≡ test → nat_le asked (length left.lines) ≡ false
     not_enough true e = let enough = leb-true asked (length left.lines) e in absurd (omega (arith, enough, fewer))
     not_enough false e = e
 
-take_last : (file : List ℕ) (first next asked : ℕ) (before middle after : LineTaker) (lines more : List (List ℕ)) (ending : Ending) → TakesSoFar file first before lines middle → record { lines = more; ending = ending } ≡ front_of next (left_of file middle) → after.name ≡ middle.name → length more < next → first + next ≤ asked → (ending ≡ endings.More → ⊥) → TakesLines file asked before (lines ++ more) ending after
+take_last : (file : List ℕ) (first next asked : ℕ) (before middle after : LineTaker) (lines more : List (List ℕ))
+    (ending : Ending) → TakesSoFar file first before lines middle
+    → record { lines = more; ending = ending } ≡ front_of next (remaining_lines_of file middle)
+    → after.name ≡ middle.name → length more < next → first + next ≤ asked → (ending ≡ endings.More → ⊥)
+    → TakesLines file asked before (lines ++ more) ending after
 take_last file first next asked before middle after lines more ending taken front name few within last =
-    let left = left_of file before in
-    let all : record { lines = more; ending = ending } ≡ back_of first left = front_last next (left_of file middle) (record { lines = more; ending = ending }) front few ∙ taken.left in
+    let left = remaining_lines_of file before in
+    let all : record { lines = more; ending = ending } ≡ back_of first left =
+    front_last next (remaining_lines_of file middle) (record { lines = more; ending = ending }) front few
+    ∙ taken.left in
     let rest : more ≡ drop first left.lines = ap (λ view. view.lines) all ∙ back_lines first left in
     let same : ending ≡ left.ending = ap (λ view. view.ending) all ∙ back_ending first left in
-    let whole : lines ++ more ≡ left.lines = ap₂ (λ one other. one ++ other) taken.lines rest ∙ take-append-drop first left.lines in
+    let whole : lines ++ more ≡ left.lines =
+    ap₂ (λ one other. one ++ other) taken.lines rest ∙ take-append-drop first left.lines in
     let count : length more ≡ length left.lines - first = ap length rest ∙ length-drop first left.lines in
     record {
-      taken = ap₂ (λ text end. record { lines = text; ending = end }) whole same ∙ front_fewer asked left (omega (arith, count, few, within, taken.enough));
+      taken =
+          ap₂ (λ text end. record { lines = text; ending = end }) whole same
+          ∙ front_fewer asked left (omega (arith, count, few, within, taken.enough));
       left = λ more. absurd (last more);
       name = name ∙ taken.name;
     }
 
-pub take_last_told : (file : Option (List ℕ)) (first next asked : ℕ) (before middle after : LineTaker) (lines : List (List ℕ)) (piece : Piece) → TakesSoFarTold file first before lines middle → TakesTold file next middle piece after → FitsAsked next piece → (piece.ending ≡ endings.More → ⊥) → first + next ≤ asked → TakesLinesTold file asked before (lines ++ piece.lines) piece.ending after
+pub take_last_told : (file : Option (List ℕ)) (first next asked : ℕ) (before middle after : LineTaker)
+    (lines : List (List ℕ)) (piece : Piece) → TakesSoFarWhereKnown file first before lines middle
+    → TakesWhereKnown file next middle piece after → FitsAsked next piece → (piece.ending ≡ endings.More → ⊥)
+    → first + next ≤ asked → TakesLinesWhereKnown file asked before (lines ++ piece.lines) piece.ending after
 take_last_told None first next asked before middle after lines piece taken takes fits last within = tt
 take_last_told (Some file) first next asked before middle after lines piece taken takes fits last within =
-    take_last file first next asked before middle after lines piece.lines piece.ending taken takes.taken takes.name (fewer piece.ending fits last) within last
+    take_last file first next asked before middle after lines piece.lines piece.ending taken takes.taken takes.name
+    (fewer piece.ending fits last) within last
   where
-    fewer : (ending : Ending) → FitsEnding ending next (length piece.lines) → (ending ≡ endings.More → ⊥) → length piece.lines < next
+    fewer : (ending : Ending) → FitsEnding ending next (length piece.lines) → (ending ≡ endings.More → ⊥)
+        → length piece.lines < next
     fewer endings.More fits last = absurd (last refl)
     fewer endings.End fits last = fits
     fewer (endings.TooLong line) fits last = fits
     fewer endings.TooLarge fits last = fits
 
 -- how many lines there are
-pub fits_last : (first next asked : ℕ) (ending : Ending) (count more : ℕ) → count ≡ first → FitsEnding ending next more → (ending ≡ endings.More → ⊥) → first + next ≤ asked → FitsEnding ending asked (count + more)
+pub fits_last : (first next asked : ℕ) (ending : Ending) (count more : ℕ) → count ≡ first
+    → FitsEnding ending next more → (ending ≡ endings.More → ⊥) → first + next ≤ asked
+    → FitsEnding ending asked (count + more)
 fits_last first next asked endings.More count more so_far fits last within = absurd (last refl)
 fits_last first next asked endings.End count more so_far fits last within = omega (arith, so_far, fits, within)
-fits_last first next asked (endings.TooLong line) count more so_far fits last within = omega (arith, so_far, fits, within)
+fits_last first next asked (endings.TooLong line) count more so_far fits last within =
+    omega (arith, so_far, fits, within)
 fits_last first next asked endings.TooLarge count more so_far fits last within = omega (arith, so_far, fits, within)
 
 -- a file that is there stays there, as calls go on
-pub there_behind : (told : Option Files) (before after : LineTaker) (asked : ℕ) (lines : List (List ℕ)) → IsThere told (string_bytes before.name) → TakesSoFarTold (file_of told (string_bytes before.name)) asked before lines after → IsThere told (string_bytes after.name)
+pub there_behind : (known_files : Option Files) (before after : LineTaker) (asked : ℕ) (lines : List (List ℕ))
+    → IsThere known_files (string_bytes before.name)
+    → TakesSoFarWhereKnown (file_of known_files (string_bytes before.name)) asked before lines after
+    → IsThere known_files (string_bytes after.name)
 there_behind None before after asked lines there taken = tt
 there_behind (Some files) before after asked lines there taken = by (files (string_bytes before.name)) refl there taken
   where
-    by : (file : Option (List ℕ)) → files (string_bytes before.name) ≡ file → IsSome file → TakesSoFarTold file asked before lines after → IsSome (files (string_bytes after.name))
+    by : (file : Option (List ℕ)) → files (string_bytes before.name) ≡ file → IsSome file
+        → TakesSoFarWhereKnown file asked before lines after → IsSome (files (string_bytes after.name))
     by None e there taken = absurd cc
     by (Some file) e there taken =
-        let again : files (string_bytes after.name) ≡ Some file = ap (λ text. files (string_bytes text)) taken.name ∙ e in
+        let again : files (string_bytes after.name) ≡ Some file =
+        ap (λ text. files (string_bytes text)) taken.name ∙ e in
         subst IsSome (sym again) refl
 
 -- a call of a taker that stands further on in the same file
-pub takes_on : (told : Option Files) (before middle after : LineTaker) (asked next : ℕ) (lines : List (List ℕ)) (piece : Piece) → IsThere told (string_bytes before.name) → TakesSoFarTold (file_of told (string_bytes before.name)) asked before lines middle → TakesTold (file_of told (string_bytes middle.name)) next middle piece after → TakesTold (file_of told (string_bytes before.name)) next middle piece after
+pub takes_on : (known_files : Option Files) (before middle after : LineTaker) (asked next : ℕ) (lines : List (List ℕ))
+    (piece : Piece) → IsThere known_files (string_bytes before.name)
+    → TakesSoFarWhereKnown (file_of known_files (string_bytes before.name)) asked before lines middle
+    → TakesWhereKnown (file_of known_files (string_bytes middle.name)) next middle piece after
+    → TakesWhereKnown (file_of known_files (string_bytes before.name)) next middle piece after
 takes_on None before middle after asked next lines piece there taken takes = tt
-takes_on (Some files) before middle after asked next lines piece there taken takes = by (files (string_bytes before.name)) refl there taken
+takes_on (Some files) before middle after asked next lines piece there taken takes =
+    by (files (string_bytes before.name)) refl there taken
   where
-    by : (file : Option (List ℕ)) → files (string_bytes before.name) ≡ file → IsSome file → TakesSoFarTold file asked before lines middle → TakesTold file next middle piece after
+    by : (file : Option (List ℕ)) → files (string_bytes before.name) ≡ file → IsSome file
+        → TakesSoFarWhereKnown file asked before lines middle → TakesWhereKnown file next middle piece after
     by None e there taken = absurd cc
     by (Some file) e there taken =
-        let again : files (string_bytes middle.name) ≡ Some file = ap (λ text. files (string_bytes text)) taken.name ∙ e in
-        subst (λ told. TakesTold told next middle piece after) again takes
+        let again : files (string_bytes middle.name) ≡ Some file =
+        ap (λ text. files (string_bytes text)) taken.name ∙ e in
+        subst (λ known_files. TakesWhereKnown known_files next middle piece after) again takes
 
 -- one segment more, where a piece has lines, and none where it has not
-pub one_segment_more : (segments : List Segment) (segment : Segment) → flat_map lines_of (segments ++ segment ∷ []) ≡ flat_map lines_of segments ++ segment.lines
+pub one_segment_more : (segments : List Segment) (segment : Segment)
+    → flat_map segment_lines (segments ++ segment ∷ []) ≡ flat_map segment_lines segments ++ segment.lines
 one_segment_more segments segment =
-    flat_map-append lines_of segments (segment ∷ []) ∙ ap (λ rest. flat_map lines_of segments ++ rest) (flat_map-cons lines_of segment [] ∙ append-nil segment.lines)
+    flat_map-append segment_lines segments (segment ∷ [])
+    ∙ ap (λ rest. flat_map segment_lines segments ++ rest)
+    (flat_map-cons segment_lines segment [] ∙ append-nil segment.lines)
 
 -- one segment more than so many, which are fewer than were asked for
 pub next_lines_are : (count segment : ℕ) → (count + 1) * segment ≡ count * segment + segment
@@ -172,56 +235,82 @@ next_lines_are count segment =
 
 pub next_within : (count asked segment : ℕ) → count < asked → count * segment + segment ≤ asked * segment
 next_within count asked segment fewer =
-    let whole : (count + 1) * segment ≤ asked * segment = mul-le (count + 1) segment asked segment (omega (arith, fewer)) (omega arith) in
+    let whole : (count + 1) * segment ≤ asked * segment =
+    mul-le (count + 1) segment asked segment (omega (arith, fewer)) (omega arith) in
     let next = next_lines_are count segment in
     omega (arith, whole, next)
 
 -- before any segment
-pub begins : (file : Option (List ℕ)) (taker : LineTaker) (segment : ℕ) (items : List Segment) → items ≡ [] → TakesSoFarTold file (0 * segment) taker (flat_map lines_of items) taker
-begins file taker segment items none = let nothing : 0 * segment ≡ 0 = omega arith in rw (none, nothing) (none_taken file taker)
+pub begins : (file : Option (List ℕ)) (taker : LineTaker) (segment : ℕ) (items : List Segment) → items ≡ []
+    → TakesSoFarWhereKnown file (0 * segment) taker (flat_map segment_lines items) taker
+begins file taker segment items none =
+    let nothing : 0 * segment ≡ 0 = omega arith in rw (none, nothing) (none_taken file taker)
 
-pub no_lines : (segment : ℕ) (items : List Segment) → items ≡ [] → length (flat_map lines_of items) ≡ 0 * segment
+pub no_lines : (segment : ℕ) (items : List Segment) → items ≡ [] → length (flat_map segment_lines items) ≡ 0 * segment
 no_lines segment items none = let nothing : 0 * segment ≡ 0 = omega arith in rw (none, nothing) refl
 
--- ---- what was taken, with what is left behind it, is what was left
+-- ---- what was taken, with what is left after it, is what was left
 
-front_and_back : (asked : ℕ) (left : Left) (lines : List (List ℕ)) → lines ≡ take asked left.lines → left_with lines (back_of asked left) ≡ left
+front_and_back : (asked : ℕ) (left : RemainingLines) (lines : List (List ℕ)) → lines ≡ take asked left.lines
+    → with_lines_before lines (back_of asked left) ≡ left
 unfolding back_of
 front_and_back asked left lines is =
-    ap (λ text. record { lines = text; ending = left.ending }) (ap (λ text. text ++ drop asked left.lines) is ∙ take-append-drop asked left.lines)
+    ap (λ text. record { lines = text; ending = left.ending })
+    (ap (λ text. text ++ drop asked left.lines) is ∙ take-append-drop asked left.lines)
 
-all_and_none : (left : Left) (lines : List (List ℕ)) (ending : Ending) → record { lines = lines; ending = ending } ≡ left → left_with lines (record { lines = []; ending = ending }) ≡ left
+all_and_none : (left : RemainingLines) (lines : List (List ℕ)) (ending : Ending)
+    → record { lines = lines; ending = ending } ≡ left
+    → with_lines_before lines (record { lines = []; ending = ending }) ≡ left
 all_and_none left lines ending is = ap (λ text. record { lines = text; ending = ending }) (append-nil lines) ∙ is
 
-taken_is_left : (file : List ℕ) (asked : ℕ) (before after : LineTaker) (lines : List (List ℕ)) (ending : Ending) → TakesLines file asked before lines ending after → FitsEnding ending asked (length lines) → left_with lines (behind_ending ending (left_of file after)) ≡ left_of file before
+taken_is_left : (file : List ℕ) (asked : ℕ) (before after : LineTaker) (lines : List (List ℕ)) (ending : Ending)
+    → TakesLines file asked before lines ending after → FitsEnding ending asked (length lines)
+    → with_lines_before lines (remaining_after ending (remaining_lines_of file after)) ≡ remaining_lines_of file before
 taken_is_left file asked before after lines endings.More takes fits =
-    let left = left_of file before in
-    ap (left_with lines) (takes.left refl) ∙ front_and_back asked left lines (front_more asked left lines takes.taken fits).1
+    let left = remaining_lines_of file before in
+    ap (with_lines_before lines) (takes.left refl)
+    ∙ front_and_back asked left lines (front_more asked left lines takes.taken fits).1
 taken_is_left file asked before after lines endings.End takes fits =
-    all_and_none (left_of file before) lines endings.End (front_last asked (left_of file before) (record { lines = lines; ending = endings.End }) takes.taken fits)
+    all_and_none (remaining_lines_of file before) lines endings.End
+    (front_last asked (remaining_lines_of file before) (record { lines = lines; ending = endings.End })
+    takes.taken fits)
 taken_is_left file asked before after lines (endings.TooLong line) takes fits =
-    all_and_none (left_of file before) lines (endings.TooLong line) (front_last asked (left_of file before) (record { lines = lines; ending = endings.TooLong line }) takes.taken fits)
+    all_and_none (remaining_lines_of file before) lines (endings.TooLong line)
+    (front_last asked (remaining_lines_of file before) (record { lines = lines; ending = endings.TooLong line })
+    takes.taken fits)
 taken_is_left file asked before after lines endings.TooLarge takes fits =
-    all_and_none (left_of file before) lines endings.TooLarge (front_last asked (left_of file before) (record { lines = lines; ending = endings.TooLarge }) takes.taken fits)
+    all_and_none (remaining_lines_of file before) lines endings.TooLarge
+    (front_last asked (remaining_lines_of file before) (record { lines = lines; ending = endings.TooLarge })
+    takes.taken fits)
 
-pub taken_behind : (file : Option (List ℕ)) (asked : ℕ) (ending : Ending) (before after : LineTaker) (lines : List (List ℕ)) (now : Ending) → ending ≡ endings.More → TakesLinesTold file asked before lines now after → FitsEnding now asked (length lines) → TakesBehindTold file ending before lines now after
+pub taken_behind : (file : Option (List ℕ)) (asked : ℕ) (ending : Ending) (before after : LineTaker)
+    (lines : List (List ℕ)) (now : Ending) → ending ≡ endings.More
+    → TakesLinesWhereKnown file asked before lines now after → FitsEnding now asked (length lines)
+    → TakesAfterWhereKnown file ending before lines now after
 taken_behind None asked ending before after lines now more takes fits = tt
 taken_behind (Some file) asked ending before after lines now more takes fits = record {
-  left = taken_is_left file asked before after lines now takes fits ∙ ap (λ ending. behind_ending ending (left_of file before)) (sym more);
+  left =
+      taken_is_left file asked before after lines now takes fits
+      ∙ ap (λ ending. remaining_after ending (remaining_lines_of file before)) (sym more);
   name = takes.name;
 }
 
 -- the same of a result
-pub result_behind : {A E : Type 0} (text : A → List (List ℕ)) (now : A → Ending) (after : A → LineTaker) (file : Option (List ℕ)) (asked : ℕ) (ending : Ending) (before : LineTaker) (result : Result A E) → ending ≡ endings.More
-    → IfOk result (λ taken. TakesLinesTold file asked before (text taken) (now taken) (after taken)) → IfOk result (λ taken. FitsEnding (now taken) asked (length (text taken)))
-    → IfOk result (λ taken. TakesBehindTold file ending before (text taken) (now taken) (after taken))
-result_behind text now after file asked ending before (Ok taken) more takes fits = taken_behind file asked ending before (after taken) (text taken) (now taken) more takes fits
+pub result_behind : {A E : Type 0} (text : A → List (List ℕ)) (now : A → Ending) (after : A → LineTaker)
+    (file : Option (List ℕ)) (asked : ℕ) (ending : Ending) (before : LineTaker) (result : Result A E)
+    → ending ≡ endings.More
+    → IfOk result (λ taken. TakesLinesWhereKnown file asked before (text taken) (now taken) (after taken))
+    → IfOk result (λ taken. FitsEnding (now taken) asked (length (text taken)))
+    → IfOk result (λ taken. TakesAfterWhereKnown file ending before (text taken) (now taken) (after taken))
+result_behind text now after file asked ending before (Ok taken) more takes fits =
+    taken_behind file asked ending before (after taken) (text taken) (now taken) more takes fits
 result_behind text now after file asked ending before (Err error) more takes fits = tt
 
-pub none_behind : (file : Option (List ℕ)) (ending : Ending) (taker : LineTaker) (lines : List (List ℕ)) → lines ≡ [] → TakesBehindTold file ending taker lines ending taker
+pub none_behind : (file : Option (List ℕ)) (ending : Ending) (taker : LineTaker) (lines : List (List ℕ)) → lines ≡ []
+    → TakesAfterWhereKnown file ending taker lines ending taker
 none_behind None ending taker lines none = tt
 none_behind (Some file) ending taker lines none = record {
-  left = ap (λ text. left_with text (behind_ending ending (left_of file taker))) none;
+  left = ap (λ text. with_lines_before text (remaining_after ending (remaining_lines_of file taker))) none;
   name = refl;
 }
 
@@ -233,8 +322,11 @@ some_lines (suc asked) (suc segment) one other = omega arith
 some_lines zero segment one other = absurd (omega (arith, one))
 some_lines (suc asked) zero one other = absurd (omega (arith, other))
 
-pub some_taken : (asked segment : ℕ) (ending : Ending) (segments : List Segment) → 0 < asked → 0 < segment → FitsEnding ending (asked * segment) (length (flat_map lines_of segments)) → more_turns ending ≤ length segments
-some_taken asked segment endings.More [] some lines fits = let all = some_lines asked segment some lines in absurd (omega (arith, all, fits))
+pub some_taken : (asked segment : ℕ) (ending : Ending) (segments : List Segment) → 0 < asked → 0 < segment
+    → FitsEnding ending (asked * segment) (length (flat_map segment_lines segments))
+    → more_turns ending ≤ length segments
+some_taken asked segment endings.More [] some lines fits =
+    let all = some_lines asked segment some lines in absurd (omega (arith, all, fits))
 some_taken asked segment endings.More (one ∷ segments) some lines fits = omega arith
 some_taken asked segment endings.End segments some lines fits = omega arith
 some_taken asked segment (endings.TooLong line) segments some lines fits = omega arith
@@ -253,24 +345,31 @@ no_turns (endings.TooLong line) last = refl
 no_turns endings.TooLarge last = refl
 
 -- what is promised of segments that were taken, in one
-pub taken_are : {A E : Type 0} (segments : A → List Segment) (now : A → Ending) (after : A → LineTaker) (asked : Asked) (segment : ℕ) (before : LineTaker) (result : Result A E) → 0 < segment → asked.ending ≡ endings.More
-    → IfOk result (λ taken. FitsEnding (now taken) (asked.segments * segment) (length (flat_map lines_of (segments taken))))
-    → IfOk result (λ taken. length (segments taken) ≤ asked.segments) → IfOk result (λ taken. length (segments taken) ≤ length (flat_map lines_of (segments taken)))
-    → IfOk result (λ taken. length (flat_map lines_of (segments taken)) + room_of (after taken) ≤ room_of before)
-    → IfOk result (λ taken. IsTaken asked before (segments taken) (now taken) (after taken))
+pub taken_are : {A E : Type 0} (segments : A → List Segment) (now : A → Ending) (after : A → LineTaker)
+    (asked : Asked) (segment : ℕ) (before : LineTaker) (result : Result A E) → 0 < segment → asked.ending ≡ endings.More
+    → IfOk result
+    (λ taken. FitsEnding (now taken) (asked.segments * segment) (length (flat_map segment_lines (segments taken))))
+    → IfOk result (λ taken. length (segments taken) ≤ asked.segments)
+    → IfOk result (λ taken. length (segments taken) ≤ length (flat_map segment_lines (segments taken)))
+    → IfOk result (λ taken. length (flat_map segment_lines (segments taken)) + room_of (after taken) ≤ room_of before)
+    → IfOk result (λ taken. TakesSegments asked before (segments taken) (now taken) (after taken))
 taken_are segments now after asked segment before (Ok taken) one more fits few full room = record {
   few = few;
   full = full;
   room = room;
-  ending = let most = few_turns (now taken) in let turns : more_turns asked.ending ≡ 1 = ap more_turns more in omega (arith, most, turns);
+  ending =
+      let most = few_turns (now taken) in
+      let turns : more_turns asked.ending ≡ 1 = ap more_turns more in omega (arith, most, turns);
   some = λ some. some_taken asked.segments segment (now taken) (segments taken) some one fits;
 }
 taken_are segments now after asked segment before (Err error) one more fits few full room = tt
 
-pub none_are : (asked : Asked) (taker : LineTaker) (segments : List Segment) → segments ≡ [] → (asked.ending ≡ endings.More → ⊥) → IsTaken asked taker segments asked.ending taker
+pub none_are : (asked : Asked) (taker : LineTaker) (segments : List Segment) → segments ≡ []
+    → (asked.ending ≡ endings.More → ⊥) → TakesSegments asked taker segments asked.ending taker
 none_are asked taker segments none last =
     let no : length segments ≡ 0 = ap length none in
-    let lines : length (flat_map lines_of segments) ≡ 0 = ap (λ segments. length (flat_map lines_of segments)) none in
+    let lines : length (flat_map segment_lines segments) ≡ 0 =
+    ap (λ segments. length (flat_map segment_lines segments)) none in
     let turns = no_turns asked.ending last in
     record {
       few = omega (arith, no);

@@ -1,5 +1,6 @@
 -- What a sink holds, piece by piece.
-use Rattle.std.proofs.Common.{◌≡◌, ℕ, ◌+◌, List, ◌++◌, take, drop, Option, Some, None, option_map, Ok, refl, sym, ap, ◌∙◌, append_assoc, append-nil}
+use Rattle.std.proofs.Common.{◌≡◌, ℕ, ◌+◌, List, ◌++◌, take, drop, Option, Some, None, option_map, Ok, refl, sym, ap}
+use Rattle.std.proofs.Common.{◌∙◌, append_assoc, append-nil}
 use Rattle.std.proofs.Math.Seq.{take-add}
 use Rattle.outside_ports.specs.Ports.{held_after}
 
@@ -9,10 +10,18 @@ wrote_none None text = refl
 wrote_none (Some bytes) text = ap (λ all. Some all) (sym (append-nil bytes))
 
 -- some bytes more
-pub wrote_more : (before now later : Option (List ℕ)) (text piece : List ℕ) (done count : ℕ) → piece ≡ drop done text → now ≡ option_map (λ bytes. bytes ++ take done text) before → later ≡ option_map (held_after (Ok count) piece) now → later ≡ option_map (λ bytes. bytes ++ take (done + count) text) before
+pub wrote_more : (before now later : Option (List ℕ)) (text piece : List ℕ) (done count : ℕ) → piece ≡ drop done text
+    → now ≡ option_map (λ bytes. bytes ++ take done text) before
+    → later ≡ option_map (held_after (Ok count) piece) now
+    → later ≡ option_map (λ bytes. bytes ++ take (done + count) text) before
 wrote_more before now later text piece done count rest so_far after =
     after ∙ ap (λ held. option_map (held_after (Ok count) piece) held) so_far ∙ by before
   where
-    by : (held : Option (List ℕ)) → option_map (held_after (Ok count) piece) (option_map (λ bytes. bytes ++ take done text) held) ≡ option_map (λ bytes. bytes ++ take (done + count) text) held
+    by : (held : Option (List ℕ))
+        → option_map (held_after (Ok count) piece) (option_map (λ bytes. bytes ++ take done text) held)
+        ≡ option_map (λ bytes. bytes ++ take (done + count) text) held
     by None = refl
-    by (Some bytes) = ap (λ all. Some all) (append_assoc bytes (take done text) (take count piece) ∙ ap (λ more. bytes ++ more) (ap (λ p. take done text ++ take count p) rest ∙ sym (take-add done count text)))
+    by (Some bytes) =
+        ap (λ all. Some all)
+        (append_assoc bytes (take done text) (take count piece)
+        ∙ ap (λ more. bytes ++ more) (ap (λ p. take done text ++ take count p) rest ∙ sym (take-add done count text)))

@@ -4,37 +4,41 @@ use Rattle.board_core.specs.declared.event.Event.{Event}
 use Rattle.rvfi_rows.specs.Columns.{ColumnList}
 use Rattle.rvfi_rows.specs.Rows.{RowReading, rows_of}
 use Rattle.hart_step.specs.declared.state.Core.{Core}
+use Rattle.hart_words.specs.declared.span.Span.{Span}
 use Rattle.hart_words.specs.Memory.{Bytes}
 use Rattle.rvfi_rows.specs.declared.segment.Segment.{Segment}
 use Rattle.hart_step.specs.declared.hart.Hart.{Hart}
-use Rattle.hart_step.specs.Harts.{state_of}
 use Rattle.hart_step.specs.Rows.{HartState}
-use Rattle.boundary_guess.specs.Cuts.{lines_through}
+use Rattle.boundary_guess.specs.Cuts.{lines_of_pieces}
 use Rattle.segment_judge.specs.declared.found.Found.{Found}
 use Rattle.segment_judge.specs.Judgements.{Judgement, by_hart}
+use Rattle.verdict_board.specs.declared.view.View.{View}
 use Rattle.verdict_join.specs.Founds.{Leaves, candidates}
 use Rattle.segment_judge.specs.declared.judged.Judged.{Judged as JudgedSegment}
-use Rattle.verdict_join.specs.Joining.{found_of, rows_in}
 use Rattle.verdict_join.specs.Joins.{Sameness, joined}
 use Rattle.verdict_join.specs.Laws.{HasVerdict, TellsApart}
+use Rattle.segment_workers.specs.Laws.{AreEventsOf}
 
 -- what the lines of pieces read as
 abbrev pub pieces_rows : ColumnList → List (List (List ℕ)) → List (List RowReading)
 pieces_rows columns pieces = map (rows_of columns) pieces
 
--- lines that were cut in any way, with any guess before each piece: whatever a list of events on the board leaves found of
--- the pieces, their join has the verdict on all lines from the true state, and the state behind them
-abbrev pub AnyEvents : HartState → ColumnList → List (List (List ℕ)) → List HartState → List Event → List (Found (Judgement Core)) → Type 0
+-- lines that were cut in any way, with any guess before each piece: whatever a list of events on the board leaves found
+-- of
+-- the pieces, their join has the verdict on all lines from the true state, and the state after them
+abbrev pub AnyEvents : HartState → ColumnList → List (List (List ℕ)) → List HartState → List Event
+    → List (Found (Judgement Core)) → Type 0
 AnyEvents start columns pieces guesses events founds =
     length guesses ≡ length pieces
     → Leaves by_hart (pieces_rows columns pieces) guesses (length pieces) events founds
     → (same : Sameness Core) → TellsApart same
-    → HasVerdict by_hart start (rows_of columns (lines_through pieces))
+    → HasVerdict by_hart start (rows_of columns (lines_of_pieces pieces))
     (joined by_hart same (candidates (pieces_rows columns pieces) guesses founds) start)
 
--- some list of events leaves what was found of segments
-abbrev pub AreLeft : {M : Type 0} → (M → Bytes) → ColumnList → List Segment → List (Hart M) → List (Found (JudgedSegment M)) → Type 0
-AreLeft bytes_of columns segments guesses founds =
-    let rows : List (List RowReading) = map (rows_in columns) segments in
-    let states : List HartState = map (state_of bytes_of) guesses in
-    (events : List Event) × Leaves by_hart rows states (length segments) events (map (found_of rows states) founds)
+-- workers at a board found this of segments: it was closed by a seat with this view, and these were their events
+pub record AreLeft {M : Type 0} (bytes_of : M → Bytes) (ram_of : M → Span) (columns : ColumnList)
+    (segments : List Segment) (guesses : List (Hart M)) (founds : List (Found (JudgedSegment M))) : Type 0 where
+  pub view : View
+  pub events : List Event
+  pub events_are : AreEventsOf bytes_of ram_of
+      (record { columns = columns; segments = segments; guesses = guesses; founds = founds; view = view }) events

@@ -1,5 +1,6 @@
 -- Segments settled in rounds.
-use Rattle.std.specs.Prelude.{◌≡◌, ℕ, ◌+◌, ◌<◌, ◌≤◌, List, drop, length, map, take, Option, Some, None, option_map, IfSome, Vec}
+use Rattle.std.specs.Prelude.{◌≡◌, ℕ, ◌+◌, ◌<◌, ◌≤◌, List, drop, length, map, take, Option, Some, None, option_map}
+use Rattle.std.specs.Prelude.{IfSome, Vec}
 use Rattle.std.specs.Global.{Global}
 use Rattle.std.specs.List.{All, flat_map}
 use Rattle.hart_words.specs.declared.span.Span.{Span}
@@ -10,88 +11,104 @@ use Rattle.rvfi_rows.specs.declared.verdict.Verdict.TheVariants.{Agrees}
 use Rattle.rvfi_rows.specs.declared.columns.Columns.{Columns}
 use Rattle.rvfi_rows.specs.Columns.{ColumnList}
 use Rattle.rvfi_rows.specs.Rows.{rows_of}
-use Rattle.rvfi_rows.specs.Segments.{IsRead, lines_of}
+use Rattle.rvfi_rows.specs.Segments.{IsRead, segment_lines}
 use Rattle.hart_step.specs.declared.hart.Hart.{Hart}
 use Rattle.hart_step.specs.declared.state.Core.{Core}
 use Rattle.hart_step.specs.Harts.{CanStep, state_of}
 use Rattle.hart_step.specs.Rows.{HartState}
-use Rattle.boundary_guess.specs.Truth.{HoldsWords, ShowChanges}
-use Rattle.segment_judge.specs.Judgements.{by_hart, counted_on}
+use Rattle.boundary_guess.specs.Truth.{ShowChanges}
+use Rattle.segment_judge.specs.Judgements.{by_hart, verdict_after_rows}
 use Rattle.segment_judge.specs.Laws.{conclusion_from}
 use Rattle.verdict_join.specs.declared.joined.Joined.{Joined as JoinedSegments}
 use Rattle.verdict_join.specs.declared.joined.Round.{Round}
 use Rattle.verdict_join.specs.Joining.{round_of}
 use Rattle.verdict_join.specs.Joins.{Joined}
 use Rattle.verdict_join.specs.Rounds.{AreRounds, IsRound, rejudged_in, rounds_conclude}
-use Rattle.judge_run.specs.declared.rounds.Settling.{Settling}
+use Rattle.judge_run.specs.declared.tally.Settling.{Settling}
 use Rattle.judge_run.specs.declared.tally.Tally.{Tally}
-use Rattle.judge_run.specs.declared.tally.Behind.{Behind}
-use Rattle.judge_run.specs.declared.tally.Behind.TheVariants.{On, Ends}
+use Rattle.judge_run.specs.declared.tally.AfterRound.{AfterRound}
+use Rattle.judge_run.specs.declared.tally.AfterRound.TheVariants.{On, Ends}
 
--- segments come to what rounds come to that settle them, each made anew from where the one before ended, and each counted
+-- segments come to what rounds come to that settle them, each made anew from where the one before ended, and each
+-- counted
 -- as a step
-pub record SettlesInRounds {M : Type 0} (bytes_of : M → Bytes) (columns : ColumnList) (segments : List Segment) (start : HartState) (before now : ℕ) (joined : JoinedSegments M) : Type 0 where
+pub record SettlesInRounds {M : Type 0} (bytes_of : M → Bytes) (columns : ColumnList) (segments : List Segment)
+    (start : HartState) (before now : ℕ) (joined : JoinedSegments M) : Type 0 where
   pub rounds : List (Joined Core)
-  pub are : AreRounds start columns (map lines_of segments) rounds
+  pub are : AreRounds start columns (map segment_lines segments) rounds
   pub counted : now ≡ before + length rounds
   pub verdict : joined.verdict ≡ (rounds_conclude start rounds).verdict
   pub end : option_map (state_of bytes_of) joined.end ≡ (rounds_conclude start rounds).end
   pub rejudged : joined.rejudged ≡ rejudged_in rounds
 
--- where a round leads, by the verdict on all rows up to its last and the hart behind them, if they agree
-abbrev pub behind_by : {M : Type 0} → Tally → ℕ → ℕ → Verdict → Option (Hart M) → Behind M
-behind_by tally settled rejudged (Agrees rows valid) (Some hart) = On (record {
+-- where a round leads, by the verdict on all rows up to its last and the hart after them, if they agree
+abbrev pub after_round_by : {M : Type 0} → Tally → ℕ → ℕ → Verdict → Option (Hart M) → AfterRound M
+after_round_by tally settled rejudged (Agrees rows valid) (Some hart) = On (record {
   hart = hart;
-  tally = record { rows = rows; valid = valid; settled = tally.settled + settled; rejudged = tally.rejudged + rejudged };
+  tally =
+      record { rows = rows; valid = valid; settled = tally.settled + settled; rejudged = tally.rejudged + rejudged };
 })
-behind_by tally settled rejudged verdict end =
+after_round_by tally settled rejudged verdict end =
     Ends (record { verdict = verdict; end = None; rejudged = tally.rejudged + rejudged })
 
-abbrev pub behind : {M : Type 0} → Tally → Round M → Behind M
-behind tally round =
-    behind_by tally round.settled round.rejudged (counted_on tally.rows tally.valid round.verdict) round.end
+abbrev pub after_round : {M : Type 0} → Tally → Round M → AfterRound M
+after_round tally round =
+    after_round_by tally round.settled round.rejudged (verdict_after_rows tally.rows tally.valid round.verdict)
+    round.end
 
 -- what was counted of the first segments is no more than they have
 pub record IsTallied (segments : List Segment) (tally : Tally) : Type 0 where
   pub within : tally.settled ≤ length segments
   pub valid : tally.valid ≤ tally.rows
-  pub rows : tally.rows + length (flat_map lines_of (drop tally.settled segments)) ≤ length (flat_map lines_of segments)
+  pub rows : tally.rows
+      + length (flat_map segment_lines (drop tally.settled segments)) ≤ length (flat_map segment_lines segments)
   pub again : tally.rejudged ≤ tally.settled
 
 -- a round over segments, from a hart before them
-pub record IsRoundOver {M : Type 0} (bytes_of : M → Bytes) (ram_of : M → Span) (columns : ColumnList) (segments : List Segment) (start : HartState) (round : Round M) : Type 0 where
-  pub is_round : IsRound start columns (map lines_of segments) (round_of bytes_of round)
+pub record IsRoundOver {M : Type 0} (bytes_of : M → Bytes) (ram_of : M → Span) (columns : ColumnList)
+    (segments : List Segment) (start : HartState) (round : Round M) : Type 0 where
+  pub is_round : IsRound start columns (map segment_lines segments) (round_of bytes_of round)
   pub within : round.settled ≤ length segments
   pub some : 0 < length segments → 0 < round.settled
   pub again : round.rejudged ≤ 1
-  pub verdict : round.verdict ≡ (conclusion_from by_hart start (rows_of columns (flat_map lines_of (take round.settled segments)))).verdict
-  pub end : option_map (state_of bytes_of) round.end ≡ (conclusion_from by_hart start (rows_of columns (flat_map lines_of (take round.settled segments)))).end
+  pub verdict : round.verdict
+      ≡ (conclusion_from by_hart start (rows_of columns (flat_map segment_lines (take round.settled segments)))).verdict
+  pub end : option_map (state_of bytes_of) round.end
+      ≡ (conclusion_from by_hart start (rows_of columns (flat_map segment_lines (take round.settled segments)))).end
   pub can_step : IfSome round.end (CanStep ram_of)
 
 -- what the first segments come to, so many of them and one at least
-pub record IsPartOver {M : Type 0} (bytes_of : M → Bytes) (ram_of : M → Span) (columns : ColumnList) (segments : List Segment) (start : HartState) (part : Round M) : Type 0 where
+pub record IsPartOver {M : Type 0} (bytes_of : M → Bytes) (ram_of : M → Span) (columns : ColumnList)
+    (segments : List Segment) (start : HartState) (part : Round M) : Type 0 where
   pub within : part.settled ≤ length segments
   pub some : 0 < part.settled
   pub again : part.rejudged ≤ part.settled
-  pub verdict : part.verdict ≡ (conclusion_from by_hart start (rows_of columns (flat_map lines_of (take part.settled segments)))).verdict
-  pub end : option_map (state_of bytes_of) part.end ≡ (conclusion_from by_hart start (rows_of columns (flat_map lines_of (take part.settled segments)))).end
+  pub verdict : part.verdict
+      ≡ (conclusion_from by_hart start (rows_of columns (flat_map segment_lines (take part.settled segments)))).verdict
+  pub end : option_map (state_of bytes_of) part.end
+      ≡ (conclusion_from by_hart start (rows_of columns (flat_map segment_lines (take part.settled segments)))).end
   pub can_step : IfSome part.end (CanStep ram_of)
 
 -- what all of the segments come to; where their rows show what they change, none is judged again
-pub record IsSettled {M : Type 0} (bytes_of : M → Bytes) (ram_of : M → Span) (columns : ColumnList) (segments : List Segment) (start : HartState) (joined : JoinedSegments M) : Type 0 where
-  pub verdict : joined.verdict ≡ (conclusion_from by_hart start (rows_of columns (flat_map lines_of segments))).verdict
-  pub end : option_map (state_of bytes_of) joined.end ≡ (conclusion_from by_hart start (rows_of columns (flat_map lines_of segments))).end
+pub record IsSettled {M : Type 0} (bytes_of : M → Bytes) (ram_of : M → Span) (columns : ColumnList)
+    (segments : List Segment) (start : HartState) (joined : JoinedSegments M) : Type 0 where
+  pub verdict : joined.verdict
+      ≡ (conclusion_from by_hart start (rows_of columns (flat_map segment_lines segments))).verdict
+  pub end : option_map (state_of bytes_of) joined.end
+      ≡ (conclusion_from by_hart start (rows_of columns (flat_map segment_lines segments))).end
   pub can_step : IfSome joined.end (CanStep ram_of)
   pub again : joined.rejudged ≤ length segments
-  pub once : HoldsWords start → ShowChanges (rows_of columns (flat_map lines_of segments)) → joined.rejudged ≡ 0
+  pub once : ShowChanges (rows_of columns (flat_map segment_lines segments)) → joined.rejudged ≡ 0
 
 -- segments were read under these columns, and have the lines of others
 pub record IsReadPart (columns : Columns) (others : List Segment) (part : Vec Segment Global) : Type 0 where
   pub read : All (IsRead columns) part.items
-  pub lines : map lines_of part.items ≡ map lines_of others
+  pub lines : map segment_lines part.items ≡ map segment_lines others
 
 -- a round leads on from what was settled
-pub record LeadsBy {M : Type 0} (bytes_of : M → Bytes) (ram_of : M → Span) (columns : ColumnList) (segments : List Segment) (settling : Settling M) (next : Behind M) : Type 0 where
+pub record LeadsBy {M : Type 0} (bytes_of : M → Bytes) (ram_of : M → Span) (columns : ColumnList)
+    (segments : List Segment) (settling : Settling M) (next : AfterRound M) : Type 0 where
   pub round : Round M
-  pub over : IsRoundOver bytes_of ram_of columns (drop settling.tally.settled segments) (state_of bytes_of settling.hart) round
-  pub leads : next ≡ behind settling.tally round
+  pub over : IsRoundOver bytes_of ram_of columns (drop settling.tally.settled segments)
+      (state_of bytes_of settling.hart) round
+  pub leads : next ≡ after_round settling.tally round

@@ -22,9 +22,9 @@ MeantBy view (Err ReadFault) meant = Unit {0}
 MeantBy view (Err NoMemory) meant = Unit {0}
 
 -- the same where files are told
-abbrev pub MeantTold : {X Y : Type 0} → Option Files → (X → Y) → Result X Stop → (Files → Step Y) → Type 0
-MeantTold None view result meant = Unit {0}
-MeantTold (Some files) view result meant = MeantBy view result (meant files)
+abbrev pub MeantWhereKnown : {X Y : Type 0} → Option Files → (X → Y) → Result X Stop → (Files → Step Y) → Type 0
+MeantWhereKnown None view result meant = Unit {0}
+MeantWhereKnown (Some files) view result meant = MeantBy view result (meant files)
 
 -- the count of faults rises exactly with a failed read
 abbrev pub CountsStop : {X : Type 0} → Result X Stop → ℕ → ℕ → Type 0
@@ -39,10 +39,10 @@ LacksFile None meant = ⊥
 LacksFile (Some files) meant = meant files ≡ Err None
 
 abbrev pub MissesStop : {X Y : Type 0} → Result X Stop → Option Files → (Files → Step Y) → ℕ → ℕ → Type 0
-MissesStop (Ok x) told meant before now = now ≡ before
-MissesStop (Err (Known outcome)) told meant before now = now ≡ before
-MissesStop (Err NoMemory) told meant before now = now ≡ before
-MissesStop (Err ReadFault) told meant before now = before < now → LacksFile told meant
+MissesStop (Ok x) known_files meant before now = now ≡ before
+MissesStop (Err (Known outcome)) known_files meant before now = now ≡ before
+MissesStop (Err NoMemory) known_files meant before now = now ≡ before
+MissesStop (Err ReadFault) known_files meant before now = before < now → LacksFile known_files meant
 
 -- the outcome of words that ask for no job
 abbrev pub is_no_job_ruling : Ruling → Bool

@@ -1,7 +1,7 @@
 //! Runs of which each read fails in turn, and whose text is taken up to each of its bytes.
 
 ghost use Rattle.std.specs.Prelude.{◌<◌};
-ghost use Rattle.outside_ports.specs.Memory.{told_of};
+ghost use Rattle.outside_ports.specs.Memory.{known_files_of};
 
 use super::program_tests::{CALL_IMAGE, CALL_TRACE};
 use super::tests::{IMAGE, TRACE, list, named};
@@ -36,7 +36,7 @@ impl OneFails {
 }
 
 impl Shelf for OneFails {
-    ghost told = { λ shelf. told_of shelf.shelf.shelf.files.items };
+    ghost known_files = { λ shelf. known_files_of shelf.shelf.shelf.files.items };
 
     ghost faults = { λ shelf. shelf.faults };
 
@@ -66,7 +66,7 @@ type Case = (
 /// ADDI x1, x0, 5; ADDI x2, x1, 1; ADDI x3, x0, 3; ADDI x4, x0, 4.
 const FOUR_IMAGE: &[u8] = b"@80000000 93 00 50 00 13 81 10 00 93 01 30 00 13 02 40 00";
 
-/// No row shows what was written, so that each guess behind the first row lacks x1.
+/// No row shows what was written, so that each guess after the first row lacks x1.
 const FOUR_TRACE: &[u8] = b"insn,pc_rdata,rs1_rdata
 0x00500093,0x80000000,
 0x00108113,0x80000004,5
@@ -110,7 +110,7 @@ const LEAF_IMAGE: &[u8] = b"@80000000
     03 33 00 00
 ";
 
-/// Two rows do not show the leaf, so that the guess behind the store has another entry there.
+/// Two rows do not show the leaf, so that the guess after the store has another entry there.
 const LEAF_TRACE: &[u8] = b"insn,pc_rdata,trap,rd_addr,rd_wdata
 0xfff00093,0x80000000,0,1,0xffffffffffffffff
 0x3b009073,0x80000004,0,0,0
@@ -225,7 +225,7 @@ fn reads_of(files: &[&[u8]], most: usize) -> u64
     reads
 }
 
-/// Fails each read of a run, and then one that is not made. No read is made behind one that fails.
+/// Fails each read of a run, and then one that is not made. No read is made after one that fails.
 fn fail_each_read<R: Threads + Sync + Abort>(
     rt: &R,
     alloc: Global,
@@ -292,7 +292,7 @@ fn ends_with_each_write_that_fails(rt: HostRuntime) -> Result<(), Fail> {
 }
 
 /// In windows of one line the trace is read no further than the line that differs, here a byte a
-/// read, so that a read behind it is not made and cannot fail.
+/// read, so that a read after it is not made and cannot fail.
 #[test]
 fn reads_no_further_than_a_difference(rt: HostRuntime) -> Result<(), Fail> {
     let alloc = rt.alloc();

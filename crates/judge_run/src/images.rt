@@ -4,10 +4,10 @@ ghost use Rattle.std.specs.Prelude.{◌≡◌, ◌^◌, ◌≤◌, ℕ, List, If
 ghost use Rattle.outside_ports.specs.Front.{HasFront};
 ghost use Rattle.image_text.specs.Bytes.{byte_at};
 ghost use Rattle.image_text.specs.Image.{image_of};
-ghost use Rattle.page_image.specs.Bytes.{byte_of, filled};
+ghost use Rattle.page_image.specs.Bytes.{byte_of, with_zeros};
 ghost use Rattle.judge_words.specs.Job.{job_view, IsLawful};
 ghost use Rattle.judge_run.specs.Answer.{as_memory, text_memory, memory_of};
-ghost use Rattle.judge_run.specs.Stops.{MeantBy, MeantTold, CountsStop, MissesStop, IsJobs, WasRead, image_stop};
+ghost use Rattle.judge_run.specs.Stops.{MeantBy, MeantWhereKnown, CountsStop, MissesStop, IsJobs, WasRead, image_stop};
 
 use crate::outcomes::outcome_of;
 use crate::stop::Stop;
@@ -26,13 +26,13 @@ pub fn read_memory<H: Shelf>(
     shelf: &mut H,
 ) -> Result<PageImage, Stop>
     requires { IsLawful (job_view job.now) }
-    ensures told { H.told shelf.new ≡ H.told shelf.old }
-    ensures meant { MeantTold (H.told shelf.old) (λ image. byte_of image) result
+    ensures known_files { H.known_files shelf.new ≡ H.known_files shelf.old }
+    ensures meant { MeantWhereKnown (H.known_files shelf.old) (λ image. byte_of image) result
         (λ files. memory_of (job_view job.now) (files name.now)) }
     ensures ram { IfOk result (λ image. image.ram ≡ job.now.map.ram) }
     ensures jobs { IsJobs result }
     ensures faults { CountsStop result (H.faults shelf.old) (H.faults shelf.new) }
-    ensures misses { MissesStop result (H.told shelf.old)
+    ensures misses { MissesStop result (H.known_files shelf.old)
         (λ files. memory_of (job_view job.now) (files name.now)) (H.misses shelf.old) (H.misses shelf.new) }
 {
     match read_front(alloc, shelf, name, job.max_image) {
@@ -70,7 +70,7 @@ fn memory_in(alloc: Global, job: &Job, front: &Front) -> Result<PageImage, Stop>
 /// The pieces of an image's text.
 #[tactic(auto, using(crate::proofs::Memories::pieces_read, crate::proofs::Memories::pieces_refused))]
 fn pieces_in(alloc: Global, job: &Job, text: &[u8]) -> Result<Pieces, Stop>
-    ensures meant { MeantBy (λ pieces. filled (byte_at pieces)) result
+    ensures meant { MeantBy (λ pieces. with_zeros (byte_at pieces)) result
         (as_memory (job_view job.now) (image_of job.now.map.ram text.now)) }
     ensures jobs { IsJobs result }
     ensures read { WasRead result }

@@ -5,9 +5,9 @@ ghost use Rattle.outside_ports.specs.Counts.{Rose};
 ghost use Rattle.outside_ports.specs.Ports.{Files};
 ghost use Rattle.judge_words.specs.Job.{job_of};
 ghost use Rattle.judge_run.specs.Answer.{answer, is_made};
-ghost use Rattle.judge_run.specs.Ends.{Ends, IsAnswer, Writes};
+ghost use Rattle.judge_run.specs.Ends.{Ends, IsAnswer, Writes, moment_of};
 
-use crate::outcomes::find_outcome;
+use crate::jobs::find_outcome;
 use crate::output::write_all;
 use crate::stop::Stop;
 use outside_ports::{Gate, Shelf, Sink};
@@ -34,26 +34,16 @@ where
     // Where the files return what they hold and no fault rises, the bytes written and the status
     // are those of one reference hart stepped from reset over the rows in order and compared at
     // each; or the status is 6 and nothing is written.
-    ensures headline { (files : Files) → H.told shelf.old ≡ Some files
+    ensures headline { (files : Files) → H.known_files shelf.old ≡ Some files
         → ¬ Rose (H.faults shelf.old) (H.faults shelf.new)
         → ¬ Rose (O.faults out.old) (O.faults out.new)
         → IsAnswer (answer (map string_bytes words.now.items) files) result
         (O.held out.old) (O.held out.new)
         ⊎ ((result ≡ 6) × (O.held out.new ≡ O.held out.old)) }
     // Whatever the outside does, the run ends in one of four ways.
-    ensures ends { Ends (H.told shelf.old) (map string_bytes words.now.items)
-        (record {
-          faults = H.faults shelf.old;
-          misses = H.misses shelf.old;
-          held = O.held out.old;
-          sink_faults = O.faults out.old;
-        })
-        (record {
-          faults = H.faults shelf.new;
-          misses = H.misses shelf.new;
-          held = O.held out.new;
-          sink_faults = O.faults out.new;
-        })
+    ensures ends { Ends (H.known_files shelf.old) (map string_bytes words.now.items)
+        (moment_of H.faults H.misses O.held O.faults shelf.old out.old)
+        (moment_of H.faults H.misses O.held O.faults shelf.new out.new)
         result }
     // A count that is greater shows in the status, and the status shows a count that rose.
     ensures counted { (H.faults shelf.old < H.faults shelf.new)
@@ -69,13 +59,13 @@ where
         (O.held out.old) (O.held out.new)
         ⊎ ((result ≡ 6) × (O.held out.new ≡ O.held out.old)) }
     ensures misses { H.misses shelf.old < H.misses shelf.new
-        → (files : Files) × (H.told shelf.old ≡ Some files)
+        → (files : Files) × (H.known_files shelf.old ≡ Some files)
         × (answer (map string_bytes words.now.items) files ≡ None) }
     // For every shelf the words alone decide whether they are refused.
     ensures words { result ≤ 4 → (result ≡ 2) ↔ (job_of (map string_bytes words.now.items) ≡ None) }
     ensures out_of_memory { result ≡ 6 → O.held out.new ≡ O.held out.old }
     // The shelf tells the same files afterwards, so that runs can follow one another.
-    ensures told { H.told shelf.new ≡ H.told shelf.old }
+    ensures known_files { H.known_files shelf.new ≡ H.known_files shelf.old }
     ensures range { result ≤ 6 }
 {
     run(rt, alloc, words, shelf, out, gate)
@@ -92,20 +82,10 @@ fn run<R, H: Shelf, O: Sink, G: Gate>(
 ) -> u8
 where
     R: Threads + Sync,
-    ensures told { H.told shelf.new ≡ H.told shelf.old }
-    ensures ends { Ends (H.told shelf.old) (map string_bytes words.now.items)
-        (record {
-          faults = H.faults shelf.old;
-          misses = H.misses shelf.old;
-          held = O.held out.old;
-          sink_faults = O.faults out.old;
-        })
-        (record {
-          faults = H.faults shelf.new;
-          misses = H.misses shelf.new;
-          held = O.held out.new;
-          sink_faults = O.faults out.new;
-        })
+    ensures known_files { H.known_files shelf.new ≡ H.known_files shelf.old }
+    ensures ends { Ends (H.known_files shelf.old) (map string_bytes words.now.items)
+        (moment_of H.faults H.misses O.held O.faults shelf.old out.old)
+        (moment_of H.faults H.misses O.held O.faults shelf.new out.new)
         result }
 {
     match find_outcome(rt, alloc, words, shelf, gate) {

@@ -1,23 +1,14 @@
-//! From the words to the outcome.
+//! Outcomes of a run.
 
-ghost use Rattle.std.specs.Prelude.{◌≡◌, Some, None, IfOk, true, codes, map, string_bytes};
-ghost use Rattle.judge_words.specs.Job.{IsLawful, job_of, job_view};
-ghost use Rattle.outside_ports.specs.Memory.{files_of};
-ghost use Rattle.outside_ports.specs.Ports.{Files};
-ghost use Rattle.trace_maker.specs.Texts.{made_image, made_trace};
+ghost use Rattle.std.specs.Prelude.{◌≡◌, None, false};
+ghost use Rattle.judge_words.specs.Job.{job_view};
 ghost use Rattle.trace_report.specs.declared.outcome.Ruling.TheVariants.{NoJob};
-ghost use Rattle.judge_run.specs.Answer.{is_made, job_outcome, judged, outcome_of};
-ghost use Rattle.judge_run.specs.Stops.{MeantBy, MeantTold, CountsStop, IsJobsOutcome, MissesStop, WasRead, WordsTell, is_no_job, is_no_job_ruling};
+ghost use Rattle.judge_run.specs.Answer.{ruling_at_end, outcome_of, without_header};
+ghost use Rattle.judge_run.specs.Stops.{is_no_job, is_no_job_ruling};
 
-use crate::images::read_memory;
-use crate::stop::Stop;
-use crate::traces::judge_trace;
-use crate::workers::Workers;
-use judge_words::{Job, Texts, WordError, read_words};
-use outside_ports::{Gate, MemShelf, NamedFile, Shelf};
-use std::alloc::{AllocError, Global};
-use std::thread::Threads;
-use trace_maker::make;
+use judge_words::{Command, Job};
+use rvfi_rows::Verdict;
+use trace_lines::Ending;
 use trace_report::{Made, Outcome, Ruling};
 
 /// What a run of a job comes to by this ruling.
@@ -25,9 +16,9 @@ pub fn outcome_of(job: &Job, ruling: Ruling) -> Outcome
     ensures outcome { result ≡ outcome_of (job_view job.now) ruling }
     ensures job { is_no_job result ≡ is_no_job_ruling ruling }
 {
-    let made = match &job.texts {
-        Texts::Files { .. } => None,
-        Texts::Made { number, rows } => Some(Made {
+    let made = match &job.command {
+        Command::Judge { .. } => None,
+        Command::Make { number, rows } => Some(Made {
             number: *number,
             rows: *rows,
         }),
@@ -35,50 +26,8 @@ pub fn outcome_of(job: &Job, ruling: Ruling) -> Outcome
     Outcome { made, ruling }
 }
 
-/// The outcome of these words over the files of the shelf: of the words first, then of the image,
-/// then of the trace. A trace that is made takes no file.
-pub fn find_outcome<R, H: Shelf, G: Gate>(
-    rt: &R,
-    alloc: Global,
-    words: &Vec<String>,
-    shelf: &mut H,
-    gate: &G,
-) -> Result<Outcome, Stop>
-where
-    R: Threads + Sync,
-    ensures told { H.told shelf.new ≡ H.told shelf.old }
-    ensures meant { MeantTold (H.told shelf.old) (λ outcome. outcome) result
-        (λ files. judged (map string_bytes words.now.items) files) }
-    ensures made { is_made (map string_bytes words.now.items) ≡ true → (files : Files)
-        → MeantBy (λ outcome. outcome) result (judged (map string_bytes words.now.items) files) }
-    ensures read { is_made (map string_bytes words.now.items) ≡ true → WasRead result }
-    ensures words { WordsTell (job_of (map string_bytes words.now.items)) result }
-    ensures faults { CountsStop result (H.faults shelf.old) (H.faults shelf.new) }
-    ensures misses { MissesStop result (H.told shelf.old)
-        (λ files. judged (map string_bytes words.now.items) files) (H.misses shelf.old)
-        (H.misses shelf.new) }
-{
-    let job = match read_words(alloc, words) {
-        Ok(job) => job,
-        Err(WordError::NotAJob) => return Err(Stop::Known(no_job())),
-        Err(WordError::NoMemory) => return Err(Stop::NoMemory),
-    };
-    let workers = Workers {
-        rt,
-        alloc,
-        gate,
-        count: job.sharing.workers,
-    };
-    match &job.texts {
-        Texts::Files { image, trace } => {
-            judge_files(&workers, &job, image.as_str(), trace.as_str(), shelf)
-        }
-        Texts::Made { number, rows } => judge_made(&workers, &job, *number, *rows),
-    }
-}
-
 /// What words come to that ask for no job.
-fn no_job() -> Outcome
+pub fn no_job() -> Outcome
     ensures { result ≡ record { made = None; ruling = NoJob } }
 {
     Outcome {
@@ -87,73 +36,33 @@ fn no_job() -> Outcome
     }
 }
 
-/// The outcome of a job over the files of these names.
-fn judge_files<R, H: Shelf, G: Gate>(
-    workers: &Workers<R, G>,
-    job: &Job,
-    image: &str,
-    trace: &str,
-    shelf: &mut H,
-) -> Result<Outcome, Stop>
-where
-    R: Threads + Sync,
-    requires lawful { IsLawful (job_view job.now) }
-    ensures told { H.told shelf.new ≡ H.told shelf.old }
-    ensures meant { MeantTold (H.told shelf.old) (λ outcome. outcome) result
-        (λ files. job_outcome (job_view job.now) (files image.now) (files trace.now)) }
-    ensures jobs { IsJobsOutcome result }
-    ensures faults { CountsStop result (H.faults shelf.old) (H.faults shelf.new) }
-    ensures misses { MissesStop result (H.told shelf.old)
-        (λ files. job_outcome (job_view job.now) (files image.now) (files trace.now))
-        (H.misses shelf.old) (H.misses shelf.new) }
+/// The ruling on a trace without a line.
+pub fn without_header(job: &Job, ending: Ending) -> Ruling
+    ensures ruling { result ≡ without_header (job_view job.now) ending }
+    ensures jobs { is_no_job_ruling result ≡ false }
 {
-    let image = match read_memory(workers.alloc, job, image, shelf) {
-        Ok(image) => image,
-        Err(stop) => return Err(stop),
-    };
-    judge_trace(workers, job, trace, &image, shelf)
-}
-
-/// The outcome of a job over what is made, by the path of files, from a shelf in memory.
-fn judge_made<R, G: Gate>(
-    workers: &Workers<R, G>,
-    job: &Job,
-    number: u32,
-    rows: u32,
-) -> Result<Outcome, Stop>
-where
-    R: Threads + Sync,
-    requires lawful { IsLawful (job_view job.now) }
-    ensures meant { MeantBy (λ outcome. outcome) result (job_outcome (job_view job.now)
-        (Some (made_image number)) (Some (made_trace number rows))) }
-    ensures jobs { IsJobsOutcome result }
-    ensures read { WasRead result }
-{
-    let mut shelf = shelf_of(workers.alloc, make(workers.alloc, number, rows)?)?;
-    match judge_files(workers, job, "image", "trace", &mut shelf) {
-        Ok(outcome) => Ok(outcome),
-        Err(Stop::ReadFault) => unreachable!(),
-        Err(stop) => Err(stop),
+    match ending {
+        Ending::TooLong(line) => Ruling::TooLong { line },
+        Ending::TooLarge => Ruling::TraceTooLarge {
+            most: job.max_trace,
+        },
+        Ending::End | Ending::More => Ruling::NoHeader,
     }
 }
 
-/// A shelf of two files, `image` and `trace`, with these texts.
-fn shelf_of(alloc: Global, texts: (Vec<u8>, Vec<u8>)) -> Result<MemShelf, AllocError>
-    ensures image { IfOk result (λ shelf.
-        files_of shelf.files.items (codes "image") ≡ Some texts.0.items) }
-    ensures trace { IfOk result (λ shelf.
-        files_of shelf.files.items (codes "trace") ≡ Some texts.1.items) }
-    ensures misses { IfOk result (λ shelf. shelf.misses ≡ 0) }
+/// The ruling on rows with this verdict, where the trace ends so.
+pub fn ruling_at_end(job: &Job, ending: Ending, verdict: Verdict) -> Ruling
+    ensures ruling { result ≡ ruling_at_end (job_view job.now) ending verdict }
+    ensures jobs { is_no_job_ruling result ≡ false }
 {
-    let (image, trace) = texts;
-    let mut files = Vec::new(alloc);
-    files.push(NamedFile {
-        name: String::from_str(alloc, "image")?,
-        bytes: image,
-    })?;
-    files.push(NamedFile {
-        name: String::from_str(alloc, "trace")?,
-        bytes: trace,
-    })?;
-    Ok(MemShelf::new(files))
+    match verdict {
+        Verdict::Agrees { .. } => match ending {
+            Ending::TooLong(line) => Ruling::TooLong { line },
+            Ending::TooLarge => Ruling::TraceTooLarge {
+                most: job.max_trace,
+            },
+            Ending::End | Ending::More => Ruling::Verdict(verdict),
+        },
+        Verdict::Differs { .. } | Verdict::Refused { .. } => Ruling::Verdict(verdict),
+    }
 }

@@ -17,7 +17,7 @@ pub fn write_all<O: Sink>(out: &mut O, text: &[u8]) -> usize
 {
     let mut done = 0;
     'writing: while done < text.len() {
-        match out.write(behind(text, done)) {
+        match out.write(following(text, done)) {
             Ok(count) => done += count,
             Err(_) => return done,
         }
@@ -26,7 +26,7 @@ pub fn write_all<O: Sink>(out: &mut O, text: &[u8]) -> usize
 }
 
 /// The bytes from a place on.
-fn behind(text: &[u8], done: usize) -> &[u8]
+fn following(text: &[u8], done: usize) -> &[u8]
     requires { done ≤ length text.now }
     ensures rest { result.now ≡ drop done text.now }
     ensures len { length result.now + done ≡ length text.now }

@@ -1,4 +1,4 @@
-//! Settling the segments of a part, while those behind it are read and taken.
+//! Settling the segments of a part, while those after it are read and taken.
 
 ghost use Rattle.std.specs.Prelude.{◌≡◌, ◌≤◌, ◌<◌, ◌+◌, ◌^◌, IfOk, IfSome, length, string_bytes};
 ghost use Rattle.std.specs.List.{flat_map};
@@ -6,24 +6,25 @@ ghost use Rattle.hart_step.specs.Harts.{CanStep, state_of};
 ghost use Rattle.judge_words.specs.Job.{IsLawful, job_view};
 ghost use Rattle.outside_ports.specs.Faults.{CountsFault, CountsMiss};
 ghost use Rattle.outside_ports.specs.Ports.{IsThere, file_of};
-ghost use Rattle.rvfi_rows.specs.Segments.{lines_of};
+ghost use Rattle.rvfi_rows.specs.Segments.{segment_lines};
 ghost use Rattle.trace_lines.specs.Errors.{is_read_fault};
 ghost use Rattle.judge_run.specs.Settling.{IsReadPart, IsSettled};
-ghost use Rattle.judge_run.specs.Taking.{IsTaken, TakesBehindTold, lines_in};
-ghost use Rattle.judge_run.specs.Parts.{CanGoOnWith, HoldsBehind};
+ghost use Rattle.judge_run.specs.Taking.{TakesSegments, TakesAfterWhereKnown, taken_lines};
+ghost use Rattle.judge_run.specs.Parts.{CanGoOnWith, HoldsAfter};
 
-use crate::left::{Held, Left};
-use crate::rounds::settle_uncounted;
-use crate::taken::{Asked, Taken, take_behind};
+use crate::progress::{Held, Left};
+use crate::rounds::settle_in_rounds;
+use crate::taken::{Asked, Taken, take_after};
 use crate::workers::Workers;
 use hart_step::Hart;
 use hart_words::{NoMemory, PhysMem};
 use judge_words::Job;
 use outside_ports::{Gate, Shelf};
 use rvfi_rows::{Columns, Segment, read_segments};
+use segment_workers::Steps;
 use std::alloc::Global;
 use std::marker::Brand;
-use std::sync::ledger::Blank;
+use std::sync::ledger::{Blank, Ledger};
 use std::thread::{Threads, join_mut};
 use trace_lines::{LineError, LineTaker};
 use verdict_join::Joined;
@@ -31,7 +32,7 @@ use verdict_join::Joined;
 /// How many segments a part has at the default window.
 const SEGMENTS_OF_A_PART: usize = 12;
 
-/// What a part comes to, and what is held behind it.
+/// What a part comes to, and what is held after it.
 #[derive(Drop)]
 pub(crate) struct Settled<M> {
     pub joined: Joined<M>,
@@ -39,7 +40,7 @@ pub(crate) struct Settled<M> {
     pub taker: LineTaker,
 }
 
-/// Settles the part that is held, reads the segments behind it, and takes the lines of a further
+/// Settles the part that is held, reads the segments after it, and takes the lines of a further
 /// part. Several workers do so at once: one thread alone takes lines, guesses and joins, and the
 /// others read rows meanwhile.
 pub fn settle_and_take<R, G: Gate, H: Shelf, M: PhysMem + Drop + Send + Sync>(
@@ -53,23 +54,23 @@ where
     R: Threads + Sync,
     requires lawful { IsLawful (job_view job.now) }
     requires going { CanGoOnWith job.now.sharing.window M.ram left.rest left.held }
-    requires there { IsThere (H.told shelf.old) (string_bytes left.rest.taker.name) }
-    ensures told { H.told shelf.new ≡ H.told shelf.old }
+    requires file_exists { IsThere (H.known_files shelf.old) (string_bytes left.rest.taker.name) }
+    ensures known_files { H.known_files shelf.new ≡ H.known_files shelf.old }
     ensures settled { IfOk result (λ settled. IsSettled M.bytes M.ram columns.now
         left.held.part.items (state_of M.bytes left.rest.hart) settled.joined) }
     ensures read { IfOk result
         (λ settled. IsReadPart columns.now left.held.next.items settled.held.part) }
-    ensures takes { let file = file_of (H.told shelf.old) (string_bytes left.rest.taker.name) in
-        IfOk result (λ settled. TakesBehindTold file left.held.ending left.rest.taker
-        (flat_map lines_of settled.held.next.items) settled.held.ending settled.taker) }
-    ensures held { IfOk result (λ settled. HoldsBehind job.now.sharing.window
+    ensures takes { let file = file_of (H.known_files shelf.old) (string_bytes left.rest.taker.name) in
+        IfOk result (λ settled. TakesAfterWhereKnown file left.held.ending left.rest.taker
+        (flat_map segment_lines settled.held.next.items) settled.held.ending settled.taker) }
+    ensures held { IfOk result (λ settled. HoldsAfter job.now.sharing.window
         left.rest.taker left.held settled.taker settled.held) }
     ensures faults { CountsFault is_read_fault result (H.faults shelf.old) (H.faults shelf.new) }
-    ensures misses { CountsMiss is_read_fault result (H.told shelf.old)
+    ensures misses { CountsMiss is_read_fault result (H.known_files shelf.old)
         (string_bytes left.rest.taker.name) (H.misses shelf.old) (H.misses shelf.new) }
 {
     let Left { rest, held } = left;
-    let asked = asked_behind(workers, job, &held);
+    let asked = asked_after(workers, job, &held);
     let is_unsure = held.is_unsure;
     let Held { part, next, .. } = held;
     let current: &[Segment] = &part;
@@ -79,7 +80,7 @@ where
     let mut read = || read_from(workers, columns, &mut unread);
     let mut settle = || -> Result<Joined<M>, NoMemory>
         requires { IfSome start (CanStep M.ram) × ((length current.now < 2 ^ 32)
-            × (length (flat_map lines_of current.now) < 2 ^ 60)) }
+            × (length (flat_map segment_lines current.now) < 2 ^ 60)) }
     { settle_from(workers, columns, current, &mut start) };
     let mut take = || take_from(workers.alloc, job, asked, &mut from, shelf);
     let (read, settled, taken) = all_at_once(workers, &mut read, &mut settle, &mut take);
@@ -108,18 +109,18 @@ where
     })
 }
 
-/// How many segments are taken behind those that are held: a part, or as many as the window has room
+/// How many segments are taken after those that are held: a part, or as many as the window has room
 /// for. A part has twelve, or a fifth of the window where that is more, and no more than a third of
 /// it, whatever the number of workers, so that what is held does not grow with them. Where guesses
 /// may be wrong it has one a worker, or three where these are fewer: enough for wrong ones to show,
-/// and no more, since those behind the first wrong one are made in vain.
-fn asked_behind<R, G>(workers: &Workers<R, G>, job: &Job, held: &Held) -> Asked
+/// and no more, since those after the first wrong one are made in vain.
+fn asked_after<R, G>(workers: &Workers<R, G>, job: &Job, held: &Held) -> Asked
     requires lawful { IsLawful (job_view job.now) }
-    requires few { length held.now.part.items + length held.now.next.items
+    requires within_window { length held.now.part.items + length held.now.next.items
         ≤ job.now.sharing.window }
-    ensures few { length held.now.part.items + length held.now.next.items + result.segments
+    ensures within_window { length held.now.part.items + length held.now.next.items + result.segments
         ≤ job.now.sharing.window }
-    ensures some { length held.now.part.items + length held.now.next.items ≡ 0
+    ensures asks_one { length held.now.part.items + length held.now.next.items ≡ 0
         → 0 < result.segments }
     ensures ending { result.ending ≡ held.now.ending }
 {
@@ -178,14 +179,14 @@ fn settle_from<R, G: Gate, M: PhysMem + Drop + Send + Sync>(
 where
     R: Threads + Sync,
     requires can_step { IfSome start.old (CanStep M.ram) }
-    requires few { length part.now < 2 ^ 32 }
-    requires lines { length (flat_map lines_of part.now) < 2 ^ 60 }
+    requires below_2_to_32 { length part.now < 2 ^ 32 }
+    requires lines { length (flat_map segment_lines part.now) < 2 ^ 60 }
     ensures { IfSome start.old (λ hart. IfOk result
         (IsSettled M.bytes M.ram columns.now part.now (state_of M.bytes hart))) }
 {
     match start.take() {
         None => Err(NoMemory),
-        Some(hart) => settle_part(workers, columns, part, hart),
+        Some(hart) => settle_part(workers, hart, columns, part),
     }
 }
 
@@ -213,23 +214,23 @@ fn take_from<H: Shelf>(
     shelf: &mut H,
 ) -> Result<(Taken, LineTaker), LineError>
     requires lawful { IsLawful (job_view job.now) }
-    requires there { IfSome from.old
-        (λ taker. IsThere (H.told shelf.old) (string_bytes taker.name)) }
-    ensures told { H.told shelf.new ≡ H.told shelf.old }
+    requires file_exists { IfSome from.old
+        (λ taker. IsThere (H.known_files shelf.old) (string_bytes taker.name)) }
+    ensures known_files { H.known_files shelf.new ≡ H.known_files shelf.old }
     ensures takes { IfSome from.old (λ taker.
-        let file = file_of (H.told shelf.old) (string_bytes taker.name) in
-        IfOk result (λ taken. TakesBehindTold file asked.ending taker (lines_in taken.0)
+        let file = file_of (H.known_files shelf.old) (string_bytes taker.name) in
+        IfOk result (λ taken. TakesAfterWhereKnown file asked.ending taker (taken_lines taken.0)
         taken.0.ending taken.1)) }
     ensures taken { IfSome from.old (λ taker. IfOk result
-        (λ taken. IsTaken asked taker taken.0.segments.items taken.0.ending taken.1)) }
+        (λ taken. TakesSegments asked taker taken.0.segments.items taken.0.ending taken.1)) }
     ensures faults { CountsFault is_read_fault result (H.faults shelf.old) (H.faults shelf.new) }
     ensures misses { IfSome from.old (λ taker.
-        CountsMiss is_read_fault result (H.told shelf.old) (string_bytes taker.name)
+        CountsMiss is_read_fault result (H.known_files shelf.old) (string_bytes taker.name)
         (H.misses shelf.old) (H.misses shelf.new)) }
 {
     match from.take() {
         None => Err(LineError::NoMemory),
-        Some(taker) => take_behind(alloc, job, asked, taker, shelf),
+        Some(taker) => take_after(alloc, job, asked, taker, shelf),
     }
 }
 
@@ -250,17 +251,40 @@ fn read_part<R: Threads + Sync, G: Gate>(
 /// Settles a part.
 fn settle_part<R, G: Gate, M: PhysMem + Drop + Send + Sync>(
     workers: &Workers<R, G>,
+    start: Hart<M>,
     columns: &Columns,
     part: &[Segment],
-    start: Hart<M>,
 ) -> Result<Joined<M>, NoMemory>
 where
     R: Threads + Sync,
     requires can_step { CanStep M.ram start }
-    requires few { length part.now < 2 ^ 32 }
-    requires lines { length (flat_map lines_of part.now) < 2 ^ 60 }
+    requires below_2_to_32 { length part.now < 2 ^ 32 }
+    requires lines { length (flat_map segment_lines part.now) < 2 ^ 60 }
     ensures { IfOk result
         (IsSettled M.bytes M.ram columns.now part.now (state_of M.bytes start)) }
 {
-    settle_uncounted::<R, G, M, Brand>(workers, start, columns, part, Blank::new(1))
+    settle_from_blank::<R, G, M, Brand>(workers, start, columns, part, Blank::new(1))
+}
+
+/// The same, with rounds counted from a blank. Nobody asks for the count.
+fn settle_from_blank<R, G: Gate, M: PhysMem + Drop + Send + Sync, L: Ledger>(
+    workers: &Workers<R, G>,
+    start: Hart<M>,
+    columns: &Columns,
+    part: &[Segment],
+    blank: Blank,
+) -> Result<Joined<M>, NoMemory>
+where
+    R: Threads + Sync,
+    requires can_step { CanStep M.ram start }
+    requires below_2_to_32 { length part.now < 2 ^ 32 }
+    requires lines { length (flat_map segment_lines part.now) < 2 ^ 60 }
+    requires name { blank.name ≡ L.name }
+    requires parts { blank.parts ≡ L.parts }
+    requires nonempty { 0 < blank.parts }
+    ensures { IfOk result
+        (IsSettled M.bytes M.ram columns.now part.now (state_of M.bytes start)) }
+{
+    let mut steps = Steps::<L>::new(blank);
+    settle_in_rounds(workers, start, columns, part, &mut steps)
 }

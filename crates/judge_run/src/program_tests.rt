@@ -45,7 +45,7 @@ const SHORT_TRACE: &[u8] = b"insn,pc_rdata,rd_addr,rd_wdata,pc_wdata,mem_addr,me
 0xc348,0x80000026,0,0,0x80000028,0x8000002c,0x0f,0xffffffff
 ";
 
-/// A call to a handler that returns behind the call, as the manual has each instruction: ECALL in
+/// A call to a handler that returns after the call, as the manual has each instruction: ECALL in
 /// M stacks MIE and the mode, and MRET takes them off.
 pub const CALL_IMAGE: &[u8] = b"@80000000
     97 02 00 00 93 82 82 01 73 90 52 30 73 00 00 00 13 03 10 00 13 00 00 00

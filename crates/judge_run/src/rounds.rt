@@ -4,33 +4,27 @@ ghost use Rattle.std.specs.Prelude.{◌≡◌, ◌≤◌, ◌<◌, ◌+◌, ◌�
 ghost use Rattle.std.specs.List.{flat_map};
 ghost use Rattle.hart_step.specs.Harts.{CanStep, state_of};
 ghost use Rattle.rvfi_rows.specs.Rows.{rows_of};
-ghost use Rattle.rvfi_rows.specs.Segments.{lines_of};
+ghost use Rattle.rvfi_rows.specs.Segments.{segment_lines};
 ghost use Rattle.boundary_guess.specs.Truth.{HoldsWords, ShowChanges};
 ghost use Rattle.segment_judge.specs.Judgements.{by_hart};
 ghost use Rattle.segment_judge.specs.Laws.{conclusion_from};
 ghost use Rattle.judge_run.specs.Settling.{IsTallied, LeadsBy, SettlesInRounds};
 
 use crate::segments::judge_round;
-use crate::tally::{Behind, Tally};
+use crate::tally::{AfterRound, Settling, Tally};
 use crate::workers::Workers;
+use boundary_guess::hold_words;
 use hart_step::Hart;
 use hart_words::{NoMemory, PhysMem};
 use outside_ports::Gate;
 use rvfi_rows::{Columns, Segment};
 use segment_workers::Steps;
 use std::alloc::Global;
-use std::sync::ledger::{Blank, Ledger};
+use std::sync::ledger::Ledger;
 use std::thread::Threads;
 use verdict_join::Joined;
 
-/// The segments that rounds settled so far: what was counted of them, and the hart behind them.
-#[derive(Drop)]
-pub(crate) struct Settling<M> {
-    pub hart: Hart<M>,
-    pub tally: Tally,
-}
-
-/// The verdict on the lines of segments, each a row under these columns, and the hart behind them
+/// The verdict on the lines of segments, each a row under these columns, and the hart after them
 /// where they agree. The hart before each segment is guessed, workers judge them side by side, and
 /// the verdicts are joined from the true state up to the first segment that has to be judged again;
 /// what is left is guessed anew from there, in a further round. There are as many rounds as there
@@ -49,23 +43,23 @@ where
     R: Threads + Sync,
     requires can_step { CanStep M.ram start }
     requires workers { (1 ≤ workers) × (workers ≤ 64) }
-    requires few { length segments.now < 2 ^ 32 }
-    requires lines { length (flat_map lines_of segments.now) < 2 ^ 60 }
+    requires below_2_to_32 { length segments.now < 2 ^ 32 }
+    requires lines { length (flat_map segment_lines segments.now) < 2 ^ 60 }
     ensures verdict { IfOk result (λ joined. joined.verdict
         ≡ (conclusion_from by_hart (state_of M.bytes start)
-        (rows_of columns.now (flat_map lines_of segments.now))).verdict) }
+        (rows_of columns.now (flat_map segment_lines segments.now))).verdict) }
     ensures end { IfOk result (λ joined. option_map (state_of M.bytes) joined.end
         ≡ (conclusion_from by_hart (state_of M.bytes start)
-        (rows_of columns.now (flat_map lines_of segments.now))).end) }
+        (rows_of columns.now (flat_map segment_lines segments.now))).end) }
     ensures rounds { IfOk result (SettlesInRounds M.bytes columns.now segments.now
         (state_of M.bytes start) steps.old steps.new) }
-    ensures few { IfOk result (λ joined. steps.new ≤ steps.old + length segments.now) }
-    ensures some { 0 < length segments.now → IfOk result (λ joined. steps.old < steps.new) }
+    // Where memory runs out too.
+    ensures at_most_segments { steps.new ≤ steps.old + length segments.now }
+    ensures one_round { 0 < length segments.now → IfOk result (λ joined. steps.old < steps.new) }
     ensures count { IfOk result (λ joined. (steps.new ≡ steps.old + joined.rejudged)
         ⊎ (steps.new ≡ steps.old + joined.rejudged + 1)) }
     // Where the valid rows show what they change, no segment is judged again.
-    ensures none { HoldsWords (state_of M.bytes start)
-        → ShowChanges (rows_of columns.now (flat_map lines_of segments.now))
+    ensures none { ShowChanges (rows_of columns.now (flat_map segment_lines segments.now))
         → IfOk result (λ joined. joined.rejudged ≡ 0) }
     ensures can_step { IfOk result (λ joined. IfSome joined.end (CanStep M.ram)) }
 {
@@ -75,52 +69,11 @@ where
         gate,
         count: workers,
     };
-    settle_by(&workers, start, columns, segments, steps)
-}
-
-/// The same where nobody asks how many rounds it takes.
-pub fn settle_uncounted<R, G: Gate, M: PhysMem + Drop + Send + Sync, L: Ledger>(
-    workers: &Workers<R, G>,
-    start: Hart<M>,
-    columns: &Columns,
-    segments: &[Segment],
-    blank: Blank,
-) -> Result<Joined<M>, NoMemory>
-where
-    R: Threads + Sync,
-    requires can_step { CanStep M.ram start }
-    requires few { length segments.now < 2 ^ 32 }
-    requires lines { length (flat_map lines_of segments.now) < 2 ^ 60 }
-    requires name { blank.name ≡ L.name }
-    requires parts { blank.parts ≡ L.parts }
-    requires some { 0 < blank.parts }
-    ensures verdict { IfOk result (λ joined. joined.verdict
-        ≡ (conclusion_from by_hart (state_of M.bytes start)
-        (rows_of columns.now (flat_map lines_of segments.now))).verdict) }
-    ensures end { IfOk result (λ joined. option_map (state_of M.bytes) joined.end
-        ≡ (conclusion_from by_hart (state_of M.bytes start)
-        (rows_of columns.now (flat_map lines_of segments.now))).end) }
-    ensures can_step { IfOk result (λ joined. IfSome joined.end (CanStep M.ram)) }
-    ensures again { IfOk result (λ joined. joined.rejudged ≤ length segments.now) }
-    ensures once { HoldsWords (state_of M.bytes start)
-        → ShowChanges (rows_of columns.now (flat_map lines_of segments.now))
-        → IfOk result (λ joined. joined.rejudged ≡ 0) }
-{
-    let mut steps = Steps::<L>::new(blank);
-    settle(
-        workers.rt,
-        workers.alloc,
-        start,
-        columns,
-        segments,
-        workers.count,
-        workers.gate,
-        &mut steps,
-    )
+    settle_in_rounds(&workers, start, columns, segments, steps)
 }
 
 /// The same by these workers.
-fn settle_by<R, G: Gate, M: PhysMem + Drop + Send + Sync, L: Ledger>(
+pub fn settle_in_rounds<R, G: Gate, M: PhysMem + Drop + Send + Sync, L: Ledger>(
     workers: &Workers<R, G>,
     start: Hart<M>,
     columns: &Columns,
@@ -130,12 +83,15 @@ fn settle_by<R, G: Gate, M: PhysMem + Drop + Send + Sync, L: Ledger>(
 where
     R: Threads + Sync,
     requires can_step { CanStep M.ram start }
-    requires few { length segments.now < 2 ^ 32 }
-    requires lines { length (flat_map lines_of segments.now) < 2 ^ 60 }
+    requires below_2_to_32 { length segments.now < 2 ^ 32 }
+    requires lines { length (flat_map segment_lines segments.now) < 2 ^ 60 }
     ensures rounds { IfOk result (SettlesInRounds M.bytes columns.now segments.now
         (state_of M.bytes start) steps.old steps.new) }
     ensures can_step { IfOk result (λ joined. IfSome joined.end (CanStep M.ram)) }
+    ensures at_most_all { steps.new ≤ steps.old + length segments.now }
+    ensures words { HoldsWords (state_of M.bytes start) }
 {
+    hold_words(&start);
     let tally = Tally::new();
     let mut settling = Settling { hart: start, tally };
     'rounds: loop {
@@ -143,8 +99,8 @@ where
             return Ok(settling.tally.agreed(settling.hart));
         }
         match settle_some(workers, columns, segments, settling, steps) {
-            Ok(Behind::On(next)) => settling = next,
-            Ok(Behind::Ends(joined)) => return Ok(joined),
+            Ok(AfterRound::On(next)) => settling = next,
+            Ok(AfterRound::Ends(joined)) => return Ok(joined),
             Err(NoMemory) => return Err(NoMemory),
         }
     }
@@ -157,19 +113,20 @@ fn settle_some<R, G: Gate, M: PhysMem + Drop + Send + Sync, L: Ledger>(
     segments: &[Segment],
     settling: Settling<M>,
     steps: &mut Steps<L>,
-) -> Result<Behind<M>, NoMemory>
+) -> Result<AfterRound<M>, NoMemory>
 where
     R: Threads + Sync,
     requires can_step { CanStep M.ram settling.hart }
     requires left { settling.tally.settled < length segments.now }
-    requires few { length segments.now < 2 ^ 32 }
-    requires lines { length (flat_map lines_of segments.now) < 2 ^ 60 }
+    requires below_2_to_32 { length segments.now < 2 ^ 32 }
+    requires lines { length (flat_map segment_lines segments.now) < 2 ^ 60 }
     requires tallied { IsTallied segments.now settling.tally }
     ensures leads { IfOk result (LeadsBy M.bytes M.ram columns.now segments.now settling) }
-    ensures steps { IfOk result (λ behind. steps.new ≡ steps.old + 1) }
+    ensures steps { IfOk result (λ following. steps.new ≡ steps.old + 1) }
+    ensures at_most_one { steps.new ≤ steps.old + 1 }
 {
     let Settling { hart, tally } = settling;
     let left = &segments[tally.settled..];
     let round = judge_round(workers, hart, columns, left, steps)?;
-    Ok(tally.behind(round))
+    Ok(tally.following(round))
 }

@@ -6,7 +6,7 @@ ghost use Rattle.std.specs.List.{All, flat_map};
 ghost use Rattle.hart_step.specs.Harts.{CanStep};
 ghost use Rattle.line_text.specs.Lines.{IsLine};
 ghost use Rattle.page_layers.specs.Memories.{layered_ram};
-ghost use Rattle.rvfi_rows.specs.Segments.{lines_of};
+ghost use Rattle.rvfi_rows.specs.Segments.{segment_lines};
 
 use crate::settle;
 use boundary_guess::cut;
@@ -169,7 +169,7 @@ fn are_short(segments: &[Segment]) -> bool
 /// Whether there are few segments, and few lines in them.
 fn are_few(segments: &[Segment]) -> bool
     ensures segments { IsTrue result → length segments.now < 2 ^ 32 }
-    ensures lines { IsTrue result → length (flat_map lines_of segments.now) < 2 ^ 60 }
+    ensures lines { IsTrue result → length (flat_map segment_lines segments.now) < 2 ^ 60 }
 {
     segments.len() < 1000 && are_short(segments)
 }
@@ -186,11 +186,14 @@ struct Told {
 /// The same of segments that each went out as often as in.
 type Wanted<'a> = (Verdict, u32, &'a [u64]);
 
-fn hold_told(rt: &impl Abort, told: &Told, wanted: Wanted) {
+fn hold_told(rt: &impl Abort, known_files: &Told, wanted: Wanted) {
     let (verdict, rejudged, passes) = wanted;
-    assert_eq!(rt; (told.verdict, told.rejudged), (verdict, rejudged));
-    assert_eq!(rt; told.passes.len(), passes.len().saturating_add(1));
-    'segments: for (number, found) in told.passes.iter().enumerate() {
+    assert_eq!(rt;
+        (known_files.verdict, known_files.rejudged),
+        (verdict, rejudged)
+    );
+    assert_eq!(rt; known_files.passes.len(), passes.len().saturating_add(1));
+    'segments: for (number, found) in known_files.passes.iter().enumerate() {
         let wanted = passes.get(number).copied().unwrap_or(0);
         assert_eq!(rt; *found, (wanted, wanted), "segment {number}");
     }
@@ -208,7 +211,7 @@ fn settle_few<R: Threads + Sync, L: Ledger>(
     requires can_step { CanStep layered_ram start.1 }
     requires name { blank.name ≡ L.name }
     requires parts { blank.parts ≡ L.parts }
-    requires some { 0 < blank.parts }
+    requires positive { 0 < blank.parts }
 {
     if !are_few(segments) || workers < 1 || 64 < workers {
         return Err(Fail::from("too many segments or workers"));
@@ -255,21 +258,21 @@ struct Settled<'a> {
     image: &'a [u8],
     trace: &'a Trace,
     cuts: (usize, u32),
-    told: Wanted<'a>,
+    known_files: Wanted<'a>,
 }
 
 /// No segment is judged again where rows show what changes. Where they do not, a round ends with
-/// the first whose guess is wrong, and those behind it are guessed anew from the true state; the
+/// the first whose guess is wrong, and those after it are guessed anew from the true state; the
 /// verdict is the same. Each segment of a round passes the gate once.
 #[test]
 fn settles_in_rounds(rt: HostRuntime) -> Result<(), Fail> {
     let four = Verdict::Agrees { rows: 4, valid: 4 };
     let five = Verdict::Agrees { rows: 5, valid: 5 };
-    let of = |image, trace, cuts, told| Settled {
+    let of = |image, trace, cuts, known_files| Settled {
         image,
         trace,
         cuts,
-        told,
+        known_files,
     };
     let cases = [
         of(FOUR, &READ, (1, 2), (four, 2, &[2, 2, 1, 1])),
@@ -284,14 +287,14 @@ fn settles_in_rounds(rt: HostRuntime) -> Result<(), Fail> {
     let alloc = rt.alloc();
     'cases: for case in cases {
         let lines = lines_with(alloc, case.trace.rows)?;
-        let told = settle_cut(
+        let known_files = settle_cut(
             &rt,
             alloc,
             case.image,
             (case.trace.header, &lines),
             case.cuts,
         )?;
-        hold_told(&rt, &told, case.told);
+        hold_told(&rt, &known_files, case.known_files);
     }
     Ok(())
 }
@@ -300,7 +303,7 @@ fn settles_in_rounds(rt: HostRuntime) -> Result<(), Fail> {
 #[test]
 fn settles_nothing_without_a_round(rt: HostRuntime) -> Result<(), Fail> {
     let alloc = rt.alloc();
-    let told = settle_cut(
+    let known_files = settle_cut(
         &rt,
         alloc,
         IMAGE,
@@ -308,7 +311,7 @@ fn settles_nothing_without_a_round(rt: HostRuntime) -> Result<(), Fail> {
         (1, 2),
     )?;
     let agrees = Verdict::Agrees { rows: 0, valid: 0 };
-    hold_told(&rt, &told, (agrees, 0, &[]));
+    hold_told(&rt, &known_files, (agrees, 0, &[]));
     Ok(())
 }
 
@@ -333,8 +336,8 @@ fn settles_made_traces_in_one_round(rt: HostRuntime) -> Result<(), Fail> {
     };
     let once = [1; 143];
     for (most, segments) in [(7, 143), (64, 16), (1000, 1)] {
-        let told = settle_cut(&rt, alloc, &image, (header, &lines), (most, 2))?;
-        hold_told(&rt, &told, (agrees, 0, &once[..segments]));
+        let known_files = settle_cut(&rt, alloc, &image, (header, &lines), (most, 2))?;
+        hold_told(&rt, &known_files, (agrees, 0, &once[..segments]));
     }
     Ok(())
 }

@@ -1,11 +1,10 @@
 //! Judging a trace in segments.
 
-ghost use Rattle.std.specs.Prelude.{◌≡◌, ◌+◌, ◌<◌, ◌^◌, IfOk, IfSome, length, option_map};
+ghost use Rattle.std.specs.Prelude.{◌≡◌, ◌+◌, ◌<◌, ◌≤◌, ◌^◌, IfOk, IfSome, length, option_map};
 ghost use Rattle.std.specs.List.{All, flat_map};
 ghost use Rattle.hart_step.specs.Harts.{CanStep, state_of};
 ghost use Rattle.rvfi_rows.specs.Rows.{rows_of};
-ghost use Rattle.rvfi_rows.specs.Segments.{lines_of};
-ghost use Rattle.boundary_guess.specs.Truth.{HoldsWords, ShowChanges};
+ghost use Rattle.rvfi_rows.specs.Segments.{segment_lines};
 ghost use Rattle.segment_judge.specs.Founds.{IsLawfulFound};
 ghost use Rattle.segment_judge.specs.Judgements.{by_hart};
 ghost use Rattle.segment_judge.specs.Laws.{conclusion_from};
@@ -39,11 +38,12 @@ pub fn judge_round<R, G: Gate, M: PhysMem + Drop + Send + Sync, L: Ledger>(
 where
     R: Threads + Sync,
     requires can_step { CanStep M.ram start }
-    requires few { length segments.now < 2 ^ 32 }
-    requires lines { length (flat_map lines_of segments.now) < 2 ^ 60 }
+    requires below_2_to_32 { length segments.now < 2 ^ 32 }
+    requires lines { length (flat_map segment_lines segments.now) < 2 ^ 60 }
     ensures over { IfOk result
         (IsRoundOver M.bytes M.ram columns.now segments.now (state_of M.bytes start)) }
     ensures steps { IfOk result (λ round. steps.new ≡ steps.old + 1) }
+    ensures at_most_one { steps.new ≤ steps.old + 1 }
 {
     // Where much was written so far, it is a layer of memory from here on, which later copies share.
     let start = start.copy()?;
@@ -52,9 +52,9 @@ where
     join_round(workers.alloc, start, columns, segments, &guesses, founds)
 }
 
-/// What the workers find of segments, from the guesses before them. Some list of events on the board
-/// leaves that, so that what is said of all such lists holds of it. Up to the first that does not
-/// agree from its guess, each is judged.
+/// What the workers find of segments, from the guesses before them. The events of the board that they
+/// worked at leave that, so that what is said of all such lists holds of it. Up to the first that
+/// does not agree from its guess, each is judged.
 fn find_by_workers<R, G: Gate, M: PhysMem + Drop + Send + Sync, L: Ledger>(
     workers: &Workers<R, G>,
     guesses: &[Hart<M>],
@@ -64,16 +64,17 @@ fn find_by_workers<R, G: Gate, M: PhysMem + Drop + Send + Sync, L: Ledger>(
 ) -> Result<Vec<Found<Judged<M>>>, NoMemory>
 where
     R: Threads + Sync,
-    requires few { length segments.now < 2 ^ 32 }
+    requires below_2_to_32 { length segments.now < 2 ^ 32 }
     requires one_each { length guesses.now ≡ length segments.now }
     requires guesses { All (CanStep M.ram) guesses.now }
     ensures lawful { IfOk result (λ founds. All
         (IsLawfulFound M.bytes M.ram columns.now segments.now guesses.now) founds.items) }
     ensures events { IfOk result (λ founds.
-        AreLeft M.bytes columns.now segments.now guesses.now founds.items) }
+        AreLeft M.bytes M.ram columns.now segments.now guesses.now founds.items) }
     ensures judged { IfOk result (λ founds. AreJudgedInTurn by_hart
         (candidates_of M.bytes columns.now segments.now guesses.now founds.items)) }
     ensures steps { IfOk result (λ founds. steps.new ≡ steps.old + 1) }
+    ensures at_most_one { steps.new ≤ steps.old + 1 }
 {
     let n = segments.len() as u32;
     let (board, seats) = Board::open(workers.alloc, n, workers.count)?;

@@ -5,12 +5,12 @@ ghost use Rattle.std.specs.List.{flat_map};
 ghost use Rattle.judge_words.specs.Job.{IsLawful, job_view};
 ghost use Rattle.outside_ports.specs.Faults.{CountsFault, CountsMiss};
 ghost use Rattle.outside_ports.specs.Ports.{IsThere, file_of};
-ghost use Rattle.rvfi_rows.specs.Segments.{lines_of};
+ghost use Rattle.rvfi_rows.specs.Segments.{segment_lines};
 ghost use Rattle.trace_lines.specs.Errors.{is_read_fault};
 ghost use Rattle.trace_lines.specs.Pieces.{FitsEnding};
 ghost use Rattle.trace_lines.specs.declared.piece.Ending.TheVariants.{More};
 ghost use Rattle.trace_lines.specs.Takers.{room_of};
-ghost use Rattle.judge_run.specs.Taking.{IsTaken, TakesBehindTold, TakesLinesTold, lines_asked, lines_in};
+ghost use Rattle.judge_run.specs.Taking.{TakesSegments, TakesAfterWhereKnown, TakesLinesWhereKnown, most_lines, taken_lines};
 
 use judge_words::Job;
 use line_text::Lines;
@@ -39,7 +39,7 @@ impl Taken {
     }
 }
 
-/// What is asked for: so many segments, behind lines that end so.
+/// What is asked for: so many segments, after lines that end so.
 #[derive(Clone, Copy)]
 pub(crate) struct Asked {
     pub segments: usize,
@@ -47,7 +47,7 @@ pub(crate) struct Asked {
 }
 
 /// Takes the segments that are asked for, or none where nothing follows.
-pub fn take_behind<H: Shelf>(
+pub fn take_after<H: Shelf>(
     alloc: Global,
     job: &Job,
     asked: Asked,
@@ -55,15 +55,15 @@ pub fn take_behind<H: Shelf>(
     shelf: &mut H,
 ) -> Result<(Taken, LineTaker), LineError>
     requires lawful { IsLawful (job_view job.now) }
-    requires there { IsThere (H.told shelf.old) (string_bytes taker.name) }
-    ensures told { H.told shelf.new ≡ H.told shelf.old }
-    ensures takes { let file = file_of (H.told shelf.old) (string_bytes taker.name) in
-        IfOk result (λ taken. TakesBehindTold file asked.ending taker (lines_in taken.0)
+    requires file_exists { IsThere (H.known_files shelf.old) (string_bytes taker.name) }
+    ensures known_files { H.known_files shelf.new ≡ H.known_files shelf.old }
+    ensures takes { let file = file_of (H.known_files shelf.old) (string_bytes taker.name) in
+        IfOk result (λ taken. TakesAfterWhereKnown file asked.ending taker (taken_lines taken.0)
         taken.0.ending taken.1) }
     ensures taken { IfOk result
-        (λ taken. IsTaken asked taker taken.0.segments.items taken.0.ending taken.1) }
+        (λ taken. TakesSegments asked taker taken.0.segments.items taken.0.ending taken.1) }
     ensures faults { CountsFault is_read_fault result (H.faults shelf.old) (H.faults shelf.new) }
-    ensures misses { CountsMiss is_read_fault result (H.told shelf.old) (string_bytes taker.name)
+    ensures misses { CountsMiss is_read_fault result (H.known_files shelf.old) (string_bytes taker.name)
         (H.misses shelf.old) (H.misses shelf.new) }
 {
     if is_more(asked.ending) {
@@ -85,20 +85,20 @@ fn take_segments<H: Shelf>(
     shelf: &mut H,
 ) -> Result<(Taken, LineTaker), LineError>
     requires lawful { IsLawful (job_view job.now) }
-    requires there { IsThere (H.told shelf.old) (string_bytes taker.name) }
-    ensures told { H.told shelf.new ≡ H.told shelf.old }
-    ensures takes { let file = file_of (H.told shelf.old) (string_bytes taker.name) in
-        IfOk result (λ taken. TakesLinesTold file (lines_asked (job_view job.now) asked) taker
-        (lines_in taken.0) taken.0.ending taken.1) }
+    requires file_exists { IsThere (H.known_files shelf.old) (string_bytes taker.name) }
+    ensures known_files { H.known_files shelf.new ≡ H.known_files shelf.old }
+    ensures takes { let file = file_of (H.known_files shelf.old) (string_bytes taker.name) in
+        IfOk result (λ taken. TakesLinesWhereKnown file (most_lines (job_view job.now) asked) taker
+        (taken_lines taken.0) taken.0.ending taken.1) }
     ensures counts { IfOk result (λ taken. FitsEnding taken.0.ending
-        (lines_asked (job_view job.now) asked) (length (lines_in taken.0))) }
-    ensures few { IfOk result (λ taken. length taken.0.segments.items ≤ asked) }
+        (most_lines (job_view job.now) asked) (length (taken_lines taken.0))) }
+    ensures at_most_asked { IfOk result (λ taken. length taken.0.segments.items ≤ asked) }
     ensures full { IfOk result (λ taken.
-        length taken.0.segments.items ≤ length (lines_in taken.0)) }
+        length taken.0.segments.items ≤ length (taken_lines taken.0)) }
     ensures room { IfOk result (λ taken.
-        length (lines_in taken.0) + room_of taken.1 ≤ room_of taker) }
+        length (taken_lines taken.0) + room_of taken.1 ≤ room_of taker) }
     ensures faults { CountsFault is_read_fault result (H.faults shelf.old) (H.faults shelf.new) }
-    ensures misses { CountsMiss is_read_fault result (H.told shelf.old) (string_bytes taker.name)
+    ensures misses { CountsMiss is_read_fault result (H.known_files shelf.old) (string_bytes taker.name)
         (H.misses shelf.old) (H.misses shelf.new) }
 {
     let mut taker = taker;
@@ -122,11 +122,11 @@ fn take_segments<H: Shelf>(
     Ok((Taken { segments, ending }, taker))
 }
 
-/// Puts lines behind the others, as a segment of their own, unless there are none.
+/// Puts lines after the others, as a segment of their own, unless there are none.
 fn push_lines(segments: &mut Vec<Segment>, lines: Lines) -> Result<(), LineError>
-    ensures lines { OnOk result (flat_map lines_of segments.new.items
-        ≡ flat_map lines_of segments.old.items ++ lines) }
-    ensures few { OnOk result (length segments.new.items ≤ length segments.old.items + 1) }
+    ensures lines { OnOk result (flat_map segment_lines segments.new.items
+        ≡ flat_map segment_lines segments.old.items ++ lines) }
+    ensures at_most_one_more { OnOk result (length segments.new.items ≤ length segments.old.items + 1) }
     ensures full { OnOk result (length segments.new.items
         ≤ length segments.old.items + length lines) }
     ensures memory { IfErr result (λ error. is_read_fault error ≡ false) }

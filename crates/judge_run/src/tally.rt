@@ -2,11 +2,10 @@
 
 ghost use Rattle.std.specs.Prelude.{◌≡◌, ◌≤◌, ◌<◌, ◌+◌, ◌^◌, None, Some};
 ghost use Rattle.rvfi_rows.specs.declared.verdict.Verdict.TheVariants.{Agrees};
+ghost use Rattle.segment_judge.specs.Judgements.{verdict_after_rows};
 ghost use Rattle.verdict_join.specs.Walks.{IsWithinRows};
-ghost use Rattle.judge_run.specs.Settling.{behind};
+ghost use Rattle.judge_run.specs.Settling.{after_round};
 
-use crate::left::counted_on;
-use crate::rounds::Settling;
 use hart_step::Hart;
 use rvfi_rows::Verdict;
 use verdict_join::{Joined, Round};
@@ -21,9 +20,16 @@ pub(crate) struct Tally {
     pub rejudged: u32,
 }
 
+/// The segments that rounds settled so far: what was counted of them, and the hart after them.
+#[derive(Drop)]
+pub(crate) struct Settling<M> {
+    pub hart: Hart<M>,
+    pub tally: Tally,
+}
+
 /// Where a round leads.
 #[derive(Drop)]
-pub(crate) enum Behind<M> {
+pub(crate) enum AfterRound<M> {
     /// Its segments agree.
     On(Settling<M>),
     /// All segments come to this.
@@ -43,7 +49,7 @@ impl Tally {
         }
     }
 
-    /// What segments come to that agree, with this hart behind them.
+    /// What segments come to that agree, with this hart after them.
     pub fn agreed<M>(self, hart: Hart<M>) -> Joined<M>
         ensures { result ≡ record {
           verdict = Agrees self.rows self.valid;
@@ -61,16 +67,16 @@ impl Tally {
         }
     }
 
-    /// Where a round leads behind these segments.
-    pub fn behind<M: Drop>(self, round: Round<M>) -> Behind<M>
-        requires few { self.rows < 2 ^ 62 }
+    /// Where a round leads after these segments.
+    pub fn following<M: Drop>(self, round: Round<M>) -> AfterRound<M>
+        requires below_2_to_62 { self.rows < 2 ^ 62 }
         requires valid { self.valid ≤ self.rows }
         requires within { IsWithinRows (2 ^ 62) round.verdict }
         requires settled { self.settled + round.settled < 2 ^ 32 }
         requires rejudged { self.rejudged + round.rejudged < 2 ^ 32 }
-        ensures { result ≡ behind self round }
+        ensures { result ≡ after_round self round }
     {
-        let verdict = counted_on(self.rows, self.valid, round.verdict);
+        let verdict = verdict_after_rows(self.rows, self.valid, round.verdict);
         let rejudged = self.rejudged + round.rejudged;
         match (verdict, round.end) {
             (Verdict::Agrees { rows, valid }, Some(hart)) => {
@@ -80,13 +86,39 @@ impl Tally {
                     settled: self.settled + round.settled,
                     rejudged,
                 };
-                Behind::On(Settling { hart, tally })
+                AfterRound::On(Settling { hart, tally })
             }
-            (verdict, _) => Behind::Ends(Joined {
+            (verdict, _) => AfterRound::Ends(Joined {
                 verdict,
                 end: None,
                 rejudged,
             }),
         }
+    }
+}
+
+/// A verdict after so many rows, and so many valid ones among these.
+pub(crate) fn verdict_after_rows(rows: u64, valid: u64, verdict: Verdict) -> Verdict
+    requires below_2_to_62 { rows < 2 ^ 62 }
+    requires valid { valid ≤ rows }
+    requires within { IsWithinRows (2 ^ 62) verdict }
+    ensures { result ≡ verdict_after_rows rows valid verdict }
+{
+    match verdict {
+        Verdict::Agrees {
+            rows: more,
+            valid: others,
+        } => Verdict::Agrees {
+            rows: rows + more,
+            valid: valid + others,
+        },
+        Verdict::Differs { row, difference } => Verdict::Differs {
+            row: rows + row,
+            difference,
+        },
+        Verdict::Refused { row, fault } => Verdict::Refused {
+            row: rows + row,
+            fault,
+        },
     }
 }

@@ -6,6 +6,7 @@ use std::alloc::{AllocError, Global};
 use std::process::Abort;
 use std::test::Fail;
 use std::thread::Threads;
+use trace_maker::make;
 
 pub const IMAGE: &[u8] = b"@80000000 93 00 50 00";
 
@@ -55,7 +56,7 @@ const SIX_TRACE: &[u8] = b"insn,pc_rdata,rd_addr,rd_wdata
 const DRIPS: [u16; 6] = [0, 1, 2, 6, 4095, 65535];
 
 /// Most lines of a segment, most segments of a window, and workers.
-const SHARES: [[&str; 3]; 8] = [
+const SHARES: [[&str; 3]; 9] = [
     ["1", "1", "1"],
     ["1", "1", "4"],
     ["1", "64", "4"],
@@ -63,10 +64,11 @@ const SHARES: [[&str; 3]; 8] = [
     ["3", "1", "2"],
     ["1", "9", "3"],
     ["5", "2", "3"],
+    ["1", "1024", "1"],
     ["1048576", "1024", "64"],
 ];
 
-/// The words, and behind them the options that share the work out so.
+/// The words, and after them the options that share the work out so.
 fn shared(alloc: Global, words: &[&str], share: [&str; 3]) -> Result<Vec<String>, AllocError> {
     let mut list = list(alloc, words)?;
     let names = ["--segment", "--window", "--workers"];
@@ -210,7 +212,7 @@ zz
             0,
             b"agrees 2\n",
         ),
-        // An order that wraps, an invalid row and a blank line, behind a mark and with returns.
+        // An order that wraps, an invalid row and a blank line, after a mark and with returns.
         (
             plain,
             two,
@@ -418,6 +420,47 @@ fn judges_side_by_side(rt: HostRuntime) -> Result<(), Fail> {
     assert_eq!(rt; sink.held.as_slice(), b"agrees 6\n".as_slice());
     assert_eq!(rt; (gate.befores(), gate.afters()), (6, 6));
     assert!(rt; !gate.gave_up());
+    Ok(())
+}
+
+/// Most lines of a segment, most segments of a window, and workers, by which a part of 400 rows or
+/// more has more than 64 segments.
+const MANY: [[&str; 3]; 4] = [
+    ["1", "1024", "1"],
+    ["1", "1024", "3"],
+    ["1", "400", "1"],
+    ["2", "1024", "1"],
+];
+
+/// A part may have more than 64 segments, whoever reads them.
+#[test]
+fn judges_parts_of_many_segments(rt: HostRuntime) -> Result<(), Fail> {
+    let alloc = rt.alloc();
+    let cases: [(u32, &str, &[u8], &[u8]); 3] = [
+        (400, "400", b"agrees 400\n", b"made 5 400: agrees 400\n"),
+        (700, "700", b"agrees 700\n", b"made 5 700: agrees 700\n"),
+        (
+            1000,
+            "1000",
+            b"agrees 1000\n",
+            b"made 5 1000: agrees 1000\n",
+        ),
+    ];
+    for (rows, count, text, made) in cases {
+        let (image, trace) = make(alloc, 5, rows)?;
+        for share in MANY {
+            let words = shared(alloc, &["rvjudge", "judge", "i", "t"], share)?;
+            let mut shelf = files(alloc, &image, &trace)?;
+            let mut sink = MemSink::new(alloc);
+            let status = judge(&rt, alloc, &words, &mut shelf, &mut sink, &OpenGate);
+            assert_eq!(rt; (status, sink.held.as_slice()), (0, text));
+            let words = shared(alloc, &["rvjudge", "make", "5", count], share)?;
+            let mut shelf = MemShelf::new(Vec::new(alloc));
+            let mut sink = MemSink::new(alloc);
+            let status = judge(&rt, alloc, &words, &mut shelf, &mut sink, &OpenGate);
+            assert_eq!(rt; (status, sink.held.as_slice()), (0, made));
+        }
+    }
     Ok(())
 }
 

@@ -1,6 +1,8 @@
 -- The command line as data, and what a parse by it says.
-use Rattle.std.proofs.Common.{◌≡◌, ◌∙◌, Bool, true, false, ◌||◌, List, [], ◌∷◌, Option, None, refl, sym, ap, ap₂, inl, inr}
-use Rattle.clap.specs.Words.{AddsArg, App, Row, Rule, Text, app_of, built, fault_of, is_simple, is_simple_and_free, kind_of, rule_of, subcommand_of, with_rule}
+use Rattle.std.proofs.Common.{◌≡◌, ◌∙◌, Bool, true, false, ◌||◌, List, [], ◌∷◌, Option, None, refl, sym, ap, ap₂, inl}
+use Rattle.std.proofs.Common.{inr}
+use Rattle.clap.specs.Words.{AddsArg, App, Row, Rule, Text, app_of, built, fault_of, is_simple, is_simple_and_free}
+use Rattle.clap.specs.Words.{kind_of, rule_of, subcommand_of, with_rule}
 use Rattle.clap.specs.Faults.{is_free_app}
 use Rattle.clap.specs.Kinds.{HasKind, Kinds}
 use Rattle.clap.proofs.WalkLemmas.{both}
@@ -10,7 +12,7 @@ use Rattle.clap.specs.declared.builder.command.Command.TheViews.{out-Command}
 use Rattle.clap.specs.declared.error.Error.{Error}
 use Rattle.clap.specs.declared.error.kind.ErrorKind.TheVariants.{OutOfMemory}
 use Rattle.clap.proofs.OnLiterals.{clap_on_literals}
-use Rattle.judge_words.specs.Commands.{entered_by, command_line, unless_refused}
+use Rattle.judge_words.specs.Commands.{command_entered, command_line, unless_refused}
 
 -- clap's definition is exact of this command line
 pub command_line-is_simple : is_simple_and_free command_line ≡ true
@@ -32,14 +34,15 @@ is_simple-part line simple = (both (is_simple line) (is_free_app (built line)) s
 
 -- words at which nothing can fail enter what the line says
 pub entered_by-taken : (line : App) (words : List Text) (entered : Option (Text × List Row)) → fault_of line words ≡ []
-    → entered ≡ subcommand_of line words → entered_by line words ≡ entered
-unfolding entered_by
-entered_by-taken line words entered none is = ap (λ (kinds : Kinds). unless_refused kinds (subcommand_of line words)) none ∙ sym is
+    → entered ≡ subcommand_of line words → command_entered line words ≡ entered
+unfolding command_entered
+entered_by-taken line words entered none is =
+    ap (λ (kinds : Kinds). unless_refused kinds (subcommand_of line words)) none ∙ sym is
 
 -- and words at which something fails enter nothing
 pub entered_by-refused : (line : App) (words : List Text) (error : Error) → (kind_of error ≡ OutOfMemory → ⊥)
-    → HasKind (fault_of line words) error → entered_by line words ≡ None
-unfolding entered_by
+    → HasKind (fault_of line words) error → command_entered line words ≡ None
+unfolding command_entered
 entered_by-refused line words error other has = go (fault_of line words) (subcommand_of line words) has
   where
     go : {X : Type 0} (kinds : Kinds) (found : Option X) → HasKind kinds error → unless_refused kinds found ≡ None

@@ -1,5 +1,6 @@
--- Jobs whose texts are made.
-use Rattle.std.proofs.Common.{◌≡◌, ◌∙◌, ◌≤◌, ℕ, Bool, true, false, nat_le, if◌then◌else◌, List, [], ◌∷◌, Option, Some, None, codes, refl, sym, subst, ap}
+-- Jobs of `make`.
+use Rattle.std.proofs.Common.{◌≡◌, ◌∙◌, ◌≤◌, ℕ, Bool, true, false, nat_le, if◌then◌else◌, List, [], ◌∷◌, Option, Some}
+use Rattle.std.proofs.Common.{None, codes, refl, sym, subst, ap}
 use Rattle.std.proofs.lemmas.Bool.{leb-true}
 use Rattle.std.specs.Option.{ForSome}
 use Rattle.std.specs.Prelude.{option_map}
@@ -10,25 +11,38 @@ use Rattle.hart_words.specs.Spans.{is_span, is_span-true, span_by, span_of, span
 use Rattle.clap.proofs.OnLiterals.{clap_on_literals}
 use Rattle.clap.specs.Walk.{Row, first_of}
 use Rattle.hart_words.specs.Numbers.{digits_number, number_of, number_within}
-use Rattle.judge_words.specs.Values.{◌>>=◌, at_most, even_in, image_limit_in, io_in, made_number_in, made_rows_in, number_at_most, number_in, number_up_to, span_in, trace_limit_in}
-use Rattle.judge_words.specs.Commands.{command_line, entered_by, given_to}
+use Rattle.judge_words.specs.Values.{◌>>=◌, at_most, image_limit_in, io_in, made_number_in, made_rows_in}
+use Rattle.judge_words.specs.Values.{number_at_most, number_in, number_up_to, pc_in, span_in, trace_limit_in}
+use Rattle.judge_words.specs.Commands.{command_line, command_entered, values_given_to}
 use Rattle.judge_words.specs.Job.{IsMadeJob, JobView, files_job, job_from, job_of, made_job, sharing_of}
-use Rattle.judge_words.specs.declared.job.Texts.TheVariants.{Files, Made}
-use Rattle.judge_words.specs.declared.values.TheConstants.{FIRST_PC, MOST_IMAGE_BYTES, MOST_MADE_NUMBER, MOST_MADE_ROWS, MOST_TRACE_BYTES, RAM_BASE, RAM_SIZE}
+use Rattle.judge_words.specs.declared.job.Command.TheVariants.{Judge, Make}
+use Rattle.judge_words.specs.declared.values.TheConstants.{MOST_IMAGE_BYTES, MOST_MADE_NUMBER, MOST_MADE_ROWS}
+use Rattle.judge_words.specs.declared.values.TheConstants.{MOST_TRACE_BYTES, RAM_BASE, RAM_SIZE}
 use Rattle.judge_words.specs.declared.job.Sharing.{Sharing}
 
--- if a job's texts are made, this holds of it
+-- if a job is one of `make`, this holds of it
 abbrev pub IfMade : JobView → Type 0
-IfMade job = (number rows : ℕ) → job.texts ≡ Made number rows → IsMadeJob job number rows
+IfMade job = (number rows : ℕ) → job.command ≡ Make number rows → IsMadeJob job number rows
 
 -- the job of what is made, over this map
 abbrev made_with : (number rows : ℕ) → Map → Sharing → JobView
-made_with number rows map sharing = record { texts = Made number rows; pc = FIRST_PC; map = map; max_image = MOST_IMAGE_BYTES; max_trace = MOST_TRACE_BYTES; sharing = sharing }
+made_with number rows map sharing =
+    record {
+      command =
+          Make number rows;
+      pc =
+          None;
+      map = map;
+      max_image = MOST_IMAGE_BYTES;
+      max_trace = MOST_TRACE_BYTES;
+      sharing = sharing;
+    }
 
--- what holds behind each value of a step holds behind the step
-behind : {A B : Type 0} (P : B → Type 0) (x : Option A) (f : A → Option B) → ((a : A) → x ≡ Some a → ForSome (f a) P) → ForSome (x >>= f) P
-behind P None f all y is = cc
-behind P (Some a) f all y is = all a refl y is
+-- what holds after each value of a step holds after the step
+following : {A B : Type 0} (P : B → Type 0) (x : Option A) (f : A → Option B)
+    → ((a : A) → x ≡ Some a → ForSome (f a) P) → ForSome (x >>= f) P
+following P None f all y is = cc
+following P (Some a) f all y is = all a refl y is
 
 -- a number up to `most` is no greater
 within_most : (most value : ℕ) → ForSome (at_most most value) (λ value. value ≤ most)
@@ -45,35 +59,47 @@ within : (most : ℕ) (text : Option (List ℕ)) → ForSome (text >>= number_at
 unfolding number_at_most
 within most text =
     let Within : ℕ → Type 0 = λ value. value ≤ most in
-    behind Within text (number_at_most most) (λ text there. behind Within (number_in text) (at_most most) (λ value read. within_most most value))
+    following Within text (number_at_most most)
+    (λ text there. following Within (number_in text) (at_most most) (λ value read. within_most most value))
 
 -- jobs over files are not made
-of_files : (job : JobView) (image trace : List ℕ) → job.texts ≡ Files image trace → ForSome (Some job) IfMade
+of_files : (job : JobView) (image trace : List ℕ) → job.command ≡ Judge image trace → ForSome (Some job) IfMade
 of_files job image trace is other same number rows made =
     let one : job ≡ other = cc in
-    let never : Files image trace ≡ Made number rows = sym is ∙ ap (λ (job : JobView). job.texts) one ∙ made in
+    let never : Judge image trace ≡ Make number rows = sym is ∙ ap (λ (job : JobView). job.command) one ∙ made in
     cc
 
 files_named : (given : List Row) → ForSome (files_job given) IfMade
 unfolding files_job
 files_named given =
-    behind IfMade (first_of (codes "image") given) _ (λ image e1.
-    behind IfMade (first_of (codes "trace") given) _ (λ trace e2.
-    behind IfMade (first_of (codes "pc") given >>= even_in) _ (λ pc e3.
-    behind IfMade (first_of (codes "ram") given >>= span_in) _ (λ ram e4.
-    behind IfMade (io_in (first_of (codes "io") given)) _ (λ io e5.
-    behind IfMade (map_of ram io) _ (λ map e6.
-    behind IfMade (first_of (codes "max-image") given >>= image_limit_in) _ (λ max_image e7.
-    behind IfMade (first_of (codes "max-trace") given >>= trace_limit_in) _ (λ max_trace e8.
-    behind IfMade (sharing_of given) _ (λ sharing e9.
-    of_files (record { texts = Files image trace; pc = pc; map = map; max_image = max_image; max_trace = max_trace; sharing = sharing }) image trace refl)))))))))
+    following IfMade (first_of (codes "image") given) _ (λ image e1.
+    following IfMade (first_of (codes "trace") given) _ (λ trace e2.
+    following IfMade (pc_in (first_of (codes "pc") given)) _ (λ pc e3.
+    following IfMade (first_of (codes "ram") given >>= span_in) _ (λ ram e4.
+    following IfMade (io_in (first_of (codes "io") given)) _ (λ io e5.
+    following IfMade (map_of ram io) _ (λ map e6.
+    following IfMade (first_of (codes "max-image") given >>= image_limit_in) _ (λ max_image e7.
+    following IfMade (first_of (codes "max-trace") given >>= trace_limit_in) _ (λ max_trace e8.
+    following IfMade (sharing_of given) _ (λ sharing e9.
+    of_files
+    (record {
+      command =
+          Judge image trace;
+      pc = pc;
+      map = map;
+      max_image = max_image;
+      max_trace = max_trace;
+      sharing = sharing;
+    })
+    image trace refl)))))))))
 
 -- a range has the base and the size that it is made of
 span_has : (base size : ℕ) → ForSome (span_of base size) (λ span. (span.base ≡ base) × (span.size ≡ size))
 unfolding span_of
 span_has base size = by (is_span base size) refl
   where
-    by : (test : Bool) (is : is_span base size ≡ test) → ForSome (span_by base size test is) (λ span. (span.base ≡ base) × (span.size ≡ size))
+    by : (test : Bool) (is : is_span base size ≡ test)
+        → ForSome (span_by base size test is) (λ span. (span.base ≡ base) × (span.size ≡ size))
     by true is span same =
         let one : span_with base size (is_span-true base size is) ≡ span = cc in
         (ap (λ (span : Span). span.base) (sym one), ap (λ (span : Span). span.size) (sym one))
@@ -86,11 +112,12 @@ map_alone ram map same =
     let one : record { ram = ram; io = None; apart = apart_none ram } ≡ map = cc in
     (ap (λ (map : Map). map.ram) (sym one), ap (λ (map : Map). map.io) (sym one))
 
-of_made : (number rows : ℕ) (map : Map) (sharing : Sharing) → number ≤ MOST_MADE_NUMBER → rows ≤ MOST_MADE_ROWS → map.ram.base ≡ RAM_BASE → map.ram.size ≡ RAM_SIZE → map.io ≡ None
+of_made : (number rows : ℕ) (map : Map) (sharing : Sharing) → number ≤ MOST_MADE_NUMBER → rows ≤ MOST_MADE_ROWS
+    → map.ram.base ≡ RAM_BASE → map.ram.size ≡ RAM_SIZE → map.io ≡ None
     → ForSome (Some (made_with number rows map sharing)) IfMade
 of_made number rows map sharing small few base size io job same n r made =
     let one : made_with number rows map sharing ≡ job = cc in
-    let texts : Made number rows ≡ Made n r = ap (λ (job : JobView). job.texts) one ∙ made in
+    let texts : Make number rows ≡ Make n r = ap (λ (job : JobView). job.command) one ∙ made in
     let number_is : number ≡ n = cc in
     let rows_are : rows ≡ r = cc in
     let over : map ≡ job.map = ap (λ (job : JobView). job.map) one in
@@ -108,11 +135,11 @@ of_made number rows map sharing small few base size io job same n r made =
 made_given : (given : List Row) → ForSome (made_job given) IfMade
 unfolding made_job
 made_given given =
-    behind IfMade (first_of (codes "number") given >>= made_number_in) _ (λ number small.
-    behind IfMade (first_of (codes "rows") given >>= made_rows_in) _ (λ rows few.
-    behind IfMade (span_of RAM_BASE RAM_SIZE) _ (λ ram spans.
-    behind IfMade (map_of ram None) _ (λ map maps.
-    behind IfMade (sharing_of given) _ (λ sharing shared.
+    following IfMade (first_of (codes "number") given >>= made_number_in) _ (λ number small.
+    following IfMade (first_of (codes "rows") given >>= made_rows_in) _ (λ rows few.
+    following IfMade (span_of RAM_BASE RAM_SIZE) _ (λ ram spans.
+    following IfMade (map_of ram None) _ (λ map maps.
+    following IfMade (sharing_of given) _ (λ sharing shared.
     let span : (ram.base ≡ RAM_BASE) × (ram.size ≡ RAM_SIZE) = span_has RAM_BASE RAM_SIZE ram spans in
     let alone : (map.ram ≡ ram) × (map.io ≡ None) = map_alone ram map maps in
     of_made number rows map sharing
@@ -122,11 +149,12 @@ made_given given =
     (ap (λ (ram : Span). ram.size) alone.0 ∙ span.1)
     alone.1)))))
 
-pub made_plain : (words : List (List ℕ)) (job : JobView) (number rows : ℕ) → job_of words ≡ Some job → job.texts ≡ Made number rows → IsMadeJob job number rows
+pub made_plain : (words : List (List ℕ)) (job : JobView) (number rows : ℕ) → job_of words ≡ Some job
+    → job.command ≡ Make number rows → IsMadeJob job number rows
 unfolding job_of
 made_plain words job number rows asked made =
-    let entered = entered_by command_line words in
-    go (given_to (codes "judge") entered) (given_to (codes "make") entered) job asked number rows made
+    let entered = command_entered command_line words in
+    go (values_given_to (codes "judge") entered) (values_given_to (codes "make") entered) job asked number rows made
   where
     go : (judge make : Option (List Row)) → ForSome (job_from judge make) IfMade
     go (Some given) make = files_named given
@@ -134,6 +162,8 @@ made_plain words job number rows asked made =
     go None None = λ job asked. cc
 
 -- words that ask for such a job
-pub made_asked : option_map (λ job. job.texts) (job_of (codes "rvjudge" ∷ codes "make" ∷ codes "7" ∷ codes "3" ∷ [])) ≡ Some (Made 7 3)
-unfolding job_of command_line entered_by made_job sharing_of number_at_most number_up_to number_in number_within number_of digits_number span_of map_of clap_on_literals
+pub made_asked : option_map (λ job. job.command)
+    (job_of (codes "rvjudge" ∷ codes "make" ∷ codes "7" ∷ codes "3" ∷ [])) ≡ Some (Make 7 3)
+unfolding job_of command_line command_entered made_job sharing_of number_at_most number_up_to number_in number_within
+    number_of digits_number span_of map_of clap_on_literals
 made_asked = refl

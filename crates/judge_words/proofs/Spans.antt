@@ -11,12 +11,15 @@ unfolding number_in number_within number_of digits_number
 number_in-nil = refl
 
 -- a text without a colon is no range
-pub span_in-no_colon : (text : List ℕ) → position_or_len (λ byte. byte == colon) text ≡ length text → span_in text ≡ None
+pub span_in-no_colon : (text : List ℕ) → position_or_len (λ byte. byte == colon) text ≡ length text
+    → span_in text ≡ None
 unfolding span_in
 span_in-no_colon text none =
-    let past : drop (position_or_len (λ byte. byte == colon) text + 1) text ≡ [] = drop_of_length-le text (omega arith) in
+    let past : drop (position_or_len (λ byte. byte == colon) text + 1) text ≡ [] =
+    drop_of_length-le text (omega arith) in
     let size : number_in (after_first (λ byte. byte == colon) text) ≡ None = ap number_in past ∙ number_in-nil in
-    go (number_in (before_first (λ byte. byte == colon) text)) (number_in (after_first (λ byte. byte == colon) text)) size
+    go (number_in (before_first (λ byte. byte == colon) text)) (number_in (after_first (λ byte. byte == colon) text))
+    size
   where
     go : (base size : Option ℕ) → size ≡ None → (base >>= (λ b. size >>= (λ s. span_of b s))) ≡ None
     go None size is = refl

@@ -39,7 +39,7 @@ judge_command =
     with_rules (with_rules (new_app (codes "judge")) (
     required_word (codes "image")
     ∷ required_word (codes "trace")
-    ∷ option_or (codes "pc") (codes "0x80000000")
+    ∷ option_of (codes "pc")
     ∷ option_or (codes "ram") (codes "0x80000000:0x8000000")
     ∷ option_of (codes "io")
     ∷ option_or (codes "max-image") (codes "0x40000000")
@@ -71,10 +71,10 @@ unless_refused [] found = found
 unless_refused (kind ∷ kinds) found = None
 
 -- the command that the words name with what they give it, where a command line takes the words
-unfoldable pub entered_by : App → List Text → Option (Text × List Row)
-entered_by line words = unless_refused (fault_of line words) (subcommand_of line words)
+unfoldable pub command_entered : App → List Text → Option (Text × List Row)
+command_entered line words = unless_refused (fault_of line words) (subcommand_of line words)
 
 -- what is given to the command of this name
-abbrev pub given_to : Text → Option (Text × List Row) → Option (List Row)
-given_to name None = None
-given_to name (Some entered) = if bytes_eq entered.0 name then Some entered.1 else None
+abbrev pub values_given_to : Text → Option (Text × List Row) → Option (List Row)
+values_given_to name None = None
+values_given_to name (Some entered) = if bytes_eq entered.0 name then Some entered.1 else None

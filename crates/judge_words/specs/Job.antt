@@ -1,24 +1,27 @@
 -- What the words of a command line ask for.
-use Rattle.std.specs.Prelude.{◌≡◌, ◌≤◌, ◌%◌, ℕ, List, Option, Some, None, Result, Ok, Err, codes, string_bytes}
+use Rattle.std.specs.Prelude.{◌≡◌, ◌≤◌, ◌%◌, ℕ, List, Option, Some, None, IfSome, Result, Ok, Err, codes, string_bytes}
 use Rattle.hart_words.specs.declared.map.Map.{Map}
 use Rattle.hart_words.specs.Map.{map_of}
 use Rattle.hart_words.specs.Spans.{span_of}
 use Rattle.clap.specs.Walk.{Row, first_of}
-use Rattle.judge_words.specs.Commands.{command_line, entered_by, given_to}
-use Rattle.judge_words.specs.Values.{◌>>=◌, even_in, span_in, io_in, image_limit_in, trace_limit_in, workers_in, segment_in, window_in, made_number_in, made_rows_in}
-use Rattle.judge_words.specs.declared.values.TheConstants.{FIRST_PC, RAM_BASE, RAM_SIZE, MOST_IMAGE_BYTES, MOST_TRACE_BYTES, MOST_WORKERS, MOST_LINES, MOST_SEGMENTS, MOST_MADE_NUMBER, MOST_MADE_ROWS}
+use Rattle.judge_words.specs.Commands.{command_line, command_entered, values_given_to}
+use Rattle.judge_words.specs.Values.{◌>>=◌, pc_in, span_in, io_in, image_limit_in, trace_limit_in, workers_in}
+use Rattle.judge_words.specs.Values.{segment_in, window_in, made_number_in, made_rows_in}
+use Rattle.judge_words.specs.declared.values.TheConstants.{RAM_BASE, RAM_SIZE, MOST_IMAGE_BYTES, MOST_TRACE_BYTES}
+use Rattle.judge_words.specs.declared.values.TheConstants.{MOST_WORKERS, MOST_LINES, MOST_SEGMENTS, MOST_MADE_NUMBER}
+use Rattle.judge_words.specs.declared.values.TheConstants.{MOST_MADE_ROWS}
 use Rattle.judge_words.specs.declared.job.Sharing.{Sharing}
-use Rattle.judge_words.specs.declared.job.Texts.{Texts}
-use Rattle.judge_words.specs.declared.job.Texts.TheVariants.{Files, Made}
+use Rattle.judge_words.specs.declared.job.Command.{Command}
+use Rattle.judge_words.specs.declared.job.Command.TheVariants.{Judge, Make}
 use Rattle.judge_words.specs.declared.job.Job.{Job}
 use Rattle.judge_words.specs.declared.job.WordError.{WordError}
 use Rattle.judge_words.specs.declared.job.WordError.TheVariants.{NotAJob, NoMemory}
 
--- where the texts of image and trace come from, the address of the first instruction, the map, the
--- most bytes of either text, and how the work is shared out
+-- the command, the address of the first instruction where one is given, the map, the most bytes of
+-- either text, and how the work is shared out
 pub record JobView : Type 0 where
-  pub texts : Texts (List ℕ)
-  pub pc : ℕ
+  pub command : Command (List ℕ)
+  pub pc : Option ℕ
   pub map : Map
   pub max_image : ℕ
   pub max_trace : ℕ
@@ -37,7 +40,7 @@ unfoldable pub files_job : List Row → Option JobView
 files_job given = do
   image ← first_of (codes "image") given
   trace ← first_of (codes "trace") given
-  pc ← first_of (codes "pc") given >>= even_in
+  pc ← pc_in (first_of (codes "pc") given)
   ram ← first_of (codes "ram") given >>= span_in
   io ← io_in (first_of (codes "io") given)
   map ← map_of ram io
@@ -45,7 +48,7 @@ files_job given = do
   max_trace ← first_of (codes "max-trace") given >>= trace_limit_in
   sharing ← sharing_of given
   Some (record {
-    texts = Files image trace;
+    command = Judge image trace;
     pc = pc;
     map = map;
     max_image = max_image;
@@ -62,8 +65,8 @@ made_job given = do
   map ← map_of ram None
   sharing ← sharing_of given
   Some (record {
-    texts = Made number rows;
-    pc = FIRST_PC;
+    command = Make number rows;
+    pc = None;
     map = map;
     max_image = MOST_IMAGE_BYTES;
     max_trace = MOST_TRACE_BYTES;
@@ -79,18 +82,18 @@ job_from None None = None
 -- the job that the words of a command line ask for, the program's name first, where there is one
 unfoldable pub job_of : List (List ℕ) → Option JobView
 job_of words =
-    let entered = entered_by command_line words in
-    job_from (given_to (codes "judge") entered) (given_to (codes "make") entered)
+    let entered = command_entered command_line words in
+    job_from (values_given_to (codes "judge") entered) (values_given_to (codes "make") entered)
 
--- the same texts by what their names are
-abbrev pub texts_by : {N M : Type 0} → (N → M) → Texts N → Texts M
-texts_by view (Files image trace) = Files (view image) (view trace)
-texts_by view (Made number rows) = Made number rows
+-- the same command by what its names are
+abbrev pub command_by : {N M : Type 0} → (N → M) → Command N → Command M
+command_by view (Judge image trace) = Judge (view image) (view trace)
+command_by view (Make number rows) = Make number rows
 
 -- a job as it is defined
 abbrev pub job_view : Job → JobView
 job_view job = record {
-  texts = texts_by string_bytes job.texts;
+  command = command_by string_bytes job.command;
   pc = job.pc;
   map = job.map;
   max_image = job.max_image;
@@ -112,17 +115,17 @@ pub record IsLawfulSharing (sharing : Sharing) : Type 0 where
 
 -- what holds of every job
 pub record IsLawful (job : JobView) : Type 0 where
-  pub even : job.pc % 2 ≡ 0
+  pub even : IfSome job.pc (λ pc. pc % 2 ≡ 0)
   pub max_image : job.max_image ≤ MOST_IMAGE_BYTES
   pub max_trace : job.max_trace ≤ MOST_TRACE_BYTES
   pub sharing : IsLawfulSharing job.sharing
 
--- what holds of every job whose texts are made: RAM, the first instruction and the most bytes of
--- either text are those that stand where nothing else is said, and there are no devices
+-- what holds of every job of `make`: no address of the first instruction is given, RAM and the most
+-- bytes of either text are those that stand where nothing else is said, and there are no devices
 pub record IsMadeJob (job : JobView) (number rows : ℕ) : Type 0 where
   pub small : number ≤ MOST_MADE_NUMBER
   pub few : rows ≤ MOST_MADE_ROWS
-  pub pc : job.pc ≡ FIRST_PC
+  pub pc : job.pc ≡ None
   pub base : job.map.ram.base ≡ RAM_BASE
   pub size : job.map.ram.size ≡ RAM_SIZE
   pub io : job.map.io ≡ None

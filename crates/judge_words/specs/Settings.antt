@@ -1,12 +1,12 @@
 -- A job before its names are copied.
 use Rattle.judge_words.specs.Job.{JobView}
 use Rattle.judge_words.specs.declared.job.Settings.{Settings}
-use Rattle.judge_words.specs.declared.job.Texts.TheVariants.{Files}
+use Rattle.judge_words.specs.declared.job.Command.TheVariants.{Judge}
 
 -- the same job as it is defined
 abbrev pub settings_view : Settings → JobView
 settings_view settings = record {
-  texts = Files settings.image.now settings.trace.now;
+  command = Judge settings.image.now settings.trace.now;
   pc = settings.pc;
   map = settings.map;
   max_image = settings.max_image;

@@ -5,7 +5,8 @@ use Rattle.std.specs.Result.{result_ok}
 use Rattle.hart_words.specs.Numbers.{number_within}
 use Rattle.hart_words.specs.Spans.{span_of}
 use Rattle.hart_words.specs.declared.span.Span.{Span}
-use Rattle.judge_words.specs.declared.values.TheConstants.{MOST_IMAGE_BYTES, MOST_TRACE_BYTES, MOST_WORKERS, MOST_LINES, MOST_SEGMENTS, MOST_MADE_NUMBER, MOST_MADE_ROWS}
+use Rattle.judge_words.specs.declared.values.TheConstants.{MOST_IMAGE_BYTES, MOST_TRACE_BYTES, MOST_WORKERS, MOST_LINES}
+use Rattle.judge_words.specs.declared.values.TheConstants.{MOST_SEGMENTS, MOST_MADE_NUMBER, MOST_MADE_ROWS}
 
 -- the next step at the value, where there is one
 infixl 10 ◌>>=◌
@@ -17,12 +18,17 @@ None >>= f = None
 unfoldable pub number_in : List ℕ → Option ℕ
 number_in text = result_ok (number_within 64 text)
 
-abbrev pub even : ℕ → Option ℕ
-even value = if value % 2 == 0 then Some value else None
+abbrev pub if_even : ℕ → Option ℕ
+if_even value = if value % 2 == 0 then Some value else None
 
 -- an even number, as the address of an instruction is
 unfoldable pub even_in : List ℕ → Option ℕ
-even_in text = number_in text >>= even
+even_in text = number_in text >>= if_even
+
+-- the address of the first instruction, which may be left out
+abbrev pub pc_in : Option (List ℕ) → Option (Option ℕ)
+pc_in None = Some None
+pc_in (Some text) = option_map (λ pc. Some pc) (even_in text)
 
 -- a number from 1 to `most`
 abbrev pub up_to : ℕ → ℕ → Option ℕ

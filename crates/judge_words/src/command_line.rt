@@ -3,7 +3,7 @@
 ghost use Rattle.std.specs.Prelude.{◌≡◌, IfOk, MatchResult, None, true, false, map, option_map, string_bytes};
 ghost use Rattle.clap.specs.Words.{Row, app_of, first_of, found_of, is_simple_and_free, rows_of, rule_of, subcommand_rows_of};
 ghost use Rattle.clap.specs.declared.builder.command.Command.TheViews.{out-Command};
-ghost use Rattle.judge_words.specs.Commands.{IsCommand, command_line, entered_by, given_to, judge_command, make_command, option_of, option_or, required_word, sharing_rules, with_rules};
+ghost use Rattle.judge_words.specs.Commands.{IsCommand, command_line, command_entered, values_given_to, judge_command, make_command, option_of, option_or, required_word, sharing_rules, with_rules};
 ghost use Rattle.judge_words.specs.declared.job.WordError.TheVariants.{NotAJob};
 
 use crate::job::WordError;
@@ -28,7 +28,7 @@ fn judge_command<'a>(alloc: Global) -> Result<Command<'a>, AllocError>
     let judge = Command::new(alloc, "judge")
         .arg(required_word(alloc, "image"))?
         .arg(required_word(alloc, "trace"))?
-        .arg(option_or(alloc, "pc", "0x80000000"))?
+        .arg(option(alloc, "pc"))?
         .arg(option_or(alloc, "ram", "0x80000000:0x8000000"))?
         .arg(option(alloc, "io"))?
         .arg(option_or(alloc, "max-image", "0x40000000"))?
@@ -84,7 +84,7 @@ fn option<'a>(alloc: Global, name: &'a str) -> Arg<'a>
 /// What `line` finds in the words, where it takes them.
 pub fn parse<'a>(line: Command<'a>, words: &'a [String]) -> Result<ArgMatches<'a>, WordError>
     requires { is_simple_and_free (app_of line) ≡ true }
-    ensures { let entered = entered_by (app_of line.entry) (map string_bytes words.entry.now) in
+    ensures { let entered = command_entered (app_of line.entry) (map string_bytes words.entry.now) in
         MatchResult result (λ matches. entered ≡ subcommand_rows_of matches)
         (λ e. e ≡ NotAJob → entered ≡ None) }
 {
@@ -100,7 +100,7 @@ pub fn parse<'a>(line: Command<'a>, words: &'a [String]) -> Result<ArgMatches<'a
 /// What was given to the command of this name.
 pub fn given_to<'m, 'a>(matches: &'m ArgMatches<'a>, name: &str) -> Option<&'m ArgMatches<'a>>
     ensures { option_map (λ m. rows_of (found_of m.now)) result
-        ≡ given_to name.now (subcommand_rows_of matches.now) }
+        ≡ values_given_to name.now (subcommand_rows_of matches.now) }
 {
     matches.subcommand_matches(name)
 }

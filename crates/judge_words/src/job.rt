@@ -8,8 +8,8 @@ ghost use Rattle.judge_words.specs.declared.job.WordError.TheVariants.{NoMemory}
 
 use crate::command_line::{command_line, given_to, parse, text_of};
 use crate::values::{
-    FIRST_PC, MOST_IMAGE_BYTES, MOST_TRACE_BYTES, RAM_BASE, RAM_SIZE, read_even, read_image_limit,
-    read_io, read_made_number, read_made_rows, read_segment, read_span, read_trace_limit,
+    MOST_IMAGE_BYTES, MOST_TRACE_BYTES, RAM_BASE, RAM_SIZE, read_image_limit, read_io,
+    read_made_number, read_made_rows, read_pc, read_segment, read_span, read_trace_limit,
     read_window, read_workers,
 };
 use clap::ArgMatches;
@@ -17,13 +17,13 @@ use hart_words::{Map, Span};
 use std::alloc::{AllocError, Global};
 use thiserror::Error;
 
-/// Where the texts of an image and a trace come from: files, or the maker of traces.
+/// What a job does, by the command that its words name.
 #[derive(Debug, Drop)]
-pub enum Texts<N> {
-    /// Files of these names.
-    Files { image: N, trace: N },
-    /// They are made: those of this number, the trace with so many rows.
-    Made { number: u32, rows: u32 },
+pub enum Command<N> {
+    /// Judges a trace over an image, files of these names.
+    Judge { image: N, trace: N },
+    /// Judges what is made: the image and the trace of this number, the trace with so many rows.
+    Make { number: u32, rows: u32 },
 }
 
 /// How the work of a job is shared out, which changes no answer.
@@ -37,14 +37,13 @@ pub struct Sharing {
     pub window: usize,
 }
 
-/// What the judge is asked to do: where the texts of image and trace come from, the address of the
-/// first instruction, the ranges of RAM and of devices, how many bytes either text may have, and how
-/// the work is to be shared out.
+/// What the judge is asked to do: the command, the address of the first instruction, the ranges of
+/// RAM and of devices, how many bytes either text may have, and how the work is to be shared out.
 #[derive(Debug, Drop)]
 pub struct Job {
-    pub texts: Texts<String>,
-    /// The address of the first instruction, even.
-    pub pc: u64,
+    pub command: Command<String>,
+    /// The address of the first instruction, even, where one is given.
+    pub pc: Option<u64>,
     pub map: Map,
     /// The most bytes that the image's text may have, from 1 to 2^30.
     pub max_image: u64,
@@ -84,9 +83,10 @@ impl From<AllocError> for WordError {
 /// of the trace to 2^40, N from 1 to 64, K from 1 to 2^20, and W from 1 to 2^10. NUMBER is below
 /// 2^32, ROWS at most 2^18.
 ///
-/// Left out, A is 0x80000000, the B:S of RAM is 0x80000000:0x8000000, either M is the most that it
-/// may be, N is 4, K is 4,096, and W is 64; without `--io` there are no devices. So it is with
-/// `make` too. All other words are no job, those that ask for help among them.
+/// Left out, A is not given, and the hart begins at `FIRST_PC`; the B:S of RAM is
+/// 0x80000000:0x8000000, either M is the most that it may be, N is 4, K is 4,096, and W is 64;
+/// without `--io` there are no devices. So it is with `make` too. All other words are no job, those
+/// that ask for help among them.
 #[tactic(auto, unfolding(crate::specs::Job::job_of))]
 pub fn read_words(alloc: Global, words: &Vec<String>) -> Result<Job, WordError>
     ensures job { GivesJob (job_of (map string_bytes words.now.items)) result }
@@ -110,7 +110,7 @@ fn files_job(alloc: Global, given: &ArgMatches<'_>) -> Result<Job, WordError>
     match settings_from(given) {
         None => Err(WordError::NotAJob),
         Some(settings) => Ok(Job {
-            texts: Texts::Files {
+            command: Command::Judge {
                 image: String::from_str(alloc, settings.image)?,
                 trace: String::from_str(alloc, settings.trace)?,
             },
@@ -128,7 +128,7 @@ fn files_job(alloc: Global, given: &ArgMatches<'_>) -> Result<Job, WordError>
 struct Settings<'a> {
     image: &'a str,
     trace: &'a str,
-    pc: u64,
+    pc: Option<u64>,
     map: Map,
     max_image: u64,
     max_trace: u64,
@@ -147,7 +147,7 @@ fn settings_from<'a>(given: &ArgMatches<'a>) -> Option<Settings<'a>>
     Some(Settings {
         image: text_of(given, "image")?,
         trace: text_of(given, "trace")?,
-        pc: read_even(text_of(given, "pc")?)?,
+        pc: read_pc(text_of(given, "pc"))?,
         map,
         max_image: read_image_limit(text_of(given, "max-image")?)?,
         max_trace: read_trace_limit(text_of(given, "max-trace")?)?,
@@ -163,11 +163,11 @@ fn made_job(given: &ArgMatches<'_>) -> Option<Job>
 {
     let map = Map::new(Span::new(RAM_BASE, RAM_SIZE)?, None)?;
     Some(Job {
-        texts: Texts::Made {
+        command: Command::Make {
             number: read_made_number(text_of(given, "number")?)?,
             rows: read_made_rows(text_of(given, "rows")?)?,
         },
-        pc: FIRST_PC,
+        pc: None,
         map,
         max_image: MOST_IMAGE_BYTES,
         max_trace: MOST_TRACE_BYTES,

@@ -1,20 +1,20 @@
-//! What holds of every job whose texts are made.
+//! What holds of every job of `make`.
 
 ghost use Rattle.std.specs.Prelude.{◌≡◌, ◌∷◌, [], ℕ, List, Some, codes, option_map};
 ghost use Rattle.judge_words.specs.Job.{IsMadeJob, JobView, job_of};
-ghost use Rattle.judge_words.specs.declared.job.Texts.TheVariants.{Made};
+ghost use Rattle.judge_words.specs.declared.job.Command.TheVariants.{Make};
 
-/// Whatever words ask for it: a job whose texts are made has a number below 2^32 and at most 2^18
-/// rows, starts at 0x80000000, has the RAM 0x80000000:0x8000000 and no devices, and takes as many
-/// bytes of either text as any job may.
+/// Whatever words ask for it: a job of `make` has a number below 2^32 and at most 2^18 rows, is
+/// given no first address, has the RAM 0x80000000:0x8000000 and no devices, and takes as many bytes
+/// of either text as any job may.
 pub fn made_jobs_are_plain()
     ensures { (words : List (List ℕ)) (job : JobView) (number rows : ℕ)
-        → job_of words ≡ Some job → job.texts ≡ Made number rows → IsMadeJob job number rows }
+        → job_of words ≡ Some job → job.command ≡ Make number rows → IsMadeJob job number rows }
 {}
 
 /// There are words for such a job, as `rvjudge make 7 3`, so that the law says something.
 pub fn made_jobs_stand()
-    ensures { option_map (λ job. job.texts)
+    ensures { option_map (λ job. job.command)
         (job_of (codes "rvjudge" ∷ codes "make" ∷ codes "7" ∷ codes "3" ∷ []))
-        ≡ Some (Made 7 3) }
+        ≡ Some (Make 7 3) }
 {}

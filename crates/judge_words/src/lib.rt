@@ -9,7 +9,8 @@ mod job;
 pub mod laws;
 mod values;
 
-pub use job::{Job, Sharing, Texts, WordError, read_words};
+pub use job::{Command, Job, Sharing, WordError, read_words};
+pub use values::FIRST_PC;
 
 #[cfg(test)]
 mod tests;

@@ -11,8 +11,8 @@ fn job_at(alloc: Global, words: &[&str]) -> Result<Result<Job, WordError>, Alloc
     Ok(read_words(alloc, &list))
 }
 
-/// A job's pc, the base and the size of its RAM, and its limits.
-type Numbers = (u64, u64, u64, u64, u64);
+/// A job's pc where one is given, the base and the size of its RAM, and its limits.
+type Numbers = (Option<u64>, u64, u64, u64, u64);
 
 fn takes(
     rt: &impl Abort,
@@ -22,12 +22,12 @@ fn takes(
     numbers: Numbers,
 ) -> Result<(), Fail> {
     let job = job_at(alloc, words)??;
-    match &job.texts {
-        Texts::Files { image, trace } => {
+    match &job.command {
+        Command::Judge { image, trace } => {
             assert_eq!(rt; image.as_str(), files.0);
             assert_eq!(rt; trace.as_str(), files.1);
         }
-        Texts::Made { .. } => assert!(rt; false),
+        Command::Make { .. } => assert!(rt; false),
     }
     assert_eq!(rt; job.pc, numbers.0);
     assert_eq!(rt; job.map.ram.base, numbers.1);
@@ -43,7 +43,7 @@ fn refuses(rt: &impl Abort, alloc: Global, words: &[&str]) -> Result<(), Fail> {
     Ok(())
 }
 
-const DEFAULTS: Numbers = (0x8000_0000, 0x8000_0000, 0x800_0000, 1 << 30, 1 << 40);
+const DEFAULTS: Numbers = (None, 0x8000_0000, 0x800_0000, 1 << 30, 1 << 40);
 
 #[test]
 fn takes_jobs(rt: HostRuntime) -> Result<(), Fail> {
@@ -70,7 +70,13 @@ fn takes_jobs(rt: HostRuntime) -> Result<(), Fail> {
         "010",
         "--max-trace=1",
     ];
-    takes(&rt, alloc, &words, ("i", "t"), (16, 4096, 8192, 10, 1))
+    takes(
+        &rt,
+        alloc,
+        &words,
+        ("i", "t"),
+        (Some(16), 4096, 8192, 10, 1),
+    )
 }
 
 #[test]
@@ -105,15 +111,16 @@ const LAST: u64 = (1 << 56) - 0x1000;
 #[test]
 fn takes_numbers_at_their_ends(rt: HostRuntime) -> Result<(), Fail> {
     let (pc, base, size, most, more) = DEFAULTS;
-    let options: [(&str, Numbers); 13] = [
-        ("--pc=0", (0, base, size, most, more)),
+    let options: [(&str, Numbers); 14] = [
+        ("--pc=0", (Some(0), base, size, most, more)),
+        ("--pc=0x80000000", (Some(FIRST_PC), base, size, most, more)),
         (
             "--pc=18446744073709551614",
-            (u64::MAX - 1, base, size, most, more),
+            (Some(u64::MAX - 1), base, size, most, more),
         ),
         (
             "--pc=0xfffffffffffffffe",
-            (u64::MAX - 1, base, size, most, more),
+            (Some(u64::MAX - 1), base, size, most, more),
         ),
         ("--ram=0:4096", (pc, 0, 4096, most, more)),
         (
@@ -210,15 +217,15 @@ fn takes_numbers_of_made_traces(rt: HostRuntime) -> Result<(), Fail> {
     ];
     for (words, wanted, wanted_rows) in lines {
         let job = job_at(rt.alloc(), words)??;
-        match &job.texts {
-            Texts::Files { .. } => assert!(rt; false),
-            Texts::Made { number, rows } => {
+        match &job.command {
+            Command::Judge { .. } => assert!(rt; false),
+            Command::Make { number, rows } => {
                 assert_eq!(rt; (*number, *rows), (wanted, wanted_rows));
             }
         }
         assert_eq!(rt;
             (job.pc, job.map.ram.base, job.map.ram.size),
-            (0x8000_0000, 0x8000_0000, 0x800_0000)
+            (None, 0x8000_0000, 0x800_0000)
         );
         assert_eq!(rt; (job.max_image, job.max_trace), (1 << 30, 1 << 40));
         assert!(rt; job.map.io.is_none());

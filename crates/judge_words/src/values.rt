@@ -1,11 +1,11 @@
 //! The values of options, read from their texts.
 
 ghost use Rattle.std.specs.Prelude.{◌≡◌, ◌≤◌, ◌%◌, IfSome, option_map};
-ghost use Rattle.judge_words.specs.Values.{number_in, number_up_to, even_in, image_limit_in, trace_limit_in, workers_in, segment_in, window_in, number_at_most, made_number_in, made_rows_in, span_in, io_in};
+ghost use Rattle.judge_words.specs.Values.{number_in, number_up_to, even_in, image_limit_in, trace_limit_in, workers_in, segment_in, window_in, number_at_most, made_number_in, made_rows_in, span_in, io_in, pc_in};
 
 use hart_words::{Span, read_number};
 
-/// Where the hart begins, unless a job says otherwise.
+/// Where the hart begins where a job gives no address.
 pub const FIRST_PC: u64 = 0x8000_0000;
 
 /// Where RAM begins, unless a job says otherwise.
@@ -45,12 +45,26 @@ fn read_u64(text: &str) -> Option<u64>
 
 /// An even number, as the address of an instruction is.
 #[tactic(auto, unfolding(crate::specs::Values::even_in))]
-pub fn read_even(text: &str) -> Option<u64>
+fn read_even(text: &str) -> Option<u64>
     ensures value { result ≡ even_in text.now }
     ensures even { IfSome result (λ value. value % 2 ≡ 0) }
 {
     let value = read_u64(text)?;
     if value % 2 == 0 { Some(value) } else { None }
+}
+
+/// The address of the first instruction, which may be left out.
+pub fn read_pc(text: Option<&str>) -> Option<Option<u64>>
+    ensures value { result ≡ pc_in (option_map (λ text. text.now) text.entry) }
+    ensures even { IfSome result (λ pc. IfSome pc (λ pc. pc % 2 ≡ 0)) }
+{
+    match text {
+        None => Some(None),
+        Some(text) => match read_even(text) {
+            None => None,
+            Some(pc) => Some(Some(pc)),
+        },
+    }
 }
 
 /// A number from 1 to `most`.

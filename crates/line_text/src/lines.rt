@@ -1,7 +1,7 @@
 //! Lines kept as one text.
 
 ghost use Rattle.std.specs.Prelude.{◌≡◌, ◌≤◌, ◌<◌, ◌+◌, ◌-◌, ◌^◌, ◌++◌, ◌∷◌, ◌==◌, [], ℕ, List, length, take, drop, slice_get, option_copied, IfOk, OnOk, OnErr};
-ghost use Rattle.line_text.specs.Lines.{IsLine, lines_in, start_in};
+ghost use Rattle.line_text.specs.Lines.{IsLine, text_lines, start_in};
 
 use std::alloc::{AllocError, Global};
 use std::marker::Model;
@@ -17,11 +17,11 @@ pub struct Lines {
 
 impl Model for Lines {
     ghost use Rattle.std.specs.Prelude.{List, ℕ};
-    ghost use Rattle.line_text.specs.Lines.{IsLaidOut, lines_in};
+    ghost use Rattle.line_text.specs.Lines.{IsLaidOut, text_lines};
 
     ghost Value = { List (List ℕ) };
 
-    ghost view = { λ lines. lines_in lines.text.items };
+    ghost view = { λ lines. text_lines lines.text.items };
 
     ghost invariant = { λ lines. IsLaidOut lines.text.items lines.ends.items };
 }
@@ -50,7 +50,7 @@ impl Lines {
     /// How many lines there are; memory bounds their number.
     pub fn len(&self) -> usize
         ensures count { result ≡ length self.now }
-        ensures few { result < 2 ^ 63 }
+        ensures below_2_to_63 { result < 2 ^ 63 }
     {
         self.ends.len()
     }
@@ -76,7 +76,7 @@ impl Lines {
 
     /// The lines as one text, in which each is followed by a line feed.
     pub fn text(&self) -> &[u8]
-        ensures { lines_in result.now ≡ self.now }
+        ensures { text_lines result.now ≡ self.now }
     {
         self.text.as_slice()
     }
@@ -97,7 +97,7 @@ impl Lines {
     }
 }
 
-/// Where the line of this number begins: behind the line feed of the one before it.
+/// Where the line of this number begins: after the line feed of the one before it.
 fn start_of(ends: &[usize], number: usize) -> usize
     requires within { number ≤ length ends.now }
     requires fits { start_in ends.now number < 2 ^ 64 }

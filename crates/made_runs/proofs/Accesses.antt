@@ -15,10 +15,10 @@ use Rattle.csr_file.specs.Registers.{at, csrs_at_reset}
 use Rattle.rv_integer.specs.declared.int_result.MemoryRequest.{MemoryRequest}
 use Rattle.rv_integer.specs.declared.int_result.MemoryOp.TheVariants as memory
 use Rattle.mem_access.specs.Places.{data_mode_of}
-use Rattle.mem_access.specs.Translation.{reached}
-use Rattle.mem_access.specs.Accesses.{load_from, loaded, store_place_of}
-use Rattle.hart_step.specs.declared.choices.Choices.{Choices}
-use Rattle.hart_step.specs.MemoryAccess.{accessed, answer_of, answered, placed, put}
+use Rattle.mem_access.specs.Translation.{virtual_place_of}
+use Rattle.mem_access.specs.Accesses.{load_from, load_result, store_place_of}
+use Rattle.hart_step.specs.declared.choices.RowChoices.{RowChoices}
+use Rattle.hart_step.specs.MemoryAccess.{memory_access, access_result_of, access_after_location, located_access, put}
 use Rattle.made_runs.specs.States.{IsMadeMap, core_with}
 use Rattle.made_runs.proofs.Differences.{cell_access}
 use Rattle.made_runs.proofs.Fetches.{reached_at_reset}
@@ -32,16 +32,29 @@ cell_inside : (map : Map) → IsMadeMap map → holds_all map.ram 0x80001000 8 �
 cell_inside map made = rw (made.base, made.size) refl
 
 -- the place of the store
-stored_place : (map : Map) (bytes : Bytes) → IsMadeMap map → (store_place_of csrs_at_reset map Machine 0x80001000 8 false).run bytes ≡ record { value = Ok (record { pa = 0x80001000; io = false }); reads = []; wrote = [] }
+stored_place : (map : Map) (bytes : Bytes) → IsMadeMap map
+    → (store_place_of csrs_at_reset map Machine 0x80001000 8 false).run bytes
+    ≡ record { value = Ok (record { pa = 0x80001000; io = false }); reads = []; wrote = [] }
 unfolding store_place_of mapped
-stored_place map bytes made = rw (mode_at_reset, reached_at_reset map Store 8 true 0x80001000 bytes, cell_inside map made) refl
+stored_place map bytes made =
+    rw (mode_at_reset, reached_at_reset map Store 8 true 0x80001000 bytes, cell_inside map made) refl
 
 -- what the load finds
-loaded_cell : (map : Map) (bytes : Bytes) → IsMadeMap map → (loaded csrs_at_reset map Machine 0x80001000 8 false).run bytes ≡ record { value = Ok (record { pa = 0x80001000; io = false }, number_at bytes 0x80001000 8); reads = record { pa = 0x80001000; len = 8 } ∷ []; wrote = [] }
-unfolding loaded mapped read_memory after_writes
+loaded_cell : (map : Map) (bytes : Bytes) → IsMadeMap map
+    → (load_result csrs_at_reset map Machine 0x80001000 8 false).run bytes
+    ≡ record {
+      value =
+          Ok (record { pa = 0x80001000; io = false }, number_at bytes 0x80001000 8);
+      reads =
+          record { pa = 0x80001000; len = 8 } ∷ [];
+      wrote = [];
+    }
+unfolding load_result mapped read_memory after_writes
 loaded_cell map bytes made =
     rw mode_at_reset
-    (run_then-is (reached csrs_at_reset map (record { mode = Machine; access = Load; len = 8; devices = true }) 0x80001000) (load_from 0x80001000 8) bytes
+    (run_then-is
+    (virtual_place_of csrs_at_reset map (record { mode = Machine; access = Load; len = 8; devices = true })
+    0x80001000) (load_from 0x80001000 8) bytes
     ∙ rw (reached_at_reset map Load 8 true 0x80001000 bytes, cell_inside map made) refl)
 
 abbrev pub store_request : ℕ → MemoryRequest
@@ -51,17 +64,44 @@ abbrev pub load_request : MemoryRequest
 load_request = record { address = 0x80001000; size = Doubleword; op = memory.Load true }
 
 -- the store
-pub store_accessed : (map : Map) (pc x1 x2 x3 x4 value : ℕ) (order : Option ℕ) (choices : Choices) (bytes : Bytes) → IsMadeMap map → (accessed (core_with map pc x1 x2 x3 x4 order) choices (store_request value)).run bytes ≡ record { value = Ok (record { value = 0; access = cell_access None (Some value); reservation = record { block = None } }); reads = []; wrote = record { pa = 0x80001000; len = 8; value = value } ∷ [] }
-unfolding accessed placed answer_of put write_memory mapped pure after_writes
+pub store_accessed : (map : Map) (pc x1 x2 x3 x4 value : ℕ) (order : Option ℕ) (choices : RowChoices) (bytes : Bytes)
+    → IsMadeMap map
+    → (memory_access (core_with map pc x1 x2 x3 x4 order) choices (store_request value)).run bytes
+    ≡ record {
+      value =
+          Ok (record { value = 0; access = cell_access None (Some value); reservation = record { block = None } });
+      reads =
+          [];
+      wrote = record { pa = 0x80001000; len = 8; value = value } ∷ [];
+    }
+unfolding memory_access located_access access_result_of put write_memory mapped pure after_writes
 store_accessed map pc x1 x2 x3 x4 value order choices bytes made =
-    run_then-is (placed (core_with map pc x1 x2 x3 x4 order) (store_request value)) (answered (core_with map pc x1 x2 x3 x4 order) choices (store_request value)) bytes
+    run_then-is (located_access (core_with map pc x1 x2 x3 x4 order) (store_request value))
+    (access_after_location (core_with map pc x1 x2 x3 x4 order) choices (store_request value)) bytes
     ∙ rw (stored_place map bytes made) refl
 
 -- the load
-pub load_accessed : (map : Map) (pc x1 x2 x3 x4 : ℕ) (order : Option ℕ) (choices : Choices) (bytes : Bytes) → IsMadeMap map → (accessed (core_with map pc x1 x2 x3 x4 order) choices load_request).run bytes ≡ record { value = Ok (record { value = sign_extended 64 (number_at bytes 0x80001000 8); access = cell_access (Some (number_at bytes 0x80001000 8)) None; reservation = record { block = None } }); reads = record { pa = 0x80001000; len = 8 } ∷ []; wrote = [] }
-unfolding accessed placed answer_of put write_memory mapped pure after_writes
+pub load_accessed : (map : Map) (pc x1 x2 x3 x4 : ℕ) (order : Option ℕ) (choices : RowChoices) (bytes : Bytes)
+    → IsMadeMap map
+    → (memory_access (core_with map pc x1 x2 x3 x4 order) choices load_request).run bytes
+    ≡ record {
+      value =
+          Ok
+          (record {
+            value =
+                sign_extended 64 (number_at bytes 0x80001000 8);
+            access =
+                cell_access (Some (number_at bytes 0x80001000 8)) None;
+            reservation = record { block = None };
+          });
+      reads =
+          record { pa = 0x80001000; len = 8 } ∷ [];
+      wrote = [];
+    }
+unfolding memory_access located_access access_result_of put write_memory mapped pure after_writes
 load_accessed map pc x1 x2 x3 x4 order choices bytes made =
-    run_then-is (placed (core_with map pc x1 x2 x3 x4 order) load_request) (answered (core_with map pc x1 x2 x3 x4 order) choices load_request) bytes
+    run_then-is (located_access (core_with map pc x1 x2 x3 x4 order) load_request)
+    (access_after_location (core_with map pc x1 x2 x3 x4 order) choices load_request) bytes
     ∙ rw (loaded_cell map bytes made) refl
 
 -- 64 bits are their own extension

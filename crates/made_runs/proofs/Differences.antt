@@ -5,20 +5,24 @@ use Rattle.std.proofs.Math.Nat.{mod-eq_of_lt}
 use Rattle.csr_file.specs.Fields.{all_bits}
 use Rattle.row_compare.specs.Memory.{byte_ones, data_at}
 use Rattle.hart_words.specs.declared.signal.Signal.{Signal}
-use Rattle.hart_words.specs.declared.signal.Signal.TheVariants.{Valid, Order, Intr, PcRdata, Mode, Ixl, Trap, Insn, Rs1Addr, Rs1Rdata, Rs2Addr, Rs2Rdata, RdAddr, RdWdata, PcWdata, MemAddr, MemRmask, MemRdata, MemWmask, MemWdata, MemPaddr, Halt, Csr}
+use Rattle.hart_words.specs.declared.signal.Signal.TheVariants.{Valid, Order, Intr, PcRdata, Mode, Ixl, Trap, Insn}
+use Rattle.hart_words.specs.declared.signal.Signal.TheVariants.{Rs1Addr, Rs1Rdata, Rs2Addr, Rs2Rdata, RdAddr, RdWdata}
+use Rattle.hart_words.specs.declared.signal.Signal.TheVariants.{PcWdata, MemAddr, MemRmask, MemRdata, MemWmask}
+use Rattle.hart_words.specs.declared.signal.Signal.TheVariants.{MemWdata, MemPaddr, Halt, Csr}
 use Rattle.hart_words.specs.declared.signal.SignalEntry.{SignalEntry}
 use Rattle.hart_words.specs.Signals.{Shown}
 use Rattle.rvfi_rows.specs.declared.expected.Retired.{Retired}
 use Rattle.rvfi_rows.specs.declared.expected.Effects.{Effects}
 use Rattle.rvfi_rows.specs.declared.expected.Accessed.{Accessed}
 use Rattle.row_compare.specs.Difference.{difference_between, first_among, signal_difference}
-use Rattle.row_compare.specs.Signals.{wanted}
+use Rattle.row_compare.specs.Signals.{expected_signal}
 use Rattle.row_compare.specs.Wanted.{whole, where_known}
 use Rattle.trace_maker.specs.declared.made_row.MadeRow.{MadeRow}
 use Rattle.made_runs.specs.Shows.{shown_of}
 
 -- where no signal differs, none of the table does
-pub none_among : (retired : Retired) (shown : Shown) (entries : List SignalEntry) → ((signal : Signal) → signal_difference retired shown signal ≡ None) → first_among retired shown entries ≡ None
+pub none_among : (retired : Retired) (shown : Shown) (entries : List SignalEntry)
+    → ((signal : Signal) → signal_difference retired shown signal ≡ None) → first_among retired shown entries ≡ None
 unfolding first_among
 none_among retired shown [] all = refl
 none_among retired shown (entry ∷ entries) all = rw (all entry.signal) (none_among retired shown entries all)
@@ -31,11 +35,12 @@ same_value signal value =
 -- the order index that is wanted, if one is, is this one
 abbrev pub IsOrder : Option ℕ → ℕ → Type 0
 IsOrder None order = Unit {0}
-IsOrder (Some wanted) order = wanted ≡ order
+IsOrder (Some expected_signal) order = expected_signal ≡ order
 
-pub same_order : (known : Option ℕ) (order : ℕ) → IsOrder known order → difference_between Order (Some order) (where_known known) ≡ None
+pub same_order : (known : Option ℕ) (order : ℕ) → IsOrder known order
+    → difference_between Order (Some order) (where_known known) ≡ None
 same_order None order is = refl
-same_order (Some wanted) order is = rw is (same_value Order order)
+same_order (Some expected_signal) order is = rw is (same_value Order order)
 
 -- what the hart did by an instruction that did not trap, as a row shows it but for memory
 pub record IsDone (retired : Retired) (effects : Effects) (row : MadeRow) : Type 0 where
@@ -58,8 +63,9 @@ pub record AgreesInMemory (retired : Retired) (row : MadeRow) : Type 0 where
   pub written : signal_difference retired (shown_of row) MemWdata ≡ None
   pub physical : signal_difference retired (shown_of row) MemPaddr ≡ None
 
-pub done_agrees : (retired : Retired) (effects : Effects) (row : MadeRow) → IsDone retired effects row → AgreesInMemory retired row → (signal : Signal) → signal_difference retired (shown_of row) signal ≡ None
-unfolding signal_difference wanted
+pub done_agrees : (retired : Retired) (effects : Effects) (row : MadeRow) → IsDone retired effects row
+    → AgreesInMemory retired row → (signal : Signal) → signal_difference retired (shown_of row) signal ≡ None
+unfolding signal_difference expected_signal
 done_agrees retired effects row is memory Valid = refl
 done_agrees retired effects row is memory Order = same_order retired.order row.order is.order
 done_agrees retired effects row is memory Intr = refl
@@ -85,8 +91,9 @@ done_agrees retired effects row is memory Halt = refl
 done_agrees retired effects row is memory (Csr name side) = refl
 
 -- without an access nothing is written
-pub plain_memory : (retired : Retired) (effects : Effects) (row : MadeRow) → retired.effects ≡ Ok effects → effects.access ≡ None → row.mem_wmask ≡ 0 → AgreesInMemory retired row
-unfolding signal_difference wanted
+pub plain_memory : (retired : Retired) (effects : Effects) (row : MadeRow) → retired.effects ≡ Ok effects
+    → effects.access ≡ None → row.mem_wmask ≡ 0 → AgreesInMemory retired row
+unfolding signal_difference expected_signal
 plain_memory retired effects row done access unwritten = record {
   address = rw (done, access) refl;
   read_mask = rw (done, access) refl;
@@ -101,14 +108,19 @@ abbrev pub cell_access : Option ℕ → Option ℕ → Option Accessed
 cell_access read written = Some (record { va = 0x80001000; pa = 0x80001000; len = 8; read = read; written = written })
 
 whole_value : (value : ℕ) → value < 2 ^ 64 → value * 1 % 2 ^ 64 ≡ value
-whole_value value small = let one : value * 1 % 2 ^ 64 ≡ value = (let e : value * 1 ≡ value = omega arith in rw e (mod-eq_of_lt small)) in one
+whole_value value small =
+    let one : value * 1 % 2 ^ 64 ≡ value = (let e : value * 1 ≡ value = omega arith in rw e (mod-eq_of_lt small)) in one
 
-same_data : (signal : Signal) (value : ℕ) → value < 2 ^ 64 → difference_between signal (Some value) (data_at 8 (Some 0) (Some value)) ≡ None
+same_data : (signal : Signal) (value : ℕ) → value < 2 ^ 64
+    → difference_between signal (Some value) (data_at 8 (Some 0) (Some value)) ≡ None
 same_data signal value small =
-    let same : (bit_and value (byte_ones 0 8) == bit_and value (byte_ones 0 8)) ≡ true = eq-eqb _ _ refl in rw (whole_value value small, same) refl
+    let same : (bit_and value (byte_ones 0 8) == bit_and value (byte_ones 0 8)) ≡ true = eq-eqb _ _ refl in
+    rw (whole_value value small, same) refl
 
-pub store_memory : (retired : Retired) (effects : Effects) (row : MadeRow) (value : ℕ) → retired.effects ≡ Ok effects → effects.access ≡ cell_access None (Some value) → value < 2 ^ 64 → row.mem_addr ≡ 0x80001000 → row.mem_wmask ≡ 255 → row.mem_wdata ≡ value → row.mem_paddr ≡ 0x80001000 → AgreesInMemory retired row
-unfolding signal_difference wanted
+pub store_memory : (retired : Retired) (effects : Effects) (row : MadeRow) (value : ℕ) → retired.effects ≡ Ok effects
+    → effects.access ≡ cell_access None (Some value) → value < 2 ^ 64 → row.mem_addr ≡ 0x80001000
+    → row.mem_wmask ≡ 255 → row.mem_wdata ≡ value → row.mem_paddr ≡ 0x80001000 → AgreesInMemory retired row
+unfolding signal_difference expected_signal
 store_memory retired effects row value done access small addr wmask wdata paddr = record {
   address = rw (done, access, addr) refl;
   read_mask = rw (done, access, addr) refl;
@@ -118,8 +130,11 @@ store_memory retired effects row value done access small addr wmask wdata paddr 
   physical = rw (done, access, addr, paddr) refl;
 }
 
-pub load_memory : (retired : Retired) (effects : Effects) (row : MadeRow) (value : ℕ) → retired.effects ≡ Ok effects → effects.access ≡ cell_access (Some value) None → value < 2 ^ 64 → row.mem_addr ≡ 0x80001000 → row.mem_rmask ≡ 255 → row.mem_wmask ≡ 0 → row.mem_rdata ≡ value → row.mem_paddr ≡ 0x80001000 → AgreesInMemory retired row
-unfolding signal_difference wanted
+pub load_memory : (retired : Retired) (effects : Effects) (row : MadeRow) (value : ℕ) → retired.effects ≡ Ok effects
+    → effects.access ≡ cell_access (Some value) None → value < 2 ^ 64 → row.mem_addr ≡ 0x80001000
+    → row.mem_rmask ≡ 255 → row.mem_wmask ≡ 0 → row.mem_rdata ≡ value → row.mem_paddr ≡ 0x80001000
+    → AgreesInMemory retired row
+unfolding signal_difference expected_signal
 load_memory retired effects row value done access small addr rmask wmask rdata paddr = record {
   address = rw (done, access, addr) refl;
   read_mask = rw (done, access, addr, rmask) refl;

@@ -4,12 +4,13 @@ use Rattle.csv.specs.Machine.{next_record}
 use Rattle.csv.specs.Reading.{strip_bom}
 use Rattle.hart_words.specs.SignalNames.{prefix_of, stem_of, suffix_of}
 use Rattle.csv_line.specs.Fields.{fields_of_line, trimmed_of}
-use Rattle.rvfi_rows.specs.Columns.{header_columns, less_prefix, repeated_after, signal_named}
+use Rattle.rvfi_rows.specs.Columns.{header_columns, less_prefix, first_repeated, signal_of_name}
 use Rattle.trace_maker.specs.Texts.{header_text}
 use Rattle.made_runs.specs.Shows.{header_line, made_columns}
 
 pub header_named : header_columns header_line ≡ Ok made_columns
-unfolding header_columns fields_of_line trimmed_of next_record strip_bom less_prefix repeated_after signal_named prefix_of stem_of suffix_of
+unfolding header_columns fields_of_line trimmed_of next_record strip_bom less_prefix first_repeated signal_of_name
+    prefix_of stem_of suffix_of
 header_named = refl
 
 pub header_is : header_text ≡ header_line ++ codes "\n"

@@ -15,7 +15,8 @@ use Rattle.made_runs.proofs.Judged.{made_agree}
 use Rattle.made_runs.proofs.RowLines.{rows_back}
 use Rattle.made_runs.proofs.TraceLines.{lines_are}
 
-pub texts_agree : (map : Map) (number rows most : ℕ) → IsMadeMap map → rows < 2 ^ 64 → length (made_trace number rows) ≤ most → MadeRunAgrees map number rows most
+pub texts_agree : (map : Map) (number rows most : ℕ) → IsMadeMap map → rows < 2 ^ 64
+    → length (made_trace number rows) ≤ most → MadeRunAgrees map number rows most
 texts_agree map number rows most is small fits =
     let image : IsMadeImage map number = image_read map number is in
     let memory : ℕ → ℕ = λ address. unwrap_or (image.bytes address) 0 in
@@ -24,6 +25,8 @@ texts_agree map number rows most is small fits =
       lines = lines_are number rows most (omega arith) fits;
       columns = header_named;
       verdict =
-          ap (λ (readings : List RowReading). (judgement_of by_hart (core_at_reset 0x80000000 map) readings memory).verdict) (rows_back number rows (omega arith))
+          ap (λ (readings : List RowReading).
+          (judgement_of by_hart (core_at_reset 0x80000000 map) readings memory).verdict)
+          (rows_back number rows (omega arith))
           ∙ made_agree map number rows memory is image.has_image small;
     }

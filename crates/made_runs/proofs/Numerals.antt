@@ -1,5 +1,6 @@
 -- Numerals that are read back.
-use Rattle.std.proofs.Common.{◌≡◌, ℕ, zero, suc, ◌+◌, ◌*◌, ◌/◌, ◌%◌, ◌^◌, ◌<◌, ◌≤◌, Bool, true, false, ◌&&◌, List, [], ◌∷◌, ◌++◌, map, get_or, length, ne_eqb, ◌==◌, Some, refl, ap, sym, ◌∙◌, arith, codes}
+use Rattle.std.proofs.Common.{◌≡◌, ℕ, zero, suc, ◌+◌, ◌*◌, ◌/◌, ◌%◌, ◌^◌, ◌<◌, ◌≤◌, Bool, true, false, ◌&&◌, List, []}
+use Rattle.std.proofs.Common.{◌∷◌, ◌++◌, map, get_or, length, ne_eqb, ◌==◌, Some, refl, ap, sym, ◌∙◌, arith, codes}
 use Rattle.std.specs.Prelude.{decimal, slice_index, nat_le, nat_lt}
 use Rattle.std.specs.Char.{digit_value, is_digit}
 use Rattle.std.specs.Int.{bytes_high_first, byte_at}
@@ -33,7 +34,9 @@ nibble_back d small =
     ∙ get_or-range_with_len 0 16 d 0 small ∙ here
 
 -- two digits are a byte
-pub pair_back : (b v : ℕ) → b < 256 → (v * 16 + digit_value (slice_index lower_digits (b / 16))) * 16 + digit_value (slice_index lower_digits (b % 16)) ≡ v * 256 + b
+pub pair_back : (b v : ℕ) → b < 256
+    → (v * 16 + digit_value (slice_index lower_digits (b / 16))) * 16
+    + digit_value (slice_index lower_digits (b % 16)) ≡ v * 256 + b
 pair_back b v small =
     let high : b / 16 < 16 = omega arith in
     let low : b % 16 < 16 = omega arith in
@@ -59,8 +62,10 @@ value_back zero n v = omega arith
 value_back (suc k) n v =
     let small : byte_at k n < 256 = byte_small k n in
     let more : 256 ^ suc k ≡ 256 * 256 ^ k = pow-succ' 256 k in
-    let low : n % (256 * 256 ^ k) ≡ byte_at k n * 256 ^ k + n % 256 ^ k = mod-mul n (omega arith) (positive k) ∙ ap (λ m. m * 256 ^ k + n % 256 ^ k) (sym (byte_is k n)) in
-    let target : v * 256 ^ suc k + n % 256 ^ suc k ≡ v * (256 * 256 ^ k) + (byte_at k n * 256 ^ k + n % 256 ^ k) = rw (more, low) refl in
+    let low : n % (256 * 256 ^ k) ≡ byte_at k n * 256 ^ k + n % 256 ^ k =
+    mod-mul n (omega arith) (positive k) ∙ ap (λ m. m * 256 ^ k + n % 256 ^ k) (sym (byte_is k n)) in
+    let target : v * 256 ^ suc k + n % 256 ^ suc k ≡ v * (256 * 256 ^ k) + (byte_at k n * 256 ^ k + n % 256 ^ k) =
+    rw (more, low) refl in
     ap (λ (m : ℕ). digits_value_after 16 m (encode_lower (bytes_high_first k n))) (pair_back (byte_at k n) v small)
     ∙ value_back k n (v * 256 + byte_at k n)
     ∙ mixed v (byte_at k n) (256 ^ k) (n % 256 ^ k)
@@ -85,19 +90,23 @@ unfolding encode_with
 some_digits byte bytes = ne_eqb _ 0 (omega arith)
 
 -- digits that are some, and nothing else, are read as their value
-digits_read : (text : List ℕ) (value : ℕ) → (length text == 0) ≡ false → list_all (λ c. is_digit c 16) text ≡ true → digits_value 16 text ≡ value → digits_number 16 text ≡ Some value
+digits_read : (text : List ℕ) (value : ℕ) → (length text == 0) ≡ false → list_all (λ c. is_digit c 16) text ≡ true
+    → digits_value 16 text ≡ value → digits_number 16 text ≡ Some value
 unfolding digits_number
 digits_read text value some digits is = rw (some, digits, is) refl
 
 -- what is written in hexadecimal is read as the same number
-pub hexadecimal_back : (k n : ℕ) → n < 256 ^ suc k → number_of (codes "0x" ++ encode_lower (bytes_high_first (suc k) n)) ≡ Some n
+pub hexadecimal_back : (k n : ℕ) → n < 256 ^ suc k
+    → number_of (codes "0x" ++ encode_lower (bytes_high_first (suc k) n)) ≡ Some n
 unfolding number_of
 hexadecimal_back k n fits =
     let whole : 0 * 256 ^ suc k + n % 256 ^ suc k ≡ n = omega (arith, mod-eq_of_lt fits) in
-    digits_read (encode_lower (bytes_high_first (suc k) n)) n (some_digits (byte_at k n) (bytes_high_first k n)) (digits_back (bytes_high_first (suc k) n) (bytes_are (suc k) n)) (value_back (suc k) n 0 ∙ whole)
+    digits_read (encode_lower (bytes_high_first (suc k) n)) n (some_digits (byte_at k n) (bytes_high_first k n))
+    (digits_back (bytes_high_first (suc k) n) (bytes_are (suc k) n)) (value_back (suc k) n 0 ∙ whole)
 
 -- digits are plain
-are_plain : map (λ d. nat_le 48 (slice_index lower_digits d) && nat_lt (slice_index lower_digits d) 128) (range_with_len 0 16) ≡ map (λ d. true) (range_with_len 0 16)
+are_plain : map (λ d. nat_le 48 (slice_index lower_digits d) && nat_lt (slice_index lower_digits d) 128)
+    (range_with_len 0 16) ≡ map (λ d. true) (range_with_len 0 16)
 are_plain = refl
 
 plain_by : (byte : ℕ) → (nat_le 48 byte && nat_lt byte 128) ≡ true → IsPlainByte byte
@@ -107,7 +116,10 @@ plain_digit : (d : ℕ) → d < 16 → IsPlainByte (slice_index lower_digits d)
 plain_digit d small =
     let here : 0 + d ≡ d = omega arith in
     plain_by (slice_index lower_digits d) (
-    sym (get_or-map-range_with_len (λ (n : ℕ). nat_le 48 (slice_index lower_digits n) && nat_lt (slice_index lower_digits n) 128) 0 16 d d true small here)
+    sym
+    (get_or-map-range_with_len
+    (λ (n : ℕ). nat_le 48 (slice_index lower_digits n) && nat_lt (slice_index lower_digits n) 128) 0 16 d d true
+    small here)
     ∙ ap (λ (xs : List Bool). get_or xs d true) are_plain
     ∙ get_or-map-range_with_len (λ (n : ℕ). true) 0 16 d d true small here)
 
@@ -131,13 +143,17 @@ pub record IsNumeralOf (field : List ℕ) (value most : ℕ) : Type 0 where
   pub reads : number_of field ≡ Some value
   pub short : length field ≤ most
 
-pub hexadecimal_is : (k n : ℕ) → n < 256 ^ suc k → IsNumeralOf (codes "0x" ++ encode_lower (bytes_high_first (suc k) n)) n (2 * k + 4)
+pub hexadecimal_is : (k n : ℕ) → n < 256 ^ suc k
+    → IsNumeralOf (codes "0x" ++ encode_lower (bytes_high_first (suc k) n)) n (2 * k + 4)
 hexadecimal_is k n fits =
     let digits : List ℕ = encode_lower (bytes_high_first (suc k) n) in
     record {
       is_field = record {
         some = omega arith;
-        plain = All-cons IsPlainByte 48 (120 ∷ digits) (omega arith, omega arith) (All-cons IsPlainByte 120 digits (omega arith, omega arith) (encoded_plain (bytes_high_first (suc k) n) (bytes_are (suc k) n)));
+        plain =
+            All-cons IsPlainByte 48 (120 ∷ digits) (omega arith, omega arith)
+            (All-cons IsPlainByte 120 digits (omega arith, omega arith)
+            (encoded_plain (bytes_high_first (suc k) n) (bytes_are (suc k) n)));
       };
       reads = hexadecimal_back k n fits;
       short = omega (arith, encoded_len (suc k) n);
@@ -153,7 +169,8 @@ decimal_bytes =
     (λ n small. All-cons IsDecimalByte (48 + n) [] (omega arith, omega (arith, small)) (All-nil IsDecimalByte))
     (λ n digits some more.
     let low : n % 10 < 10 = omega arith in
-    All-append IsDecimalByte digits ((48 + n % 10) ∷ []) more (All-cons IsDecimalByte (48 + n % 10) [] (omega arith, omega arith) (All-nil IsDecimalByte)))
+    All-append IsDecimalByte digits ((48 + n % 10) ∷ []) more
+    (All-cons IsDecimalByte (48 + n % 10) [] (omega arith, omega arith) (All-nil IsDecimalByte)))
 
 no_and : (test : Bool) → (test && false) ≡ false
 no_and true = refl
@@ -170,10 +187,12 @@ not_hexadecimal (a ∷ b ∷ rest) bytes =
 
 all_digits : (text : List ℕ) → AllDigits 10 text → list_all (λ c. is_digit c 10) text ≡ true
 all_digits [] digits = refl
-all_digits (c ∷ text) digits = let one : nat_lt (digit_value c) 10 ≡ true = lt-ltb (digit_value c) 10 digits.0 in rw one (all_digits text digits.1)
+all_digits (c ∷ text) digits =
+    let one : nat_lt (digit_value c) 10 ≡ true = lt-ltb (digit_value c) 10 digits.0 in rw one (all_digits text digits.1)
 
 -- what is written in decimal is read as the same number
-decimal_read : (text : List ℕ) (n : ℕ) → is_hexadecimal text ≡ false → (0 < length text) × AllDigits 10 text → digits_value 10 text ≡ n → number_of text ≡ Some n
+decimal_read : (text : List ℕ) (n : ℕ) → is_hexadecimal text ≡ false → (0 < length text) × AllDigits 10 text
+    → digits_value 10 text ≡ n → number_of text ≡ Some n
 unfolding number_of digits_number
 decimal_read text n other numeral is =
     let some : (length text == 0) ≡ false = ne_eqb (length text) 0 (omega (arith, numeral.0)) in
@@ -185,7 +204,9 @@ decimal_is k n some short small =
     record {
       is_field = record {
         some = numeral.0.0;
-        plain = All-weaker IsDecimalByte IsPlainByte (λ byte here. (here.0, omega (arith, here.1))) (decimal n) (decimal_bytes n small);
+        plain =
+            All-weaker IsDecimalByte IsPlainByte (λ byte here. (here.0, omega (arith, here.1))) (decimal n)
+            (decimal_bytes n small);
       };
       reads = decimal_read (decimal n) n (not_hexadecimal (decimal n) (decimal_bytes n small)) numeral.0 numeral.1;
       short = length-decimal-le k n some short small;

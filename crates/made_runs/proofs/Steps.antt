@@ -1,5 +1,6 @@
 -- A step of the hart that runs the image.
-use Rattle.std.proofs.Common.{◌≡◌, ℕ, ◌+◌, ◌%◌, ◌^◌, true, List, [], ◌∷◌, ◌++◌, Option, Some, None, Result, Ok, refl, ap, ◌∙◌}
+use Rattle.std.proofs.Common.{◌≡◌, ℕ, ◌+◌, ◌%◌, ◌^◌, true, List, [], ◌∷◌, ◌++◌, Option, Some, None, Result, Ok, refl}
+use Rattle.std.proofs.Common.{ap, ◌∙◌}
 use Rattle.hart_words.specs.declared.privilege.Mode.TheVariants.{Machine}
 use Rattle.hart_words.specs.declared.map.Map.{Map}
 use Rattle.hart_words.specs.declared.accesses.Read.{Read}
@@ -10,21 +11,23 @@ use Rattle.hart_words.specs.Memory.{Bytes, after_writes, number_at}
 use Rattle.hart_words.proofs.Runs.{run_then-is}
 use Rattle.csr_file.specs.Registers.{csrs_at_reset}
 use Rattle.rv_decode.specs.declared.operation.Op.{Op}
-use Rattle.rv_decode.specs.Operands.{destination_of}
-use Rattle.rv_decode.specs.Table.{decoded}
-use Rattle.mem_access.specs.Accesses.{Exception, fetched}
+use Rattle.rv_decode.specs.Operands.{operands_of}
+use Rattle.rv_decode.specs.Table.{decoded_op_of}
+use Rattle.mem_access.specs.Accesses.{Exception, fetch_result}
 use Rattle.hart_step.specs.declared.state.Core.{Core}
 use Rattle.hart_step.specs.declared.instruction.Instruction.{Instruction}
 use Rattle.hart_step.specs.Choices.{asks_interrupt, choices_of}
-use Rattle.hart_step.specs.Instructions.{Done, Ran, ended, executed, fetched_run, ran}
-use Rattle.hart_step.specs.Steps.{begun, counted, gave_of, interrupted, lacks_interrupt, stepped}
-use Rattle.segment_judge.specs.Judgements.{RowJudged, by_hart, compared}
+use Rattle.hart_step.specs.Instructions.{Completion, InstructionRun, run_of_result, execution_of, run_of_fetched}
+use Rattle.hart_step.specs.Instructions.{instruction_run}
+use Rattle.hart_step.specs.Steps.{before_instruction, core_after_count, step_result_of, core_after_interrupt}
+use Rattle.hart_step.specs.Steps.{lacks_interrupt, step_of}
+use Rattle.segment_judge.specs.Judgements.{RowJudgement, by_hart, row_judgement_of}
 use Rattle.hart_words.specs.Spans.{holds_all}
 use Rattle.hart_words.specs.declared.accesses.Write.{Write}
 use Rattle.rv_decode.specs.declared.operation.Op.TheVariants.{Auipc, Jal, Load, Store, Immediate, Register}
-use Rattle.rv_integer.specs.Results.{computed, computed_immediate, computed_register}
-use Rattle.hart_step.specs.Instructions.{after_access, retired}
-use Rattle.hart_step.specs.Steps.{finished, expected_of}
+use Rattle.rv_integer.specs.Results.{result_of, immediate_result, register_result}
+use Rattle.hart_step.specs.Instructions.{after_access, core_after_retirement}
+use Rattle.hart_step.specs.Steps.{core_after_run, expected_of}
 use Rattle.row_compare.specs.Difference.{difference_of}
 use Rattle.std.proofs.Common.{◌≤◌, arith, lit≤}
 use Rattle.std.proofs.lemmas.Bool.Decides.{nat_tests}
@@ -46,35 +49,54 @@ use Rattle.made_runs.specs.Shows.{shown_of}
 use Rattle.made_runs.specs.States.{core_with}
 
 -- no made row asks for an interrupt
-begun_made : (core : Core) (row : MadeRow) → begun core (shown_of row) ≡ counted core (shown_of row)
-unfolding begun interrupted asks_interrupt
+begun_made : (core : Core) (row : MadeRow)
+    → before_instruction core (shown_of row) ≡ core_after_count core (shown_of row)
+unfolding before_instruction core_after_interrupt asks_interrupt
 begun_made core row = refl
 
 -- what is judged of a row, by the instruction's own run
-abbrev pub judged_by : Core → MadeRow → Instruction → List Read → Run (Result Done Exception) → Run (RowJudged Core)
+abbrev pub judged_by : Core → MadeRow → Instruction → List Read → Run (Result Completion Exception)
+    → Run (RowJudgement Core)
 judged_by core row instruction reads run = record {
-  value = compared (shown_of row) (gave_of core (shown_of row) (ended (counted core (shown_of row)) instruction run.value));
+  value =
+      row_judgement_of (shown_of row)
+      (step_result_of core (shown_of row) (run_of_result (core_after_count core (shown_of row)) instruction run.value));
   reads = reads ++ run.reads;
   wrote = run.wrote;
 }
 
 -- a row is judged by what the instruction at pc does
-pub judged_as : (map : Map) (pc x1 x2 x3 x4 : ℕ) (order : Option ℕ) (row : MadeRow) (bytes : Bytes) (word : ℕ) (op : Op) (reads : List Read) →
-    (fetched csrs_at_reset map Machine pc).run bytes ≡ record { value = Ok (word, 4); reads = reads; wrote = [] } → decoded word ≡ Some op →
+pub judged_as : (map : Map) (pc x1 x2 x3 x4 : ℕ) (order : Option ℕ) (row : MadeRow) (bytes : Bytes) (word : ℕ)
+    (op : Op) (reads : List Read) →
+    (fetch_result csrs_at_reset map Machine pc).run bytes ≡ record { value = Ok (word, 4); reads = reads; wrote = [] }
+    → decoded_op_of word ≡ Some op →
     let core = core_with map pc x1 x2 x3 x4 order in
     let instruction : Instruction = record { op = op; bits = word; len = 4 } in
     (by_hart core (shown_of row)).run bytes
-    ≡ judged_by core row instruction reads ((executed (counted core (shown_of row)) (choices_of (shown_of row) (destination_of op)) instruction).run bytes)
-unfolding by_hart stepped mapped ran counted after_writes
+    ≡ judged_by core row instruction reads
+    ((execution_of (core_after_count core (shown_of row)) (choices_of (shown_of row) (operands_of op).rd)
+    instruction).run bytes)
+unfolding by_hart step_of mapped instruction_run core_after_count after_writes
 judged_as map pc x1 x2 x3 x4 order row bytes word op reads fetch means =
     let core : Core = core_with map pc x1 x2 x3 x4 order in
     let shown : Shown = shown_of row in
-    let now : Core = counted core shown in
+    let now : Core = core_after_count core shown in
     let instruction : Instruction = record { op = op; bits = word; len = 4 } in
-    let run : Run (Result Done Exception) = (executed now (choices_of shown (destination_of op)) instruction).run bytes in
-    let all : (ran now shown).run bytes ≡ record { value = ended now instruction run.value; reads = reads ++ run.reads; wrote = run.wrote } = run_then-is (fetched csrs_at_reset map Machine pc) (fetched_run now shown) bytes ∙ rw (fetch, means) refl in
-    let judge : Run Ran → Run (RowJudged Core) = λ (t : Run Ran). record { value = compared shown (gave_of core shown t.value); reads = t.reads; wrote = t.wrote } in
-    ap (λ (c : Core). judge ((ran c shown).run bytes)) (begun_made core row) ∙ ap judge all
+    let run : Run (Result Completion Exception) =
+    (execution_of now (choices_of shown (operands_of op).rd) instruction).run bytes in
+    let all : (instruction_run now shown).run bytes
+    ≡ record { value = run_of_result now instruction run.value; reads = reads ++ run.reads; wrote = run.wrote } =
+    run_then-is (fetch_result csrs_at_reset map Machine pc) (run_of_fetched now shown) bytes
+    ∙ rw (fetch, means) refl in
+    let judge : Run InstructionRun → Run (RowJudgement Core) =
+    λ (t : Run InstructionRun).
+    record {
+      value =
+          row_judgement_of shown (step_result_of core shown t.value);
+      reads = t.reads;
+      wrote = t.wrote;
+    } in
+    ap (λ (c : Core). judge ((instruction_run c shown).run bytes)) (begun_made core row) ∙ ap judge all
 
 -- a row is judged to agree, from one state to the next
 pub record AgreesTo (core : Core) (row : MadeRow) (bytes : Bytes) (next : Core) (wrote : List Write) : Type 0 where
@@ -83,90 +105,234 @@ pub record AgreesTo (core : Core) (row : MadeRow) (bytes : Bytes) (next : Core) 
   pub wrote_is : ((by_hart core (shown_of row)).run bytes).wrote ≡ wrote
 
 -- the word at pc is fetched
-fetch_word : (map : Map) (pc word : ℕ) (bytes : Bytes) → IsMadeMap map → 0x80000000 ≤ pc → pc ≤ 0x80001000 → IsWordAt bytes pc word → (fetched csrs_at_reset map Machine pc).run bytes ≡ record { value = Ok (word, 4); reads = record { pa = pc; len = 2 } ∷ record { pa = (pc + 2) % 2 ^ 64; len = 2 } ∷ []; wrote = [] }
+fetch_word : (map : Map) (pc word : ℕ) (bytes : Bytes) → IsMadeMap map → 0x80000000 ≤ pc → pc ≤ 0x80001000
+    → IsWordAt bytes pc word
+    → (fetch_result csrs_at_reset map Machine pc).run bytes
+    ≡ record {
+      value =
+          Ok (word, 4);
+      reads = record { pa = pc; len = 2 } ∷ record { pa = (pc + 2) % 2 ^ 64; len = 2 } ∷ [];
+      wrote = [];
+    }
 fetch_word map pc word bytes made low high at =
     let first : holds_all map.ram pc 2 ≡ true = rw (made.base, made.size) (grind (arith, nat_tests)) in
     let next : (pc + 2) % 2 ^ 64 ≡ pc + 2 = mod-eq_of_lt (omega arith) in
-    let second : holds_all map.ram ((pc + 2) % 2 ^ 64) 2 ≡ true = rw (next, made.base, made.size) (grind (arith, nat_tests)) in
+    let second : holds_all map.ram ((pc + 2) % 2 ^ 64) 2 ≡ true =
+    rw (next, made.base, made.size) (grind (arith, nat_tests)) in
     fetched_at_reset map pc word bytes first second at.long at.whole
 
 -- AUIPC
-pub first_agrees : (map : Map) (number : ℕ) (bytes : Bytes) → IsMadeMap map → HasImage number bytes → AgreesTo (core_with map 0x80000000 0 0 0 0 None) first_row bytes (core_with map 0x80000004 0 0x80001000 0 0 (Some 1)) []
-unfolding executed computed computed_immediate computed_register retired counted finished gave_of expected_of difference_of pure begun interrupted asks_interrupt lacks_interrupt
+pub first_agrees : (map : Map) (number : ℕ) (bytes : Bytes) → IsMadeMap map → HasImage number bytes
+    → AgreesTo (core_with map 0x80000000 0 0 0 0 None) first_row bytes
+    (core_with map 0x80000004 0 0x80001000 0 0 (Some 1)) []
+unfolding execution_of result_of immediate_result register_result core_after_retirement core_after_count
+    core_after_run step_result_of expected_of difference_of pure before_instruction core_after_interrupt
+    asks_interrupt lacks_interrupt
 first_agrees map number bytes made image =
     let fetch = fetch_word map 0x80000000 0x00001117 bytes made (lit≤ tt) (lit≤ tt) (auipc_at number bytes image) in
     let all = judged_as map 0x80000000 0 0 0 0 None first_row bytes 0x00001117 (Auipc 2 4096) _ fetch auipc_means in
     record {
       next_is = rw all refl;
-      difference = rw all (none_among _ _ SIGNALS (done_agrees _ _ first_row (record { order = tt; intr = refl; pc = refl; insn = refl; done = refl; rd = refl; rd_value = refl; next_pc = refl; trap = refl }) (plain_memory _ _ first_row refl refl refl)));
+      difference =
+          rw all (none_among _ _ SIGNALS (done_agrees _ _ first_row
+          (record {
+            order =
+                tt;
+            intr =
+                refl;
+            pc = refl;
+            insn = refl;
+            done = refl;
+            rd = refl;
+            rd_value = refl;
+            next_pc = refl;
+            trap = refl;
+          })
+          (plain_memory _ _ first_row refl refl refl)));
       wrote_is = rw all refl;
     }
 
 -- ADDI
-pub addi_agrees : (map : Map) (number x1 x2 x3 x4 later r : ℕ) (bytes : Bytes) → IsMadeMap map → HasImage number bytes → AgreesTo (core_with map 0x80000004 x1 x2 x3 x4 (Some r)) (turn_row number ((x1 + immediate_of number) % 2 ^ 64) later r 0) bytes (core_with map 0x80000008 ((x1 + immediate_of number) % 2 ^ 64) x2 x3 x4 (Some ((r + 1) % 2 ^ 64))) []
-unfolding executed computed computed_immediate computed_register retired counted finished gave_of expected_of difference_of pure begun interrupted asks_interrupt lacks_interrupt turn_row
+pub addi_agrees : (map : Map) (number x1 x2 x3 x4 later r : ℕ) (bytes : Bytes) → IsMadeMap map → HasImage number bytes
+    → AgreesTo (core_with map 0x80000004 x1 x2 x3 x4 (Some r))
+    (turn_row number ((x1 + immediate_of number) % 2 ^ 64) later r 0) bytes
+    (core_with map 0x80000008 ((x1 + immediate_of number) % 2 ^ 64) x2 x3 x4 (Some ((r + 1) % 2 ^ 64))) []
+unfolding execution_of result_of immediate_result register_result core_after_retirement core_after_count
+    core_after_run step_result_of expected_of difference_of pure before_instruction core_after_interrupt
+    asks_interrupt lacks_interrupt turn_row
 addi_agrees map number x1 x2 x3 x4 later r bytes made image =
     let row : MadeRow = turn_row number ((x1 + immediate_of number) % 2 ^ 64) later r 0 in
-    let fetch = fetch_word map 0x80000004 (addi_of number) bytes made (lit≤ tt) (lit≤ tt) (addi_at number bytes image) in
-    let all = judged_as map 0x80000004 x1 x2 x3 x4 (Some r) row bytes (addi_of number) (Immediate Addi 1 1 (immediate_of number)) _ fetch (addi_means number) in
+    let fetch =
+    fetch_word map 0x80000004 (addi_of number) bytes made (lit≤ tt) (lit≤ tt) (addi_at number bytes image) in
+    let all =
+    judged_as map 0x80000004 x1 x2 x3 x4 (Some r) row bytes (addi_of number)
+    (Immediate Addi 1 1 (immediate_of number)) _ fetch (addi_means number) in
     record {
       next_is = rw all refl;
-      difference = rw all (none_among _ _ SIGNALS (done_agrees _ _ row (record { order = refl; intr = refl; pc = refl; insn = refl; done = refl; rd = refl; rd_value = refl; next_pc = refl; trap = refl }) (plain_memory _ _ row refl refl refl)));
+      difference =
+          rw all (none_among _ _ SIGNALS (done_agrees _ _ row
+          (record {
+            order =
+                refl;
+            intr =
+                refl;
+            pc = refl;
+            insn = refl;
+            done = refl;
+            rd = refl;
+            rd_value = refl;
+            next_pc = refl;
+            trap = refl;
+          })
+          (plain_memory _ _ row refl refl refl)));
       wrote_is = rw all refl;
     }
 
 -- XOR
-pub xor_agrees : (map : Map) (number x1 x2 x3 x4 r : ℕ) (bytes : Bytes) → IsMadeMap map → HasImage number bytes → AgreesTo (core_with map 0x80000008 x1 x2 x3 x4 (Some r)) (turn_row number x1 (bit_xor x3 x1) r 1) bytes (core_with map 0x8000000c x1 x2 (bit_xor x3 x1) x4 (Some ((r + 1) % 2 ^ 64))) []
-unfolding executed computed computed_immediate computed_register retired counted finished gave_of expected_of difference_of pure begun interrupted asks_interrupt lacks_interrupt turn_row
+pub xor_agrees : (map : Map) (number x1 x2 x3 x4 r : ℕ) (bytes : Bytes) → IsMadeMap map → HasImage number bytes
+    → AgreesTo (core_with map 0x80000008 x1 x2 x3 x4 (Some r)) (turn_row number x1 (bit_xor x3 x1) r 1) bytes
+    (core_with map 0x8000000c x1 x2 (bit_xor x3 x1) x4 (Some ((r + 1) % 2 ^ 64))) []
+unfolding execution_of result_of immediate_result register_result core_after_retirement core_after_count
+    core_after_run step_result_of expected_of difference_of pure before_instruction core_after_interrupt
+    asks_interrupt lacks_interrupt turn_row
 xor_agrees map number x1 x2 x3 x4 r bytes made image =
     let row : MadeRow = turn_row number x1 (bit_xor x3 x1) r 1 in
     let fetch = fetch_word map 0x80000008 0x0011c1b3 bytes made (lit≤ tt) (lit≤ tt) (xor_at number bytes image) in
-    let all = judged_as map 0x80000008 x1 x2 x3 x4 (Some r) row bytes 0x0011c1b3 (Register Xor 3 3 1) _ fetch xor_means in
+    let all =
+    judged_as map 0x80000008 x1 x2 x3 x4 (Some r) row bytes 0x0011c1b3 (Register Xor 3 3 1) _ fetch xor_means in
     record {
       next_is = rw all refl;
-      difference = rw all (none_among _ _ SIGNALS (done_agrees _ _ row (record { order = refl; intr = refl; pc = refl; insn = refl; done = refl; rd = refl; rd_value = refl; next_pc = refl; trap = refl }) (plain_memory _ _ row refl refl refl)));
+      difference =
+          rw all (none_among _ _ SIGNALS (done_agrees _ _ row
+          (record {
+            order =
+                refl;
+            intr =
+                refl;
+            pc = refl;
+            insn = refl;
+            done = refl;
+            rd = refl;
+            rd_value = refl;
+            next_pc = refl;
+            trap = refl;
+          })
+          (plain_memory _ _ row refl refl refl)));
       wrote_is = rw all refl;
     }
 
 -- JAL
-pub jal_agrees : (map : Map) (number x1 x2 x3 x4 one three r : ℕ) (bytes : Bytes) → IsMadeMap map → HasImage number bytes → AgreesTo (core_with map 0x80000014 x1 x2 x3 x4 (Some r)) (turn_row number one three r 4) bytes (core_with map 0x80000004 x1 x2 x3 x4 (Some ((r + 1) % 2 ^ 64))) []
-unfolding executed computed computed_immediate computed_register retired counted finished gave_of expected_of difference_of pure begun interrupted asks_interrupt lacks_interrupt turn_row
+pub jal_agrees : (map : Map) (number x1 x2 x3 x4 one three r : ℕ) (bytes : Bytes) → IsMadeMap map
+    → HasImage number bytes
+    → AgreesTo (core_with map 0x80000014 x1 x2 x3 x4 (Some r)) (turn_row number one three r 4) bytes
+    (core_with map 0x80000004 x1 x2 x3 x4 (Some ((r + 1) % 2 ^ 64))) []
+unfolding execution_of result_of immediate_result register_result core_after_retirement core_after_count
+    core_after_run step_result_of expected_of difference_of pure before_instruction core_after_interrupt
+    asks_interrupt lacks_interrupt turn_row
 jal_agrees map number x1 x2 x3 x4 one three r bytes made image =
     let row : MadeRow = turn_row number one three r 4 in
     let fetch = fetch_word map 0x80000014 0xff1ff06f bytes made (lit≤ tt) (lit≤ tt) (jal_at number bytes image) in
-    let all = judged_as map 0x80000014 x1 x2 x3 x4 (Some r) row bytes 0xff1ff06f (Jal 0 (2 ^ 64 - 16)) _ fetch jal_means in
+    let all =
+    judged_as map 0x80000014 x1 x2 x3 x4 (Some r) row bytes 0xff1ff06f (Jal 0 (2 ^ 64 - 16)) _ fetch jal_means in
     record {
       next_is = rw all refl;
-      difference = rw all (none_among _ _ SIGNALS (done_agrees _ _ row (record { order = refl; intr = refl; pc = refl; insn = refl; done = refl; rd = refl; rd_value = refl; next_pc = refl; trap = refl }) (plain_memory _ _ row refl refl refl)));
+      difference =
+          rw all (none_among _ _ SIGNALS (done_agrees _ _ row
+          (record {
+            order =
+                refl;
+            intr =
+                refl;
+            pc = refl;
+            insn = refl;
+            done = refl;
+            rd = refl;
+            rd_value = refl;
+            next_pc = refl;
+            trap = refl;
+          })
+          (plain_memory _ _ row refl refl refl)));
       wrote_is = rw all refl;
     }
 
 -- SD
-pub sd_agrees : (map : Map) (number x1 x3 x4 one r : ℕ) (bytes : Bytes) → IsMadeMap map → HasImage number bytes → x3 < 2 ^ 64 → AgreesTo (core_with map 0x8000000c x1 0x80001000 x3 x4 (Some r)) (turn_row number one x3 r 2) bytes (core_with map 0x80000010 x1 0x80001000 x3 x4 (Some ((r + 1) % 2 ^ 64))) (record { pa = 0x80001000; len = 8; value = x3 } ∷ [])
-unfolding executed computed retired counted finished gave_of expected_of difference_of pure begun interrupted asks_interrupt lacks_interrupt turn_row mapped after_access
+pub sd_agrees : (map : Map) (number x1 x3 x4 one r : ℕ) (bytes : Bytes) → IsMadeMap map → HasImage number bytes
+    → x3 < 2 ^ 64
+    → AgreesTo (core_with map 0x8000000c x1 0x80001000 x3 x4 (Some r)) (turn_row number one x3 r 2) bytes
+    (core_with map 0x80000010 x1 0x80001000 x3 x4 (Some ((r + 1) % 2 ^ 64)))
+    (record { pa = 0x80001000; len = 8; value = x3 } ∷ [])
+unfolding execution_of result_of core_after_retirement core_after_count core_after_run step_result_of expected_of
+    difference_of pure before_instruction core_after_interrupt asks_interrupt lacks_interrupt turn_row mapped
+    after_access
 sd_agrees map number x1 x3 x4 one r bytes made image small =
     let row : MadeRow = turn_row number one x3 r 2 in
     let core : Core = core_with map 0x8000000c x1 0x80001000 x3 x4 (Some r) in
     let fetch = fetch_word map 0x8000000c 0x00313023 bytes made (lit≤ tt) (lit≤ tt) (sd_at number bytes image) in
-    let all = judged_as map 0x8000000c x1 0x80001000 x3 x4 (Some r) row bytes 0x00313023 (Store Sd 2 3 0) _ fetch sd_means in
+    let all =
+    judged_as map 0x8000000c x1 0x80001000 x3 x4 (Some r) row bytes 0x00313023 (Store Sd 2 3 0) _ fetch sd_means in
     let low : x3 % 2 ^ 64 ≡ x3 = mod-eq_of_lt small in
-    let access = store_accessed map 0x8000000c x1 0x80001000 x3 x4 x3 (Some ((r + 1) % 2 ^ 64)) (choices_of (shown_of row) 0) bytes made in
+    let access =
+    store_accessed map 0x8000000c x1 0x80001000 x3 x4 x3 (Some ((r + 1) % 2 ^ 64)) (choices_of (shown_of row) 0)
+    bytes made in
     record {
       next_is = rw (all, low, access) refl;
-      difference = rw (all, low, access) (none_among _ _ SIGNALS (done_agrees _ _ row (record { order = refl; intr = refl; pc = refl; insn = refl; done = refl; rd = refl; rd_value = refl; next_pc = refl; trap = refl }) (store_memory _ _ row x3 refl refl small refl refl refl refl)));
+      difference =
+          rw (all, low, access)
+          (none_among _ _ SIGNALS
+          (done_agrees _ _ row
+          (record {
+            order =
+                refl;
+            intr =
+                refl;
+            pc = refl;
+            insn = refl;
+            done = refl;
+            rd = refl;
+            rd_value = refl;
+            next_pc = refl;
+            trap = refl;
+          })
+          (store_memory _ _ row x3 refl refl small refl refl refl refl)));
       wrote_is = rw (all, low, access) refl;
     }
 
 -- LD
-pub ld_agrees : (map : Map) (number x1 x3 x4 one r : ℕ) (bytes : Bytes) → IsMadeMap map → HasImage number bytes → x3 < 2 ^ 64 → number_at bytes 0x80001000 8 ≡ x3 → AgreesTo (core_with map 0x80000010 x1 0x80001000 x3 x4 (Some r)) (turn_row number one x3 r 3) bytes (core_with map 0x80000014 x1 0x80001000 x3 x3 (Some ((r + 1) % 2 ^ 64))) []
-unfolding executed computed retired counted finished gave_of expected_of difference_of pure begun interrupted asks_interrupt lacks_interrupt turn_row mapped after_access
+pub ld_agrees : (map : Map) (number x1 x3 x4 one r : ℕ) (bytes : Bytes) → IsMadeMap map → HasImage number bytes
+    → x3 < 2 ^ 64 → number_at bytes 0x80001000 8 ≡ x3
+    → AgreesTo (core_with map 0x80000010 x1 0x80001000 x3 x4 (Some r)) (turn_row number one x3 r 3) bytes
+    (core_with map 0x80000014 x1 0x80001000 x3 x3 (Some ((r + 1) % 2 ^ 64))) []
+unfolding execution_of result_of core_after_retirement core_after_count core_after_run step_result_of expected_of
+    difference_of pure before_instruction core_after_interrupt asks_interrupt lacks_interrupt turn_row mapped
+    after_access
 ld_agrees map number x1 x3 x4 one r bytes made image small cell =
     let row : MadeRow = turn_row number one x3 r 3 in
     let fetch = fetch_word map 0x80000010 0x00013203 bytes made (lit≤ tt) (lit≤ tt) (ld_at number bytes image) in
-    let all = judged_as map 0x80000010 x1 0x80001000 x3 x4 (Some r) row bytes 0x00013203 (Load Ld 4 2 0) _ fetch ld_means in
-    let access = rw (cell, same_extended x3 small) at (load_accessed map 0x80000010 x1 0x80001000 x3 x4 (Some ((r + 1) % 2 ^ 64)) (choices_of (shown_of row) 4) bytes made) in
+    let all =
+    judged_as map 0x80000010 x1 0x80001000 x3 x4 (Some r) row bytes 0x00013203 (Load Ld 4 2 0) _ fetch ld_means in
+    let access =
+    rw (cell, same_extended x3 small) at
+    (load_accessed map 0x80000010 x1 0x80001000 x3 x4 (Some ((r + 1) % 2 ^ 64)) (choices_of (shown_of row) 4)
+    bytes made) in
     record {
       next_is = rw (all, access) refl;
-      difference = rw (all, access) (none_among _ _ SIGNALS (done_agrees _ _ row (record { order = refl; intr = refl; pc = refl; insn = refl; done = refl; rd = refl; rd_value = refl; next_pc = refl; trap = refl }) (load_memory _ _ row x3 refl refl small refl refl refl refl refl)));
+      difference =
+          rw (all, access)
+          (none_among _ _ SIGNALS
+          (done_agrees _ _ row
+          (record {
+            order =
+                refl;
+            intr =
+                refl;
+            pc = refl;
+            insn = refl;
+            done = refl;
+            rd = refl;
+            rd_value = refl;
+            next_pc = refl;
+            trap = refl;
+          })
+          (load_memory _ _ row x3 refl refl small refl refl refl refl refl)));
       wrote_is = rw (all, access) refl;
     }

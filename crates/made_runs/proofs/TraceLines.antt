@@ -1,5 +1,6 @@
 -- The lines of a made trace, and how many bytes it has.
-use Rattle.std.proofs.Common.{◌≡◌, ℕ, zero, suc, ◌+◌, ◌-◌, ◌*◌, ◌^◌, ◌<◌, ◌≤◌, ◌==◌, ◌&&◌, Bool, true, false, List, [], ◌∷◌, ◌++◌, map, length, refl, ap, ◌∙◌, arith, append_assoc, length-append, ne_eqb}
+use Rattle.std.proofs.Common.{◌≡◌, ℕ, zero, suc, ◌+◌, ◌-◌, ◌*◌, ◌^◌, ◌<◌, ◌≤◌, ◌==◌, ◌&&◌, Bool, true, false, List, []}
+use Rattle.std.proofs.Common.{◌∷◌, ◌++◌, map, length, refl, ap, ◌∙◌, arith, append_assoc, length-append, ne_eqb}
 use Rattle.std.specs.Prelude.{codes, decimal, nat_le, nat_lt, slice_index, take}
 use Rattle.std.specs.List.{All, flat_map, list_all, range_with_len}
 use Rattle.std.proofs.lemmas.Bool.{le-ltb}
@@ -10,13 +11,14 @@ use Rattle.std.proofs.lemmas.List.Sums.{AllPass-from_list_all}
 use Rattle.line_text.specs.Lines.{text_of}
 use Rattle.trace_lines.specs.declared.next.TheConstants.{LONGEST}
 use Rattle.trace_lines.specs.declared.piece.Ending.TheVariants.{End}
-use Rattle.trace_lines.specs.Lines.{Left, Part, line_in, lines_from, lines_of, parts_of, with_first, with_line, without_mark}
+use Rattle.trace_lines.specs.Lines.{RemainingLines, Part, line_in, lines_from, file_lines, parts_of, with_byte_in_first}
+use Rattle.trace_lines.specs.Lines.{with_line, without_mark}
 use Rattle.trace_maker.specs.declared.made_row.MadeRow.{MadeRow}
 use Rattle.trace_maker.specs.Rows.{made_row}
 use Rattle.trace_maker.specs.Texts.{header_text, made_rows, made_trace, row_text}
 use Rattle.made_runs.specs.Lines.{made_left, made_lines, row_line}
 use Rattle.made_runs.specs.Shows.{header_line}
-use Rattle.made_runs.proofs.PlainLines.{IsLineByte, behind, line_bytes}
+use Rattle.made_runs.proofs.PlainLines.{IsLineByte, following, line_bytes}
 use Rattle.made_runs.proofs.RowLines.{AreRowFields, others_are, others_of, row_fields, row_fits}
 
 -- a line that is taken as it stands
@@ -29,31 +31,37 @@ abbrev AreWhole : List (List ℕ) → Type 0
 AreWhole [] = Unit {0}
 AreWhole (line ∷ lines) = IsWhole line × AreWhole lines
 
-part_ended : (line rest : List ℕ) → All IsLineByte line → parts_of (line ++ 10 ∷ rest) ≡ record { bytes = line; ended = true } ∷ parts_of rest
+part_ended : (line rest : List ℕ) → All IsLineByte line
+    → parts_of (line ++ 10 ∷ rest) ≡ record { bytes = line; ended = true } ∷ parts_of rest
 unfolding parts_of
 part_ended [] rest bytes = refl
 part_ended (byte ∷ line) rest bytes =
     let low : 44 ≤ byte = (All-head IsLineByte byte line bytes).0 in
     let no : (byte == 10) ≡ false = ne_eqb byte 10 (omega arith) in
-    rw no (ap (with_first byte) (part_ended line rest (All-tail IsLineByte byte line bytes)))
+    rw no (ap (with_byte_in_first byte) (part_ended line rest (All-tail IsLineByte byte line bytes)))
 
 no_return_dropped : (line : List ℕ) → IsWhole line → line_in line ≡ line
 no_return_dropped line is =
     let some : 0 < length line = is.some in
     let low : 44 ≤ slice_index line (length line - 1) = (is.bytes (length line - 1) 0 (omega arith)).0 in
-    let last : (slice_index line (length line - 1) == 13) ≡ false = ne_eqb (slice_index line (length line - 1)) 13 (omega arith) in
+    let last : (slice_index line (length line - 1) == 13) ≡ false =
+    ne_eqb (slice_index line (length line - 1)) 13 (omega arith) in
     rw last refl
 
-line_taken : (number : ℕ) (line : List ℕ) (parts : List Part) (lines : List (List ℕ)) → IsWhole line → lines_from false (number + 1) parts ≡ record { lines = lines; ending = End } → lines_from false number (record { bytes = line; ended = true } ∷ parts) ≡ record { lines = line ∷ lines; ending = End }
+line_taken : (number : ℕ) (line : List ℕ) (parts : List Part) (lines : List (List ℕ)) → IsWhole line
+    → lines_from false (number + 1) parts ≡ record { lines = lines; ending = End }
+    → lines_from false number (record { bytes = line; ended = true } ∷ parts)
+    ≡ record { lines = line ∷ lines; ending = End }
 unfolding lines_from
 line_taken number line parts lines is more =
     let short : nat_lt LONGEST (length line) ≡ false = le-ltb LONGEST (length line) is.short in
     let some : (length line == 0) ≡ false = ne_eqb (length line) 0 (omega (arith, is.some)) in
     rw short (ap (λ (bytes : List ℕ). with_line bytes (lines_from false (number + 1) parts)) (no_return_dropped line is)
-    ∙ ap (λ (left : Left). with_line line left) more
+    ∙ ap (λ (left : RemainingLines). with_line line left) more
     ∙ rw some refl)
 
-lines_taken : (number : ℕ) (lines : List (List ℕ)) → AreWhole lines → lines_from false number (parts_of (text_of lines)) ≡ record { lines = lines; ending = End }
+lines_taken : (number : ℕ) (lines : List (List ℕ)) → AreWhole lines
+    → lines_from false number (parts_of (text_of lines)) ≡ record { lines = lines; ending = End }
 unfolding text_of parts_of lines_from
 lines_taken number [] are = refl
 lines_taken number (line ∷ lines) are =
@@ -81,14 +89,14 @@ abbrev total : List (List ℕ) → ℕ
 total [] = 0
 total (field ∷ fields) = 1 + (length field + total fields)
 
-behind_len : (fields : List (List ℕ)) → length (behind fields) ≡ total fields
+behind_len : (fields : List (List ℕ)) → length (following fields) ≡ total fields
 behind_len [] = refl
-behind_len (field ∷ fields) = omega (arith, length-append field (behind fields), behind_len fields)
+behind_len (field ∷ fields) = omega (arith, length-append field (following fields), behind_len fields)
 
 row_len : (row : MadeRow) → AreRowFields row → length (row_line row) ≤ 178
 row_len row are = omega (
   arith,
-  length-append (decimal row.order) (behind (others_of row)),
+  length-append (decimal row.order) (following (others_of row)),
   behind_len (others_of row),
   are.order.short,
   are.insn.short,
@@ -106,7 +114,7 @@ row_len row are = omega (
 )
 
 row_some : (row : MadeRow) → AreRowFields row → 0 < length (row_line row)
-row_some row are = omega (arith, length-append (decimal row.order) (behind (others_of row)), are.order.is_field.some)
+row_some row are = omega (arith, length-append (decimal row.order) (following (others_of row)), are.order.is_field.some)
 
 row_whole : (row : MadeRow) → AreRowFields row → IsWhole (row_line row)
 row_whole row are = record {
@@ -124,17 +132,23 @@ line_byte_by byte is = (grind (arith, nat_tests), grind (arith, nat_tests))
 header_whole : IsWhole header_line
 header_whole = record {
   some = omega arith;
-  bytes = All-weaker (λ (byte : ℕ). (nat_le 44 byte && nat_lt byte 128) ≡ true) IsLineByte line_byte_by header_line (AllPass-from_list_all (λ (byte : ℕ). nat_le 44 byte && nat_lt byte 128) header_line header_bytes);
+  bytes =
+      All-weaker (λ (byte : ℕ). (nat_le 44 byte && nat_lt byte 128) ≡ true) IsLineByte line_byte_by header_line
+      (AllPass-from_list_all (λ (byte : ℕ). nat_le 44 byte && nat_lt byte 128) header_line header_bytes);
   short = omega arith;
 }
 
-rows_whole : (number order rows : ℕ) → order + rows ≤ 2 ^ 64 → AreWhole (map row_line (map (made_row number) (range_with_len order rows)))
+rows_whole : (number order rows : ℕ) → order + rows ≤ 2 ^ 64
+    → AreWhole (map row_line (map (made_row number) (range_with_len order rows)))
 rows_whole number order zero small = tt
 rows_whole number order (suc rows) small =
-    let row = made_row number order in
-    (row_whole row (row_fields row (row_fits number order (omega arith))), rows_whole number (order + 1) rows (omega arith))
+    let row = made_row number order in (
+      row_whole row (row_fields row (row_fits number order (omega arith))),
+      rows_whole number (order + 1) rows (omega arith),
+    )
 
-rows_len : (number order rows : ℕ) → order + rows ≤ 2 ^ 64 → length (text_of (map row_line (map (made_row number) (range_with_len order rows)))) ≤ 179 * rows
+rows_len : (number order rows : ℕ) → order + rows ≤ 2 ^ 64
+    → length (text_of (map row_line (map (made_row number) (range_with_len order rows)))) ≤ 179 * rows
 unfolding text_of
 rows_len number order zero small = omega arith
 rows_len number order (suc rows) small =
@@ -144,11 +158,13 @@ rows_len number order (suc rows) small =
     let more : length others ≤ 179 * rows = rows_len number (order + 1) rows (omega arith) in
     omega (arith, length-append (row_line row) (10 ∷ others))
 
-pub lines_are : (number rows most : ℕ) → rows ≤ 2 ^ 64 → length (made_trace number rows) ≤ most → lines_of most (made_trace number rows) ≡ made_left number rows
-unfolding lines_of
+pub lines_are : (number rows most : ℕ) → rows ≤ 2 ^ 64 → length (made_trace number rows) ≤ most
+    → file_lines most (made_trace number rows) ≡ made_left number rows
+unfolding file_lines
 lines_are number rows most small fits =
     let trace : List ℕ = made_trace number rows in
-    ap (λ (more : Bool). lines_from more 1 (parts_of (without_mark (take most trace)))) (le-ltb most (length trace) fits)
+    ap (λ (more : Bool). lines_from more 1 (parts_of (without_mark (take most trace))))
+    (le-ltb most (length trace) fits)
     ∙ ap (λ (text : List ℕ). lines_from false 1 (parts_of (without_mark text))) (take_all most trace fits)
     ∙ ap (λ (text : List ℕ). lines_from false 1 (parts_of text)) (unmarked number rows ∙ trace_text number rows)
     ∙ lines_taken 1 (header_line ∷ made_lines number rows) (header_whole, rows_whole number 0 rows (omega arith))

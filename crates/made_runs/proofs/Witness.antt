@@ -16,5 +16,7 @@ made_state number = record {
   map = record { ram = ram; io = None; apart = apart_none ram };
   bytes = λ address. slice_index (made_bytes number) (address - 0x80000000);
   is_map = record { base = refl; size = refl };
-  has_image = λ place inside. let back : 0x80000000 + place - 0x80000000 ≡ place = omega arith in ap (slice_index (made_bytes number)) back;
+  has_image =
+      λ place inside. let back : 0x80000000 + place - 0x80000000 ≡ place =
+      omega arith in ap (slice_index (made_bytes number)) back;
 }

@@ -8,7 +8,7 @@ use Rattle.rvfi_rows.specs.declared.verdict.Verdict.{Verdict}
 use Rattle.rvfi_rows.specs.declared.verdict.Verdict.TheVariants.{Agrees}
 use Rattle.hart_step.specs.Cores.{core_at_reset}
 use Rattle.segment_judge.specs.Judgements.{by_hart, judgement_of}
-use Rattle.trace_lines.specs.Lines.{lines_of}
+use Rattle.trace_lines.specs.Lines.{file_lines}
 use Rattle.trace_maker.specs.Texts.{made_trace}
 use Rattle.made_runs.specs.Images.{IsMadeImage}
 use Rattle.made_runs.specs.Lines.{made_left, made_lines}
@@ -33,7 +33,7 @@ pub record MadeState (number : ℕ) : Type 0 where
 abbrev pub MadeLinesStand : (number rows most : ℕ) → Type 0
 MadeLinesStand number rows most =
     rows ≤ 2 ^ 64 → length (made_trace number rows) ≤ most
-    → lines_of most (made_trace number rows) ≡ made_left number rows
+    → file_lines most (made_trace number rows) ≡ made_left number rows
 
 -- the trace is no longer than this
 abbrev pub MadeTraceIsShort : (number rows : ℕ) → Type 0
@@ -51,10 +51,10 @@ verdict_on_lines map image lines =
     let readings = rows_of made_columns lines in
     (judgement_of by_hart (core_at_reset 0x80000000 map) readings memory).verdict
 
--- from the two texts to the verdict: the image, the header and the rows behind it
+-- from the two texts to the verdict: the image, the header and the rows after it
 pub record MadeRunAgrees (map : Map) (number rows most : ℕ) : Type 0 where
   pub image : IsMadeImage map number
-  pub lines : lines_of most (made_trace number rows) ≡ made_left number rows
+  pub lines : file_lines most (made_trace number rows) ≡ made_left number rows
   pub columns : header_columns header_line ≡ Ok made_columns
   pub verdict : verdict_on_lines map image.bytes (made_lines number rows) ≡ Agrees rows rows
 

@@ -1,7 +1,7 @@
 -- The lines of a made trace.
 use Rattle.std.specs.Prelude.{ℕ, List, ◌∷◌, codes, map}
 use Rattle.std.specs.List.{join_by}
-use Rattle.trace_lines.specs.Lines.{Left}
+use Rattle.trace_lines.specs.Lines.{RemainingLines}
 use Rattle.trace_lines.specs.declared.piece.Ending.TheVariants.{End}
 use Rattle.trace_maker.specs.declared.made_row.MadeRow.{MadeRow}
 use Rattle.trace_maker.specs.Texts.{fields_of, made_rows}
@@ -16,5 +16,5 @@ abbrev pub made_lines : (number rows : ℕ) → List (List ℕ)
 made_lines number rows = map row_line (made_rows number rows)
 
 -- all lines of the trace, and its end
-abbrev pub made_left : (number rows : ℕ) → Left
+abbrev pub made_left : (number rows : ℕ) → RemainingLines
 made_left number rows = record { lines = header_line ∷ made_lines number rows; ending = End }

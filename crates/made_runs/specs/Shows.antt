@@ -1,6 +1,8 @@
 -- What the lines of made rows read as.
 use Rattle.std.specs.Prelude.{ℕ, List, [], ◌∷◌, ◌++◌, codes, map, Some, None, Ok}
-use Rattle.hart_words.specs.declared.signal.Signal.TheVariants.{Order, PcRdata, Trap, Insn, RdAddr, RdWdata, PcWdata, MemAddr, MemRmask, MemRdata, MemWmask, MemWdata, MemPaddr}
+use Rattle.hart_words.specs.declared.signal.Signal.TheVariants.{Order, PcRdata, Trap, Insn, RdAddr, RdWdata, PcWdata}
+use Rattle.hart_words.specs.declared.signal.Signal.TheVariants.{MemAddr, MemRmask, MemRdata, MemWmask, MemWdata}
+use Rattle.hart_words.specs.declared.signal.Signal.TheVariants.{MemPaddr}
 use Rattle.hart_words.specs.Signals.{Shown}
 use Rattle.rvfi_rows.specs.Columns.{ColumnList}
 use Rattle.rvfi_rows.specs.Rows.{RowReading}

@@ -1,5 +1,6 @@
 -- Entries that are not configured cover nothing.
-use Rattle.std.proofs.Common.{◌≡◌, ℕ, ◌+◌, Bool, true, false, ◌&&◌, nat_lt, List, [], ◌∷◌, max, min, refl, sym, ap, ◌∙◌, subst, arith, if◌then◌else◌}
+use Rattle.std.proofs.Common.{◌≡◌, ℕ, ◌+◌, Bool, true, false, ◌&&◌, nat_lt, List, [], ◌∷◌, max, min, refl, sym, ap, ◌∙◌}
+use Rattle.std.proofs.Common.{subst, arith, if◌then◌else◌}
 use Rattle.std.specs.Prelude.{◌==◌}
 use Rattle.std.specs.List.{list_all}
 use Rattle.std.proofs.lemmas.Bool.Decides.{nat_tests}
@@ -9,7 +10,8 @@ use Rattle.hart_words.specs.declared.privilege.PmpEntry.{PmpEntry}
 use Rattle.csr_file.specs.declared.csrs.Csrs.{Csrs}
 use Rattle.csr_file.specs.Registers.{pmp_entries_of}
 use Rattle.pmp_check.specs.declared.region.Region.{Region}
-use Rattle.pmp_check.specs.Protection.{matching_of, covered, region_of, covers_some, covers_all, is_permitted, is_machine, is_allowed_after, is_allowed}
+use Rattle.pmp_check.specs.Protection.{matching_of, region_by_matching, region_of, covers_some, covers_all}
+use Rattle.pmp_check.specs.Protection.{entry_permits, is_machine, is_allowed_after, is_allowed}
 
 abbrev pub IsUnset : PmpEntry → Type 0
 IsUnset entry = entry.cfg ≡ 0
@@ -22,7 +24,7 @@ covers_none pa len = grind (arith, nat_tests)
 
 off : (before : ℕ) (entry : PmpEntry) → entry.cfg ≡ 0 → region_of before entry ≡ nothing
 unfolding region_of
-off before entry is = ap (λ cfg. covered (matching_of cfg) before entry.addr) is
+off before entry is = ap (λ cfg. region_by_matching (matching_of cfg) before entry.addr) is
 
 is_zero : (a : ℕ) → (a == 0) ≡ true → a ≡ 0
 is_zero a same = grind (arith, nat_tests)
@@ -31,7 +33,8 @@ both : (a b : Bool) → (a && b) ≡ true → (a ≡ true) × (b ≡ true)
 both true b are = (refl, are)
 both false b are = cc
 
-allowed_after : (entries : List PmpEntry) (before : ℕ) (mode : Mode) (pa len : ℕ) (access : Access) → list_all (λ entry. entry.cfg == 0) entries ≡ true
+allowed_after : (entries : List PmpEntry) (before : ℕ) (mode : Mode) (pa len : ℕ) (access : Access)
+    → list_all (λ entry. entry.cfg == 0) entries ≡ true
     → is_allowed_after before entries mode pa len access ≡ is_machine mode
 unfolding is_allowed_after
 allowed_after [] before mode pa len access all = refl
@@ -39,11 +42,16 @@ allowed_after (entry ∷ entries) before mode pa len access all =
     let unset = both (entry.cfg == 0) (list_all (λ one. one.cfg == 0) entries) all in
     let region = region_of before entry in
     let rest = is_allowed_after entry.addr entries mode pa len access in
-    let none : covers_some region pa len ≡ false = ap (λ r. covers_some r pa len) (off before entry (is_zero entry.cfg unset.0)) ∙ covers_none pa len in
-    let P : Bool → Type 0 = λ b. (if b then (covers_all region pa len && is_permitted entry.cfg mode access) else rest) ≡ is_machine mode in
+    let none : covers_some region pa len ≡ false =
+    ap (λ r. covers_some r pa len) (off before entry (is_zero entry.cfg unset.0)) ∙ covers_none pa len in
+    let P : Bool → Type 0 =
+    λ b. (if b then (covers_all region pa len && entry_permits entry.cfg mode access) else rest)
+    ≡ is_machine mode in
     subst P (sym none) (allowed_after entries entry.addr mode pa len access unset.1)
 
 -- then M alone has access
-pub machine_alone : (csrs : Csrs) (mode : Mode) (pa len : ℕ) (access : Access) → list_all (λ entry. entry.cfg == 0) csrs.entries ≡ true → is_allowed (pmp_entries_of csrs) mode pa len access ≡ is_machine mode
+pub machine_alone : (csrs : Csrs) (mode : Mode) (pa len : ℕ) (access : Access)
+    → list_all (λ entry. entry.cfg == 0) csrs.entries ≡ true
+    → is_allowed (pmp_entries_of csrs) mode pa len access ≡ is_machine mode
 unfolding is_allowed
 machine_alone csrs mode pa len access all = allowed_after csrs.entries 0 mode pa len access all

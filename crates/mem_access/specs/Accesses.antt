@@ -12,7 +12,7 @@ use Rattle.csr_file.specs.declared.csrs.Csrs.{Csrs}
 use Rattle.mem_access.specs.declared.place.AccessRequest.{AccessRequest}
 use Rattle.mem_access.specs.declared.place.Place.{Place}
 use Rattle.mem_access.specs.Places.{data_mode_of}
-use Rattle.mem_access.specs.Translation.{reached}
+use Rattle.mem_access.specs.Translation.{virtual_place_of}
 
 abbrev pub Exception : Type 0
 Exception = Cause × ℕ
@@ -37,7 +37,7 @@ parcel_from at (Err cause) = pure (Err (cause, at))
 parcel_from at (Ok place) = mapped (λ parcel. Ok parcel) (read_memory (record { pa = place.pa; len = 2 }))
 
 unfoldable pub parcel_at : Csrs → Map → Mode → ℕ → Action (Result ℕ Exception)
-parcel_at csrs map mode at = reached csrs map (parcel_fetch mode) at >>= parcel_from at
+parcel_at csrs map mode at = virtual_place_of csrs map (parcel_fetch mode) at >>= parcel_from at
 
 -- a word of two parcels, with its length
 abbrev pub with_second : ℕ → Result ℕ Exception → Result (ℕ × ℕ) Exception
@@ -48,11 +48,12 @@ with_second first (Ok second) = Ok (first + 2 ^ 16 * second, 4)
 abbrev pub after_first : Csrs → Map → Mode → ℕ → Result ℕ Exception → Action (Result (ℕ × ℕ) Exception)
 after_first csrs map mode pc (Err exception) = pure (Err exception)
 after_first csrs map mode pc (Ok first) =
-    if first % 4 == 3 then mapped (with_second first) (parcel_at csrs map mode ((pc + 2) % 2 ^ 64)) else pure (Ok (first, 2))
+    if first % 4 == 3 then mapped (with_second first) (parcel_at csrs map mode ((pc + 2) % 2 ^ 64)) else pure
+    (Ok (first, 2))
 
 -- the instruction at an address, with its length in bytes
-unfoldable pub fetched : Csrs → Map → Mode → ℕ → Action (Result (ℕ × ℕ) Exception)
-fetched csrs map mode pc = parcel_at csrs map mode pc >>= after_first csrs map mode pc
+unfoldable pub fetch_result : Csrs → Map → Mode → ℕ → Action (Result (ℕ × ℕ) Exception)
+fetch_result csrs map mode pc = parcel_at csrs map mode pc >>= after_first csrs map mode pc
 
 -- what stands at a place; of a device nothing is known here, and nothing is read
 abbrev pub value_at : Place → ℕ → Bool → Action (Result (Place × ℕ) Exception)
@@ -64,9 +65,9 @@ load_from va len (Err cause) = pure (Err (cause, va))
 load_from va len (Ok place) = value_at place len place.io
 
 -- a load: the address is a multiple of the length, and the access is allowed
-unfoldable pub loaded : Csrs → Map → Mode → ℕ → ℕ → Bool → Action (Result (Place × ℕ) Exception)
-loaded csrs map mode va len atomic =
-    if va % len == 0 then reached csrs map (data_load csrs mode len atomic) va >>= load_from va len
+unfoldable pub load_result : Csrs → Map → Mode → ℕ → ℕ → Bool → Action (Result (Place × ℕ) Exception)
+load_result csrs map mode va len atomic =
+    if va % len == 0 then virtual_place_of csrs map (data_load csrs mode len atomic) va >>= load_from va len
     else pure (Err (LoadAddressMisaligned, va))
 
 abbrev pub with_address : ℕ → Result Place Cause → Result Place Exception
@@ -76,5 +77,5 @@ with_address va (Ok place) = Ok place
 -- the place of a store
 unfoldable pub store_place_of : Csrs → Map → Mode → ℕ → ℕ → Bool → Action (Result Place Exception)
 store_place_of csrs map mode va len atomic =
-    if va % len == 0 then mapped (with_address va) (reached csrs map (data_store csrs mode len atomic) va)
+    if va % len == 0 then mapped (with_address va) (virtual_place_of csrs map (data_store csrs mode len atomic) va)
     else pure (Err (StoreAddressMisaligned, va))

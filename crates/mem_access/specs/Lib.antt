@@ -1,4 +1,5 @@
 pub mod Places
 pub mod Translation
 pub mod Accesses
+pub mod Reads
 pub mod Laws

@@ -12,7 +12,7 @@ use Rattle.csr_file.specs.declared.csrs.Csrs.{Csrs}
 use Rattle.csr_file.specs.declared.stored_csr.StoredCsr.TheVariants.{Mstatus}
 use Rattle.csr_file.specs.declared.fields.TheConstants.{MPRV}
 use Rattle.csr_file.specs.Registers.{at, pmp_entries_of}
-use Rattle.csr_file.specs.Fields.{bit_is_set, mode_numbered, mpp_of}
+use Rattle.csr_file.specs.Fields.{bit_is_set, mode_of_encoding, mpp_of}
 use Rattle.pmp_check.specs.Protection.{is_allowed}
 use Rattle.mem_access.specs.declared.place.AccessRequest.{AccessRequest}
 use Rattle.mem_access.specs.declared.place.Place.{Place}
@@ -20,7 +20,7 @@ use Rattle.mem_access.specs.declared.place.Place.{Place}
 -- the mode of a load or a store: MPP in M where MPRV is set, else the mode itself; a fetch has the mode itself
 unfoldable pub data_mode_of : Csrs → Mode → Mode
 data_mode_of csrs Machine =
-    if bit_is_set (at csrs Mstatus) MPRV then mode_numbered (mpp_of (at csrs Mstatus)) else Machine
+    if bit_is_set (at csrs Mstatus) MPRV then mode_of_encoding (mpp_of (at csrs Mstatus)) else Machine
 data_mode_of csrs Supervisor = Supervisor
 data_mode_of csrs User = User
 
@@ -37,10 +37,10 @@ place_in map request pa =
     else Err (access_fault_of request.access)
 
 -- protection allows the access
-abbrev pub is_granted : Csrs → AccessRequest → ℕ → Bool
-is_granted csrs request pa = is_allowed (pmp_entries_of csrs) request.mode pa request.len request.access
+abbrev pub is_permitted : Csrs → AccessRequest → ℕ → Bool
+is_permitted csrs request pa = is_allowed (pmp_entries_of csrs) request.mode pa request.len request.access
 
 -- the place of an access, unless protection refuses it or nothing is there
 unfoldable pub place_of : Csrs → Map → AccessRequest → ℕ → Result Place Cause
 place_of csrs map request pa =
-    if is_granted csrs request pa then place_in map request pa else Err (access_fault_of request.access)
+    if is_permitted csrs request pa then place_in map request pa else Err (access_fault_of request.access)

@@ -39,17 +39,18 @@ is_readable csrs map pa =
     holds_all map.ram pa ENTRY_SIZE && is_allowed (pmp_entries_of csrs) Supervisor pa ENTRY_SIZE Load
 
 -- the physical address of a virtual one
-unfoldable pub translated : Csrs → Map → AccessRequest → ℕ → Action (Result ℕ Cause)
-translated csrs map request va =
+unfoldable pub physical_address_of : Csrs → Map → AccessRequest → ℕ → Action (Result ℕ Cause)
+physical_address_of csrs map request va =
     if is_translated csrs request.mode
     then translation_of (is_readable csrs map) (at csrs Satp) (walk_flags_of csrs request.mode) va request.access
     else pure (Ok va)
 
 -- translation comes first, protection and the map after it
-abbrev pub place_behind : Csrs → Map → AccessRequest → Result ℕ Cause → Result Place Cause
-place_behind csrs map request (Err cause) = Err cause
-place_behind csrs map request (Ok pa) = place_of csrs map request pa
+abbrev pub place_after_translation : Csrs → Map → AccessRequest → Result ℕ Cause → Result Place Cause
+place_after_translation csrs map request (Err cause) = Err cause
+place_after_translation csrs map request (Ok pa) = place_of csrs map request pa
 
 -- the place of an access to a virtual address
-unfoldable pub reached : Csrs → Map → AccessRequest → ℕ → Action (Result Place Cause)
-reached csrs map request va = mapped (place_behind csrs map request) (translated csrs map request va)
+unfoldable pub virtual_place_of : Csrs → Map → AccessRequest → ℕ → Action (Result Place Cause)
+virtual_place_of csrs map request va =
+    mapped (place_after_translation csrs map request) (physical_address_of csrs map request va)

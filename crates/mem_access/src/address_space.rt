@@ -4,9 +4,9 @@
 ghost use Rattle.std.specs.Prelude.{◌≡◌, ◌≤◌, ◌<◌, ◌+◌, ◌%◌, ◌^◌, false, length, IfOk};
 ghost use Rattle.hart_words.specs.declared.span.TheConstants.{PAGE_SIZE};
 ghost use Rattle.hart_words.specs.AccessSizes.{IsLength};
-ghost use Rattle.hart_words.specs.Memory.{IsPlace};
+ghost use Rattle.hart_words.specs.Spans.{IsPlace};
 ghost use Rattle.hart_words.specs.Actions.{Observes};
-ghost use Rattle.mem_access.specs.Translation.{is_readable, is_translated, reached, translated, walk_flags_of};
+ghost use Rattle.mem_access.specs.Translation.{is_readable, is_translated, virtual_place_of, physical_address_of, walk_flags_of};
 
 use crate::place::{AccessRequest, Place, is_allowed, is_machine, place_of};
 use csr_file::fields::{BARE, MXR, SATP_MODE, SUM};
@@ -45,14 +45,14 @@ impl<'a, M: PhysMem> WalkMem for AddressSpace<'a, M> {
 impl<'a, M: PhysMem> AddressSpace<'a, M> {
     /// The place of an access to a virtual address, with its translation where it is translated.
     /// What is read of page tables is noted in `seen`, three reads at most.
-    #[tactic(auto, unfolding(crate::specs::Translation::reached))]
+    #[tactic(auto, unfolding(crate::specs::Translation::virtual_place_of))]
     pub fn reach(&self, request: AccessRequest, va: u64, seen: &mut Seen) -> Result<Place, Cause>
         requires length { IsLength request.len }
         requires aligned { va % request.len ≡ 0 }
         requires room { length seen.old + WALK_READS ≤ MOST_READS }
-        ensures reached { Observes (reached self.now.csrs.now self.now.map.now request va) result
+        ensures reached { Observes (virtual_place_of self.now.csrs.now self.now.map.now request va) result
             seen.old seen.new (M.bytes self.now.mem.now) }
-        ensures few { length seen.new ≤ length seen.old + WALK_READS }
+        ensures walk_reads { length seen.new ≤ length seen.old + WALK_READS }
         ensures memory { request.devices ≡ false → IfOk result (λ place. place.io ≡ false) }
         ensures placed { IfOk result (λ place. place.io ≡ false
             → IsPlace self.now.map.now.ram place.pa request.len) }
@@ -64,12 +64,12 @@ impl<'a, M: PhysMem> AddressSpace<'a, M> {
     }
 
     /// The physical address of a virtual one; its place in a page of 4 KiB stays.
-    #[tactic(auto, unfolding(crate::specs::Translation::translated))]
+    #[tactic(auto, unfolding(crate::specs::Translation::physical_address_of))]
     fn translate(&self, request: AccessRequest, va: u64, seen: &mut Seen) -> Result<u64, Cause>
         requires room { length seen.old + WALK_READS ≤ MOST_READS }
-        ensures translated { Observes (translated self.now.csrs.now self.now.map.now request va)
+        ensures translated { Observes (physical_address_of self.now.csrs.now self.now.map.now request va)
             result seen.old seen.new (M.bytes self.now.mem.now) }
-        ensures few { length seen.new ≤ length seen.old + WALK_READS }
+        ensures walk_reads { length seen.new ≤ length seen.old + WALK_READS }
         ensures offset { IfOk result (λ pa. pa % PAGE_SIZE ≡ va % PAGE_SIZE) }
     {
         if !is_translated(self.csrs, request.mode) {

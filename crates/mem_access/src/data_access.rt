@@ -1,10 +1,10 @@
 //! Loads, and the places of stores.
 
 ghost use Rattle.std.specs.Prelude.{◌≡◌, ◌≤◌, ◌<◌, ◌+◌, ◌*◌, ◌^◌, false, true, length, IfOk};
-ghost use Rattle.hart_words.specs.Memory.{IsPlace};
+ghost use Rattle.hart_words.specs.Spans.{IsPlace};
 ghost use Rattle.hart_words.specs.Actions.{Observes};
 ghost use Rattle.hart_words.specs.AccessSizes.{IsLength};
-ghost use Rattle.mem_access.specs.Accesses.{data_request, loaded, store_place_of};
+ghost use Rattle.mem_access.specs.Accesses.{data_request, load_result, store_place_of};
 
 use crate::address_space::{AddressSpace, WALK_READS};
 use crate::place::{AccessRequest, Place, data_mode};
@@ -19,7 +19,7 @@ pub const ACCESS_READS: usize = WALK_READS + 1;
 /// one of MPP. `atomic` is true for LR, which no device answers. An exception gives the cause and
 /// the address: first that it is no multiple of the length, then what protection or the map refuse.
 /// What is read is noted in `seen`, which has room for `ACCESS_READS` more.
-#[tactic(auto, unfolding(crate::specs::Accesses::loaded))]
+#[tactic(auto, unfolding(crate::specs::Accesses::load_result))]
 pub fn load<M: PhysMem>(
     mem: &M,
     csrs: &Csrs,
@@ -33,7 +33,7 @@ pub fn load<M: PhysMem>(
     requires ram { M.ram mem.now ≡ map.now.ram }
     requires length { IsLength len }
     requires room { length seen.old + ACCESS_READS ≤ MOST_READS }
-    ensures looked { Observes (loaded csrs.now map.now mode va len atomic) result
+    ensures looked { Observes (load_result csrs.now map.now mode va len atomic) result
         seen.old seen.new (M.bytes mem.now) }
     ensures noted { length seen.new ≤ length seen.old + ACCESS_READS }
     ensures fits { IfOk result (λ found. found.1 < 2 ^ (8 * len)) }

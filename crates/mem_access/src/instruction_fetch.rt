@@ -2,7 +2,7 @@
 
 ghost use Rattle.std.specs.Prelude.{◌≡◌, ◌≤◌, ◌<◌, ◌+◌, ◌%◌, ◌*◌, ◌^◌, ◌⊎◌, length, IfOk};
 ghost use Rattle.hart_words.specs.Actions.{Observes};
-ghost use Rattle.mem_access.specs.Accesses.{parcel_at, fetched};
+ghost use Rattle.mem_access.specs.Accesses.{parcel_at, fetch_result};
 
 use crate::address_space::{AddressSpace, WALK_READS};
 use crate::place::AccessRequest;
@@ -21,7 +21,7 @@ const PARCEL_READS: usize = WALK_READS + 1;
 ///
 /// From the Unprivileged ISA's chapter "Introduction" (instruction length encoding) and the
 /// Privileged Architecture's chapter "Machine-Level ISA".
-#[tactic(auto, unfolding(crate::specs::Accesses::fetched))]
+#[tactic(auto, unfolding(crate::specs::Accesses::fetch_result))]
 pub fn fetch<M: PhysMem>(
     mem: &M,
     csrs: &Csrs,
@@ -33,7 +33,7 @@ pub fn fetch<M: PhysMem>(
     requires ram { M.ram mem.now ≡ map.now.ram }
     requires even { pc % 2 ≡ 0 }
     requires room { length seen.old + FETCH_READS ≤ MOST_READS }
-    ensures looked { Observes (fetched csrs.now map.now mode pc) result seen.old seen.new
+    ensures looked { Observes (fetch_result csrs.now map.now mode pc) result seen.old seen.new
         (M.bytes mem.now) }
     ensures noted { length seen.new ≤ length seen.old + FETCH_READS }
     ensures lengths { IfOk result (λ word. (word.1 ≡ 2) ⊎ (word.1 ≡ 4)) }

@@ -3,13 +3,13 @@
 ghost use Rattle.std.specs.Prelude.{◌≡◌, ◌==◌, ◌≤◌, ◌%◌, IfOk, false};
 ghost use Rattle.std.specs.List.{list_all};
 ghost use Rattle.hart_words.specs.AccessSizes.{IsLength};
-ghost use Rattle.hart_words.specs.Memory.{IsPlace};
+ghost use Rattle.hart_words.specs.Spans.{IsPlace};
 ghost use Rattle.csr_file.specs.Registers.{pmp_entries_of};
 ghost use Rattle.pmp_check.specs.Protection.{is_allowed, is_machine};
 ghost use Rattle.mem_access.specs.Places.{data_mode_of, is_device, place_in, place_of};
 
 use csr_file::fields::{MPP, MPRV};
-use csr_file::{Csrs, StoredCsr, has_bit, mode_numbered};
+use csr_file::{Csrs, StoredCsr, has_bit, mode_of_encoding};
 use hart_words::{Access, Cause, Map, Mode, PmpEntry, Span};
 use pmp_check::allows;
 
@@ -41,7 +41,7 @@ pub fn data_mode(csrs: &Csrs, mode: Mode) -> Mode
     match mode {
         Mode::Machine => {
             if has_bit(status, MPRV) {
-                mode_numbered((status >> MPP) % 4)
+                mode_of_encoding((status >> MPP) % 4)
             } else {
                 Mode::Machine
             }

@@ -17,11 +17,15 @@ struct Zeros {
 }
 
 impl PhysMem for Zeros {
+    ghost use Rattle.std.proofs.Common.{lit<};
+
     ghost bytes = { λ _ _. 0 };
 
     ghost ram = { λ mem. mem.ram };
 
     ghost is_ready = { λ _ _. ⊥ };
+
+    ghost bytes_are_bytes = { λ _ _. lit< tt };
 
     #[tactic(auto, using(crate::proofs::ZeroBytes::zero_number))]
     fn read(&self, _pa: u64, _len: u8) -> u64 {
@@ -72,11 +76,11 @@ fn loads(rt: HostRuntime) -> Result<(), Fail> {
             atomic,
             &mut seen,
         );
-        let told = match found {
+        let known_files = match found {
             Ok((place, _)) => Ok(place.io),
             Err(exception) => Err(exception),
         };
-        assert_eq!(rt; told, want);
+        assert_eq!(rt; known_files, want);
         assert_eq!(rt; seen.as_slice().len() == 1, want == Ok(false));
     }
     Ok(())
@@ -109,11 +113,11 @@ fn places_of_stores(rt: HostRuntime) -> Result<(), Fail> {
             atomic,
             &mut seen,
         );
-        let told = match found {
+        let known_files = match found {
             Ok(place) => Ok(place.io),
             Err(exception) => Err(exception),
         };
-        assert_eq!(rt; told, want);
+        assert_eq!(rt; known_files, want);
     }
     Ok(())
 }
@@ -177,14 +181,14 @@ fn loads_by_page_tables(rt: HostRuntime) -> Result<(), Fail> {
         csrs.set(StoredCsr::Satp, satp);
         let mut seen = Seen::empty();
         let found = load(&mem, &csrs, &map, mode, va, 1, false, &mut seen);
-        let told = match found {
+        let known_files = match found {
             Ok((place, _)) => Ok(place.io),
             Err((cause, value)) => {
                 assert_eq!(rt; value, va);
                 Err(cause)
             }
         };
-        assert_eq!(rt; told, want);
+        assert_eq!(rt; known_files, want);
         assert_eq!(rt; seen.as_slice().len(), reads);
     }
     Ok(())

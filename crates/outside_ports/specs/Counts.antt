@@ -2,9 +2,9 @@
 use Rattle.std.specs.Prelude.{ℕ, ◌+◌, ◌-◌, ◌^◌, ◌≤◌, min}
 
 -- the count after one more
-abbrev pub counted : ℕ → ℕ
-counted before = min (before + 1) (2 ^ 64 - 1)
+abbrev pub count_after_one : ℕ → ℕ
+count_after_one before = min (before + 1) (2 ^ 64 - 1)
 
 -- a count is greater than it was, or stands at its last value
 abbrev pub Rose : ℕ → ℕ → Type 0
-Rose before now = counted before ≤ now
+Rose before now = count_after_one before ≤ now

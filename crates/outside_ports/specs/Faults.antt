@@ -16,10 +16,10 @@ CountsFault is_fault (Err e) before now = RisesWhere (is_fault e) before now
 
 -- with a fault the misses may rise where a told file is not there, otherwise they stay
 abbrev pub MissesWhere : Bool → Option Files → List ℕ → ℕ → ℕ → Type 0
-MissesWhere true told name before now = before < now → IsMissing told name
-MissesWhere false told name before now = now ≡ before
+MissesWhere true known_files name before now = before < now → IsMissing known_files name
+MissesWhere false known_files name before now = now ≡ before
 
 -- the misses rise only with a fault, where a told file is not there
 abbrev pub CountsMiss : {A E : Type 0} → (E → Bool) → Result A E → Option Files → List ℕ → ℕ → ℕ → Type 0
-CountsMiss is_fault (Ok x) told name before now = now ≡ before
-CountsMiss is_fault (Err e) told name before now = MissesWhere (is_fault e) told name before now
+CountsMiss is_fault (Ok x) known_files name before now = now ≡ before
+CountsMiss is_fault (Err e) known_files name before now = MissesWhere (is_fault e) known_files name before now

@@ -10,8 +10,8 @@ files_of files name =
     option_map (λ file. file.bytes.items) (find (λ file. pointwise nat_eq (string_bytes file.name) name) files)
 
 -- a shelf in memory tells its files
-abbrev pub told_of : List NamedFile → Option Files
-told_of files = Some (files_of files)
+abbrev pub known_files_of : List NamedFile → Option Files
+known_files_of files = Some (files_of files)
 
 -- how many bytes a read gives: all that are left of the file from a place on, or as many as fit
 abbrev pub count_from : Option (List ℕ) → ℕ → ℕ → ℕ

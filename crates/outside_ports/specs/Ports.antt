@@ -1,6 +1,7 @@
 -- What a read and a write tell.
-use Rattle.std.specs.Prelude.{◌≡◌, ℕ, ◌-◌, ◌<◌, ◌≤◌, ◌↔◌, List, ◌++◌, length, take, drop, Option, Some, None, Result, Ok, Err, IsErr, IsSome, IfOk}
-use Rattle.outside_ports.specs.Counts.{counted}
+use Rattle.std.specs.Prelude.{◌≡◌, ℕ, ◌-◌, ◌<◌, ◌≤◌, ◌↔◌, List, ◌++◌, length, take, drop, Option, Some, None, Result}
+use Rattle.std.specs.Prelude.{Ok, Err, IsErr, IsSome, IfOk}
+use Rattle.outside_ports.specs.Counts.{count_after_one}
 use Rattle.outside_ports.specs.declared.failure.Failed.{Failed}
 
 -- files: from a name's bytes to the bytes of the file, or none where there is no such file
@@ -19,12 +20,12 @@ ReadsFile None at buffer result = IsErr result
 ReadsFile (Some file) at buffer result = IfOk result (Reads file at buffer)
 
 -- the same where files are told
-abbrev pub ReadsTold : Option Files → List ℕ → ℕ → List ℕ → Result ℕ Failed → Type 0
-ReadsTold None name at buffer result = Unit {0}
-ReadsTold (Some files) name at buffer result = ReadsFile (files name) at buffer result
+abbrev pub ReadsWhereKnown : Option Files → List ℕ → ℕ → List ℕ → Result ℕ Failed → Type 0
+ReadsWhereKnown None name at buffer result = Unit {0}
+ReadsWhereKnown (Some files) name at buffer result = ReadsFile (files name) at buffer result
 
 abbrev pub misses_of_file : Option (List ℕ) → ℕ → ℕ
-misses_of_file None before = counted before
+misses_of_file None before = count_after_one before
 misses_of_file (Some file) before = before
 
 -- the misses after a read: one more exactly where files are told and the name is missing

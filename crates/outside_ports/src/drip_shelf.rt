@@ -1,7 +1,7 @@
 ghost use Rattle.std.specs.Prelude.{◌≡◌, ◌≤◌, ◌<◌, min, IsErr, IfOk, OnOk, OnErr, IsNone, ◌↔◌, length};
 ghost use Rattle.outside_ports.specs.Counts.{Rose};
-ghost use Rattle.outside_ports.specs.Ports.{ReadsTold, misses_after};
-ghost use Rattle.outside_ports.specs.Memory.{files_of, told_of, count_from};
+ghost use Rattle.outside_ports.specs.Ports.{ReadsWhereKnown, misses_after};
+ghost use Rattle.outside_ports.specs.Memory.{files_of, known_files_of, count_from};
 
 use crate::failure::Failed;
 use crate::files::NamedFile;
@@ -34,7 +34,7 @@ impl DripShelf {
 }
 
 impl Shelf for DripShelf {
-    ghost told = { λ shelf. told_of shelf.shelf.files.items };
+    ghost known_files = { λ shelf. known_files_of shelf.shelf.files.items };
 
     ghost faults = { λ shelf. shelf.shelf.misses };
 
@@ -42,16 +42,16 @@ impl Shelf for DripShelf {
 
     fn read(&mut self, name: &str, at: u64, buf: &mut [u8]) -> Result<usize, Failed>
         ensures within { IfOk result (λ count. count ≤ length buf.new) }
-        ensures told { files_of self.new.shelf.files.items ≡ files_of self.old.shelf.files.items }
-        ensures bytes { ReadsTold (told_of self.old.shelf.files.items) name.now at buf.new result }
+        ensures known_files { files_of self.new.shelf.files.items ≡ files_of self.old.shelf.files.items }
+        ensures bytes { ReadsWhereKnown (known_files_of self.old.shelf.files.items) name.now at buf.new result }
         ensures full { let file = files_of self.old.shelf.files.items name.now in
             IfOk result (λ count. count
             ≡ count_from file at (min (length buf.new) self.old.most)) }
-        ensures calm { OnOk result (self.new.shelf.misses ≡ self.old.shelf.misses) }
+        ensures no_fault { OnOk result (self.new.shelf.misses ≡ self.old.shelf.misses) }
         ensures fault { OnErr result (Rose self.old.shelf.misses self.new.shelf.misses) }
         ensures kept { self.old.shelf.misses ≤ self.new.shelf.misses }
-        ensures misses { let told = told_of self.old.shelf.files.items in
-            self.new.shelf.misses ≡ misses_after told name.now self.old.shelf.misses }
+        ensures misses { let known_files = known_files_of self.old.shelf.files.items in
+            self.new.shelf.misses ≡ misses_after known_files name.now self.old.shelf.misses }
         ensures missing { IsErr result
             ↔ IsNone (files_of self.old.shelf.files.items name.now) }
         ensures most { self.new.most ≡ self.old.most }

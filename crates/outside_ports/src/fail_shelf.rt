@@ -1,7 +1,7 @@
 ghost use Rattle.std.specs.Prelude.{◌≡◌, ◌≤◌, ◌⊎◌, ◌↔◌, IsErr, IfOk, OnOk, OnErr, IsNone, Contains, length};
-ghost use Rattle.outside_ports.specs.Counts.{Rose, counted};
-ghost use Rattle.outside_ports.specs.Ports.{ReadsTold, misses_after};
-ghost use Rattle.outside_ports.specs.Memory.{files_of, told_of, count_from};
+ghost use Rattle.outside_ports.specs.Counts.{Rose, count_after_one};
+ghost use Rattle.outside_ports.specs.Ports.{ReadsWhereKnown, misses_after};
+ghost use Rattle.outside_ports.specs.Memory.{files_of, known_files_of, count_from};
 
 use crate::failure::Failed;
 use crate::files::bytes_of;
@@ -40,7 +40,7 @@ impl FailShelf {
 }
 
 impl Shelf for FailShelf {
-    ghost told = { λ shelf. told_of shelf.shelf.files.items };
+    ghost known_files = { λ shelf. known_files_of shelf.shelf.files.items };
 
     ghost faults = { λ shelf. shelf.faults };
 
@@ -48,19 +48,19 @@ impl Shelf for FailShelf {
 
     fn read(&mut self, name: &str, at: u64, buf: &mut [u8]) -> Result<usize, Failed>
         ensures within { IfOk result (λ count. count ≤ length buf.new) }
-        ensures told { files_of self.new.shelf.files.items ≡ files_of self.old.shelf.files.items }
-        ensures bytes { ReadsTold (told_of self.old.shelf.files.items) name.now at buf.new result }
+        ensures known_files { files_of self.new.shelf.files.items ≡ files_of self.old.shelf.files.items }
+        ensures bytes { ReadsWhereKnown (known_files_of self.old.shelf.files.items) name.now at buf.new result }
         ensures full { let file = files_of self.old.shelf.files.items name.now in
             IfOk result (λ count. count ≡ count_from file at (length buf.new)) }
-        ensures calm { OnOk result (self.new.faults ≡ self.old.faults) }
+        ensures no_fault { OnOk result (self.new.faults ≡ self.old.faults) }
         ensures fault { OnErr result (Rose self.old.faults self.new.faults) }
         ensures kept { self.old.faults ≤ self.new.faults }
-        ensures misses { let told = told_of self.old.shelf.files.items in
-            self.new.shelf.misses ≡ misses_after told name.now self.old.shelf.misses }
-        ensures calls { self.new.calls ≡ counted self.old.calls }
+        ensures misses { let known_files = known_files_of self.old.shelf.files.items in
+            self.new.shelf.misses ≡ misses_after known_files name.now self.old.shelf.misses }
+        ensures calls { self.new.calls ≡ count_after_one self.old.calls }
         ensures failing { self.new.failing ≡ self.old.failing }
         ensures listed { IsErr result
-            ↔ (Contains self.old.failing.items (counted self.old.calls)
+            ↔ (Contains self.old.failing.items (count_after_one self.old.calls)
             ⊎ IsNone (files_of self.old.shelf.files.items name.now)) }
     {
         self.calls = self.calls.saturating_add(1);

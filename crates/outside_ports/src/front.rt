@@ -60,13 +60,13 @@ pub fn read_front<H: Shelf>(
     most: u64,
 ) -> Result<Front, ReadError>
     requires { most < 2 ^ 62 }
-    ensures told { H.told shelf.new ≡ H.told shelf.old }
-    ensures front { IfOk result (IsFront (file_of (H.told shelf.old) name.now) most) }
-    ensures there { OnOk result (IsThere (H.told shelf.old) name.now) }
+    ensures known_files { H.known_files shelf.new ≡ H.known_files shelf.old }
+    ensures front { IfOk result (IsFront (file_of (H.known_files shelf.old) name.now) most) }
+    ensures file_exists { OnOk result (IsThere (H.known_files shelf.old) name.now) }
     ensures short { IfOk result (λ front. vec_len front.bytes ≤ most) }
     ensures faults { CountsFault is_read_fault result (H.faults shelf.old) (H.faults shelf.new) }
-    ensures misses { let told = H.told shelf.old in
-        CountsMiss is_read_fault result told name.now (H.misses shelf.old) (H.misses shelf.new) }
+    ensures misses { let known_files = H.known_files shelf.old in
+        CountsMiss is_read_fault result known_files name.now (H.misses shelf.old) (H.misses shelf.new) }
 {
     let mut bytes = Vec::new(alloc);
     let mut chunk = new_chunk(alloc)?;
@@ -98,15 +98,15 @@ pub fn read_chunk<H: Shelf>(
     chunk: &mut Vec<u8>,
 ) -> Result<usize, ReadError>
     requires { 0 < vec_len chunk.old }
-    ensures told { H.told shelf.new ≡ H.told shelf.old }
+    ensures known_files { H.known_files shelf.new ≡ H.known_files shelf.old }
     ensures len { vec_len chunk.new ≡ vec_len chunk.old }
     ensures within { IfOk result (λ count. count ≤ vec_len chunk.new) }
-    ensures there { OnOk result (IsThere (H.told shelf.old) name.now) }
-    ensures next { let file = file_of (H.told shelf.old) name.now in
+    ensures file_exists { OnOk result (IsThere (H.known_files shelf.old) name.now) }
+    ensures next { let file = file_of (H.known_files shelf.old) name.now in
         IfOk result (λ count. ReadsChunk file at chunk.new.items count) }
     ensures faults { CountsFault is_read_fault result (H.faults shelf.old) (H.faults shelf.new) }
-    ensures misses { let told = H.told shelf.old in
-        CountsMiss is_read_fault result told name.now (H.misses shelf.old) (H.misses shelf.new) }
+    ensures misses { let known_files = H.known_files shelf.old in
+        CountsMiss is_read_fault result known_files name.now (H.misses shelf.old) (H.misses shelf.new) }
 {
     match shelf.read(name, at, chunk) {
         Ok(count) => Ok(count),

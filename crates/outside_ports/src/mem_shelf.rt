@@ -1,7 +1,7 @@
 ghost use Rattle.std.specs.Prelude.{◌≡◌, ◌≤◌, IsErr, IfOk, OnOk, OnErr, IsNone, ◌↔◌, length};
 ghost use Rattle.outside_ports.specs.Counts.{Rose};
-ghost use Rattle.outside_ports.specs.Ports.{ReadsTold, misses_after};
-ghost use Rattle.outside_ports.specs.Memory.{files_of, told_of, count_from};
+ghost use Rattle.outside_ports.specs.Ports.{ReadsWhereKnown, misses_after};
+ghost use Rattle.outside_ports.specs.Memory.{files_of, known_files_of, count_from};
 
 use crate::failure::Failed;
 use crate::files::{NamedFile, bytes_of, copy_from};
@@ -27,7 +27,7 @@ impl MemShelf {
 }
 
 impl Shelf for MemShelf {
-    ghost told = { λ shelf. told_of shelf.files.items };
+    ghost known_files = { λ shelf. known_files_of shelf.files.items };
 
     ghost faults = { λ shelf. shelf.misses };
 
@@ -35,15 +35,15 @@ impl Shelf for MemShelf {
 
     fn read(&mut self, name: &str, at: u64, buf: &mut [u8]) -> Result<usize, Failed>
         ensures within { IfOk result (λ count. count ≤ length buf.new) }
-        ensures told { files_of self.new.files.items ≡ files_of self.old.files.items }
-        ensures bytes { ReadsTold (told_of self.old.files.items) name.now at buf.new result }
+        ensures known_files { files_of self.new.files.items ≡ files_of self.old.files.items }
+        ensures bytes { ReadsWhereKnown (known_files_of self.old.files.items) name.now at buf.new result }
         ensures full { let file = files_of self.old.files.items name.now in
             IfOk result (λ count. count ≡ count_from file at (length buf.new)) }
-        ensures calm { OnOk result (self.new.misses ≡ self.old.misses) }
+        ensures no_fault { OnOk result (self.new.misses ≡ self.old.misses) }
         ensures fault { OnErr result (Rose self.old.misses self.new.misses) }
         ensures kept { self.old.misses ≤ self.new.misses }
-        ensures misses { let told = told_of self.old.files.items in
-            self.new.misses ≡ misses_after told name.now self.old.misses }
+        ensures misses { let known_files = known_files_of self.old.files.items in
+            self.new.misses ≡ misses_after known_files name.now self.old.misses }
         ensures missing { IsErr result ↔ IsNone (files_of self.old.files.items name.now) }
     {
         match bytes_of(&self.files, name) {

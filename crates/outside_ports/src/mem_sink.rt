@@ -36,10 +36,10 @@ impl Sink for MemSink {
 
     fn write(&mut self, piece: &[u8]) -> Result<usize, Failed>
         ensures within { IfOk result (λ count. count ≤ length piece.now) }
-        ensures some { IfOk result (λ count. 0 < length piece.now → 0 < count) }
+        ensures takes_one { IfOk result (λ count. 0 < length piece.now → 0 < count) }
         ensures held { Some self.new.held.items
             ≡ option_map (held_after result piece.now) (Some self.old.held.items) }
-        ensures calm { OnOk result (self.new.faults ≡ self.old.faults) }
+        ensures no_fault { OnOk result (self.new.faults ≡ self.old.faults) }
         ensures fault { OnErr result (Rose self.old.faults self.new.faults) }
         ensures kept { self.old.faults ≤ self.new.faults }
         ensures whole { IfOk result (λ count. count ≡ length piece.now) }

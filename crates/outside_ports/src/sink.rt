@@ -16,9 +16,9 @@ pub trait Sink {
     /// After a failure the bytes held are what they were.
     fn write(&mut self, piece: &[u8]) -> Result<usize, Failed>
         ensures within { IfOk result (λ count. count ≤ length piece.now) }
-        ensures some { IfOk result (λ count. 0 < length piece.now → 0 < count) }
+        ensures takes_one { IfOk result (λ count. 0 < length piece.now → 0 < count) }
         ensures held { held self.new ≡ option_map (held_after result piece.now) (held self.old) }
-        ensures calm { OnOk result (faults self.new ≡ faults self.old) }
+        ensures no_fault { OnOk result (faults self.new ≡ faults self.old) }
         ensures fault { OnErr result (Rose (faults self.old) (faults self.new)) }
         ensures kept { faults self.old ≤ faults self.new };
 }

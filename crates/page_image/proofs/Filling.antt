@@ -1,5 +1,6 @@
 -- Pages filled one after another.
-use Rattle.std.proofs.Common.{◌≡◌, ℕ, ◌/◌, ◌%◌, ◌<◌, cond, Option, Some, None, option_map, unwrap_or, slice_index, refl, sym, ◌∙◌, subst, inl, inr, arith, nat_cmp}
+use Rattle.std.proofs.Common.{◌≡◌, ℕ, ◌/◌, ◌%◌, ◌<◌, cond, Option, Some, None, option_map, unwrap_or, slice_index, refl}
+use Rattle.std.proofs.Common.{sym, ◌∙◌, subst, inl, inr, arith, nat_cmp}
 use Rattle.std.proofs.Math.Path.{fun_ext}
 use Rattle.std.specs.Prelude.{option_and_then, nat_eq}
 use Rattle.std.specs.List.{slice_index_or}
@@ -17,7 +18,7 @@ use Rattle.page_image.specs.declared.page.Page.{Page}
 use Rattle.page_image.specs.declared.image.PageImage.{PageImage}
 use Rattle.page_image.specs.Pages.{byte_or_zero}
 use Rattle.page_image.specs.Pages as pages
-use Rattle.page_image.specs.Bytes.{byte_of, filled}
+use Rattle.page_image.specs.Bytes.{byte_of, with_zeros}
 
 -- the byte of a page that is made, else of one that is left to be made, else 0
 abbrev pub over : {A B : Type 0} → (A → ℕ → ℕ) → (B → ℕ → ℕ) → Option A → Option B → ℕ → ℕ
@@ -25,7 +26,8 @@ over f g (Some page) left k = f page k
 over f g None left k = unwrap_or (option_map (λ p. g p k) left) 0
 
 -- one more page is made
-pub one_more : {A B : Type 0} (f : A → ℕ → ℕ) (g : B → ℕ → ℕ) (k : ℕ) (before after : ℕ → Option A) (left rest old : ℕ → Option B) (n : ℕ) (page : A) (p : B)
+pub one_more : {A B : Type 0} (f : A → ℕ → ℕ) (g : B → ℕ → ℕ) (k : ℕ) (before after : ℕ → Option A)
+    (left rest old : ℕ → Option B) (n : ℕ) (page : A) (p : B)
     → ((q : ℕ) → after q ≡ cond (nat_eq n q) (Some page) (before q))
     → ((q : ℕ) → left q ≡ cond (is_eq (nat_cmp q n)) (Some p) (rest q))
     → f page k ≡ g p k
@@ -40,7 +42,8 @@ one_more f g k before after left rest old n page p updates first same found kept
     ]
 
 -- a page that is made, or 0
-made : {A B : Type 0} (f : A → ℕ → ℕ) (g : B → ℕ → ℕ) (new : Option A) (k : ℕ) → unwrap_or (option_map (λ page. f page k) new) 0 ≡ over f g new None k
+made : {A B : Type 0} (f : A → ℕ → ℕ) (g : B → ℕ → ℕ) (new : Option A) (k : ℕ)
+    → unwrap_or (option_map (λ page. f page k) new) 0 ≡ over f g new None k
 made f g None k = refl
 made f g (Some page) k = refl
 
@@ -55,7 +58,9 @@ abbrev pub page_byte : Box Page Global → ℕ → ℕ
 page_byte page k = slice_index page.value.bytes k
 
 -- a page that is made has its byte at an address, and where there is none it is 0
-shown : (held : Option (Box Page Global)) (pa : ℕ) → byte_or_zero (option_map (λ page. page.value) held) pa ≡ unwrap_or (option_map (λ page. page_byte page (pa % 4096)) held) 0
+shown : (held : Option (Box Page Global)) (pa : ℕ)
+    → byte_or_zero (option_map (λ page. page.value) held) pa
+    ≡ unwrap_or (option_map (λ page. page_byte page (pa % 4096)) held) 0
 unfolding pages.page_byte
 shown None pa = refl
 shown (Some page) pa = refl
@@ -65,8 +70,15 @@ abbrev pub piece_byte : Box PiecePage Global → ℕ → ℕ
 piece_byte page k = unwrap_or (slice_index_or page.value.bytes k None) 0
 
 pub all_made : (image : PageImage) (pieces : Pieces)
-    → ((q k : ℕ) → k < 4096 → over page_byte piece_byte (get nat_eq image.pages q) None k ≡ over page_byte piece_byte None (tree.get nat_cmp pieces.pages q) k)
-    → byte_of image ≡ filled (byte_at pieces)
+    → ((q k : ℕ) → k < 4096
+    → over page_byte piece_byte (get nat_eq image.pages q) None k
+    ≡ over page_byte piece_byte None (tree.get nat_cmp pieces.pages q) k)
+    → byte_of image ≡ with_zeros (byte_at pieces)
 unfolding byte_of byte_at
 all_made image pieces kept =
-    fun_ext (λ a. shown (get nat_eq image.pages (a / 4096)) a ∙ made page_byte piece_byte (get nat_eq image.pages (a / 4096)) (a % 4096) ∙ kept (a / 4096) (a % 4096) (grind arith) ∙ given page_byte (λ p j. slice_index_or p.value.bytes j None) (tree.get nat_cmp pieces.pages (a / 4096)) (a % 4096))
+    fun_ext
+    (λ a. shown (get nat_eq image.pages (a / 4096)) a
+    ∙ made page_byte piece_byte (get nat_eq image.pages (a / 4096)) (a % 4096)
+    ∙ kept (a / 4096) (a % 4096) (grind arith)
+    ∙ given page_byte (λ p j. slice_index_or p.value.bytes j None) (tree.get nat_cmp pieces.pages (a / 4096))
+    (a % 4096))

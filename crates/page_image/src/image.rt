@@ -18,11 +18,11 @@ impl PageImage {
     ghost use Rattle.image_text.specs.Bytes.{byte_at};
     ghost use Rattle.hart_words.specs.declared.span.TheConstants.{PAGE_SIZE};
     ghost use Rattle.page_image.specs.Pages.{byte_or_zero};
-    ghost use Rattle.page_image.specs.Bytes.{byte_of, filled};
+    ghost use Rattle.page_image.specs.Bytes.{byte_of, with_zeros};
 
     /// The memory in which each address has the byte that the pieces have there, or 0.
     pub fn build(alloc: Global, pieces: &Pieces, ram: Span) -> Result<PageImage, NoMemory>
-        ensures bytes { IfOk result (λ image. byte_of image ≡ filled (byte_at pieces.now)) }
+        ensures bytes { IfOk result (λ image. byte_of image ≡ with_zeros (byte_at pieces.now)) }
         ensures ram { IfOk result (λ image. image.ram ≡ ram) }
     {
         let mut image = PageImage {

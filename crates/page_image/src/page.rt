@@ -1,6 +1,6 @@
 //! A page: 4,096 addresses and their bytes.
 
-ghost use Rattle.std.specs.Prelude.{◌≡◌, length};
+ghost use Rattle.std.specs.Prelude.{◌≡◌, ◌<◌, ℕ, length, slice_index};
 ghost use Rattle.hart_words.specs.declared.span.TheConstants.{PAGE_SIZE};
 
 use hart_words::{PAGE_BYTES, PAGE_SIZE};
@@ -11,6 +11,7 @@ use hart_words::{PAGE_BYTES, PAGE_SIZE};
 pub struct Page {
     bytes: [u8; PAGE_BYTES],
     ghost full: { length bytes ≡ PAGE_SIZE },
+    ghost small: { (at : ℕ) → slice_index bytes at < 256 },
 }
 
 impl Page {
@@ -21,7 +22,8 @@ impl Page {
 
     /// The page of these bytes.
     pub(crate) fn of(bytes: [u8; PAGE_BYTES]) -> Page
-        requires { length bytes ≡ PAGE_SIZE }
+        requires full { length bytes ≡ PAGE_SIZE }
+        requires small { (at : ℕ) → slice_index bytes at < 256 }
         ensures { result.bytes ≡ bytes }
     {
         Page { bytes }
@@ -46,7 +48,7 @@ impl Page {
 
     /// The number of `len` bytes at an address, within the page.
     pub fn number(&self, pa: u64, len: u8) -> u64
-        requires few { len ≤ 8 }
+        requires at_most_8 { len ≤ 8 }
         requires inside { pa + len < 2 ^ 64 }
         ensures value { result ≡ number_at (page_byte self.now) pa len }
         ensures fits { result < 2 ^ (8 * len) }

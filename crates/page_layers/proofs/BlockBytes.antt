@@ -1,5 +1,6 @@
 -- The bytes of a block, address by address.
-use Rattle.std.proofs.Common.{◌≡◌, ℕ, ◌/◌, ◌%◌, ◌*◌, ◌+◌, ◌^◌, ◌<◌, ◌≤◌, Bool, length, set, replicate, sym, ◌∙◌, ap, inl, inr, arith, if◌then◌else◌, slice_index}
+use Rattle.std.proofs.Common.{◌≡◌, ℕ, ◌/◌, ◌%◌, ◌*◌, ◌+◌, ◌^◌, ◌<◌, ◌≤◌, Bool, length, set, replicate, sym, ◌∙◌, ap}
+use Rattle.std.proofs.Common.{inl, inr, arith, if◌then◌else◌, slice_index}
 use Rattle.std.specs.Prelude.{◌==◌}
 use Rattle.std.specs.Bool.{Decides}
 use Rattle.std.proofs.Math.Nat.{mod-eq_of_lt}
@@ -7,7 +8,7 @@ use Rattle.std.proofs.lemmas.Bool.{cases_eq}
 use Rattle.std.proofs.lemmas.Bool.Decides.{nat_tests}
 use Rattle.std.proofs.lemmas.Grind.{same_number_lists}
 use Rattle.image_text.proofs.Pages.{eq_same, eq_other, none_at, set_at}
-use Rattle.hart_words.specs.Memory.{Bytes, stored}
+use Rattle.hart_words.specs.Memory.{Bytes, bytes_after_store}
 use Rattle.page_image.specs.declared.page.Page.{Page}
 use Rattle.page_image.specs.Pages.{page_byte}
 use Rattle.page_image.proofs.Stored.{stored-byte, stored-more}
@@ -18,7 +19,8 @@ same_place : (at pa : ℕ) → at / 64 ≡ pa / 64 → (at % 64 == pa % 64) ≡ 
 same_place at pa in_block = grind (arith, nat_tests)
 
 -- a byte of a block is set
-pub byte_set : (old new : Block) (pa value at : ℕ) → new.bytes ≡ set old.bytes (pa % 64) value → at / 64 ≡ pa / 64 → block_byte new at ≡ (if at == pa then value else block_byte old at)
+pub byte_set : (old new : Block) (pa value at : ℕ) → new.bytes ≡ set old.bytes (pa % 64) value → at / 64 ≡ pa / 64
+    → block_byte new at ≡ (if at == pa then value else block_byte old at)
 unfolding block_byte
 byte_set old new pa value at is in_block =
     let below : pa % 64 < length old.bytes = omega (arith, old.full) in
@@ -37,8 +39,10 @@ block_bytes_same : (one other : Block) → one.bytes ≡ other.bytes → (pa : �
 unfolding block_byte
 block_bytes_same one other is pa = ap (λ bytes. slice_index bytes (pa % 64)) is
 
-pub blocks_decided : (one other : Block) (result : Bool) → Decides result (one.bytes ≡ other.bytes) → Decides result ((pa : ℕ) → block_byte one pa ≡ block_byte other pa)
-blocks_decided one other result decides = (λ yes. block_bytes_same one other (decides.0 yes), λ same. decides.1 (same_blocks one other same))
+pub blocks_decided : (one other : Block) (result : Bool) → Decides result (one.bytes ≡ other.bytes)
+    → Decides result ((pa : ℕ) → block_byte one pa ≡ block_byte other pa)
+blocks_decided one other result decides =
+    (λ yes. block_bytes_same one other (decides.0 yes), λ same. decides.1 (same_blocks one other same))
 
 pub zero_block : (block : Block) → block.bytes ≡ replicate 64 0 → (pa : ℕ) → block_byte block pa ≡ 0
 unfolding block_byte
@@ -49,14 +53,15 @@ pub same_block : (pa len k : ℕ) → pa % 64 + len ≤ 64 → k < len → (pa +
 same_block pa len k inside below = grind arith
 
 -- one more byte is put in a block
-pub put_more : (start before after : Bytes) (pa len k value byte at : ℕ) → byte ≡ value / 256 ^ k % 256 → byte < 256 → pa % 64 + len ≤ 64 → k < len → at / 64 ≡ pa / 64
+pub put_more : (start before after : Bytes) (pa len k value byte at : ℕ) → byte ≡ value / 256 ^ k % 256 → byte < 256
+    → pa % 64 + len ≤ 64 → k < len → at / 64 ≡ pa / 64
     → ((a : ℕ) → a / 64 ≡ (pa + k) / 64 → after a ≡ (if a == pa + k then byte else before a))
-    → before at ≡ stored pa k value start at
-    → after at ≡ stored pa (k + 1) value start at
+    → before at ≡ bytes_after_store pa k value start at
+    → after at ≡ bytes_after_store pa (k + 1) value start at
 put_more start before after pa len k value byte at is small inside below in_block sets done =
     sets at (in_block ∙ sym (same_block pa len k inside below))
     ∙ ap (λ b. if at == pa + k then byte else b) done
-    ∙ sym (stored-byte (pa + k) byte at (stored pa k value start) small)
+    ∙ sym (stored-byte (pa + k) byte at (bytes_after_store pa k value start) small)
     ∙ ap (λ bytes. bytes at) (stored-more pa k value byte start is small)
 
 -- the first bytes of a block, with one more
@@ -72,7 +77,9 @@ one_more_byte old new page first k byte small is sets before j below =
     ]
 
 -- a block that has its page's bytes from its place on has them at each of its addresses
-pub block_of_page : (block : Block) (page : Page) (number first : ℕ) → first ≡ number % 64 * 64 → ((j : ℕ) → j < 64 → block_byte block j ≡ page_byte page (first + j)) → (pa : ℕ) → pa / 64 ≡ number → block_byte block pa ≡ page_byte page pa
+pub block_of_page : (block : Block) (page : Page) (number first : ℕ) → first ≡ number % 64 * 64
+    → ((j : ℕ) → j < 64 → block_byte block j ≡ page_byte page (first + j)) → (pa : ℕ) → pa / 64 ≡ number
+    → block_byte block pa ≡ page_byte page pa
 unfolding block_byte page_byte
 block_of_page block page number first start has pa here =
     let offset : pa % 64 % 64 ≡ pa % 64 = omega arith in

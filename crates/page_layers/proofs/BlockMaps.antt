@@ -1,5 +1,7 @@
 -- Blocks by their number, and what changes of one of them do to the bytes.
-use Rattle.std.proofs.Common.{◌≡◌, ℕ, suc, All, ◌+◌, ◌/◌, ◌%◌, ◌^◌, ◌<◌, ◌≤◌, ◌⊎◌, true, false, Bool, cond, Option, Some, None, is_some, option_map, unwrap_or, List, [], ◌∷◌, refl, sym, ap, ◌∙◌, subst, inl, inr, arith, if◌then◌else◌}
+use Rattle.std.proofs.Common.{◌≡◌, ℕ, suc, All, ◌+◌, ◌/◌, ◌%◌, ◌^◌, ◌<◌, ◌≤◌, ◌⊎◌, true, false, Bool, cond, Option}
+use Rattle.std.proofs.Common.{Some, None, is_some, option_map, unwrap_or, List, [], ◌∷◌, refl, sym, ap, ◌∙◌, subst, inl}
+use Rattle.std.proofs.Common.{inr, arith, if◌then◌else◌}
 use Rattle.std.specs.Prelude.{◌==◌, nat_eq, nat_lt, Result, Ok, Err, OnErr}
 use Rattle.std.specs.HashMap.{get}
 use Rattle.std.specs.List.{AllZip}
@@ -9,7 +11,7 @@ use Rattle.std.proofs.Math.Path.{fun_ext}
 use Rattle.std.proofs.lemmas.Bool.{cases_eq, cases_lt, lt-ltb, le-ltb}
 use Rattle.std.proofs.lemmas.Bool.Decides.{eqb_tells}
 use Rattle.image_text.proofs.Pages.{eq_same, eq_other}
-use Rattle.hart_words.specs.Memory.{Bytes, stored}
+use Rattle.hart_words.specs.Memory.{Bytes, bytes_after_store}
 use Rattle.hart_words.proofs.Stores.{stored-outside}
 use Rattle.page_layers.specs.declared.block.Block.{Block}
 use Rattle.page_layers.specs.declared.blocks.Blocks.{Blocks}
@@ -29,22 +31,26 @@ unfolding block_at
 far blocks number large = rw (le-ltb number (2 ^ 64) large) refl
 
 -- the same entries are the same blocks
-pub same_entries : (before after : Blocks) → after.blocks.entries ≡ before.blocks.entries → block_at after ≡ block_at before
+pub same_entries : (before after : Blocks) → after.blocks.entries ≡ before.blocks.entries
+    → block_at after ≡ block_at before
 unfolding block_at
 same_entries before after e = rw e refl
 
 -- where the same is found of each number, the blocks are the same
-pub same_found : (before after : Blocks) → ((q : ℕ) → get nat_eq after.blocks q ≡ get nat_eq before.blocks q) → block_at after ≡ block_at before
+pub same_found : (before after : Blocks) → ((q : ℕ) → get nat_eq after.blocks q ≡ get nat_eq before.blocks q)
+    → block_at after ≡ block_at before
 unfolding block_at
 same_found before after gets = λ i q. ap (λ found. guarded found q) (gets q) i
 
 -- a block is set
-pub block_set : (before after : Blocks) (key : ℕ) (block : Block) → key < 2 ^ 64 → ((q : ℕ) → get nat_eq after.blocks q ≡ cond (nat_eq key q) (Some block) (get nat_eq before.blocks q))
+pub block_set : (before after : Blocks) (key : ℕ) (block : Block) → key < 2 ^ 64
+    → ((q : ℕ) → get nat_eq after.blocks q ≡ cond (nat_eq key q) (Some block) (get nat_eq before.blocks q))
     → (q : ℕ) → block_at after q ≡ (if q == key then Some block else block_at before q)
 unfolding block_at
 block_set before after key block small sets q = elim (cases_eq q key) [
   | inl same ↦ rw (same, lt-ltb key (2 ^ 64) small, sets key, eq_same key) refl
-  | inr apart ↦ ap (λ found. guarded found q) (sets q) ∙ rw (eq_other key q (λ e. apart (sym e)), eq_other q key apart) refl
+  | inr apart ↦
+      ap (λ found. guarded found q) (sets q) ∙ rw (eq_other key q (λ e. apart (sym e)), eq_other q key apart) refl
 ]
 
 -- the entries of a clone are the same
@@ -56,22 +62,26 @@ blocks_cloned (e ∷ es) (f ∷ fs) same =
     let rest = blocks_cloned es fs same.1 in λ i. (same.0.0 i, same.0.1 i) ∷ rest i
 
 -- what is found in the entry that is set
-pub found_there : (blocks : Blocks) (number : ℕ) (block : Block) → number < 2 ^ 64 → get nat_eq blocks.blocks number ≡ Some block → block_at blocks number ≡ Some block
+pub found_there : (blocks : Blocks) (number : ℕ) (block : Block) → number < 2 ^ 64
+    → get nat_eq blocks.blocks number ≡ Some block → block_at blocks number ≡ Some block
 found_there blocks number block small found = near blocks number small ∙ found
 
-pub none_there : (blocks : Blocks) (number : ℕ) → number < 2 ^ 64 → get nat_eq blocks.blocks number ≡ None → block_at blocks number ≡ None
+pub none_there : (blocks : Blocks) (number : ℕ) → number < 2 ^ 64 → get nat_eq blocks.blocks number ≡ None
+    → block_at blocks number ≡ None
 none_there blocks number small found = near blocks number small ∙ found
 
 -- the same numbers are there where one of them is set again
-pub numbers_stay : (before after : Blocks) (key : ℕ) (old new : Block) → block_at before key ≡ Some old → ((q : ℕ) → block_at after q ≡ (if q == key then Some new else block_at before q))
+pub numbers_stay : (before after : Blocks) (key : ℕ) (old new : Block) → block_at before key ≡ Some old
+    → ((q : ℕ) → block_at after q ≡ (if q == key then Some new else block_at before q))
     → (q : ℕ) → is_some (block_at after q) ≡ is_some (block_at before q)
 numbers_stay before after key old new was sets q = elim (cases_eq q key) [
   | inl same ↦ ap is_some (sets q) ∙ rw (same, eq_same key, was) refl
   | inr apart ↦ ap is_some (sets q) ∙ rw (eq_other q key apart) refl
 ]
 
-stored-congr : (pa len value at : ℕ) (one other : Bytes) → one at ≡ other at → stored pa len value one at ≡ stored pa len value other at
-unfolding stored
+stored-congr : (pa len value at : ℕ) (one other : Bytes) → one at ≡ other at
+    → bytes_after_store pa len value one at ≡ bytes_after_store pa len value other at
+unfolding bytes_after_store
 stored-congr pa len value at one other same = rw same refl
 
 outside : (pa len at : ℕ) → pa % 64 + len ≤ 64 → (at / 64 ≡ pa / 64 → ⊥) → (at < pa) ⊎ (pa + len ≤ at)
@@ -86,16 +96,18 @@ outside pa len at inside apart = elim (cases_lt at pa) [
 ]
 
 -- a number is put in a block
-pub number_put : (before after : ℕ → Option Block) (old new : Block) (base : Bytes) (pa len value : ℕ) → pa % 64 + len ≤ 64
+pub number_put : (before after : ℕ → Option Block) (old new : Block) (base : Bytes) (pa len value : ℕ)
+    → pa % 64 + len ≤ 64
     → ((q : ℕ) → after q ≡ (if q == pa / 64 then Some new else before q)) → before (pa / 64) ≡ Some old
-    → ((at : ℕ) → at / 64 ≡ pa / 64 → block_byte new at ≡ stored pa len value (block_byte old) at)
-    → over (bytes_in after) base ≡ stored pa len value (over (bytes_in before) base)
+    → ((at : ℕ) → at / 64 ≡ pa / 64 → block_byte new at ≡ bytes_after_store pa len value (block_byte old) at)
+    → over (bytes_in after) base ≡ bytes_after_store pa len value (over (bytes_in before) base)
 number_put before after old new base pa len value inside sets was puts = fun_ext (λ at.
     let seen : Option Block → ℕ = λ block. unwrap_or (option_map (λ b. block_byte b at) block) (base at) in
     elim (cases_eq (at / 64) (pa / 64)) [
       | inl here ↦
           let then_ : over (bytes_in before) base at ≡ block_byte old at = ap seen (ap before here ∙ was) in
-          ap seen (sets (at / 64)) ∙ rw (here, eq_same (pa / 64)) (puts at here) ∙ stored-congr pa len value at (block_byte old) (over (bytes_in before) base) (sym then_)
+          ap seen (sets (at / 64)) ∙ rw (here, eq_same (pa / 64)) (puts at here)
+          ∙ stored-congr pa len value at (block_byte old) (over (bytes_in before) base) (sym then_)
       | inr apart ↦
           ap seen (sets (at / 64) ∙ rw (eq_other (at / 64) (pa / 64) apart) refl)
           ∙ sym (stored-outside pa len value at (over (bytes_in before) base) (outside pa len at inside apart))
@@ -105,24 +117,33 @@ number_put before after old new base pa len value inside sets was puts = fun_ext
 abbrev pub AreFound : Blocks → List (ℕ × Block) → Type 0
 AreFound blocks entries = All (λ (entry : ℕ × Block). get nat_eq blocks.blocks entry.0 ≡ Some entry.1) entries
 
-pub first_found : (blocks : Blocks) (key : ℕ) (block : Block) (rest later : List (ℕ × Block)) → rest ≡ (key, block) ∷ later → AreFound blocks rest → get nat_eq blocks.blocks key ≡ Some block
+pub first_found : (blocks : Blocks) (key : ℕ) (block : Block) (rest later : List (ℕ × Block))
+    → rest ≡ (key, block) ∷ later → AreFound blocks rest → get nat_eq blocks.blocks key ≡ Some block
 first_found blocks key block rest later is found = subst (AreFound blocks) is found 0 (key, block) (omega arith)
 
-pub later_found : (blocks : Blocks) (key : ℕ) (block : Block) (rest later : List (ℕ × Block)) → rest ≡ (key, block) ∷ later → AreFound blocks rest → AreFound blocks later
-later_found blocks key block rest later is found = λ k d below. subst (AreFound blocks) is found (suc k) d (omega (arith, below))
+pub later_found : (blocks : Blocks) (key : ℕ) (block : Block) (rest later : List (ℕ × Block))
+    → rest ≡ (key, block) ∷ later → AreFound blocks rest → AreFound blocks later
+later_found blocks key block rest later is found =
+    λ k d below. subst (AreFound blocks) is found (suc k) d (omega (arith, below))
 
 -- of the entries that are left, one is done
-pub entry_done : (P : ℕ → Type 0) (key : ℕ) (block : Block) (rest later : List (ℕ × Block)) → rest ≡ (key, block) ∷ later → P key
+pub entry_done : (P : ℕ → Type 0) (key : ℕ) (block : Block) (rest later : List (ℕ × Block))
+    → rest ≡ (key, block) ∷ later → P key
     → (q : ℕ) → (is_some (lookup (nat_eq q) rest) ≡ true) ⊎ P q → (is_some (lookup (nat_eq q) later) ≡ true) ⊎ P q
 entry_done P key block rest later is done q (inr before) = inr before
 entry_done P key block rest later is done q (inl left) = elim (eqb_tells q key) [
   | inl same ↦ inr (subst P (sym same.1) done)
-  | inr apart ↦ inl (ap (λ t. is_some (cond t (Some block) (lookup (nat_eq q) later))) (sym apart.0) ∙ ap (λ entries. is_some (lookup (nat_eq q) entries)) (sym is) ∙ left)
+  | inr apart ↦
+      inl
+      (ap (λ t. is_some (cond t (Some block) (lookup (nat_eq q) later))) (sym apart.0)
+      ∙ ap (λ entries. is_some (lookup (nat_eq q) entries)) (sym is) ∙ left)
 ]
 
-pub entries_done : (P : ℕ → Type 0) (rest : List (ℕ × Block)) → rest ≡ [] → (q : ℕ) → (is_some (lookup (nat_eq q) rest) ≡ true) ⊎ P q → P q
+pub entries_done : (P : ℕ → Type 0) (rest : List (ℕ × Block)) → rest ≡ [] → (q : ℕ)
+    → (is_some (lookup (nat_eq q) rest) ≡ true) ⊎ P q → P q
 entries_done P rest is q (inr done) = done
-entries_done P rest is q (inl left) = let never : false ≡ true = ap (λ entries. is_some (lookup (nat_eq q) entries)) (sym is) ∙ left in cc
+entries_done P rest is q (inl left) =
+    let never : false ≡ true = ap (λ entries. is_some (lookup (nat_eq q) entries)) (sym is) ∙ left in cc
 
 -- the block of a number in what was merged
 abbrev pub IsMerged : Blocks → Blocks → Blocks → ℕ → Type 0
@@ -141,7 +162,8 @@ some_guarded true found there = there
 some_guarded false found there = cc
 
 -- what is there has an entry
-pub there_found : (blocks : Blocks) (q : ℕ) → is_some (block_at blocks q) ≡ true → is_some (get nat_eq blocks.blocks q) ≡ true
+pub there_found : (blocks : Blocks) (q : ℕ) → is_some (block_at blocks q) ≡ true
+    → is_some (get nat_eq blocks.blocks q) ≡ true
 unfolding block_at
 there_found blocks q there = some_guarded (nat_lt q (2 ^ 64)) (get nat_eq blocks.blocks q) there
 
@@ -153,20 +175,26 @@ small_key blocks key block is = elim (cases_lt key (2 ^ 64)) [
 ]
 
 -- before any was put over the others, each is left or is not among the blocks
-pub merge_begins : (blocks others all : Blocks) (rest : List (ℕ × Block)) → rest ≡ blocks.blocks.entries → block_at all ≡ block_at others
+pub merge_begins : (blocks others all : Blocks) (rest : List (ℕ × Block)) → rest ≡ blocks.blocks.entries
+    → block_at all ≡ block_at others
     → (q : ℕ) → (is_some (lookup (nat_eq q) rest) ≡ true) ⊎ IsMerged blocks others all q
 merge_begins blocks others all rest is same q = by_entry (get nat_eq blocks.blocks q) refl
   where
-    by_entry : (entry : Option Block) → get nat_eq blocks.blocks q ≡ entry → (is_some (lookup (nat_eq q) rest) ≡ true) ⊎ IsMerged blocks others all q
-    by_entry None none = inr (ap (λ f. f q) same ∙ ap (λ found. option_or found (block_at others q)) (sym (no_block blocks q none)))
+    by_entry : (entry : Option Block) → get nat_eq blocks.blocks q ≡ entry
+        → (is_some (lookup (nat_eq q) rest) ≡ true) ⊎ IsMerged blocks others all q
+    by_entry None none =
+        inr (ap (λ f. f q) same ∙ ap (λ found. option_or found (block_at others q)) (sym (no_block blocks q none)))
     by_entry (Some block) found = inl (ap (λ entries. is_some (lookup (nat_eq q) entries)) is ∙ ap is_some found)
 
 -- the block that is put over the others
-pub merged_here : (blocks others before after : Blocks) (key : ℕ) (block : Block) → get nat_eq blocks.blocks key ≡ Some block
-    → ((q : ℕ) → block_at after q ≡ (if q == key then Some block else block_at before q)) → IsMerged blocks others after key
+pub merged_here : (blocks others before after : Blocks) (key : ℕ) (block : Block)
+    → get nat_eq blocks.blocks key ≡ Some block
+    → ((q : ℕ) → block_at after q ≡ (if q == key then Some block else block_at before q))
+    → IsMerged blocks others after key
 merged_here blocks others before after key block found sets =
     let put : block_at after key ≡ Some block = sets key ∙ rw (eq_same key) refl in
-    put ∙ ap (λ b. option_or b (block_at others key)) (sym (found_there blocks key block (small_key after key block put) found))
+    put ∙ ap (λ b. option_or b (block_at others key)) (sym (found_there blocks key block
+    (small_key after key block put) found))
 
 -- every other stays as it was
 pub merged_still : (blocks others before after : Blocks) (key : ℕ) (block : Block) → IsMerged blocks others after key

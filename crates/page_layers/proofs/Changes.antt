@@ -1,14 +1,15 @@
--- What a change at one key of a map does to the bytes behind it.
-use Rattle.std.proofs.Common.{◌≡◌, ℕ, ◌+◌, ◌-◌, ◌/◌, ◌%◌, ◌<◌, true, false, Bool, cond, Option, Some, None, option_map, is_some, unwrap_or, List, [], ◌∷◌, refl, sym, ap, ◌∙◌, inl, inr, arith, nat_cmp}
+-- What a change at one key of a map does to the bytes after it.
+use Rattle.std.proofs.Common.{◌≡◌, ℕ, ◌+◌, ◌-◌, ◌/◌, ◌%◌, ◌<◌, true, false, Bool, cond, Option, Some, None, option_map}
+use Rattle.std.proofs.Common.{is_some, unwrap_or, List, [], ◌∷◌, refl, sym, ap, ◌∙◌, inl, inr, arith, nat_cmp}
 use Rattle.std.proofs.Math.Path.{fun_ext}
 use Rattle.std.specs.List.{AllZip}
 use Rattle.std.specs.Ordering.{is_eq}
 use Rattle.std.specs.BTreeMap.{get}
 use Rattle.std.proofs.lemmas.Bool.{cases_eq}
 use Rattle.image_text.proofs.Pages.{is_eq_same, is_eq_other, eq_same, eq_other}
-use Rattle.hart_words.specs.Memory.{stored}
+use Rattle.hart_words.specs.Memory.{bytes_after_store}
 use Rattle.page_layers.specs.declared.map_mem.MapMem.{MapMem}
-use Rattle.page_layers.specs.Memories.{map_bytes, has_byte}
+use Rattle.page_layers.specs.Memories.{map_bytes, map_has_byte}
 use Rattle.page_image.proofs.Stored.{stored-byte}
 
 -- what a map holds at each key after one of them was set
@@ -16,25 +17,29 @@ abbrev pub Sets : {X : Type 0} → (ℕ → Option X) → (ℕ → Option X) →
 Sets before after key value = (q : ℕ) → after q ≡ cond (is_eq (nat_cmp key q)) (Some value) (before q)
 
 -- each key that was there is there
-pub there_still : {X : Type 0} (before after : ℕ → Option X) (key : ℕ) (value : X) → Sets before after key value → (q : ℕ) → is_some (before q) ≡ true → is_some (after q) ≡ true
+pub there_still : {X : Type 0} (before after : ℕ → Option X) (key : ℕ) (value : X) → Sets before after key value
+    → (q : ℕ) → is_some (before q) ≡ true → is_some (after q) ≡ true
 there_still before after key value sets q there = elim (cases_eq key q) [
   | inl same ↦ rw (sets q, same, is_eq_same q) refl
   | inr apart ↦ rw (sets q, is_eq_other key q apart) there
 ]
 
-pub there_now : {X : Type 0} (before after : ℕ → Option X) (key : ℕ) (value : X) → Sets before after key value → is_some (after key) ≡ true
+pub there_now : {X : Type 0} (before after : ℕ → Option X) (key : ℕ) (value : X) → Sets before after key value
+    → is_some (after key) ≡ true
 there_now before after key value sets = rw (sets key, is_eq_same key) refl
 
 pub none_if_absent : {X : Type 0} (o : Option X) → is_some o ≡ false → o ≡ None
 none_if_absent None h = refl
 none_if_absent (Some x) h = cc
 
--- what is behind an address: of its key's value, or else of the base
-abbrev pub behind : {X : Type 0} → (X → ℕ) → Option X → ℕ → ℕ
-behind f held base = unwrap_or (option_map f held) base
+-- what is after an address: of its key's value, or else of the base
+abbrev pub following : {X : Type 0} → (X → ℕ) → Option X → ℕ → ℕ
+following f held base = unwrap_or (option_map f held) base
 
 -- a value with the base's bytes is added
-pub added : {X : Type 0} (f : X → ℕ) (before after : ℕ → Option X) (key : ℕ) (value : X) (base q : ℕ) → Sets before after key value → before key ≡ None → (key ≡ q → f value ≡ base) → behind f (after q) base ≡ behind f (before q) base
+pub added : {X : Type 0} (f : X → ℕ) (before after : ℕ → Option X) (key : ℕ) (value : X) (base q : ℕ)
+    → Sets before after key value → before key ≡ None → (key ≡ q → f value ≡ base)
+    → following f (after q) base ≡ following f (before q) base
 added f before after key value base q sets absent same = elim (cases_eq key q) [
   | inl here ↦
       let gone : before q ≡ None = ap before (sym here) ∙ absent in
@@ -45,30 +50,37 @@ added f before after key value base q sets absent same = elim (cases_eq key q) [
 abbrev itself : ℕ → ℕ
 itself n = n
 
-option_itself : (o : Option ℕ) (d : ℕ) → behind itself o d ≡ unwrap_or o d
+option_itself : (o : Option ℕ) (d : ℕ) → following itself o d ≡ unwrap_or o d
 option_itself None d = refl
 option_itself (Some x) d = refl
 
-pub byte_added : (before after : MapMem) (pa : ℕ) → Sets (get nat_cmp before.bytes) (get nat_cmp after.bytes) pa 0 → is_some (get nat_cmp before.bytes pa) ≡ false → map_bytes after ≡ map_bytes before
+pub byte_added : (before after : MapMem) (pa : ℕ) → Sets (get nat_cmp before.bytes) (get nat_cmp after.bytes) pa 0
+    → is_some (get nat_cmp before.bytes pa) ≡ false → map_bytes after ≡ map_bytes before
 unfolding map_bytes
 byte_added before after pa sets absent = fun_ext (λ a.
     sym (option_itself (get nat_cmp after.bytes a) 0)
-    ∙ added itself (get nat_cmp before.bytes) (get nat_cmp after.bytes) pa 0 0 a sets (none_if_absent _ absent) (λ here. refl)
+    ∙ added itself (get nat_cmp before.bytes) (get nat_cmp after.bytes) pa 0 0 a sets (none_if_absent _ absent)
+    (λ here. refl)
     ∙ option_itself (get nat_cmp before.bytes a) 0)
 
-pub byte_changed : (before after : MapMem) (pa byte : ℕ) → Sets (get nat_cmp before.bytes) (get nat_cmp after.bytes) pa byte → byte < 256 → map_bytes after ≡ stored pa 1 byte (map_bytes before)
+pub byte_changed : (before after : MapMem) (pa byte : ℕ)
+    → Sets (get nat_cmp before.bytes) (get nat_cmp after.bytes) pa byte → byte < 256
+    → map_bytes after ≡ bytes_after_store pa 1 byte (map_bytes before)
 unfolding map_bytes
-byte_changed before after pa byte sets small = fun_ext (λ a. rw (stored-byte pa byte a (map_bytes before) small) (elim (cases_eq a pa) [
-  | inl same ↦ rw (sets a, same, is_eq_same pa, eq_same pa) refl
-  | inr apart ↦ rw (sets a, is_eq_other pa a (λ e. apart (sym e)), eq_other a pa apart) refl
-]))
+byte_changed before after pa byte sets small =
+    fun_ext (λ a. rw (stored-byte pa byte a (map_bytes before) small) (elim (cases_eq a pa) [
+      | inl same ↦ rw (sets a, same, is_eq_same pa, eq_same pa) refl
+      | inr apart ↦ rw (sets a, is_eq_other pa a (λ e. apart (sym e)), eq_other a pa apart) refl
+    ]))
 
-pub map_unchanged : (before after : MapMem) → after.bytes.entries ≡ before.bytes.entries → map_bytes after ≡ map_bytes before
+pub map_unchanged : (before after : MapMem) → after.bytes.entries ≡ before.bytes.entries
+    → map_bytes after ≡ map_bytes before
 unfolding map_bytes
-map_unchanged before after e = rw e refl
+map_unchanged before after e = fun_ext (λ pa. rw e refl)
 
-pub has_unchanged : (before after : MapMem) → after.bytes.entries ≡ before.bytes.entries → (pa : ℕ) → has_byte after pa ≡ has_byte before pa
-unfolding has_byte
+pub has_unchanged : (before after : MapMem) → after.bytes.entries ≡ before.bytes.entries → (pa : ℕ)
+    → map_has_byte after pa ≡ map_has_byte before pa
+unfolding map_has_byte
 has_unchanged before after e pa = rw e refl
 
 pub untested : {X : Type 0} {b : Bool} → b ≡ false → b ≡ true → X

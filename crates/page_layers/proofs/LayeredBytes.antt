@@ -1,8 +1,9 @@
 -- The bytes of an image under blocks and layers.
-use Rattle.std.proofs.Common.{◌≡◌, ℕ, ◌/◌, true, false, Bool, Option, Some, None, option_map, unwrap_or, List, [], refl, sym, ap, ◌∙◌, if◌then◌else◌}
+use Rattle.std.proofs.Common.{◌≡◌, ℕ, ◌/◌, true, false, Bool, Option, Some, None, option_map, unwrap_or, List, [], refl}
+use Rattle.std.proofs.Common.{sym, ap, ◌∙◌, if◌then◌else◌}
 use Rattle.std.specs.Option.{option_or}
 use Rattle.std.proofs.Math.Path.{fun_ext}
-use Rattle.hart_words.specs.Memory.{Bytes, stored}
+use Rattle.hart_words.specs.Memory.{Bytes, bytes_after_store}
 use Rattle.page_image.specs.declared.image.PageImage.{PageImage}
 use Rattle.page_image.specs.Bytes.{byte_of}
 use Rattle.page_layers.specs.declared.block.Block.{Block}
@@ -10,43 +11,68 @@ use Rattle.page_layers.specs.declared.blocks.Blocks.{Blocks}
 use Rattle.page_layers.specs.declared.layers.Layer.{Layer}
 use Rattle.page_layers.specs.declared.layered.Layered.{Layered}
 use Rattle.page_layers.specs.Blocks.{block_among, block_at, block_byte, bytes_in, newest_block, over}
-use Rattle.page_layers.specs.Memories.{block_of, bytes_under, layered_bytes}
+use Rattle.page_layers.specs.Memories.{written_block_of, bytes_under, layered_bytes}
 
 abbrev seen : ℕ → ℕ → Option Block → ℕ
 seen pa base block = unwrap_or (option_map (λ b. block_byte b pa) block) base
 
 -- what was not written is the image's
-pub under_none : (written : Blocks) (layers : List Layer) (image : PageImage) → ((number : ℕ) → block_at written number ≡ None) → layers ≡ [] → bytes_under written layers image ≡ byte_of image
+pub under_none : (written : Blocks) (layers : List Layer) (image : PageImage)
+    → ((number : ℕ) → block_at written number ≡ None) → layers ≡ [] → bytes_under written layers image ≡ byte_of image
 unfolding block_among
 under_none written layers image none no_layer = fun_ext (λ pa.
-    ap (seen pa (byte_of image pa)) (ap (λ found. option_or found (block_among layers (pa / 64))) (none (pa / 64)) ∙ ap (λ l. block_among l (pa / 64)) no_layer))
+    ap (seen pa (byte_of image pa))
+    (ap (λ found. option_or found (block_among layers (pa / 64))) (none (pa / 64))
+    ∙ ap (λ l. block_among l (pa / 64)) no_layer))
 
-pub block_there : (mem : Layered) (number : ℕ) (block : Block) → block_of mem number ≡ Some block → (pa : ℕ) → pa / 64 ≡ number → layered_bytes mem pa ≡ block_byte block pa
-block_there mem number block is pa here = ap (seen pa (byte_of mem.image.now pa)) (ap (block_of mem) here ∙ is)
+pub block_there : (mem : Layered) (number : ℕ) (block : Block) → written_block_of mem number ≡ Some block → (pa : ℕ)
+    → pa / 64 ≡ number → layered_bytes mem pa ≡ block_byte block pa
+block_there mem number block is pa here = ap (seen pa (byte_of mem.image.now pa)) (ap (written_block_of mem) here ∙ is)
 
-pub block_absent : (mem : Layered) (number : ℕ) → block_of mem number ≡ None → (pa : ℕ) → pa / 64 ≡ number → layered_bytes mem pa ≡ byte_of mem.image.now pa
-block_absent mem number is pa here = ap (seen pa (byte_of mem.image.now pa)) (ap (block_of mem) here ∙ is)
+pub block_absent : (mem : Layered) (number : ℕ) → written_block_of mem number ≡ None → (pa : ℕ) → pa / 64 ≡ number
+    → layered_bytes mem pa ≡ byte_of mem.image.now pa
+block_absent mem number is pa here = ap (seen pa (byte_of mem.image.now pa)) (ap (written_block_of mem) here ∙ is)
 
 -- the layers are the base of what was written since
-two_bases : (pa base : ℕ) (found below : Option Block) → seen pa base (option_or found below) ≡ seen pa (seen pa base below) found
+two_bases : (pa base : ℕ) (found below : Option Block)
+    → seen pa base (option_or found below) ≡ seen pa (seen pa base below) found
 two_bases pa base None below = refl
 two_bases pa base (Some block) below = refl
 
-written_over : (written : Blocks) (layers : List Layer) (image : PageImage) → bytes_under written layers image ≡ over (bytes_in (block_at written)) (over (bytes_in (block_among layers)) (byte_of image))
-written_over written layers image = fun_ext (λ pa. two_bases pa (byte_of image pa) (block_at written (pa / 64)) (block_among layers (pa / 64)))
+written_over : (written : Blocks) (layers : List Layer) (image : PageImage)
+    → bytes_under written layers image
+    ≡ over (bytes_in (block_at written)) (over (bytes_in (block_among layers)) (byte_of image))
+written_over written layers image =
+    fun_ext (λ pa. two_bases pa (byte_of image pa) (block_at written (pa / 64)) (block_among layers (pa / 64)))
 
-over_same : (before after : Blocks) (layers : List Layer) (image : PageImage) → over (bytes_in (block_at after)) (over (bytes_in (block_among layers)) (byte_of image)) ≡ over (bytes_in (block_at before)) (over (bytes_in (block_among layers)) (byte_of image)) → bytes_under after layers image ≡ bytes_under before layers image
-over_same before after layers image same = written_over after layers image ∙ same ∙ sym (written_over before layers image)
+over_same : (before after : Blocks) (layers : List Layer) (image : PageImage)
+    → over (bytes_in (block_at after)) (over (bytes_in (block_among layers)) (byte_of image))
+    ≡ over (bytes_in (block_at before)) (over (bytes_in (block_among layers)) (byte_of image))
+    → bytes_under after layers image ≡ bytes_under before layers image
+over_same before after layers image same =
+    written_over after layers image ∙ same ∙ sym (written_over before layers image)
 
-over_stored : (before after : Blocks) (layers : List Layer) (image : PageImage) (pa len value : ℕ) → over (bytes_in (block_at after)) (over (bytes_in (block_among layers)) (byte_of image)) ≡ stored pa len value (over (bytes_in (block_at before)) (over (bytes_in (block_among layers)) (byte_of image))) → bytes_under after layers image ≡ stored pa len value (bytes_under before layers image)
-over_stored before after layers image pa len value put = written_over after layers image ∙ put ∙ ap (stored pa len value) (sym (written_over before layers image))
+over_stored : (before after : Blocks) (layers : List Layer) (image : PageImage) (pa len value : ℕ)
+    → over (bytes_in (block_at after)) (over (bytes_in (block_among layers)) (byte_of image))
+    ≡ bytes_after_store pa len value
+    (over (bytes_in (block_at before)) (over (bytes_in (block_among layers)) (byte_of image)))
+    → bytes_under after layers image ≡ bytes_after_store pa len value (bytes_under before layers image)
+over_stored before after layers image pa len value put =
+    written_over after layers image ∙ put ∙ ap (bytes_after_store pa len value) (sym (written_over before layers image))
 
 pub put_under : (before after : Blocks) (layers : List Layer) (image : PageImage) (done : Bool) (pa len value : ℕ)
-    → ((base : Bytes) → over (bytes_in (block_at after)) base ≡ (if done then stored pa len value (over (bytes_in (block_at before)) base) else over (bytes_in (block_at before)) base))
-    → bytes_under after layers image ≡ (if done then stored pa len value (bytes_under before layers image) else bytes_under before layers image)
+    → ((base : Bytes)
+    → over (bytes_in (block_at after)) base
+    ≡ (if done then bytes_after_store pa len value (over (bytes_in (block_at before)) base) else over
+    (bytes_in (block_at before)) base))
+    → bytes_under after layers image
+    ≡ (if done then bytes_after_store pa len value (bytes_under before layers image) else bytes_under before
+    layers image)
 put_under before after layers image true pa len value puts = over_stored before after layers image pa len value (puts _)
 put_under before after layers image false pa len value puts = over_same before after layers image (puts _)
 
 -- memories whose blocks are the same have the same bytes
-pub same_under : (one other : Blocks) (layers others : List Layer) (image : PageImage) → ((number : ℕ) → newest_block other others number ≡ newest_block one layers number) → bytes_under other others image ≡ bytes_under one layers image
+pub same_under : (one other : Blocks) (layers others : List Layer) (image : PageImage)
+    → ((number : ℕ) → newest_block other others number ≡ newest_block one layers number)
+    → bytes_under other others image ≡ bytes_under one layers image
 same_under one other layers others image same = fun_ext (λ pa. ap (seen pa (byte_of image pa)) (same (pa / 64)))

@@ -1,5 +1,7 @@
 -- Whether two memories have the same bytes.
-use Rattle.std.proofs.Common.{◌≡◌, ℕ, ◌+◌, ◌*◌, ◌/◌, ◌%◌, ◌^◌, ◌<◌, ◌≤◌, ◌⊎◌, true, false, Bool, Option, Some, None, option_map, is_some, unwrap_or, List, [], ◌∷◌, refl, sym, ap, ◌∙◌, subst, inl, inr, arith, length, slice_index}
+use Rattle.std.proofs.Common.{◌≡◌, ℕ, ◌+◌, ◌*◌, ◌/◌, ◌%◌, ◌^◌, ◌<◌, ◌≤◌, ◌⊎◌, true, false, Bool, Option, Some, None}
+use Rattle.std.proofs.Common.{option_map, is_some, unwrap_or, List, [], ◌∷◌, refl, sym, ap, ◌∙◌, subst, inl, inr, arith}
+use Rattle.std.proofs.Common.{length, slice_index}
 use Rattle.std.specs.Prelude.{nat_eq}
 use Rattle.std.specs.Bool.{Decides}
 use Rattle.std.specs.HashMap.{get}
@@ -19,7 +21,7 @@ use Rattle.page_layers.specs.declared.blocks.Blocks.{Blocks}
 use Rattle.page_layers.specs.declared.layers.Layer.{Layer}
 use Rattle.page_layers.specs.declared.layered.Layered.{Layered}
 use Rattle.page_layers.specs.Blocks.{block_among, block_at, block_byte, newest_block}
-use Rattle.page_layers.specs.Memories.{block_of, bytes_under, layered_bytes, IsSameBlock, IsZeroBlock}
+use Rattle.page_layers.specs.Memories.{written_block_of, bytes_under, layered_bytes, IsSameBlock, IsZeroBlock}
 use Rattle.page_layers.proofs.BlockMaps.{far}
 use Rattle.page_layers.proofs.LayeredBytes.{block_absent}
 
@@ -30,11 +32,13 @@ moved block number pa =
     ap (slice_index block.bytes) offset
 
 -- a block of two memories is the same where the values that they have of it are
-pub block_decided : (one other : Bytes) (block others : Block) (number : ℕ) (result : Bool) → ((pa : ℕ) → pa / 64 ≡ number → block_byte block pa ≡ one pa) → ((pa : ℕ) → pa / 64 ≡ number → block_byte others pa ≡ other pa)
+pub block_decided : (one other : Bytes) (block others : Block) (number : ℕ) (result : Bool)
+    → ((pa : ℕ) → pa / 64 ≡ number → block_byte block pa ≡ one pa)
+    → ((pa : ℕ) → pa / 64 ≡ number → block_byte others pa ≡ other pa)
     → Decides result ((pa : ℕ) → block_byte block pa ≡ block_byte others pa)
     → Decides result ((pa : ℕ) → pa / 64 ≡ number → one pa ≡ other pa)
 block_decided one other block others number result has others_has decides = (
-  (λ told pa here. sym (has pa here) ∙ decides.0 told pa ∙ others_has pa here),
+  (λ known_files pa here. sym (has pa here) ∙ decides.0 known_files pa ∙ others_has pa here),
   (λ same. decides.1 (λ pa.
       let at = number * 64 + pa % 64 in
       let here : at / 64 ≡ number = grind arith in
@@ -42,11 +46,13 @@ block_decided one other block others number result has others_has decides = (
 )
 
 -- a block that is not the same refutes the memories
-pub refuted : (one other : Layered) (number : ℕ) (result : Bool) → Decides result (IsSameBlock one other number) → result ≡ false → layered_bytes one ≡ layered_bytes other → false ≡ true
+pub refuted : (one other : Layered) (number : ℕ) (result : Bool) → Decides result (IsSameBlock one other number)
+    → result ≡ false → layered_bytes one ≡ layered_bytes other → false ≡ true
 refuted one other number result decides isnt same = sym isnt ∙ decides.1 (λ pa here. ap (λ bytes. bytes pa) same)
 
 -- of the keys that are left, one is done
-pub key_done : (P : ℕ → Type 0) (key : ℕ) (rest later : List ℕ) → rest ≡ key ∷ later → P key → (q : ℕ) → (is_member nat_eq rest q ≡ true) ⊎ P q → (is_member nat_eq later q ≡ true) ⊎ P q
+pub key_done : (P : ℕ → Type 0) (key : ℕ) (rest later : List ℕ) → rest ≡ key ∷ later → P key → (q : ℕ)
+    → (is_member nat_eq rest q ≡ true) ⊎ P q → (is_member nat_eq later q ≡ true) ⊎ P q
 key_done P key rest later is done q (inr before) = inr before
 key_done P key rest later is done q (inl left) = elim (cases_eq q key) [
   | inl same ↦ inr (subst P (sym same) done)
@@ -65,7 +71,7 @@ unfolding block_among
 far_among [] number large = refl
 far_among (layer ∷ layers) number large = rw (far layer.blocks.value number large) (far_among layers number large)
 
-pub far_of : (mem : Layered) (number : ℕ) → 2 ^ 64 ≤ number → block_of mem number ≡ None
+pub far_of : (mem : Layered) (number : ℕ) → 2 ^ 64 ≤ number → written_block_of mem number ≡ None
 far_of mem number large = rw (far mem.written number large) (far_among mem.layers.items number large)
 
 page_moved : (page : Option Page) (number pa : ℕ) → byte_or_zero page (number * 4096 + pa % 4096) ≡ byte_or_zero page pa
@@ -74,37 +80,50 @@ page_moved (Some page) number pa = same_offset page number pa
 
 -- a page so far up that no block of it was written is that of the images
 pub far_page : (one other : Layered) (page : ℕ) (had others : Option Page) (result : Bool) → (page * 64 < 2 ^ 64 → ⊥)
-    → ((pa : ℕ) → pa / 4096 ≡ page → byte_of one.image.now pa ≡ byte_or_zero had pa) → ((pa : ℕ) → pa / 4096 ≡ page → byte_of other.image.now pa ≡ byte_or_zero others pa)
+    → ((pa : ℕ) → pa / 4096 ≡ page → byte_of one.image.now pa ≡ byte_or_zero had pa)
+    → ((pa : ℕ) → pa / 4096 ≡ page → byte_of other.image.now pa ≡ byte_or_zero others pa)
     → Decides result ((pa : ℕ) → byte_or_zero had pa ≡ byte_or_zero others pa)
     → Decides result ((pa : ℕ) → pa / 4096 ≡ page → layered_bytes one pa ≡ layered_bytes other pa)
 far_page one other page had others result up has others_has decides = (
-  (λ told pa here. of one pa here ∙ has pa here ∙ decides.0 told pa ∙ sym (others_has pa here) ∙ sym (of other pa here)),
+  (λ known_files pa here. of one pa here ∙ has pa here ∙ decides.0 known_files pa ∙ sym (others_has pa here)
+      ∙ sym (of other pa here)),
   (λ same. decides.1 (λ pa.
       let at = page * 4096 + pa % 4096 in
       let here : at / 4096 ≡ page = grind arith in
-      sym (page_moved had page pa) ∙ sym (has at here) ∙ sym (of one at here) ∙ same at here ∙ of other at here ∙ others_has at here ∙ page_moved others page pa)),
+      sym (page_moved had page pa) ∙ sym (has at here) ∙ sym (of one at here) ∙ same at here ∙ of other at here
+      ∙ others_has at here ∙ page_moved others page pa)),
 )
   where
     of : (mem : Layered) (pa : ℕ) → pa / 4096 ≡ page → layered_bytes mem pa ≡ byte_of mem.image.now pa
-    of mem pa here = block_absent mem (pa / 64) (far_of mem (pa / 64) (elim (cases_lt (page * 64) (2 ^ 64)) [ inl below ↦ absurd (up below) | inr above ↦ omega (arith, here, above) ])) pa refl
+    of mem pa here =
+        block_absent mem (pa / 64)
+        (far_of mem (pa / 64)
+        (elim (cases_lt (page * 64) (2 ^ 64))
+        [ inl below ↦ absurd (up below) | inr above ↦ omega (arith, here, above) ])) pa refl
 
 -- what no layer has is in none of them
-pub in_layers : (P : Type 0) (layer : Blocks) (first : Layer) (layers older : List Layer) (number : ℕ) → layers ≡ first ∷ older → layer ≡ first.blocks.value → is_some (block_among layers number) ≡ true
+pub in_layers : (P : Type 0) (layer : Blocks) (first : Layer) (layers older : List Layer) (number : ℕ)
+    → layers ≡ first ∷ older → layer ≡ first.blocks.value → is_some (block_among layers number) ≡ true
     → (is_some (block_at layer number) ≡ true → P) → (is_some (block_among older number) ≡ true → P) → P
 unfolding block_among
-in_layers P layer first layers older number are is there here below = by_first (block_at first.blocks.value number) refl (ap (λ l. is_some (block_among l number)) (sym are) ∙ there)
+in_layers P layer first layers older number are is there here below =
+    by_first (block_at first.blocks.value number) refl (ap (λ l. is_some (block_among l number)) (sym are) ∙ there)
   where
-    by_first : (found : Option Block) → block_at first.blocks.value number ≡ found → is_some (option_or (block_at first.blocks.value number) (block_among older number)) ≡ true → P
+    by_first : (found : Option Block) → block_at first.blocks.value number ≡ found
+        → is_some (option_or (block_at first.blocks.value number) (block_among older number)) ≡ true → P
     by_first None none there = below (ap (λ f. is_some (option_or f (block_among older number))) (sym none) ∙ there)
     by_first (Some block) found there = here (ap (λ blocks. is_some (block_at blocks number)) is ∙ ap is_some found)
 
-pub in_none : (P : Type 0) (layers : List Layer) (number : ℕ) → length layers ≡ 0 → is_some (block_among layers number) ≡ true → P
+pub in_none : (P : Type 0) (layers : List Layer) (number : ℕ) → length layers ≡ 0
+    → is_some (block_among layers number) ≡ true → P
 unfolding block_among
 in_none P [] number is there = cc
 in_none P (layer ∷ layers) number is there = absurd (omega (arith, is))
 
 -- what is in neither is not the newest
-pub in_newest : (P : Type 0) (written : Blocks) (layers : List Layer) (number : ℕ) → is_some (newest_block written layers number) ≡ true → (is_some (block_at written number) ≡ true → P) → (is_some (block_among layers number) ≡ true → P) → P
+pub in_newest : (P : Type 0) (written : Blocks) (layers : List Layer) (number : ℕ)
+    → is_some (newest_block written layers number) ≡ true → (is_some (block_at written number) ≡ true → P)
+    → (is_some (block_among layers number) ≡ true → P) → P
 in_newest P written layers number there here below = by_block (block_at written number) refl
   where
     by_block : (found : Option Block) → block_at written number ≡ found → P
@@ -116,7 +135,9 @@ none_is None isnt = refl
 none_is (Some x) isnt = cc
 
 -- what was not written and is in no page of the image is zero
-zero_block : (written : Blocks) (layers : List Layer) (image : PageImage) (number : ℕ) → newest_block written layers number ≡ None → get nat_eq image.pages (number / 64) ≡ None → IsZeroBlock (bytes_under written layers image) number
+zero_block : (written : Blocks) (layers : List Layer) (image : PageImage) (number : ℕ)
+    → newest_block written layers number ≡ None → get nat_eq image.pages (number / 64) ≡ None
+    → IsZeroBlock (bytes_under written layers image) number
 unfolding byte_of
 zero_block written layers image number none no_page pa here =
     let place : pa / 4096 ≡ number / 64 = grind arith in
@@ -126,26 +147,43 @@ zero_block written layers image number none no_page pa here =
     ∙ ap (λ page. byte_or_zero (option_map (λ p. p.value) page) pa) page
 
 -- what is the same in each block and in each page of the image is the same wherever it is not zero
-pub same_or_zero : (P : ℕ → Type 0) (written : Blocks) (layers : List Layer) (image : PageImage) → ((number : ℕ) → is_some (newest_block written layers number) ≡ true → P number)
+pub same_or_zero : (P : ℕ → Type 0) (written : Blocks) (layers : List Layer) (image : PageImage)
+    → ((number : ℕ) → is_some (newest_block written layers number) ≡ true → P number)
     → ((number : ℕ) → is_some (get nat_eq image.pages (number / 64)) ≡ true → P number)
     → (number : ℕ) → IsZeroBlock (bytes_under written layers image) number ⊎ P number
-same_or_zero P written layers image blocks images number = by_found (is_some (newest_block written layers number)) (is_some (get nat_eq image.pages (number / 64))) refl refl
+same_or_zero P written layers image blocks images number =
+    by_found (is_some (newest_block written layers number)) (is_some (get nat_eq image.pages (number / 64))) refl refl
   where
-    by_found : (b p : Bool) → is_some (newest_block written layers number) ≡ b → is_some (get nat_eq image.pages (number / 64)) ≡ p → IsZeroBlock (bytes_under written layers image) number ⊎ P number
+    by_found : (b p : Bool) → is_some (newest_block written layers number) ≡ b
+        → is_some (get nat_eq image.pages (number / 64)) ≡ p
+        → IsZeroBlock (bytes_under written layers image) number ⊎ P number
     by_found true p is_block is_page = inr (blocks number is_block)
     by_found false true is_block is_page = inr (images number is_page)
-    by_found false false is_block is_page = inl (zero_block written layers image number (none_is _ is_block) (none_is _ is_page))
+    by_found false false is_block is_page =
+        inl (zero_block written layers image number (none_is _ is_block) (none_is _ is_page))
 
 -- memories that are the same wherever one of them is not zero are the same
-same_all : (one other : Layered) → ((number : ℕ) → IsZeroBlock (layered_bytes one) number ⊎ IsSameBlock one other number) → ((number : ℕ) → IsZeroBlock (layered_bytes other) number ⊎ IsSameBlock one other number) → layered_bytes one ≡ layered_bytes other
+same_all : (one other : Layered)
+    → ((number : ℕ) → IsZeroBlock (layered_bytes one) number ⊎ IsSameBlock one other number)
+    → ((number : ℕ) → IsZeroBlock (layered_bytes other) number ⊎ IsSameBlock one other number)
+    → layered_bytes one ≡ layered_bytes other
 same_all one other here there = fun_ext (λ pa. elim (here (pa / 64)) [
   | inr same ↦ same pa refl
   | inl zero ↦ elim (there (pa / 64)) [ inr same ↦ same pa refl | inl zeros ↦ zero pa refl ∙ sym (zeros pa refl) ]
 ])
 
-pub same_all_seen : (one other : Layered) (layers others : List Layer) → layers ≡ one.layers.items → others ≡ other.layers.items
-    → ((number : ℕ) → IsZeroBlock (bytes_under one.written layers one.image.now) number ⊎ IsSameBlock one other number) → ((number : ℕ) → IsZeroBlock (bytes_under other.written others other.image.now) number ⊎ IsSameBlock one other number)
+pub same_all_seen : (one other : Layered) (layers others : List Layer) → layers ≡ one.layers.items
+    → others ≡ other.layers.items
+    → ((number : ℕ)
+    → IsZeroBlock (bytes_under one.written layers one.image.now) number ⊎ IsSameBlock one other number)
+    → ((number : ℕ)
+    → IsZeroBlock (bytes_under other.written others other.image.now) number ⊎ IsSameBlock one other number)
     → layered_bytes one ≡ layered_bytes other
 same_all_seen one other layers others are others_are here there = same_all one other
-    (subst (λ l. (number : ℕ) → IsZeroBlock (bytes_under one.written l one.image.now) number ⊎ IsSameBlock one other number) are here)
-    (subst (λ l. (number : ℕ) → IsZeroBlock (bytes_under other.written l other.image.now) number ⊎ IsSameBlock one other number) others_are there)
+    (subst
+    (λ l. (number : ℕ)
+    → IsZeroBlock (bytes_under one.written l one.image.now) number ⊎ IsSameBlock one other number) are here)
+    (subst
+    (λ l. (number : ℕ)
+    → IsZeroBlock (bytes_under other.written l other.image.now) number ⊎ IsSameBlock one other number) others_are
+    there)

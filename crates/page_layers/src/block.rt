@@ -1,6 +1,6 @@
 //! A block: 64 addresses and their bytes.
 
-ghost use Rattle.std.specs.Prelude.{◌≡◌, length};
+ghost use Rattle.std.specs.Prelude.{◌≡◌, ◌<◌, ℕ, length, slice_index};
 ghost use Rattle.page_layers.specs.declared.block.TheConstants.{BLOCK_SIZE};
 
 use crate::numbers::ByteAt;
@@ -19,6 +19,7 @@ pub const PAGE_BLOCKS: u64 = 64;
 pub struct Block {
     bytes: [u8; BLOCK_BYTES],
     ghost full: { length bytes ≡ BLOCK_SIZE },
+    ghost small: { (at : ℕ) → slice_index bytes at < 256 },
 }
 
 impl Copy for Block {}
@@ -36,7 +37,7 @@ impl Clone for Block {
 impl Block {
     ghost use Rattle.std.specs.Prelude.{◌≡◌, ◌<◌, ◌≤◌, ◌+◌, ◌/◌, ◌%◌, ◌^◌, ℕ, if◌then◌else◌, ◌==◌};
     ghost use Rattle.std.specs.Bool.{Decides};
-    ghost use Rattle.hart_words.specs.Memory.{stored};
+    ghost use Rattle.hart_words.specs.Memory.{bytes_after_store};
     ghost use Rattle.page_image.specs.Pages.{page_byte};
     ghost use Rattle.page_layers.specs.declared.block.TheConstants.{BLOCK_SIZE};
     ghost use Rattle.page_layers.specs.Blocks.{block_byte};
@@ -73,11 +74,11 @@ impl Block {
 
     /// Puts the low `len` bytes of a number at an address, within the block.
     pub fn put(&mut self, pa: u64, len: u8, value: u64)
-        requires few { len ≤ 8 }
+        requires at_most_8 { len ≤ 8 }
         requires inside { pa + len ≤ 2 ^ 64 }
         requires block { pa % BLOCK_SIZE + len ≤ BLOCK_SIZE }
         ensures { (at : ℕ) → at / BLOCK_SIZE ≡ pa / BLOCK_SIZE
-            → block_byte self.new at ≡ stored pa len value (block_byte self.old) at }
+            → block_byte self.new at ≡ bytes_after_store pa len value (block_byte self.old) at }
     {
         let mut rest = value;
         for k in 0..u64::from(len) {

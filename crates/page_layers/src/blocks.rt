@@ -30,7 +30,7 @@ impl Blocks {
     ghost use Rattle.std.specs.Prelude.{◌≡◌, ◌≤◌, ◌+◌, ◌/◌, ◌%◌, ◌^◌, ◌==◌, ℕ, None, Some, OnOk, OnErr, IfOk, is_some, option_copied, if◌then◌else◌};
     ghost use Rattle.std.specs.HashMap.{hash_map_len};
     ghost use Rattle.std.specs.Option.{option_or};
-    ghost use Rattle.hart_words.specs.Memory.{stored};
+    ghost use Rattle.hart_words.specs.Memory.{bytes_after_store};
     ghost use Rattle.page_layers.specs.declared.block.TheConstants.{BLOCK_SIZE};
     ghost use Rattle.page_layers.specs.Blocks.{block_at, bytes_in, over};
 
@@ -86,13 +86,13 @@ impl Blocks {
     /// Puts the low `len` bytes of a number at an address, within a block that is there. Where it
     /// is not there nothing changes.
     pub fn put(&mut self, pa: u64, len: u8, value: u64) -> bool
-        requires few { len ≤ 8 }
+        requires at_most_8 { len ≤ 8 }
         requires inside { pa + len ≤ 2 ^ 64 }
         requires block { pa % BLOCK_SIZE + len ≤ BLOCK_SIZE }
-        ensures there { result ≡ is_some (block_at self.old (pa / BLOCK_SIZE)) }
+        ensures was_there { result ≡ is_some (block_at self.old (pa / BLOCK_SIZE)) }
         ensures stays { (q : ℕ) → is_some (block_at self.new q) ≡ is_some (block_at self.old q) }
         ensures bytes { (base : ℕ → ℕ) → over (bytes_in (block_at self.new)) base ≡ (if result
-            then stored pa len value (over (bytes_in (block_at self.old)) base)
+            then bytes_after_store pa len value (over (bytes_in (block_at self.old)) base)
             else over (bytes_in (block_at self.old)) base) }
     {
         match self.blocks.get_mut(&(pa / BLOCK_SIZE)) {

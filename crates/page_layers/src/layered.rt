@@ -32,10 +32,10 @@ pub struct Layered<'a> {
 impl<'a> Layered<'a> {
     ghost use Rattle.std.specs.Prelude.{◌≡◌, ◌⊎◌, IsOk, OnOk, if◌then◌else◌, option_copied};
     ghost use Rattle.std.specs.Bool.{Decides};
-    ghost use Rattle.hart_words.specs.Memory.{stored};
+    ghost use Rattle.hart_words.specs.Memory.{bytes_after_store};
     ghost use Rattle.page_layers.specs.declared.block.TheConstants.{BLOCK_SIZE};
     ghost use Rattle.page_layers.specs.Blocks.{block_byte};
-    ghost use Rattle.page_layers.specs.Memories.{block_of, layered_bytes, layered_ram, owns};
+    ghost use Rattle.page_layers.specs.Memories.{written_block_of, layered_bytes, layered_ram, owns};
 
     /// The memory of an image, before any write.
     pub fn over(alloc: Global, image: &'a PageImage) -> Layered<'a>
@@ -52,7 +52,7 @@ impl<'a> Layered<'a> {
 
     /// The block of a number, if it was written.
     fn block(&self, number: u64) -> Option<&Block>
-        ensures { option_copied result ≡ block_of self.now number }
+        ensures { option_copied result ≡ written_block_of self.now number }
     {
         match self.written.block(number) {
             Some(block) => Some(block),
@@ -73,7 +73,7 @@ impl<'a> Layered<'a> {
 
     /// The number of `len` bytes at an address, within a block.
     fn number(&self, pa: u64, len: u8) -> u64
-        requires few { len ≤ 8 }
+        requires at_most_8 { len ≤ 8 }
         requires inside { pa + len < 2 ^ 64 }
         requires block { pa % BLOCK_SIZE + len ≤ BLOCK_SIZE }
         ensures value { result ≡ number_at (layered_bytes self.now) pa len }
@@ -104,12 +104,12 @@ impl<'a> Layered<'a> {
     /// Puts the low `len` bytes of a number at an address, within a block of its own. Where it has
     /// no such block nothing changes.
     fn put(&mut self, pa: u64, len: u8, value: u64) -> bool
-        requires few { len ≤ 8 }
+        requires at_most_8 { len ≤ 8 }
         requires inside { pa + len ≤ 2 ^ 64 }
         requires block { pa % BLOCK_SIZE + len ≤ BLOCK_SIZE }
         ensures owned { result ≡ owns self.old (pa / BLOCK_SIZE) }
         ensures bytes { layered_bytes self.new ≡ (if result
-            then stored pa len value (layered_bytes self.old)
+            then bytes_after_store pa len value (layered_bytes self.old)
             else layered_bytes self.old) }
         ensures keeps { (block : ℕ) → owns self.new block ≡ owns self.old block }
         ensures ram { layered_ram self.new ≡ layered_ram self.old }
@@ -130,7 +130,7 @@ fn image_block(image: &PageImage, number: u64) -> Block
 
 /// The number of `len` bytes at an address, within a page, as an image has it.
 fn image_number(image: &PageImage, pa: u64, len: u8) -> u64
-    requires few { len ≤ 8 }
+    requires at_most_8 { len ≤ 8 }
     requires inside { pa + len < 2 ^ 64 }
     requires page { pa % PAGE_SIZE + len ≤ PAGE_SIZE }
     ensures value { result ≡ number_at (byte_of image.now) pa len }
@@ -186,13 +186,15 @@ impl<'a> ByteMem for Layered<'a> {
 }
 
 impl<'a> PhysMem for Layered<'a> {
-    ghost use Rattle.page_layers.specs.Memories.{OwnsPage, layered_bytes, layered_ram};
+    ghost use Rattle.page_layers.specs.Memories.{OwnsPage, layered_bytes, layered_bytes-fits, layered_ram};
 
     ghost bytes = { layered_bytes };
 
     ghost ram = { layered_ram };
 
     ghost is_ready = { OwnsPage };
+
+    ghost bytes_are_bytes = { layered_bytes-fits };
 
     fn read(&self, pa: u64, len: u8) -> u64 {
         if is_within_block(pa, len) {

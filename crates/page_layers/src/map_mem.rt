@@ -1,5 +1,9 @@
 //! A plain memory over an ordered map, for tests.
 
+ghost use Rattle.std.specs.Prelude.{◌<◌, ℕ, unwrap_or};
+ghost use Rattle.std.specs.BTreeMap.{get};
+ghost use Rattle.std.specs.Ordering.{nat_cmp};
+
 use crate::numbers::{ByteAt, ByteMem, number_of, put_number};
 use hart_words::{NoMemory, PAGE_SIZE, PhysMem, Span};
 use std::alloc::Global;
@@ -10,11 +14,12 @@ use std::collections::BTreeMap;
 pub struct MapMem {
     ram: Span,
     bytes: BTreeMap<u64, u8>,
+    ghost small: { (pa : ℕ) → unwrap_or (get nat_cmp bytes pa) 0 < 256 },
 }
 
 impl MapMem {
     ghost use Rattle.std.specs.Prelude.{◌≡◌, ℕ, true, OnOk, IsOk};
-    ghost use Rattle.page_layers.specs.Memories.{map_bytes, has_byte};
+    ghost use Rattle.page_layers.specs.Memories.{map_bytes, map_has_byte};
 
     /// A memory of zeros.
     #[tactic(auto, unfolding(crate::specs::Memories::map_bytes))]
@@ -31,9 +36,9 @@ impl MapMem {
     /// Gives an address a byte of its own, unless it has one.
     fn hold(&mut self, pa: u64) -> Result<(), NoMemory>
         ensures bytes { map_bytes self.new ≡ map_bytes self.old }
-        ensures ok { OnOk result (has_byte self.new pa ≡ true) }
-        ensures held { has_byte self.old pa ≡ true → IsOk result }
-        ensures keeps { (at : ℕ) → has_byte self.old at ≡ true → has_byte self.new at ≡ true }
+        ensures ok { OnOk result (map_has_byte self.new pa ≡ true) }
+        ensures held { map_has_byte self.old pa ≡ true → IsOk result }
+        ensures keeps { (at : ℕ) → map_has_byte self.old at ≡ true → map_has_byte self.new at ≡ true }
         ensures ram { self.new.ram ≡ self.old.ram }
     {
         if self.bytes.contains_key(&pa) {
@@ -91,6 +96,8 @@ impl PhysMem for MapMem {
     ghost ram = { λ mem. mem.ram };
 
     ghost is_ready = { HasPage };
+
+    ghost bytes_are_bytes = { λ mem at. unfold map_bytes in mem.small at };
 
     fn read(&self, pa: u64, len: u8) -> u64 {
         number_of(self, pa, len)

@@ -2,7 +2,7 @@
 
 ghost use Rattle.std.specs.Prelude.{◌≡◌, ◌≤◌, ◌<◌, ◌+◌, ◌*◌, ◌/◌, ◌%◌, ◌^◌, ℕ, IsOk, OnOk};
 ghost use Rattle.hart_words.specs.declared.span.Span.{Span};
-ghost use Rattle.hart_words.specs.Memory.{Bytes, number_at, stored};
+ghost use Rattle.hart_words.specs.Memory.{Bytes, number_at, bytes_after_store};
 
 use hart_words::{NoMemory, PAGE_SIZE};
 
@@ -38,14 +38,14 @@ pub trait ByteMem {
     /// Sets the byte at an address whose page was admitted.
     fn set(&mut self, pa: u64, value: u8)
         requires { admits self.old (pa / PAGE_SIZE) }
-        ensures bytes { bytes self.new ≡ stored pa 1 value (bytes self.old) }
+        ensures bytes { bytes self.new ≡ bytes_after_store pa 1 value (bytes self.old) }
         ensures keeps { (page : ℕ) → admits self.old page → admits self.new page }
         ensures ram { ram self.new ≡ ram self.old };
 }
 
 /// The number of `len` bytes at an address.
 pub fn number_of<B: ByteAt>(bytes: &B, pa: u64, len: u8) -> u64
-    requires few { len ≤ 8 }
+    requires at_most_8 { len ≤ 8 }
     requires inside { pa + len < 2 ^ 64 }
     ensures value { result ≡ number_at (B.bytes bytes.now) pa len }
     ensures fits { result < 2 ^ (8 * len) }
@@ -62,11 +62,11 @@ pub fn number_of<B: ByteAt>(bytes: &B, pa: u64, len: u8) -> u64
 
 /// Puts the low `len` bytes of a number at an address, within one page that was admitted.
 pub fn put_number<M: ByteMem>(mem: &mut M, pa: u64, len: u8, value: u64)
-    requires few { len ≤ 8 }
+    requires at_most_8 { len ≤ 8 }
     requires inside { pa + len < 2 ^ 64 }
     requires page { pa % PAGE_SIZE + len ≤ PAGE_SIZE }
     requires admitted { M.admits mem.old (pa / PAGE_SIZE) }
-    ensures bytes { M.bytes mem.new ≡ stored pa len value (M.bytes mem.old) }
+    ensures bytes { M.bytes mem.new ≡ bytes_after_store pa len value (M.bytes mem.old) }
     ensures keeps { (page : ℕ) → M.admits mem.old page → M.admits mem.new page }
     ensures ram { M.ram mem.new ≡ M.ram mem.old }
 {

@@ -31,7 +31,7 @@ impl<'a> Layered<'a> {
         layers: &[Layer],
         image: &PageImage,
     ) -> bool
-        ensures told { IsTrue result → (number : ℕ)
+        ensures known_files { IsTrue result → (number : ℕ)
             → IsZeroBlock (bytes_under written.now layers.now image.now) number
             ⊎ IsSameBlock self.now other.now number }
         ensures same { layered_bytes self.now ≡ layered_bytes other.now → IsTrue result }
@@ -41,7 +41,7 @@ impl<'a> Layered<'a> {
 
     /// Whether it has the bytes of another in each of these blocks and those of layers.
     fn same_in_newest(&self, other: &Layered, written: &Blocks, layers: &[Layer]) -> bool
-        ensures told { IsTrue result → (number : ℕ)
+        ensures known_files { IsTrue result → (number : ℕ)
             → IsTrue (is_some (newest_block written.now layers.now number))
             → IsSameBlock self.now other.now number }
         ensures same { layered_bytes self.now ≡ layered_bytes other.now → IsTrue result }
@@ -51,7 +51,7 @@ impl<'a> Layered<'a> {
 
     /// Whether it has the bytes of another in each of these blocks.
     fn same_in_blocks(&self, other: &Layered, blocks: &Blocks) -> bool
-        ensures told { IsTrue result → (number : ℕ)
+        ensures known_files { IsTrue result → (number : ℕ)
             → IsTrue (is_some (block_at blocks.now number)) → IsSameBlock self.now other.now number }
         ensures same { layered_bytes self.now ≡ layered_bytes other.now → IsTrue result }
     {
@@ -65,7 +65,7 @@ impl<'a> Layered<'a> {
 
     /// Whether it has the bytes of another in each block of layers.
     fn same_in_layers(&self, other: &Layered, layers: &[Layer]) -> bool
-        ensures told { IsTrue result → (number : ℕ)
+        ensures known_files { IsTrue result → (number : ℕ)
             → IsTrue (is_some (block_among layers.now number))
             → IsSameBlock self.now other.now number }
         ensures same { layered_bytes self.now ≡ layered_bytes other.now → IsTrue result }
@@ -80,7 +80,7 @@ impl<'a> Layered<'a> {
 
     /// Whether it has the bytes of another in each page that an image has.
     fn same_in_image(&self, other: &Layered, image: &PageImage) -> bool
-        ensures told { IsTrue result → (number : ℕ)
+        ensures known_files { IsTrue result → (number : ℕ)
             → IsTrue (is_some (get nat_eq image.now.pages (number / PAGE_BLOCKS)))
             → IsSameBlock self.now other.now number }
         ensures same { layered_bytes self.now ≡ layered_bytes other.now → IsTrue result }
@@ -96,7 +96,7 @@ impl<'a> Layered<'a> {
     /// Whether it has the bytes of another in a page. No block was written in one so far up that a
     /// block's number does not fit.
     fn same_page(&self, other: &Layered, page: u64) -> bool
-        ensures told { IsTrue result → (number : ℕ) → number / PAGE_BLOCKS ≡ page
+        ensures known_files { IsTrue result → (number : ℕ) → number / PAGE_BLOCKS ≡ page
             → IsSameBlock self.now other.now number }
         ensures same { layered_bytes self.now ≡ layered_bytes other.now → IsTrue result }
     {
@@ -109,7 +109,7 @@ impl<'a> Layered<'a> {
     /// Whether it has the bytes of another in the blocks of a page, by the first.
     fn same_blocks(&self, other: &Layered, first: u64) -> bool
         requires { first ≤ 2 ^ 64 - PAGE_BLOCKS }
-        ensures told { IsTrue result → (number : ℕ) → first ≤ number → number < first + PAGE_BLOCKS
+        ensures known_files { IsTrue result → (number : ℕ) → first ≤ number → number < first + PAGE_BLOCKS
             → IsSameBlock self.now other.now number }
         ensures same { layered_bytes self.now ≡ layered_bytes other.now → IsTrue result }
     {

@@ -1,8 +1,7 @@
-ghost use Rattle.std.specs.Prelude.{◌≡◌, ◌<◌, IsTrue};
-ghost use Rattle.hart_words.specs.Memory.{IsPlace};
+ghost use Rattle.std.specs.Prelude.{◌≡◌, ◌<◌};
 
 use super::*;
-use hart_words::{PAGE_SIZE, PhysMem, Span};
+use hart_words::{PhysMem, Span};
 use image_text::read_image;
 use page_image::PageImage;
 use std::process::Abort;
@@ -66,18 +65,11 @@ fn three_pages() -> Result<Span, Fail> {
     Ok(Span::new(0x8000_0000, 0x3000).ok_or("no range")?)
 }
 
-/// Whether so many bytes lie in one page of RAM.
-fn is_place(ram: &Span, pa: u64, len: u8) -> bool
-    ensures { IsTrue result → IsPlace ram.now pa len }
-{
-    1 <= len && len <= 8 && ram.holds(pa, len) && pa % PAGE_SIZE + u64::from(len) <= PAGE_SIZE
-}
-
 fn shows<M: PhysMem>(rt: &impl Abort, mem: &M, ram: &Span, numbers: Numbers)
     requires { M.ram mem.now ≡ ram.now }
 {
     for (pa, len, value) in numbers {
-        assert!(rt; is_place(ram, *pa, *len));
+        assert!(rt; ram.is_place(*pa, *len));
         assert_eq!(rt; mem.read(*pa, *len), *value, "at {pa}");
     }
 }
@@ -92,7 +84,7 @@ fn write_all<M: PhysMem>(
     ensures { M.ram mem.new ≡ M.ram mem.old }
 {
     for (pa, len, value) in numbers {
-        assert!(rt; is_place(ram, *pa, *len));
+        assert!(rt; ram.is_place(*pa, *len));
         mem.write(*pa, *len, *value)?;
     }
     Ok(())
@@ -104,7 +96,7 @@ fn ready_all<M: PhysMem>(rt: &impl Abort, mem: &mut M, ram: &Span) -> Result<(),
     ensures { M.ram mem.new ≡ M.ram mem.old }
 {
     for pa in [0x8000_0abc, 0x8000_1000, 0x8000_2fff] {
-        assert!(rt; is_place(ram, pa, 1));
+        assert!(rt; ram.is_place(pa, 1));
         mem.ready(pa)?;
     }
     Ok(())
@@ -146,7 +138,7 @@ fn write_some<M: PhysMem>(mem: &mut M, ram: &Span, seed: u64) -> Result<(), Fail
         seed = next(seed);
         let pa = 0x8000_0000 + (seed >> 33) % 0x3000;
         let len = (1 + (seed >> 20) % 8) as u8;
-        if is_place(ram, pa, len) {
+        if ram.is_place(pa, len) {
             mem.write(pa, len, seed)?;
         }
     }
@@ -160,7 +152,7 @@ fn agree<M: PhysMem, N: PhysMem>(rt: &impl Abort, one: &M, other: &N, ram: &Span
 {
     for k in 0..0x600_u64 {
         let pa = 0x8000_0000 + k * 8;
-        assert!(rt; is_place(ram, pa, 8));
+        assert!(rt; ram.is_place(pa, 8));
         assert_eq!(rt; one.read(pa, 8), other.read(pa, 8), "at {pa}");
     }
 }
@@ -257,13 +249,13 @@ fn write_round<M: PhysMem>(
     round: u64,
 ) -> Result<(), Fail>
     requires ram { M.ram mem.old ≡ ram.now }
-    requires few { round < 100 }
+    requires below_100 { round < 100 }
     ensures { M.ram mem.new ≡ M.ram mem.old }
 {
     for k in 0..1100_u64 {
         let number = (round * 900 + k * 7) % 0x8000;
         let pa = 0x8000_0000 + number * 64;
-        assert!(rt; is_place(ram, pa, 8));
+        assert!(rt; ram.is_place(pa, 8));
         mem.write(pa, 8, round * 10_000 + k + 1)?;
         if let Some(front) = fronts.get_mut(number as usize) {
             *front = round * 10_000 + k + 1;
@@ -278,7 +270,7 @@ fn begins<M: PhysMem>(rt: &impl Abort, mem: &M, ram: &Span, fronts: &[u64])
 {
     for number in 0..0x8000_u64 {
         let pa = 0x8000_0000 + number * 64;
-        assert!(rt; is_place(ram, pa, 8));
+        assert!(rt; ram.is_place(pa, 8));
         assert_eq!(rt;
             Some(mem.read(pa, 8)),
             fronts.get(number as usize).copied(),

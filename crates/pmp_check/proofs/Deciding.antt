@@ -1,13 +1,16 @@
 -- The first entry that covers any byte decides.
-use Rattle.std.proofs.Common.{◌≡◌, ℕ, zero, suc, ◌<◌, ◌≤◌, Bool, true, false, ◌&&◌, List, [], ◌∷◌, length, refl, ◌∙◌, ap, subst, arith}
+use Rattle.std.proofs.Common.{◌≡◌, ℕ, zero, suc, ◌<◌, ◌≤◌, Bool, true, false, ◌&&◌, List, [], ◌∷◌, length, refl, ◌∙◌}
+use Rattle.std.proofs.Common.{ap, subst, arith}
 use Rattle.std.specs.Prelude.{All}
 use Rattle.std.proofs.lemmas.Bool.{cond-true, cond-false, false_from_ne_true}
 use Rattle.hart_words.specs.declared.privilege.Mode.{Mode}
 use Rattle.hart_words.specs.declared.privilege.Access.{Access}
 use Rattle.hart_words.specs.declared.privilege.PmpEntry.{PmpEntry}
 use Rattle.pmp_check.specs.declared.region.Region.{Region}
-use Rattle.pmp_check.specs.Protection.{region_of, covers_some, covers_all, is_permitted, is_machine, is_allowed_after, is_allowed}
-use Rattle.pmp_check.specs.Covering.{Covers, CoversAt, Decides, IsRegister, SomeByte, EachByte, entry_at, register_before}
+use Rattle.pmp_check.specs.Protection.{region_of, covers_some, covers_all, entry_permits, is_machine, is_allowed_after}
+use Rattle.pmp_check.specs.Protection.{is_allowed}
+use Rattle.pmp_check.specs.Covering.{Covers, CoversAt, Decides, IsRegister, SomeByte, EachByte, entry_at}
+use Rattle.pmp_check.specs.Covering.{register_before}
 use Rattle.pmp_check.proofs.Covering.{region_of-Covers, some_byte, each_byte}
 
 -- the entry at a place of a list that comes after an entry with the address register `first`
@@ -20,28 +23,41 @@ Touches first entries i pa len = SomeByte pa len (CoversFrom first entries i)
 pub SomeByte-map : {P Q : ℕ → Type 0} (pa len : ℕ) → ((a : ℕ) → P a → Q a) → SomeByte pa len P → SomeByte pa len Q
 SomeByte-map pa len f byte = record { a = byte.a; low = byte.low; high = byte.high; holds = f byte.a byte.holds }
 
-pub touched : (before : ℕ) (entry : PmpEntry) (pa len : ℕ) → IsRegister entry → SomeByte pa len (Covers before entry) → covers_some (region_of before entry) pa len ≡ true
-touched before entry pa len h byte =
-    (some_byte (region_of before entry) pa len).1 (SomeByte-map pa len (λ a. (region_of-Covers before entry a h).1) byte)
+pub accesses : (before : ℕ) (entry : PmpEntry) (pa len : ℕ) → IsRegister entry → SomeByte pa len (Covers before entry)
+    → covers_some (region_of before entry) pa len ≡ true
+accesses before entry pa len h byte =
+    (some_byte (region_of before entry) pa len).1
+    (SomeByte-map pa len (λ a. (region_of-Covers before entry a h).1) byte)
 
-untouched : (before : ℕ) (entry : PmpEntry) (pa len : ℕ) → IsRegister entry → (SomeByte pa len (Covers before entry) → ⊥) → covers_some (region_of before entry) pa len ≡ false
+untouched : (before : ℕ) (entry : PmpEntry) (pa len : ℕ) → IsRegister entry
+    → (SomeByte pa len (Covers before entry) → ⊥) → covers_some (region_of before entry) pa len ≡ false
 untouched before entry pa len h not_one =
     false_from_ne_true (covers_some (region_of before entry) pa len)
-    (λ e. not_one (SomeByte-map pa len (λ a. (region_of-Covers before entry a h).0) ((some_byte (region_of before entry) pa len).0 e)))
+    (λ e. not_one
+    (SomeByte-map pa len (λ a. (region_of-Covers before entry a h).0)
+    ((some_byte (region_of before entry) pa len).0 e)))
 
 -- the entries after the first, at their places in the whole list
-before_shift : (first : ℕ) (entry : PmpEntry) (entries : List PmpEntry) (i : ℕ) → register_before entry.addr entries i ≡ register_before first (entry ∷ entries) (suc i)
+before_shift : (first : ℕ) (entry : PmpEntry) (entries : List PmpEntry) (i : ℕ)
+    → register_before entry.addr entries i ≡ register_before first (entry ∷ entries) (suc i)
 before_shift first entry entries zero = refl
 before_shift first entry entries (suc i) = refl
 
-pub shift : (first : ℕ) (entry : PmpEntry) (entries : List PmpEntry) (i pa len : ℕ) → Touches entry.addr entries i pa len → Touches first (entry ∷ entries) (suc i) pa len
-shift first entry entries i pa len = subst (λ (b : ℕ). Touches entry.addr entries i pa len → SomeByte pa len (Covers b (entry_at entries i))) (before_shift first entry entries i) (λ byte. byte)
+pub shift : (first : ℕ) (entry : PmpEntry) (entries : List PmpEntry) (i pa len : ℕ)
+    → Touches entry.addr entries i pa len → Touches first (entry ∷ entries) (suc i) pa len
+shift first entry entries i pa len =
+    subst (λ (b : ℕ). Touches entry.addr entries i pa len → SomeByte pa len (Covers b (entry_at entries i)))
+    (before_shift first entry entries i) (λ byte. byte)
 
-pub unshift : (first : ℕ) (entry : PmpEntry) (entries : List PmpEntry) (i pa len : ℕ) → Touches first (entry ∷ entries) (suc i) pa len → Touches entry.addr entries i pa len
-unshift first entry entries i pa len = subst (λ (b : ℕ). SomeByte pa len (Covers b (entry_at entries i)) → Touches entry.addr entries i pa len) (before_shift first entry entries i) (λ byte. byte)
+pub unshift : (first : ℕ) (entry : PmpEntry) (entries : List PmpEntry) (i pa len : ℕ)
+    → Touches first (entry ∷ entries) (suc i) pa len → Touches entry.addr entries i pa len
+unshift first entry entries i pa len =
+    subst (λ (b : ℕ). SomeByte pa len (Covers b (entry_at entries i)) → Touches entry.addr entries i pa len)
+    (before_shift first entry entries i) (λ byte. byte)
 
 -- an entry of the list has a register
-pub register_at : (entries : List PmpEntry) (i : ℕ) → All IsRegister entries → i < length entries → IsRegister (entry_at entries i)
+pub register_at : (entries : List PmpEntry) (i : ℕ) → All IsRegister entries → i < length entries
+    → IsRegister (entry_at entries i)
 register_at entries i h below = h i (record { cfg = 0; addr = 0 }) below
 
 pub head : (entry : PmpEntry) (entries : List PmpEntry) → All IsRegister (entry ∷ entries) → IsRegister entry
@@ -50,29 +66,50 @@ head entry entries h = h 0 entry (omega arith)
 pub tail : (entry : PmpEntry) (entries : List PmpEntry) → All IsRegister (entry ∷ entries) → All IsRegister entries
 tail entry entries h = λ k d below. h (suc k) d (omega arith)
 
-pub after_none : (first : ℕ) (entries : List PmpEntry) (mode : Mode) (pa len : ℕ) (access : Access) → All IsRegister entries → ((i : ℕ) → i < length entries → Touches first entries i pa len → ⊥) → is_allowed_after first entries mode pa len access ≡ is_machine mode
+pub after_none : (first : ℕ) (entries : List PmpEntry) (mode : Mode) (pa len : ℕ) (access : Access)
+    → All IsRegister entries → ((i : ℕ) → i < length entries → Touches first entries i pa len → ⊥)
+    → is_allowed_after first entries mode pa len access ≡ is_machine mode
 unfolding is_allowed_after
 after_none first [] mode pa len access h none = refl
 after_none first (entry ∷ entries) mode pa len access h none =
-    cond-false (covers_some (region_of first entry) pa len) (covers_all (region_of first entry) pa len && is_permitted entry.cfg mode access) (is_allowed_after entry.addr entries mode pa len access) (untouched first entry pa len (head entry entries h) (none 0 (omega arith)))
-    ∙ after_none entry.addr entries mode pa len access (tail entry entries h) (λ i below byte. none (suc i) (omega arith) (shift first entry entries i pa len byte))
+    cond-false (covers_some (region_of first entry) pa len)
+    (covers_all (region_of first entry) pa len && entry_permits entry.cfg mode access)
+    (is_allowed_after entry.addr entries mode pa len access)
+    (untouched first entry pa len (head entry entries h) (none 0 (omega arith)))
+    ∙ after_none entry.addr entries mode pa len access (tail entry entries h)
+    (λ i below byte. none (suc i) (omega arith) (shift first entry entries i pa len byte))
 
 -- the answer of the entry at a place
 answer : ℕ → List PmpEntry → ℕ → Mode → ℕ → ℕ → Access → Bool
 answer first entries i mode pa len access =
-    covers_all (region_of (register_before first entries i) (entry_at entries i)) pa len && is_permitted (entry_at entries i).cfg mode access
+    covers_all (region_of (register_before first entries i) (entry_at entries i)) pa len
+    && entry_permits (entry_at entries i).cfg mode access
 
-after_least : (first : ℕ) (entries : List PmpEntry) (i : ℕ) (mode : Mode) (pa len : ℕ) (access : Access) → All IsRegister entries → i < length entries → Touches first entries i pa len → ((j : ℕ) → j < i → Touches first entries j pa len → ⊥) → is_allowed_after first entries mode pa len access ≡ answer first entries i mode pa len access
+after_least : (first : ℕ) (entries : List PmpEntry) (i : ℕ) (mode : Mode) (pa len : ℕ) (access : Access)
+    → All IsRegister entries → i < length entries → Touches first entries i pa len
+    → ((j : ℕ) → j < i → Touches first entries j pa len → ⊥)
+    → is_allowed_after first entries mode pa len access ≡ answer first entries i mode pa len access
 unfolding is_allowed_after answer
 after_least first [] i mode pa len access h below some least = absurd (omega arith)
 after_least first (entry ∷ entries) zero mode pa len access h below some least =
-    cond-true (covers_some (region_of first entry) pa len) (covers_all (region_of first entry) pa len && is_permitted entry.cfg mode access) (is_allowed_after entry.addr entries mode pa len access) (touched first entry pa len (head entry entries h) some)
+    cond-true (covers_some (region_of first entry) pa len)
+    (covers_all (region_of first entry) pa len && entry_permits entry.cfg mode access)
+    (is_allowed_after entry.addr entries mode pa len access)
+    (accesses first entry pa len (head entry entries h) some)
 after_least first (entry ∷ entries) (suc i) mode pa len access h below some least =
-    cond-false (covers_some (region_of first entry) pa len) (covers_all (region_of first entry) pa len && is_permitted entry.cfg mode access) (is_allowed_after entry.addr entries mode pa len access) (untouched first entry pa len (head entry entries h) (least 0 (omega arith)))
-    ∙ after_least entry.addr entries i mode pa len access (tail entry entries h) (omega arith) (unshift first entry entries i pa len some) (λ j lower byte. least (suc j) (omega arith) (shift first entry entries j pa len byte))
-    ∙ ap (λ b. covers_all (region_of b (entry_at entries i)) pa len && is_permitted (entry_at entries i).cfg mode access) (before_shift first entry entries i)
+    cond-false (covers_some (region_of first entry) pa len)
+    (covers_all (region_of first entry) pa len && entry_permits entry.cfg mode access)
+    (is_allowed_after entry.addr entries mode pa len access)
+    (untouched first entry pa len (head entry entries h) (least 0 (omega arith)))
+    ∙ after_least entry.addr entries i mode pa len access (tail entry entries h) (omega arith)
+    (unshift first entry entries i pa len some)
+    (λ j lower byte. least (suc j) (omega arith) (shift first entry entries j pa len byte))
+    ∙ ap (λ b. covers_all (region_of b (entry_at entries i)) pa len
+    && entry_permits (entry_at entries i).cfg mode access) (before_shift first entry entries i)
 
-pub none_decides : (entries : List PmpEntry) (mode : Mode) (pa len : ℕ) (access : Access) → All IsRegister entries → ((i : ℕ) → i < length entries → SomeByte pa len (CoversAt entries i) → ⊥) → is_allowed entries mode pa len access ≡ is_machine mode
+pub none_decides : (entries : List PmpEntry) (mode : Mode) (pa len : ℕ) (access : Access) → All IsRegister entries
+    → ((i : ℕ) → i < length entries → SomeByte pa len (CoversAt entries i) → ⊥)
+    → is_allowed entries mode pa len access ≡ is_machine mode
 unfolding is_allowed
 none_decides entries mode pa len access h none = after_none 0 entries mode pa len access h none
 
@@ -80,25 +117,40 @@ pub some_is : (pa len : ℕ) {P : ℕ → Type 0} → SomeByte pa len P → 1 �
 some_is pa len byte = omega (arith, byte.low, byte.high)
 
 -- the least entry decides, whether it covers every byte or not
-pub least_decides : (entries : List PmpEntry) (i : ℕ) (mode : Mode) (pa len : ℕ) (access : Access) → All IsRegister entries → i < length entries → Decides entries i pa len → is_allowed entries mode pa len access ≡ (covers_all (region_of (register_before 0 entries i) (entry_at entries i)) pa len && is_permitted (entry_at entries i).cfg mode access)
+pub least_decides : (entries : List PmpEntry) (i : ℕ) (mode : Mode) (pa len : ℕ) (access : Access)
+    → All IsRegister entries → i < length entries → Decides entries i pa len
+    → is_allowed entries mode pa len access
+    ≡ (covers_all (region_of (register_before 0 entries i) (entry_at entries i)) pa len
+    && entry_permits (entry_at entries i).cfg mode access)
 unfolding is_allowed answer
-least_decides entries i mode pa len access h below decides = after_least 0 entries i mode pa len access h below decides.some decides.least
+least_decides entries i mode pa len access h below decides =
+    after_least 0 entries i mode pa len access h below decides.some decides.least
 
-pub whole_decides : (entries : List PmpEntry) (i : ℕ) (mode : Mode) (pa len : ℕ) (access : Access) → All IsRegister entries → i < length entries → Decides entries i pa len → EachByte pa len (CoversAt entries i) → is_allowed entries mode pa len access ≡ is_permitted (entry_at entries i).cfg mode access
+pub whole_decides : (entries : List PmpEntry) (i : ℕ) (mode : Mode) (pa len : ℕ) (access : Access)
+    → All IsRegister entries → i < length entries → Decides entries i pa len → EachByte pa len (CoversAt entries i)
+    → is_allowed entries mode pa len access ≡ entry_permits (entry_at entries i).cfg mode access
 unfolding is_allowed answer
 whole_decides entries i mode pa len access h below decides each =
     let region : Region = region_of (register_before 0 entries i) (entry_at entries i) in
     let all : covers_all region pa len ≡ true =
-    (each_byte region pa len (some_is pa len decides.some)).1 (λ a low high. (region_of-Covers (register_before 0 entries i) (entry_at entries i) a (register_at entries i h below)).1 (each a low high)) in
+    (each_byte region pa len (some_is pa len decides.some)).1
+    (λ a low high.
+    (region_of-Covers (register_before 0 entries i) (entry_at entries i) a (register_at entries i h below)).1
+    (each a low high)) in
     after_least 0 entries i mode pa len access h below decides.some decides.least
-    ∙ ap (λ b. b && is_permitted (entry_at entries i).cfg mode access) all
+    ∙ ap (λ b. b && entry_permits (entry_at entries i).cfg mode access) all
 
-pub part_decides : (entries : List PmpEntry) (i : ℕ) (mode : Mode) (pa len : ℕ) (access : Access) → All IsRegister entries → i < length entries → Decides entries i pa len → SomeByte pa len (λ a. CoversAt entries i a → ⊥) → is_allowed entries mode pa len access ≡ false
+pub part_decides : (entries : List PmpEntry) (i : ℕ) (mode : Mode) (pa len : ℕ) (access : Access)
+    → All IsRegister entries → i < length entries → Decides entries i pa len
+    → SomeByte pa len (λ a. CoversAt entries i a → ⊥) → is_allowed entries mode pa len access ≡ false
 unfolding is_allowed answer
 part_decides entries i mode pa len access h below decides outside =
     let region : Region = region_of (register_before 0 entries i) (entry_at entries i) in
     let not_all : covers_all region pa len ≡ false =
     false_from_ne_true (covers_all region pa len)
-    (λ e. outside.holds ((region_of-Covers (register_before 0 entries i) (entry_at entries i) outside.a (register_at entries i h below)).0 ((each_byte region pa len (some_is pa len decides.some)).0 e outside.a outside.low outside.high))) in
+    (λ e. outside.holds
+    ((region_of-Covers (register_before 0 entries i) (entry_at entries i) outside.a
+    (register_at entries i h below)).0
+    ((each_byte region pa len (some_is pa len decides.some)).0 e outside.a outside.low outside.high))) in
     after_least 0 entries i mode pa len access h below decides.some decides.least
-    ∙ ap (λ b. b && is_permitted (entry_at entries i).cfg mode access) not_all
+    ∙ ap (λ b. b && entry_permits (entry_at entries i).cfg mode access) not_all

@@ -1,5 +1,6 @@
 -- The ones at the low end of a number.
-use Rattle.std.proofs.Common.{◌≡◌, ℕ, zero, suc, ◌+◌, ◌-◌, ◌*◌, ◌/◌, ◌%◌, ◌^◌, ◌<◌, ◌≤◌, ◌⊎◌, refl, sym, ◌∙◌, ap, inl, inr, subst, arith}
+use Rattle.std.proofs.Common.{◌≡◌, ℕ, zero, suc, ◌+◌, ◌-◌, ◌*◌, ◌/◌, ◌%◌, ◌^◌, ◌<◌, ◌≤◌, ◌⊎◌, refl, sym, ◌∙◌, ap, inl}
+use Rattle.std.proofs.Common.{inr, subst, arith}
 use Rattle.std.proofs.Math.Nat.{pow-suc}
 use Rattle.std.proofs.Math.Pow.{pow_mono}
 use Rattle.std.proofs.lemmas.Nat.{trailing_le, pow_pos, mod-pow-add}
@@ -51,7 +52,9 @@ pub Ends_from_field : (n ones : ℕ) → n % 2 ^ (ones + 1) ≡ 2 ^ ones - 1 →
 Ends_from_field n ones field = omega (arith, one_more n ones, pow_pos ones)
 
 mod-suc : (n ones : ℕ) → n % 2 ^ suc ones ≡ n / 2 % 2 ^ ones * 2 + n % 2
-mod-suc n ones = let e : ones + 1 ≡ suc ones = omega arith in let P : ℕ → Type 0 = λ k. n % 2 ^ k ≡ n / 2 % 2 ^ ones * 2 + n % 2 in subst P e (mod-pow-add n ones 1)
+mod-suc n ones =
+    let e : ones + 1 ≡ suc ones = omega arith in
+    let P : ℕ → Type 0 = λ k. n % 2 ^ k ≡ n / 2 % 2 ^ ones * 2 + n % 2 in subst P e (mod-pow-add n ones 1)
 
 EndsInOnes-even : (n : ℕ) → n % 2 ≡ 0 → EndsInOnes n 0
 EndsInOnes-even n even = omega (arith, mod-suc n 0)
@@ -99,7 +102,12 @@ mod_le : (n m : ℕ) → 0 < m → n % m ≤ n
 mod_le n m h = omega arith
 
 pub ones_fit : (n : ℕ) → n < 2 ^ 64 → 2 ^ trailing_ones w64 n ≤ n + 1
-ones_fit n h = omega (arith, trailing_ones-EndsInOnes n h, mod_le n (2 ^ suc (trailing_ones w64 n)) (pow_pos (suc (trailing_ones w64 n))))
+ones_fit n h =
+    omega (
+      arith,
+      trailing_ones-EndsInOnes n h,
+      mod_le n (2 ^ suc (trailing_ones w64 n)) (pow_pos (suc (trailing_ones w64 n))),
+    )
 
 pub ones_few : (n : ℕ) → 2 ^ (trailing_ones w64 n + 3) ≤ 2 ^ 67
 ones_few n = pow_mono {i = trailing_ones w64 n + 3} {j = 67} (omega (arith, trailing_le 64 (2 ^ 64 - 1 - n)))

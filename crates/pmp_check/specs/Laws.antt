@@ -5,8 +5,9 @@ use Rattle.hart_words.specs.declared.privilege.Mode.TheVariants.{User, Superviso
 use Rattle.hart_words.specs.declared.privilege.Access.{Access}
 use Rattle.hart_words.specs.declared.privilege.PmpEntry.{PmpEntry}
 use Rattle.pmp_check.specs.declared.region.Region.{Region}
-use Rattle.pmp_check.specs.Protection.{covers_all, covers_some, is_allowed, is_machine, is_permitted, region_of}
-use Rattle.pmp_check.specs.Covering.{Covers, CoversAt, Decides, EachByte, IsIn, IsRegister, NoneCovers, SomeByte, entry_at}
+use Rattle.pmp_check.specs.Protection.{covers_all, covers_some, is_allowed, is_machine, entry_permits, region_of}
+use Rattle.pmp_check.specs.Covering.{Covers, CoversAt, Decides, EachByte, IsIn, IsRegister, NoneCovers, SomeByte}
+use Rattle.pmp_check.specs.Covering.{entry_at}
 
 -- the region of an entry has just the bytes that the entry covers
 abbrev pub HasJustCovered : ℕ → PmpEntry → ℕ → Type 0
@@ -23,7 +24,7 @@ ComparesEach region pa len = 1 ≤ len → (IsTrue (covers_all region pa len) �
 abbrev pub LeastDecides : List PmpEntry → ℕ → Mode → ℕ → ℕ → Access → Type 0
 LeastDecides entries i mode pa len access =
     All IsRegister entries → i < length entries → Decides entries i pa len → EachByte pa len (CoversAt entries i)
-    → is_allowed entries mode pa len access ≡ is_permitted (entry_at entries i).cfg mode access
+    → is_allowed entries mode pa len access ≡ entry_permits (entry_at entries i).cfg mode access
 
 -- it refuses where there is a byte that it does not cover
 abbrev pub LeastRefusesPart : List PmpEntry → ℕ → Mode → ℕ → ℕ → Access → Type 0
@@ -37,22 +38,22 @@ NoneLeavesMachine entries mode pa len access =
     All IsRegister entries → NoneCovers entries pa len → is_allowed entries mode pa len access ≡ is_machine mode
 
 -- an entry is the least that covers any byte of an access, covers every byte of it, and permits it
-pub record Grants (entries : List PmpEntry) (mode : Mode) (pa len : ℕ) (access : Access) : Type 0 where
+pub record PermitsAccess (entries : List PmpEntry) (mode : Mode) (pa len : ℕ) (access : Access) : Type 0 where
   pub number : ℕ
   pub there : number < length entries
   pub decides : Decides entries number pa len
   pub covers : EachByte pa len (CoversAt entries number)
-  pub permits : IsTrue (is_permitted (entry_at entries number).cfg mode access)
+  pub permits : IsTrue (entry_permits (entry_at entries number).cfg mode access)
 
 -- an entry grants the access, or it is M's and no entry covers a byte of it
-abbrev pub IsGranted : List PmpEntry → Mode → ℕ → ℕ → Access → Type 0
-IsGranted entries mode pa len access =
-    Grants entries mode pa len access ⊎ ((mode ≡ Machine) × NoneCovers entries pa len)
+abbrev pub IsPermitted : List PmpEntry → Mode → ℕ → ℕ → Access → Type 0
+IsPermitted entries mode pa len access =
+    PermitsAccess entries mode pa len access ⊎ ((mode ≡ Machine) × NoneCovers entries pa len)
 
 -- the check allows what is granted, and nothing else
-abbrev pub AllowsJustGranted : List PmpEntry → Mode → ℕ → ℕ → Access → Type 0
-AllowsJustGranted entries mode pa len access =
-    All IsRegister entries → (IsTrue (is_allowed entries mode pa len access) ↔ IsGranted entries mode pa len access)
+abbrev pub AllowsJustPermitted : List PmpEntry → Mode → ℕ → ℕ → Access → Type 0
+AllowsJustPermitted entries mode pa len access =
+    All IsRegister entries → (IsTrue (is_allowed entries mode pa len access) ↔ IsPermitted entries mode pa len access)
 
 -- what is allowed is allowed in each of its parts
 abbrev pub AllowsParts : List PmpEntry → Mode → ℕ → ℕ → Access → Type 0
@@ -63,4 +64,5 @@ AllowsParts entries mode pa len access =
 
 -- S and U are allowed the same
 abbrev pub AllowsBothAlike : List PmpEntry → ℕ → ℕ → Access → Type 0
-AllowsBothAlike entries pa len access = is_allowed entries User pa len access ≡ is_allowed entries Supervisor pa len access
+AllowsBothAlike entries pa len access =
+    is_allowed entries User pa len access ≡ is_allowed entries Supervisor pa len access

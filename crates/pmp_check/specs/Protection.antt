@@ -1,6 +1,7 @@
 -- Physical memory protection, from the Privileged Architecture's chapter "Machine-Level ISA". An address register
 -- holds bits 55:2 of an address.
-use Rattle.std.specs.Prelude.{ℕ, ◌+◌, ◌-◌, ◌*◌, ◌/◌, ◌%◌, ◌^◌, min, max, Bool, true, false, ◌&&◌, ◌==◌, nat_le, nat_lt, if◌then◌else◌, List, [], ◌∷◌}
+use Rattle.std.specs.Prelude.{ℕ, ◌+◌, ◌-◌, ◌*◌, ◌/◌, ◌%◌, ◌^◌, min, max, Bool, true, false, ◌&&◌, ◌==◌, nat_le, nat_lt}
+use Rattle.std.specs.Prelude.{if◌then◌else◌, List, [], ◌∷◌}
 use Rattle.std.specs.Int.{w64, trailing_ones}
 use Rattle.hart_words.specs.declared.privilege.Mode.{Mode}
 use Rattle.hart_words.specs.declared.privilege.Mode.TheVariants.{User, Supervisor, Machine}
@@ -25,15 +26,15 @@ power_region addr ones =
     let first = 4 * (addr - (2 ^ ones - 1)) in record { first = first; past = first + 2 ^ (ones + 3) }
 
 -- what an address register covers; `before` is the address register of the entry before, 0 for the first
-abbrev pub covered : Matching → ℕ → ℕ → Region
-covered Off before addr = record { first = 0; past = 0 }
-covered TopOfRange before addr = record { first = 4 * before; past = 4 * addr }
-covered FourBytes before addr = record { first = 4 * addr; past = 4 * addr + 4 }
-covered PowerOfTwo before addr = power_region addr (trailing_ones w64 addr)
+abbrev pub region_by_matching : Matching → ℕ → ℕ → Region
+region_by_matching Off before addr = record { first = 0; past = 0 }
+region_by_matching TopOfRange before addr = record { first = 4 * before; past = 4 * addr }
+region_by_matching FourBytes before addr = record { first = 4 * addr; past = 4 * addr + 4 }
+region_by_matching PowerOfTwo before addr = power_region addr (trailing_ones w64 addr)
 
 -- what an entry covers
 unfoldable pub region_of : ℕ → PmpEntry → Region
-region_of before entry = covered (matching_of entry.cfg) before entry.addr
+region_of before entry = region_by_matching (matching_of entry.cfg) before entry.addr
 
 -- some byte of the access lies in the region
 abbrev pub covers_some : Region → ℕ → ℕ → Bool
@@ -50,10 +51,10 @@ permits cfg Store = cfg / 2 ^ W % 2 == 1
 permits cfg Fetch = cfg / 2 ^ X % 2 == 1
 
 -- the entry that decides lets the mode pass: M is bound by it only where its bit L is set
-unfoldable pub is_permitted : ℕ → Mode → Access → Bool
-is_permitted cfg Machine access = if cfg / 2 ^ L % 2 == 0 then true else permits cfg access
-is_permitted cfg Supervisor access = permits cfg access
-is_permitted cfg User access = permits cfg access
+unfoldable pub entry_permits : ℕ → Mode → Access → Bool
+entry_permits cfg Machine access = if cfg / 2 ^ L % 2 == 0 then true else permits cfg access
+entry_permits cfg Supervisor access = permits cfg access
+entry_permits cfg User access = permits cfg access
 
 -- where no entry covers any byte, M alone has access
 abbrev pub is_machine : Mode → Bool
@@ -67,7 +68,7 @@ is_allowed_after before [] mode pa len access = is_machine mode
 is_allowed_after before (entry ∷ entries) mode pa len access =
     let region = region_of before entry in
     if covers_some region pa len
-    then covers_all region pa len && is_permitted entry.cfg mode access
+    then covers_all region pa len && entry_permits entry.cfg mode access
     else is_allowed_after entry.addr entries mode pa len access
 
 -- an access of so many bytes from an address on is allowed

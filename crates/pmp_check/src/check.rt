@@ -2,7 +2,7 @@
 //! "Machine-Level ISA".
 
 ghost use Rattle.std.specs.Prelude.{◌≡◌};
-ghost use Rattle.pmp_check.specs.Protection.{is_allowed, is_permitted, permits};
+ghost use Rattle.pmp_check.specs.Protection.{is_allowed, entry_permits, permits};
 
 use crate::region::Region;
 use hart_words::{Access, Mode, PmpEntry};
@@ -27,7 +27,7 @@ pub fn allows(entries: &[PmpEntry; 16], mode: Mode, pa: u64, len: u8, access: Ac
     for entry in entries {
         let region = Region::of(*entry, before);
         if region.covers_some(pa, len) {
-            return region.covers_all(pa, len) && is_permitted(entry.cfg, mode, access);
+            return region.covers_all(pa, len) && entry_permits(entry.cfg, mode, access);
         }
         before = entry.addr;
     }
@@ -35,9 +35,9 @@ pub fn allows(entries: &[PmpEntry; 16], mode: Mode, pa: u64, len: u8, access: Ac
 }
 
 /// Whether the entry that decides, by its configuration byte, lets the access pass.
-#[tactic(auto, unfolding(crate::specs::Protection::is_permitted))]
-fn is_permitted(cfg: u8, mode: Mode, access: Access) -> bool
-    ensures { result ≡ is_permitted cfg mode access }
+#[tactic(auto, unfolding(crate::specs::Protection::entry_permits))]
+fn entry_permits(cfg: u8, mode: Mode, access: Access) -> bool
+    ensures { result ≡ entry_permits cfg mode access }
 {
     let is_locked = (cfg >> L) % 2 != 0;
     match mode {

@@ -5,7 +5,7 @@ ghost use Rattle.hart_words.specs.declared.privilege.Mode.{Mode};
 ghost use Rattle.hart_words.specs.declared.privilege.Access.{Access};
 ghost use Rattle.hart_words.specs.declared.privilege.PmpEntry.{PmpEntry};
 ghost use Rattle.pmp_check.specs.declared.region.Region.{Region};
-ghost use Rattle.pmp_check.specs.Laws.{AllowsBothAlike, AllowsJustGranted, AllowsParts, ComparesEach, ComparesSome, HasJustCovered, LeastDecides, LeastRefusesPart, NoneLeavesMachine};
+ghost use Rattle.pmp_check.specs.Laws.{AllowsBothAlike, AllowsJustPermitted, AllowsParts, ComparesEach, ComparesSome, HasJustCovered, LeastDecides, LeastRefusesPart, NoneLeavesMachine};
 
 /// The region of an entry has just the bytes that the entry covers.
 pub fn regions_are_what_entries_cover()
@@ -14,7 +14,7 @@ pub fn regions_are_what_entries_cover()
 
 /// The two comparisons with a region are of some and of every byte of an access.
 pub fn comparisons_are_of_bytes()
-    ensures some { (region : Region) (pa len : ℕ) → ComparesSome region pa len }
+    ensures some_byte { (region : Region) (pa len : ℕ) → ComparesSome region pa len }
     ensures each { (region : Region) (pa len : ℕ) → ComparesEach region pa len }
 {}
 
@@ -32,9 +32,9 @@ pub fn least_entry_decides()
 
 /// An access is allowed exactly where it is granted: the lowest-numbered entry that covers any byte
 /// of it covers every byte and permits it, or M makes it and no entry covers a byte of it.
-pub fn just_what_is_granted_is_allowed()
+pub fn just_what_is_permitted_is_allowed()
     ensures { (entries : List PmpEntry) (mode : Mode) (pa len : ℕ) (access : Access)
-        → AllowsJustGranted entries mode pa len access }
+        → AllowsJustPermitted entries mode pa len access }
 {}
 
 /// Each part of an allowed access, each byte of it among them, is allowed by itself.

@@ -1,8 +1,10 @@
 -- Bits of blocks.
-use Rattle.std.proofs.Common.{◌≡◌, ◌⊎◌, inl, inr, ℕ, zero, suc, ◌+◌, ◌-◌, ◌*◌, ◌/◌, ◌%◌, ◌<◌, ◌≤◌, ◌^◌, Bool, true, false, ◌==◌, ◌&&◌, ◌||◌, bit_and, bit_or, min, max, refl, ap, ◌∙◌, sym, arith, lit<}
+use Rattle.std.proofs.Common.{◌≡◌, ◌⊎◌, inl, inr, ℕ, zero, suc, ◌+◌, ◌-◌, ◌*◌, ◌/◌, ◌%◌, ◌<◌, ◌≤◌, ◌^◌, Bool, true}
+use Rattle.std.proofs.Common.{false, ◌==◌, ◌&&◌, ◌||◌, bit_and, bit_or, min, max, refl, ap, ◌∙◌, sym, arith, lit<}
 use Rattle.std.specs.Prelude.{not, nat_le, nat_lt}
 use Rattle.std.specs.Int.{bit_at, w64}
-use Rattle.std.proofs.lemmas.Nat.Bits.{bit_at_and, bit_at_or, bit_at_not, bit_at-lt, bit_at-zero, bit_at_mask_below, bit_at_mask_inside, bit_at_mask_above}
+use Rattle.std.proofs.lemmas.Nat.Bits.{bit_at_and, bit_at_or, bit_at_not, bit_at-lt, bit_at-zero, bit_at_mask_below}
+use Rattle.std.proofs.lemmas.Nat.Bits.{bit_at_mask_inside, bit_at_mask_above}
 use Rattle.std.proofs.Math.Nat.{pow-le-pow_right, mod-eq_of_lt}
 use Rattle.std.proofs.lemmas.Bool.{cases_lt, lt-ltb, le-ltb, le-leb, lt-leb}
 use Rattle.read_footprint.specs.Bits.{has_bit}
@@ -27,14 +29,19 @@ both x y h k = elim (two x h) [
 pub has_either : (a b place : ℕ) → has_bit (bit_or a b) place ≡ (has_bit a place || has_bit b place)
 has_either a b place = ap (λ bit. bit == 1) (bit_at_or a b place) ∙ either _ _ (bit_at-lt a place) (bit_at-lt b place)
 
-has_without : (a b place : ℕ) → b < 2 ^ 64 → place < 64 → has_bit (bit_and a (2 ^ 64 - 1 - b)) place ≡ (has_bit a place && not (has_bit b place))
+has_without : (a b place : ℕ) → b < 2 ^ 64 → place < 64
+    → has_bit (bit_and a (2 ^ 64 - 1 - b)) place ≡ (has_bit a place && not (has_bit b place))
 has_without a b place small inside =
-    ap (λ bit. bit == 1) (bit_at_and a (2 ^ 64 - 1 - b) place ∙ ap (min (bit_at a place)) (bit_at_not w64 b place small inside))
+    ap (λ bit. bit == 1)
+    (bit_at_and a (2 ^ 64 - 1 - b) place ∙ ap (min (bit_at a place)) (bit_at_not w64 b place small inside))
     ∙ both _ _ (bit_at-lt a place) (bit_at-lt b place)
 
-pub has_later : (a b w place : ℕ) → w < 2 ^ 64 → place < 64 → has_bit (bit_or a (bit_and b (2 ^ 64 - 1 - w))) place ≡ (has_bit a place || (has_bit b place && not (has_bit w place)))
+pub has_later : (a b w place : ℕ) → w < 2 ^ 64 → place < 64
+    → has_bit (bit_or a (bit_and b (2 ^ 64 - 1 - w))) place
+    ≡ (has_bit a place || (has_bit b place && not (has_bit w place)))
 has_later a b w place small inside =
-    has_either a (bit_and b (2 ^ 64 - 1 - w)) place ∙ ap (λ bit. has_bit a place || bit) (has_without b w place small inside)
+    has_either a (bit_and b (2 ^ 64 - 1 - w)) place
+    ∙ ap (λ bit. has_bit a place || bit) (has_without b w place small inside)
 
 pub none_has : (place : ℕ) → has_bit 0 place ≡ false
 none_has place = ap (λ bit. bit == 1) (bit_at-zero place)
@@ -46,14 +53,24 @@ shifted k few =
     rw same (mod-eq_of_lt (omega (arith, below)))
 
 -- the bits of a block from one address up to another
-pub bits_are : (number pa end from to address bits : ℕ) → bits ≡ 2 ^ to - 2 ^ from → from ≡ max pa (number * 64) - number * 64 → to ≡ min end (number * 64 + 64) - number * 64 → address / 64 ≡ number
+pub bits_are : (number pa end from to address bits : ℕ) → bits ≡ 2 ^ to - 2 ^ from
+    → from ≡ max pa (number * 64) - number * 64 → to ≡ min end (number * 64 + 64) - number * 64 → address / 64 ≡ number
     → has_bit bits (address % 64) ≡ (nat_le pa address && nat_lt address end)
 bits_are number pa end from to address bits are is_from is_to here = elim (cases_lt (address % 64) from) [
-  | inl before ↦ ap (λ b. has_bit b (address % 64)) are ∙ ap (λ b. b == 1) (bit_at_mask_below from to (address % 64) before) ∙ sym (rw (lt-leb pa address (omega (arith, before, is_from, here))) refl)
+  | inl before ↦
+      ap (λ b. has_bit b (address % 64)) are ∙ ap (λ b. b == 1) (bit_at_mask_below from to (address % 64) before)
+      ∙ sym (rw (lt-leb pa address (omega (arith, before, is_from, here))) refl)
   | inr after ↦ elim (cases_lt (address % 64) to) [
-    | inl inside ↦ ap (λ b. has_bit b (address % 64)) are ∙ ap (λ b. b == 1) (bit_at_mask_inside from to (address % 64) after inside)
-        ∙ sym (rw (le-leb pa address (omega (arith, after, is_from, here)), lt-ltb address end (omega (arith, inside, is_to, here))) refl)
-    | inr beyond ↦ ap (λ b. has_bit b (address % 64)) are ∙ ap (λ b. b == 1) (bit_at_mask_above from to (address % 64) beyond)
+    | inl inside ↦
+        ap (λ b. has_bit b (address % 64)) are
+        ∙ ap (λ b. b == 1) (bit_at_mask_inside from to (address % 64) after inside)
+        ∙ sym
+        (rw (
+          le-leb pa address (omega (arith, after, is_from, here)),
+          lt-ltb address end (omega (arith, inside, is_to, here)),
+        ) refl)
+    | inr beyond ↦
+        ap (λ b. has_bit b (address % 64)) are ∙ ap (λ b. b == 1) (bit_at_mask_above from to (address % 64) beyond)
         ∙ sym (rw (le-ltb address end (omega (arith, beyond, is_to, here))) (and_false (nat_le pa address)))
   ]
 ]

@@ -7,7 +7,7 @@ use Rattle.hart_words.specs.declared.accesses.Write.{Write}
 use Rattle.hart_words.specs.Memory.{Bytes, is_within}
 
 -- what one row read from memory, and what it wrote, both in order
-pub record Touched : Type 0 where
+pub record Accesses : Type 0 where
   pub reads : List Read
   pub wrote : List Write
 
@@ -25,11 +25,11 @@ abbrev pub is_written : List Write → ℕ → Bool
 is_written writes address = list_any (λ write. is_within write.pa write.len address) writes
 
 -- what rows wrote, in order
-abbrev pub writes_of : List Touched → List Write
+abbrev pub writes_of : List Accesses → List Write
 writes_of rows = flat_map (λ row. row.wrote) rows
 
 -- the bytes that rows read and no earlier row of them wrote; a row reads before it writes
-unfoldable pub footprint_of : List Touched → List ℕ
+unfoldable pub footprint_of : List Accesses → List ℕ
 footprint_of [] = []
 footprint_of (row ∷ rows) =
     bytes_read row.reads ++ filter (λ address. not (is_written row.wrote address)) (footprint_of rows)

@@ -1,5 +1,8 @@
 -- Footprints in the first page of memory, in tests.
-use Rattle.std.specs.Prelude.{◌≡◌, ℕ, ◌<◌, true}
+use Rattle.std.specs.Prelude.{◌≡◌, ℕ, ◌<◌, true, List, All, length, slice_index_or}
+use Rattle.std.proofs.Common.{inl, inr, lit<}
+use Rattle.std.proofs.Math.ListN.{get_or-eq_default}
+use Rattle.std.proofs.lemmas.Bool.{cases_lt}
 use Rattle.read_footprint.specs.declared.footprint.Footprint.{Footprint}
 use Rattle.read_footprint.specs.Sets.{has_read, has_written}
 
@@ -7,3 +10,10 @@ use Rattle.read_footprint.specs.Sets.{has_read, has_written}
 pub record IsLow (footprint : Footprint) : Type 0 where
   pub read : (address : ℕ) → has_read footprint address ≡ true → address < 4096
   pub wrote : (address : ℕ) → has_written footprint address ≡ true → address < 4096
+
+-- each value of a list of bytes is one, and so is 0 after them
+pub byte_at : (bytes : List ℕ) → All (λ byte. byte < 256) bytes → (at : ℕ) → slice_index_or bytes at 0 < 256
+byte_at bytes are at = elim (cases_lt at (length bytes)) [
+  | inl below ↦ are at 0 below
+  | inr past ↦ rw (get_or-eq_default bytes 0 past) (lit< tt)
+]

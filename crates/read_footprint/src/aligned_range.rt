@@ -38,7 +38,7 @@ impl AlignedRange {
 
     /// Whether it is a number of 1, 2, 4 or 8 bytes that all count.
     pub fn is_number(self) -> bool
-        ensures few { result ≡ true → self.power ≤ 3 }
+        ensures at_most_3 { result ≡ true → self.power ≤ 3 }
         ensures all { result ≡ true → (k : ℕ) → k < 2 ^ self.power → has_bit self.bits k ≡ true }
         ensures one { result ≡ false → self.power ≡ 0 → self.bits ≡ 0 }
     {
@@ -49,7 +49,7 @@ impl AlignedRange {
     fn half(self) -> u64
         requires { 1 ≤ self.power }
         ensures is { result ≡ 2 ^ (self.power - 1) }
-        ensures few { result ≤ 32 }
+        ensures at_most_32 { result ≤ 32 }
     {
         1 << (self.power - 1)
     }

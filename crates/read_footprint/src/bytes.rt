@@ -4,7 +4,7 @@ ghost use Rattle.std.specs.Prelude.{◌≡◌, ◌≤◌, ◌<◌, ◌^◌, ℕ,
 ghost use Rattle.std.specs.Bool.{Decides};
 ghost use Rattle.read_footprint.specs.Bits.{has_bit};
 ghost use Rattle.read_footprint.specs.Ranges.{AreCounted, counts};
-ghost use Rattle.read_footprint.specs.Sets.{AreIn, ArePartlyMoved, has_byte};
+ghost use Rattle.read_footprint.specs.Sets.{AreIn, ArePartlyMoved, block_has_byte};
 
 use crate::aligned_range::AlignedRange;
 use crate::block::BLOCK_SIZE;
@@ -14,7 +14,7 @@ use hart_words::{NoMemory, PhysMem};
 pub fn same_bytes<M: PhysMem, N: PhysMem>(one: &M, other: &N, number: u64, bits: u64) -> bool
     requires one { AreIn (M.ram one.now) number bits }
     requires other { AreIn (N.ram other.now) number bits }
-    ensures { Decides result ((address : ℕ) → has_byte number bits address ≡ true
+    ensures { Decides result ((address : ℕ) → block_has_byte number bits address ≡ true
         → N.bytes other.now address ≡ M.bytes one.now address) }
 {
     match block_range(number, bits) {
@@ -32,9 +32,9 @@ pub fn move_bytes<M: PhysMem, N: PhysMem>(
 ) -> Result<(), NoMemory>
     requires memory { AreIn (M.ram memory.old) number bits }
     requires judged { AreIn (N.ram judged.now) number bits }
-    ensures ok { OnOk result ((address : ℕ) → has_byte number bits address ≡ true
+    ensures ok { OnOk result ((address : ℕ) → block_has_byte number bits address ≡ true
         → M.bytes memory.new address ≡ N.bytes judged.now address) }
-    ensures either { ArePartlyMoved (has_byte number bits) (N.bytes judged.now)
+    ensures either { ArePartlyMoved (block_has_byte number bits) (N.bytes judged.now)
         (M.bytes memory.old) (M.bytes memory.new) }
     ensures ram { M.ram memory.new ≡ M.ram memory.old }
 {
@@ -46,8 +46,8 @@ pub fn move_bytes<M: PhysMem, N: PhysMem>(
 
 /// The bytes of a block, or none where they have no addresses of 64 bits.
 fn block_range(number: u64, bits: u64) -> Option<AlignedRange>
-    ensures some { IfSome result (λ range. (address : ℕ)
-        → counts range address ≡ has_byte number bits address) }
+    ensures inside { IfSome result (λ range. (address : ℕ)
+        → counts range address ≡ block_has_byte number bits address) }
     ensures none { result ≡ None → 2 ^ 58 ≤ number }
 {
     let pa = number.checked_mul(BLOCK_SIZE)?;
@@ -99,7 +99,7 @@ fn move_range<M: PhysMem, N: PhysMem>(
 
 /// Whether two memories have the same number in a range all of whose bytes count.
 fn same_number<M: PhysMem, N: PhysMem>(one: &M, other: &N, range: AlignedRange) -> bool
-    requires few { range.power ≤ 3 }
+    requires at_most_3 { range.power ≤ 3 }
     requires all { (k : ℕ) → k < 2 ^ range.power → has_bit range.bits k ≡ true }
     requires one { AreCounted (M.ram one.now) range }
     requires other { AreCounted (N.ram other.now) range }
@@ -116,7 +116,7 @@ fn move_number<M: PhysMem, N: PhysMem>(
     judged: &N,
     range: AlignedRange,
 ) -> Result<(), NoMemory>
-    requires few { range.power ≤ 3 }
+    requires at_most_3 { range.power ≤ 3 }
     requires all { (k : ℕ) → k < 2 ^ range.power → has_bit range.bits k ≡ true }
     requires memory { AreCounted (M.ram memory.old) range }
     requires judged { AreCounted (N.ram judged.now) range }

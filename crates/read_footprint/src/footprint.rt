@@ -23,12 +23,12 @@ impl Footprint {
     ghost use Rattle.hart_words.specs.declared.accesses.Read.{Read};
     ghost use Rattle.hart_words.specs.declared.accesses.Write.{Write};
     ghost use Rattle.read_footprint.specs.Bits.{has_bit};
-    ghost use Rattle.read_footprint.specs.Footprints.{Touched, agree, footprint_of, is_written, moved, writes_of};
-    ghost use Rattle.read_footprint.specs.Sets.{ArePartlyMoved, IsAsBefore, IsNarrow, IsOf, IsWithin, has_read, has_written, is_read, Notes};
+    ghost use Rattle.read_footprint.specs.Footprints.{Accesses, agree, footprint_of, is_written, moved, writes_of};
+    ghost use Rattle.read_footprint.specs.Sets.{ArePartlyMoved, IsAsBefore, IsNarrow, IsFootprintOf, LiesInRam, has_read, has_written, is_read, Notes};
 
     /// Nothing read or written. It takes no memory.
     pub fn empty(alloc: Global) -> Footprint
-        ensures none { IsOf result [] }
+        ensures none { IsFootprintOf result [] }
         ensures read { (address : ℕ) → has_read result address ≡ false }
         ensures wrote { (address : ℕ) → has_written result address ≡ false }
     {
@@ -46,8 +46,8 @@ impl Footprint {
             || (is_read seen.now address && not (has_written self.old address)))) }
         ensures wrote { OnOk result ((address : ℕ) → has_written self.new address
             ≡ (has_written self.old address || is_written wrote.now address)) }
-        ensures rows { OnOk result ((rows : List Touched) → IsOf self.old rows
-            → IsOf self.new (rows ++ record { reads = seen.now; wrote = wrote.now } ∷ [])) }
+        ensures rows { OnOk result ((rows : List Accesses) → IsFootprintOf self.old rows
+            → IsFootprintOf self.new (rows ++ record { reads = seen.now; wrote = wrote.now } ∷ [])) }
         ensures err { OnErr result (IsAsBefore self.old self.new) }
     {
         let reads = seen.as_slice();
@@ -61,11 +61,11 @@ impl Footprint {
 
     /// Whether two memories agree on each byte that was read.
     pub fn agree<M: PhysMem, N: PhysMem>(&self, one: &M, other: &N) -> bool
-        requires one { IsWithin (M.ram one.now) self.now }
-        requires other { IsWithin (N.ram other.now) self.now }
+        requires one { LiesInRam (M.ram one.now) self.now }
+        requires other { LiesInRam (N.ram other.now) self.now }
         ensures same { Decides result ((address : ℕ) → has_read self.now address ≡ true
             → N.bytes other.now address ≡ M.bytes one.now address) }
-        ensures rows { (rows : List Touched) → IsOf self.now rows
+        ensures rows { (rows : List Accesses) → IsFootprintOf self.now rows
             → result ≡ agree (M.bytes one.now) (N.bytes other.now) (footprint_of rows) }
     {
         for (number, block) in self.blocks.iter() {
@@ -79,12 +79,12 @@ impl Footprint {
     /// Makes each byte that was written what it is in another memory. A refused call leaves each
     /// byte as it was or as it is there.
     pub fn moved<M: PhysMem, N: PhysMem>(&self, memory: &mut M, judged: &N) -> Result<(), NoMemory>
-        requires memory { IsWithin (M.ram memory.old) self.now }
-        requires judged { IsWithin (N.ram judged.now) self.now }
+        requires memory { LiesInRam (M.ram memory.old) self.now }
+        requires judged { LiesInRam (N.ram judged.now) self.now }
         ensures ok { OnOk result ((address : ℕ) → M.bytes memory.new address
             ≡ (if has_written self.now address then N.bytes judged.now address
             else M.bytes memory.old address)) }
-        ensures rows { OnOk result ((rows : List Touched) → IsOf self.now rows → M.bytes memory.new
+        ensures rows { OnOk result ((rows : List Accesses) → IsFootprintOf self.now rows → M.bytes memory.new
             ≡ moved (writes_of rows) (N.bytes judged.now) (M.bytes memory.old)) }
         ensures either { ArePartlyMoved (has_written self.now) (N.bytes judged.now)
             (M.bytes memory.old) (M.bytes memory.new) }

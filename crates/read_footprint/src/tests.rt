@@ -1,4 +1,5 @@
 ghost use Rattle.std.specs.Prelude.{◌≡◌, ◌≤◌, ◌<◌, ◌+◌, ◌^◌, IfOk};
+ghost use Rattle.std.specs.List.{All};
 ghost use Rattle.read_footprint.specs.LowMemory.{IsLow};
 
 use super::*;
@@ -14,11 +15,12 @@ struct Low {
     ram: Span,
     bytes: Vec<u8>,
     ghost start: { ram.base ≡ 0 },
+    ghost small: { All (λ byte. byte < 256) bytes.items },
 }
 
 impl Low {
     ghost use Rattle.std.specs.Prelude.{length, slice_index_or};
-    ghost use Rattle.hart_words.specs.Memory.{number_at, stored};
+    ghost use Rattle.hart_words.specs.Memory.{number_at, bytes_after_store};
     ghost use Rattle.std.specs.Prelude.{◌≡◌, ◌≤◌, ◌<◌, ◌+◌, ◌*◌, ◌^◌, ℕ};
 
     /// The byte at an address.
@@ -33,7 +35,7 @@ impl Low {
 
     /// The number of `len` bytes at an address.
     fn number(&self, pa: u64, len: u8) -> u64
-        requires few { len ≤ 8 }
+        requires at_most_8 { len ≤ 8 }
         requires narrow { pa + len ≤ 2 ^ 56 }
         ensures value { result ≡ number_at (λ at. slice_index_or self.now.bytes.items at 0) pa len }
         ensures fits { result < 2 ^ (8 * len) }
@@ -50,7 +52,7 @@ impl Low {
     fn put(&mut self, pa: u64, len: u8, value: u64)
         requires { pa + len ≤ length self.old.bytes.items }
         ensures bytes { (λ at. slice_index_or self.new.bytes.items at 0)
-            ≡ stored pa len value (λ at. slice_index_or self.old.bytes.items at 0) }
+            ≡ bytes_after_store pa len value (λ at. slice_index_or self.old.bytes.items at 0) }
         ensures ram { self.new.ram ≡ self.old.ram }
     {
         if len == 0 {
@@ -63,12 +65,15 @@ impl Low {
 
 impl PhysMem for Low {
     ghost use Rattle.std.specs.Prelude.{slice_index_or};
+    ghost use Rattle.read_footprint.specs.LowMemory.{byte_at};
 
     ghost bytes = { λ mem at. slice_index_or mem.bytes.items at 0 };
 
     ghost ram = { λ mem. mem.ram };
 
     ghost is_ready = { λ _ _. ⊥ };
+
+    ghost bytes_are_bytes = { λ mem. byte_at mem.bytes.items mem.small };
 
     fn read(&self, pa: u64, len: u8) -> u64 {
         self.number(pa, len)
@@ -94,6 +99,19 @@ impl PhysMem for Low {
     }
 }
 
+fn is_byte(byte: u8)
+    ensures { byte < 256 }
+{}
+
+/// Tells a proof that these are bytes.
+fn are_bytes(bytes: &[u8])
+    ensures { All (λ byte. byte < 256) bytes.now }
+{
+    for byte in bytes {
+        is_byte(*byte);
+    }
+}
+
 /// A memory of 256 bytes that are all alike, but for one.
 fn alike(rt: &impl Abort, alloc: Global, byte: u8, at: usize, other: u8) -> Result<Low, Fail> {
     let ram = Span::new(0, 0x1000).ok_or("no range")?;
@@ -102,6 +120,7 @@ fn alike(rt: &impl Abort, alloc: Global, byte: u8, at: usize, other: u8) -> Resu
     if let Some(slot) = bytes.get_mut(at) {
         *slot = other;
     }
+    are_bytes(&bytes);
     Ok(Low {
         ram,
         bytes: bytes.to_vec(alloc)?,

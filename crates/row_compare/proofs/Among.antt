@@ -1,5 +1,7 @@
 -- Going over the entries of the table of signals, one after the other.
-use Rattle.std.proofs.Common.{◌≡◌, ◌≢◌, ◌∙◌, ◌⊎◌, inl, inr, sym, ap, refl, subst, ℕ, zero, suc, ◌+◌, ◌<◌, ◌≤◌, ◌==◌, Bool, true, false, ◌&&◌, bit_and, List, [], ◌∷◌, ◌++◌, length, take, drop, get_or, slice_get, Option, Some, None, add-one, arith}
+use Rattle.std.proofs.Common.{◌≡◌, ◌≢◌, ◌∙◌, ◌⊎◌, inl, inr, sym, ap, refl, subst, ℕ, zero, suc, ◌+◌, ◌<◌, ◌≤◌, ◌==◌}
+use Rattle.std.proofs.Common.{Bool, true, false, ◌&&◌, bit_and, List, [], ◌∷◌, ◌++◌, length, take, drop, get_or}
+use Rattle.std.proofs.Common.{slice_get, Option, Some, None, add-one, arith}
 use Rattle.std.specs.Prelude.{if◌then◌else◌, ◌||◌, option_map}
 use Rattle.std.specs.List.{list_all, list_any}
 use Rattle.std.specs.Option.{is_some, option_or}
@@ -14,21 +16,23 @@ use Rattle.hart_words.specs.Signals.{Shown, index_of, signal_entry_of}
 use Rattle.hart_words.proofs.SignalTable.{stands_at_its_index}
 use Rattle.rvfi_rows.specs.Rows.{is_csr, shows_csr}
 use Rattle.rvfi_rows.specs.declared.expected.Retired.{Retired}
-use Rattle.row_compare.specs.declared.wanted.Wanted.{Wanted}
-use Rattle.row_compare.specs.Signals.{wanted}
+use Rattle.row_compare.specs.declared.expected_signal.ExpectedSignal.{ExpectedSignal}
+use Rattle.row_compare.specs.Signals.{expected_signal}
 use Rattle.row_compare.specs.Difference.{difference_between, difference_of, first_among, signal_difference}
 use Rattle.row_compare.specs.Laws.{IsOfShownSignal, DiffersWhereShown, AgreesInAll}
 
 -- ---- one entry after the other
 
-pub among-next : (retired : Retired) (shown : Shown) (entries : List SignalEntry) (i : ℕ) (d : SignalEntry) (here all : Option Difference) → i < length entries
+pub among-next : (retired : Retired) (shown : Shown) (entries : List SignalEntry) (i : ℕ) (d : SignalEntry)
+    (here all : Option Difference) → i < length entries
     → here ≡ signal_difference retired shown (get_or entries i d).signal
     → first_among retired shown (drop i entries) ≡ all
     → option_or here (first_among retired shown (drop (i + 1) entries)) ≡ all
 unfolding first_among
 among-next retired shown entries i d here all lt is so_far = rw (is, add-one) (rw (drop-cons entries i d lt) at so_far)
 
-pub among-end : (retired : Retired) (shown : Shown) (entries : List SignalEntry) (i : ℕ) (all : Option Difference) → length entries ≤ i
+pub among-end : (retired : Retired) (shown : Shown) (entries : List SignalEntry) (i : ℕ) (all : Option Difference)
+    → length entries ≤ i
     → first_among retired shown (drop i entries) ≡ all → None ≡ all
 unfolding first_among
 among-end retired shown entries i all le so_far = rw (drop_of_length-le entries le) at so_far
@@ -46,9 +50,11 @@ regroup (Some d) y z = refl
 -- the first that was found before, or else among the entries
 abbrev pub found_then : Retired → Shown → Option Difference → List SignalEntry → Option Difference
 found_then retired shown found [] = found
-found_then retired shown found (entry ∷ entries) = found_then retired shown (option_or found (signal_difference retired shown entry.signal)) entries
+found_then retired shown found (entry ∷ entries) =
+    found_then retired shown (option_or found (signal_difference retired shown entry.signal)) entries
 
-pub written_out : (retired : Retired) (shown : Shown) (found : Option Difference) (entries : List SignalEntry) → found_then retired shown found entries ≡ option_or found (first_among retired shown entries)
+pub written_out : (retired : Retired) (shown : Shown) (found : Option Difference) (entries : List SignalEntry)
+    → found_then retired shown found entries ≡ option_or found (first_among retired shown entries)
 unfolding first_among
 written_out retired shown found [] = nothing_more found
 written_out retired shown found (entry ∷ entries) =
@@ -58,63 +64,83 @@ written_out retired shown found (entry ∷ entries) =
 -- ---- entries that no row shows
 
 in_parts : (retired : Retired) (shown : Shown) (front back : List SignalEntry)
-    → first_among retired shown (front ++ back) ≡ option_or (first_among retired shown front) (first_among retired shown back)
+    → first_among retired shown (front ++ back)
+    ≡ option_or (first_among retired shown front) (first_among retired shown back)
 unfolding first_among
 in_parts retired shown [] back = refl
 in_parts retired shown (entry ∷ front) back =
     ap (option_or (signal_difference retired shown entry.signal)) (in_parts retired shown front back)
-    ∙ regroup (signal_difference retired shown entry.signal) (first_among retired shown front) (first_among retired shown back)
+    ∙ regroup (signal_difference retired shown entry.signal) (first_among retired shown front)
+    (first_among retired shown back)
 
 abbrev is_shown_csr : Shown → SignalEntry → Bool
 is_shown_csr shown entry = is_csr entry.signal && is_some (shown entry.signal)
 
-not_shown : (retired : Retired) (shown : Shown) (signal : Signal) (here : Option ℕ) → here ≡ shown signal → is_some here ≡ false → signal_difference retired shown signal ≡ None
+not_shown : (retired : Retired) (shown : Shown) (signal : Signal) (here : Option ℕ) → here ≡ shown signal
+    → is_some here ≡ false → signal_difference retired shown signal ≡ None
 unfolding signal_difference
 not_shown retired shown signal None is hidden = rw (← is) refl
 not_shown retired shown signal (Some value) is hidden = absurd cc
 
-of_csr : (csr some rest others : Bool) → ((csr && some) || rest) ≡ false → (csr && others) ≡ true → (some ≡ false) × (rest ≡ false) × (others ≡ true)
+of_csr : (csr some rest others : Bool) → ((csr && some) || rest) ≡ false → (csr && others) ≡ true
+    → (some ≡ false) × (rest ≡ false) × (others ≡ true)
 of_csr true false false true none all = (refl, refl, refl)
 of_csr true false false false none all = absurd cc
 of_csr true false true others none all = absurd cc
 of_csr true true rest others none all = absurd cc
 of_csr false some rest others none all = absurd cc
 
-none_shown : (retired : Retired) (shown : Shown) (entries : List SignalEntry) → list_any (is_shown_csr shown) entries ≡ false → list_all (λ entry. is_csr entry.signal) entries ≡ true
+none_shown : (retired : Retired) (shown : Shown) (entries : List SignalEntry)
+    → list_any (is_shown_csr shown) entries ≡ false → list_all (λ entry. is_csr entry.signal) entries ≡ true
     → first_among retired shown entries ≡ None
 unfolding first_among
 none_shown retired shown [] none all = refl
 none_shown retired shown (entry ∷ entries) none all =
-    let here = of_csr (is_csr entry.signal) (is_some (shown entry.signal)) (list_any (is_shown_csr shown) entries) (list_all (λ entry. is_csr entry.signal) entries) none all in
-    rw (not_shown retired shown entry.signal (shown entry.signal) refl here.0) (none_shown retired shown entries here.1 here.2)
+    let here =
+    of_csr (is_csr entry.signal) (is_some (shown entry.signal)) (list_any (is_shown_csr shown) entries)
+    (list_all (λ entry. is_csr entry.signal) entries) none all in
+    rw (not_shown retired shown entry.signal (shown entry.signal) refl here.0)
+    (none_shown retired shown entries here.1 here.2)
 
-pub without_csrs : (retired : Retired) (shown : Shown) → shows_csr shown ≡ false → first_among retired shown (take 22 SIGNALS) ≡ first_among retired shown SIGNALS
+pub without_csrs : (retired : Retired) (shown : Shown) → shows_csr shown ≡ false
+    → first_among retired shown (take 22 SIGNALS) ≡ first_among retired shown SIGNALS
 unfolding shows_csr
 without_csrs retired shown none =
-    let rest : first_among retired shown (drop 22 SIGNALS) ≡ None = none_shown retired shown (drop 22 SIGNALS) none refl in
+    let rest : first_among retired shown (drop 22 SIGNALS) ≡ None =
+    none_shown retired shown (drop 22 SIGNALS) none refl in
     nothing_more (first_among retired shown (take 22 SIGNALS))
     ∙ ap (option_or (first_among retired shown (take 22 SIGNALS))) (sym rest)
     ∙ sym (in_parts retired shown (take 22 SIGNALS) (drop 22 SIGNALS))
 
-pub with_csrs : (retired : Retired) (shown : Shown) → option_or (first_among retired shown (take 22 SIGNALS)) (first_among retired shown (drop 22 SIGNALS)) ≡ first_among retired shown SIGNALS
+pub with_csrs : (retired : Retired) (shown : Shown)
+    → option_or (first_among retired shown (take 22 SIGNALS)) (first_among retired shown (drop 22 SIGNALS))
+    ≡ first_among retired shown SIGNALS
 with_csrs retired shown = sym (in_parts retired shown (take 22 SIGNALS) (drop 22 SIGNALS))
 
 -- ---- what a difference is of
 
-either : (here rest : Option Difference) (difference : Difference) → option_or here rest ≡ Some difference → (here ≡ Some difference) ⊎ (rest ≡ Some difference)
+either : (here rest : Option Difference) (difference : Difference) → option_or here rest ≡ Some difference
+    → (here ≡ Some difference) ⊎ (rest ≡ Some difference)
 either None rest difference is = inr is
 either (Some one) rest difference is = inl is
 
-of_values : (signal : Signal) (value : ℕ) (want : Wanted) (difference : Difference) (test : Bool) → (bit_and want.value want.mask == bit_and value want.mask) ≡ test
-    → (if test then None else Some (record { signal = signal; expected = bit_and want.value want.mask; found = bit_and value want.mask })) ≡ Some difference
-    → (difference ≡ record { signal = signal; expected = bit_and want.value want.mask; found = bit_and value want.mask }) × (bit_and want.value want.mask ≢ bit_and value want.mask)
+of_values : (signal : Signal) (value : ℕ) (want : ExpectedSignal) (difference : Difference) (test : Bool)
+    → (bit_and want.value want.mask == bit_and value want.mask) ≡ test
+    → (if test then None else Some
+    (record { signal = signal; expected = bit_and want.value want.mask; found = bit_and value want.mask }))
+    ≡ Some difference
+    → (difference
+    ≡ record { signal = signal; expected = bit_and want.value want.mask; found = bit_and value want.mask })
+    × (bit_and want.value want.mask ≢ bit_and value want.mask)
 of_values signal value want difference true test is = absurd cc
-of_values signal value want difference false test is = elim (eqb_tells (bit_and want.value want.mask) (bit_and value want.mask)) [
-  | inl (same, h) ↦ absurd cc
-  | inr (other, unequal) ↦ (cc, unequal)
-]
+of_values signal value want difference false test is =
+    elim (eqb_tells (bit_and want.value want.mask) (bit_and value want.mask)) [
+      | inl (same, h) ↦ absurd cc
+      | inr (other, unequal) ↦ (cc, unequal)
+    ]
 
-of_signal : (retired : Retired) (shown : Shown) (signal : Signal) (found : Option ℕ) (want : Option Wanted) (difference : Difference) → shown signal ≡ found → wanted retired shown signal ≡ want
+of_signal : (retired : Retired) (shown : Shown) (signal : Signal) (found : Option ℕ) (want : Option ExpectedSignal)
+    (difference : Difference) → shown signal ≡ found → expected_signal retired shown signal ≡ want
     → difference_between signal found want ≡ Some difference → IsOfShownSignal retired shown difference
 of_signal retired shown signal None want difference is_shown is_wanted is = absurd cc
 of_signal retired shown signal (Some value) None difference is_shown is_wanted is = absurd cc
@@ -130,7 +156,8 @@ of_signal retired shown signal (Some value) (Some want) difference is_shown is_w
       unequal = both.1;
     })
 
-of_entries : (retired : Retired) (shown : Shown) (entries : List SignalEntry) (difference : Difference) → first_among retired shown entries ≡ Some difference → IsOfShownSignal retired shown difference
+of_entries : (retired : Retired) (shown : Shown) (entries : List SignalEntry) (difference : Difference)
+    → first_among retired shown entries ≡ Some difference → IsOfShownSignal retired shown difference
 unfolding first_among signal_difference
 of_entries retired shown [] difference is = absurd cc
 of_entries retired shown (entry ∷ entries) difference is = elim (either _ _ difference is) [
@@ -148,22 +175,27 @@ neither : (here rest : Option Difference) → option_or here rest ≡ None → (
 neither None rest is = (refl, is)
 neither (Some one) rest is = absurd cc
 
-none_at : (retired : Retired) (shown : Shown) (entries : List SignalEntry) (i : ℕ) (entry : SignalEntry) → first_among retired shown entries ≡ None → Some entry ≡ slice_get entries i
+none_at : (retired : Retired) (shown : Shown) (entries : List SignalEntry) (i : ℕ) (entry : SignalEntry)
+    → first_among retired shown entries ≡ None → Some entry ≡ slice_get entries i
     → signal_difference retired shown entry.signal ≡ None
 unfolding first_among
 none_at retired shown [] i entry none at = absurd cc
 none_at retired shown (first ∷ entries) zero entry none at =
     let same : entry ≡ first = cc in
     rw same (neither _ _ none).0
-none_at retired shown (first ∷ entries) (suc i) entry none at = none_at retired shown entries i entry (neither _ _ none).1 at
+none_at retired shown (first ∷ entries) (suc i) entry none at =
+    none_at retired shown entries i entry (neither _ _ none).1 at
 
-at_signal : (retired : Retired) (shown : Shown) (signal : Signal) (found : Option SignalEntry) → first_among retired shown SIGNALS ≡ None → found ≡ slice_get SIGNALS (index_of signal)
+at_signal : (retired : Retired) (shown : Shown) (signal : Signal) (found : Option SignalEntry)
+    → first_among retired shown SIGNALS ≡ None → found ≡ slice_get SIGNALS (index_of signal)
     → option_map (λ entry. entry.signal) found ≡ Some signal → signal_difference retired shown signal ≡ None
 at_signal retired shown signal None none at is = absurd cc
 at_signal retired shown signal (Some entry) none at is =
     let same : entry.signal ≡ signal = cc in
-    subst (λ s. signal_difference retired shown s ≡ None) same (none_at retired shown SIGNALS (index_of signal) entry none at)
+    subst (λ s. signal_difference retired shown s ≡ None) same
+    (none_at retired shown SIGNALS (index_of signal) entry none at)
 
 pub agrees_in_all : (retired : Retired) (shown : Shown) → AgreesInAll retired shown
 unfolding difference_of signal_entry_of
-agrees_in_all retired shown none signal = at_signal retired shown signal (slice_get SIGNALS (index_of signal)) none refl (stands_at_its_index signal)
+agrees_in_all retired shown none signal =
+    at_signal retired shown signal (slice_get SIGNALS (index_of signal)) none refl (stands_at_its_index signal)

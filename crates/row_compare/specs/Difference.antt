@@ -10,12 +10,12 @@ use Rattle.hart_words.specs.declared.signal.Difference.{Difference}
 use Rattle.rvfi_rows.specs.declared.expected.Expected.{Expected}
 use Rattle.rvfi_rows.specs.declared.expected.Expected.TheVariants.{Halted, Retired}
 use Rattle.rvfi_rows.specs.declared.expected.Retired.{Retired as Retirement}
-use Rattle.row_compare.specs.declared.wanted.Wanted.{Wanted}
-use Rattle.row_compare.specs.Signals.{wanted}
+use Rattle.row_compare.specs.declared.expected_signal.ExpectedSignal.{ExpectedSignal}
+use Rattle.row_compare.specs.Signals.{expected_signal}
 
 -- a signal differs where it is shown, something is wanted of it, and the two are unequal in the bits of the mask,
 -- which alone are given
-abbrev pub difference_between : Signal → Option ℕ → Option Wanted → Option Difference
+abbrev pub difference_between : Signal → Option ℕ → Option ExpectedSignal → Option Difference
 difference_between signal None want = None
 difference_between signal (Some found) None = None
 difference_between signal (Some found) (Some want) =
@@ -23,12 +23,13 @@ difference_between signal (Some found) (Some want) =
     else Some (record { signal = signal; expected = bit_and want.value want.mask; found = bit_and found want.mask })
 
 unfoldable pub signal_difference : Retirement → Shown → Signal → Option Difference
-signal_difference retired shown signal = difference_between signal (shown signal) (wanted retired shown signal)
+signal_difference retired shown signal = difference_between signal (shown signal) (expected_signal retired shown signal)
 
 -- the first of entries whose signal differs
 unfoldable pub first_among : Retirement → Shown → List SignalEntry → Option Difference
 first_among retired shown [] = None
-first_among retired shown (entry ∷ entries) = option_or (signal_difference retired shown entry.signal) (first_among retired shown entries)
+first_among retired shown (entry ∷ entries) =
+    option_or (signal_difference retired shown entry.signal) (first_among retired shown entries)
 
 -- the table of signals is in the order of comparison; a valid row counts as showing `valid` as 1
 unfoldable pub difference_of : Expected → Shown → Option Difference

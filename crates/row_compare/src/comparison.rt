@@ -6,8 +6,8 @@ ghost use Rattle.hart_words.specs.declared.signal.TheConstants.{SIGNALS};
 ghost use Rattle.rvfi_rows.specs.declared.row.TheConstants.{FIRST_CSR};
 ghost use Rattle.row_compare.specs.Difference.{difference_between, difference_of, first_among, signal_difference};
 
-use crate::signals::wanted;
-use crate::wanted::Wanted;
+use crate::expected_signal::ExpectedSignal;
+use crate::signals::expected_signal;
 use hart_words::{Difference, SIGNALS, Signal, SignalEntry};
 use rvfi_rows::{Expected, FIRST_CSR, Retired, Row};
 
@@ -89,7 +89,7 @@ fn signal_difference(retired: &Retired, row: &Row, signal: Signal) -> Option<Dif
 {
     match row.shown(signal) {
         None => None,
-        Some(found) => match wanted(retired, row, signal) {
+        Some(found) => match expected_signal(retired, row, signal) {
             None => None,
             Some(want) => difference_between(signal, found, want),
         },
@@ -97,7 +97,7 @@ fn signal_difference(retired: &Retired, row: &Row, signal: Signal) -> Option<Dif
 }
 
 /// The difference in the bits of the mask.
-fn difference_between(signal: Signal, found: u64, want: Wanted) -> Option<Difference>
+fn difference_between(signal: Signal, found: u64, want: ExpectedSignal) -> Option<Difference>
     ensures { result ≡ difference_between signal (Some found) (Some want) }
 {
     let expected = want.value & want.mask;

@@ -4,13 +4,10 @@ ghost use Rattle.std.specs.Prelude.{◌≡◌};
 ghost use Rattle.rvfi_rows.specs.Cells.{shown_in};
 ghost use Rattle.row_compare.specs.Csrs.{mask_shown, shows_seip, left_out_before, left_out_after, bits_before, bits_after};
 
-use csr_file::fields::{MEIP, MSIP, MTIP, SEIP};
+use csr_file::fields::{LINE_BITS, SEIP};
 use csr_file::has_bit;
 use hart_words::{CsrName, CsrSide, Signal};
 use rvfi_rows::Row;
-
-/// The bits of mip that may be lines from outside.
-const LINE_BITS: u64 = 1 << MSIP | 1 << MTIP | 1 << SEIP | 1 << MEIP;
 
 const SEIP_BIT: u64 = 1 << SEIP;
 

@@ -3,24 +3,24 @@
 ghost use Rattle.std.specs.Prelude.{◌≡◌, option_copied};
 ghost use Rattle.hart_words.specs.declared.signal.Signal.TheVariants.{Csr};
 ghost use Rattle.rvfi_rows.specs.Cells.{shown_in};
-ghost use Rattle.row_compare.specs.Signals.{access_in, effects_in, is_call_or_breakpoint, wanted, wanted_trap};
+ghost use Rattle.row_compare.specs.Signals.{access_in, effects_in, is_call_or_breakpoint, expected_signal, expected_trap};
 
 use crate::csrs::{bits_after, bits_before};
+use crate::expected_signal::{ExpectedSignal, where_known, whole};
 use crate::memory::{
-    wanted_address, wanted_physical, wanted_read, wanted_read_mask, wanted_write_mask,
-    wanted_written,
+    expected_address, expected_physical, expected_read, expected_read_mask, expected_write,
+    expected_write_mask,
 };
 use crate::sources::{source_read, source_value};
-use crate::wanted::{Wanted, where_known, whole};
 use hart_words::{Cause, CsrName, CsrSide, Signal};
 use rvfi_rows::{Accessed, Effects, Retired, Row};
 
 /// What is wanted of a signal of the row; it is `None` where the signal is free. Of an instruction
 /// that traps all that it would have done is free.
 #[inline(always)]
-#[tactic(auto, unfolding(crate::specs::Signals::wanted))]
-pub fn wanted(retired: &Retired, row: &Row, signal: Signal) -> Option<Wanted>
-    ensures { result ≡ wanted retired.now (shown_in row.now) signal }
+#[tactic(auto, unfolding(crate::specs::Signals::expected_signal))]
+pub fn expected_signal(retired: &Retired, row: &Row, signal: Signal) -> Option<ExpectedSignal>
+    ensures { result ≡ expected_signal retired.now (shown_in row.now) signal }
 {
     let effects = effects_in(&retired.effects);
     let access = access_in(&retired.effects);
@@ -33,7 +33,7 @@ pub fn wanted(retired: &Retired, row: &Row, signal: Signal) -> Option<Wanted>
         Signal::PcRdata => whole(retired.pc),
         Signal::Mode => whole(u64::from(retired.mode.number())),
         Signal::Ixl => whole(2),
-        Signal::Trap => wanted_trap(&retired.effects),
+        Signal::Trap => expected_trap(&retired.effects),
         Signal::Insn => where_known(retired.insn),
         Signal::Rs1Addr => where_known(source_read(effects?.rs1)),
         Signal::Rs1Rdata => {
@@ -48,28 +48,33 @@ pub fn wanted(retired: &Retired, row: &Row, signal: Signal) -> Option<Wanted>
         Signal::RdAddr => whole(u64::from(effects?.rd)),
         Signal::RdWdata => whole(effects?.rd_value),
         Signal::PcWdata => whole(effects?.next_pc),
-        Signal::MemAddr => wanted_address(access?, address),
-        Signal::MemRmask => wanted_read_mask(access?, address),
-        Signal::MemRdata => wanted_read(access?, address),
-        Signal::MemWmask => wanted_write_mask(&effects?.access, address),
-        Signal::MemWdata => wanted_written(access?, address),
-        Signal::MemPaddr => wanted_physical(access?, address),
-        Signal::Csr(name, side) => wanted_csr(retired, row, name, side),
+        Signal::MemAddr => expected_address(access?, address),
+        Signal::MemRmask => expected_read_mask(access?, address),
+        Signal::MemRdata => expected_read(access?, address),
+        Signal::MemWmask => expected_write_mask(&effects?.access, address),
+        Signal::MemWdata => expected_write(access?, address),
+        Signal::MemPaddr => expected_physical(access?, address),
+        Signal::Csr(name, side) => expected_csr(retired, row, name, side),
     }
 }
 
 /// Of a register the value before the instruction and the one after the row, as traces show it.
-#[tactic(auto, unfolding(crate::specs::Signals::wanted))]
-fn wanted_csr(retired: &Retired, row: &Row, name: CsrName, side: CsrSide) -> Option<Wanted>
-    ensures { result ≡ wanted retired.now (shown_in row.now) (Csr name side) }
+#[tactic(auto, unfolding(crate::specs::Signals::expected_signal))]
+fn expected_csr(
+    retired: &Retired,
+    row: &Row,
+    name: CsrName,
+    side: CsrSide,
+) -> Option<ExpectedSignal>
+    ensures { result ≡ expected_signal retired.now (shown_in row.now) (Csr name side) }
 {
     match side {
         CsrSide::Rmask | CsrSide::Wmask => None,
-        CsrSide::Rdata => Some(Wanted {
+        CsrSide::Rdata => Some(ExpectedSignal {
             value: retired.csrs_before.shown(name, retired.lines),
             mask: bits_before(name, row),
         }),
-        CsrSide::Wdata => Some(Wanted {
+        CsrSide::Wdata => Some(ExpectedSignal {
             value: retired.csrs_after.shown(name, retired.lines),
             mask: bits_after(name, row),
         }),
@@ -77,8 +82,8 @@ fn wanted_csr(retired: &Retired, row: &Row, name: CsrName, side: CsrSide) -> Opt
 }
 
 /// A trap shows 1, unless cores differ in whether it is one.
-fn wanted_trap(effects: &Result<Effects, Cause>) -> Option<Wanted>
-    ensures { result ≡ wanted_trap effects.now }
+fn expected_trap(effects: &Result<Effects, Cause>) -> Option<ExpectedSignal>
+    ensures { result ≡ expected_trap effects.now }
 {
     match effects {
         Ok(_) => whole(0),

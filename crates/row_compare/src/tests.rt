@@ -31,13 +31,13 @@ fn differs(
     cases: &[Case],
 ) -> Result<(), Fail> {
     for (columns, fields, difference) in cases {
-        let wanted = difference.map(|(signal, expected, found)| Difference {
+        let expected_signal = difference.map(|(signal, expected, found)| Difference {
             signal,
             expected,
             found,
         });
         let found = difference_in(alloc, expected, *columns, *fields)?;
-        assert_eq!(rt; found, wanted, "{columns}: {fields}");
+        assert_eq!(rt; found, expected_signal, "{columns}: {fields}");
     }
     Ok(())
 }

@@ -5,7 +5,7 @@ use Rattle.std.specs.Int.Signed.{≤ℤ_refl}
 use Rattle.std.proofs.lemmas.Bool.{cases_lt}
 use Rattle.std.proofs.lemmas.Int.{ints}
 use Rattle.rv_decode.specs.declared.operation.Width.{Width}
-use Rattle.rv_atomic.specs.Operations.{signed_at, combined}
+use Rattle.rv_atomic.specs.Operations.{signed_at, combination_of}
 use Rattle.rv_atomic.specs.Extremes.{AreExtremes, IsEither}
 
 either : (b : Bool) (x y : ℕ) → IsEither x y (if b then y else x)
@@ -18,11 +18,13 @@ less u v e = grind (arith, ints)
 not_less_then : (u v : ℤ) → false ≡ int_lt u v → v ≤ℤ u
 not_less_then u v e = grind (arith, ints)
 
-not_greater : (f : ℕ → ℤ) (b : Bool) (x y : ℕ) → b ≡ int_lt (f y) (f x) → (f (if b then y else x) ≤ℤ f x) × (f (if b then y else x) ≤ℤ f y)
+not_greater : (f : ℕ → ℤ) (b : Bool) (x y : ℕ) → b ≡ int_lt (f y) (f x)
+    → (f (if b then y else x) ≤ℤ f x) × (f (if b then y else x) ≤ℤ f y)
 not_greater f true x y e = (less _ _ e, ≤ℤ_refl (f y))
 not_greater f false x y e = (≤ℤ_refl (f x), not_less_then _ _ e)
 
-not_less : (f : ℕ → ℤ) (b : Bool) (x y : ℕ) → b ≡ int_lt (f x) (f y) → (f x ≤ℤ f (if b then y else x)) × (f y ≤ℤ f (if b then y else x))
+not_less : (f : ℕ → ℤ) (b : Bool) (x y : ℕ) → b ≡ int_lt (f x) (f y)
+    → (f x ≤ℤ f (if b then y else x)) × (f y ≤ℤ f (if b then y else x))
 not_less f true x y e = (less _ _ e, ≤ℤ_refl (f y))
 not_less f false x y e = (≤ℤ_refl (f x), not_less_then _ _ e)
 
@@ -33,7 +35,7 @@ either_max : (x y : ℕ) → IsEither x y (max x y)
 either_max x y = elim (cases_lt x y) [ inl under ↦ inr (omega arith) | inr over ↦ inl (omega arith) ]
 
 pub extremes : (width : Width) (x y : ℕ) → AreExtremes width x y
-unfolding combined
+unfolding combination_of
 extremes width x y =
     let least = not_greater (signed_at width) (int_lt (signed_at width y) (signed_at width x)) x y refl in
     let greatest = not_less (signed_at width) (int_lt (signed_at width x) (signed_at width y)) x y refl in

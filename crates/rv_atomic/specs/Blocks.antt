@@ -1,5 +1,6 @@
 -- What a reservation covers.
--- From the Unprivileged ISA's chapter "A Extension for Atomic Instructions"; its reservation set is an aligned block here.
+-- From the Unprivileged ISA's chapter "A Extension for Atomic Instructions"; its reservation set is an aligned block
+-- here.
 use Rattle.std.specs.Prelude.{◌≡◌, ℕ, ◌+◌, ◌-◌, ◌/◌, ◌<◌, Bool, false, ◌&&◌, ◌==◌, Option, Some, None}
 use Rattle.rv_atomic.specs.declared.reservation.TheConstants.{BLOCK_SIZE}
 

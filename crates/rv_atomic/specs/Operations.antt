@@ -7,7 +7,8 @@ use Rattle.rv_decode.specs.Widths.{size_of}
 use Rattle.rv_decode.specs.declared.operation.Width.{Width}
 use Rattle.rv_decode.specs.declared.operation.Width.TheVariants.{Word, Doubleword}
 use Rattle.rv_decode.specs.declared.operation.AmoOp.{AmoOp}
-use Rattle.rv_decode.specs.declared.operation.AmoOp.TheVariants.{Amoswap, Amoadd, Amoxor, Amoand, Amoor, Amomin, Amomax, Amominu, Amomaxu}
+use Rattle.rv_decode.specs.declared.operation.AmoOp.TheVariants.{Amoswap, Amoadd, Amoxor, Amoand, Amoor, Amomin, Amomax}
+use Rattle.rv_decode.specs.declared.operation.AmoOp.TheVariants.{Amominu, Amomaxu}
 
 -- the bits that an instruction of a width works on
 abbrev pub width_bits : Width → ℕ
@@ -19,17 +20,17 @@ signed_at Word x = cast_signed w32 x
 signed_at Doubleword x = cast_signed w64 x
 
 -- what memory held, combined with the register's value, both of the width's bits
-unfoldable pub combined : AmoOp → Width → ℕ → ℕ → ℕ
-combined Amoswap width x y = y
-combined Amoadd width x y = (x + y) % 2 ^ width_bits width
-combined Amoxor width x y = bit_xor x y
-combined Amoand width x y = bit_and x y
-combined Amoor width x y = bit_or x y
-combined Amomin width x y = if int_lt (signed_at width y) (signed_at width x) then y else x
-combined Amomax width x y = if int_lt (signed_at width x) (signed_at width y) then y else x
-combined Amominu width x y = min x y
-combined Amomaxu width x y = max x y
+unfoldable pub combination_of : AmoOp → Width → ℕ → ℕ → ℕ
+combination_of Amoswap width x y = y
+combination_of Amoadd width x y = (x + y) % 2 ^ width_bits width
+combination_of Amoxor width x y = bit_xor x y
+combination_of Amoand width x y = bit_and x y
+combination_of Amoor width x y = bit_or x y
+combination_of Amomin width x y = if int_lt (signed_at width y) (signed_at width x) then y else x
+combination_of Amomax width x y = if int_lt (signed_at width x) (signed_at width y) then y else x
+combination_of Amominu width x y = min x y
+combination_of Amomaxu width x y = max x y
 
 -- the low bits of both, combined
 unfoldable pub amo_of : AmoOp → Width → ℕ → ℕ → ℕ
-amo_of op width old b = combined op width (old % 2 ^ width_bits width) (b % 2 ^ width_bits width)
+amo_of op width old b = combination_of op width (old % 2 ^ width_bits width) (b % 2 ^ width_bits width)

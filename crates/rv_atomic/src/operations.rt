@@ -2,7 +2,7 @@
 
 ghost use Rattle.std.specs.Prelude.{◌≡◌, ◌<◌, ◌%◌, ◌^◌};
 ghost use Rattle.rv_decode.specs.declared.operation.Width.TheVariants.{Word, Doubleword};
-ghost use Rattle.rv_atomic.specs.Operations.{amo_of, combined, width_bits};
+ghost use Rattle.rv_atomic.specs.Operations.{amo_of, combination_of, width_bits};
 
 use rv_decode::{AmoOp, Width};
 
@@ -27,9 +27,9 @@ fn low_word(x: u64) -> u32
     (x % (1 << 32)) as u32
 }
 
-#[tactic(auto, unfolding(crate::specs::Operations::combined))]
+#[tactic(auto, unfolding(crate::specs::Operations::combination_of))]
 fn combine_words(op: AmoOp, low_old: u32, low_b: u32) -> u32
-    ensures { result ≡ combined op Word low_old low_b }
+    ensures { result ≡ combination_of op Word low_old low_b }
 {
     match op {
         AmoOp::Amoswap => low_b,
@@ -45,9 +45,9 @@ fn combine_words(op: AmoOp, low_old: u32, low_b: u32) -> u32
     }
 }
 
-#[tactic(auto, unfolding(crate::specs::Operations::combined))]
+#[tactic(auto, unfolding(crate::specs::Operations::combination_of))]
 fn combine_doublewords(op: AmoOp, old: u64, b: u64) -> u64
-    ensures { result ≡ combined op Doubleword old b }
+    ensures { result ≡ combination_of op Doubleword old b }
 {
     match op {
         AmoOp::Amoswap => b,

@@ -1,5 +1,6 @@
 -- Rows of which one asks for what the other's fixed bits refuse are never both met.
-use Rattle.std.proofs.Common.{◌≡◌, ℕ, Bool, true, false, not, ◌&&◌, ◌||◌, ◌⊎◌, List, [], ◌∷◌, bit_and, ◌==◌, All, refl, sym, ◌∙◌, ap, arith, get_or, inl, inr, eq-eqb}
+use Rattle.std.proofs.Common.{◌≡◌, ℕ, Bool, true, false, not, ◌&&◌, ◌||◌, ◌⊎◌, List, [], ◌∷◌, bit_and, ◌==◌, All, refl}
+use Rattle.std.proofs.Common.{sym, ◌∙◌, ap, arith, get_or, inl, inr, eq-eqb}
 use Rattle.std.specs.List.{list_all}
 use Rattle.std.proofs.lemmas.List.Kept.{AllPairs-cons}
 use Rattle.std.proofs.lemmas.Nat.{and_assoc, and_comm}
@@ -48,7 +49,8 @@ differ : (a b : ℕ) → a ≡ b → not (a == b) ≡ true → ⊥
 differ a b same h = grind (arith, nat_tests)
 
 -- what a row fixes, each parcel that meets it has
-had : (row : Pattern) (mask value parcel : ℕ) → bit_and parcel row.mask ≡ row.bits → fixes row mask value ≡ true → (bit_and parcel mask == value) ≡ true
+had : (row : Pattern) (mask value parcel : ℕ) → bit_and parcel row.mask ≡ row.bits → fixes row mask value ≡ true
+    → (bit_and parcel mask == value) ≡ true
 had row mask value parcel met fixed =
     let parts = both (bit_and row.mask mask == mask) (bit_and row.bits mask == value) fixed in
     let inside : bit_and row.mask mask ≡ mask = eqb-true _ _ parts.0 in
@@ -57,7 +59,8 @@ had row mask value parcel met fixed =
     ap (λ m. bit_and parcel m) (sym inside) ∙ sym (and_assoc mask parcel row.mask) ∙ ap (λ m. bit_and m mask) met in
     eq-eqb _ _ (under ∙ here)
 
-fails : (row : Pattern) (condition : Condition) (parcel : ℕ) → bit_and parcel row.mask ≡ row.bits → refuses row condition ≡ true → holds condition parcel ≡ true → ⊥
+fails : (row : Pattern) (condition : Condition) (parcel : ℕ) → bit_and parcel row.mask ≡ row.bits
+    → refuses row condition ≡ true → holds condition parcel ≡ true → ⊥
 fails row Always parcel met refused held = cc
 fails row (NotZero mask) parcel met refused held = neither _ held (had row mask 0 parcel met refused)
 fails row (NotZeroNorX2 mask) parcel met refused held =
@@ -73,8 +76,11 @@ never one other apart parcel here there =
     let second = both (bit_and parcel other.mask == other.bits) (holds other.condition parcel) there in
     let one_met : bit_and parcel one.mask ≡ one.bits = eqb-true _ _ first.0 in
     let other_met : bit_and parcel other.mask ≡ other.bits = eqb-true _ _ second.0 in
-    let left : bit_and one.bits other.mask ≡ bit_and parcel (bit_and one.mask other.mask) = rw (← one_met) (and_assoc other.mask parcel one.mask) in
-    let right : bit_and other.bits one.mask ≡ bit_and parcel (bit_and one.mask other.mask) = rw (← other_met) (and_assoc one.mask parcel other.mask ∙ ap (λ m. bit_and parcel m) (and_comm other.mask one.mask)) in
+    let left : bit_and one.bits other.mask ≡ bit_and parcel (bit_and one.mask other.mask) =
+    rw (← one_met) (and_assoc other.mask parcel one.mask) in
+    let right : bit_and other.bits one.mask ≡ bit_and parcel (bit_and one.mask other.mask) =
+    rw (← other_met)
+    (and_assoc one.mask parcel other.mask ∙ ap (λ m. bit_and parcel m) (and_comm other.mask one.mask)) in
     elim (either (disagree one other) (refuses one other.condition || refuses other one.condition) apart) [
       | inl apart ↦ differ _ _ (left ∙ sym right) apart
       | inr refused ↦ elim (either (refuses one other.condition) (refuses other one.condition) refused) [

@@ -1,5 +1,6 @@
 -- What a row of the listing fixes of a parcel, by the columns that it fills, and which of its parcels are reserved.
--- From the Unprivileged ISA's chapter on the C extension ("Compressed Instruction Formats", "RVC Instruction Set Listings").
+-- From the Unprivileged ISA's chapter on the C extension ("Compressed Instruction Formats", "RVC Instruction Set
+-- Listings").
 use Rattle.std.specs.Prelude.{ℕ, ◌+◌, ◌*◌, ◌^◌, Bool, true, not, ◌&&◌, bit_and, ◌==◌}
 use Rattle.rv_decode.specs.Patterns.{ones}
 use Rattle.rv_compressed.specs.declared.compressed_op.CompressedOp.{CompressedOp}

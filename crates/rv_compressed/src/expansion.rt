@@ -2,7 +2,7 @@
 
 ghost use Rattle.std.specs.Prelude.{◌≡◌, IfSome};
 ghost use Rattle.rv_decode.specs.Operands.{HasEvenOffset, HasRegisters};
-ghost use Rattle.rv_compressed.specs.Table.{expansion_of, expanded, expansion_by, word_of};
+ghost use Rattle.rv_compressed.specs.Table.{expansion_of, expanded_op_of, expansion_by, encoding_of};
 
 use crate::compressed_op::CompressedOp;
 use crate::fields::{
@@ -18,9 +18,9 @@ use rv_decode::{Op, decode};
 /// The instruction that a parcel means, or `None` where it is reserved, uses floating-point
 /// registers, or has low bits 11 and so begins a longer instruction. Hints mean what they expand
 /// to.
-#[tactic(auto, unfolding(crate::specs::Table::expanded))]
+#[tactic(auto, unfolding(crate::specs::Table::expanded_op_of))]
 pub fn expand(parcel: u16) -> Option<Op>
-    ensures meaning { result ≡ expanded parcel }
+    ensures meaning { result ≡ expanded_op_of parcel }
     ensures registers { IfSome result HasRegisters }
     ensures even { IfSome result HasEvenOffset }
 {
@@ -50,9 +50,9 @@ fn expansion_by(rows: &[Pattern], parcel: u16) -> Option<u32>
 }
 
 /// The 32-bit word that an instruction expands to, with the operands that stand in the parcel.
-#[tactic(auto, unfolding(crate::specs::Table::word_of))]
+#[tactic(auto, unfolding(crate::specs::Table::encoding_of))]
 fn word(op: CompressedOp, parcel: u16) -> u32
-    ensures { result ≡ word_of op parcel }
+    ensures { result ≡ encoding_of op parcel }
 {
     let rd = field_of(parcel, 7, 5);
     let rs2 = field_of(parcel, 2, 5);

@@ -9,7 +9,7 @@ use hart_words::sext;
 /// The `count` bits of `parcel` from bit `first` on.
 pub fn field_of(parcel: u16, first: u32, count: u32) -> u32
     requires inside { first < 16 }
-    requires few { count < 16 }
+    requires below_16 { count < 16 }
     ensures value { result ≡ bit_field first count parcel }
     ensures below { result < 2 ^ count }
 {
@@ -27,8 +27,8 @@ pub fn compressed_register(parcel: u16, first: u32) -> u32
 
 /// A signed number of `bits` bits as one of `width` bits.
 fn extended(number: u32, bits: u32, width: u32) -> u32
-    requires some { 1 ≤ bits }
-    requires few { bits ≤ 64 }
+    requires at_least_1 { 1 ≤ bits }
+    requires at_most_64 { bits ≤ 64 }
     requires narrow { width < 32 }
     ensures value { result ≡ sign_extended bits number % 2 ^ width }
     ensures below { result < 2 ^ width }

@@ -1,5 +1,6 @@
 -- Rows that ask different things of a bit that both fix are never both met.
-use Rattle.std.proofs.Common.{◌≡◌, ℕ, Bool, true, false, not, ◌&&◌, List, [], ◌∷◌, bit_and, ◌==◌, All, refl, sym, ◌∙◌, ap, arith, get_or}
+use Rattle.std.proofs.Common.{◌≡◌, ℕ, Bool, true, false, not, ◌&&◌, List, [], ◌∷◌, bit_and, ◌==◌, All, refl, sym, ◌∙◌}
+use Rattle.std.proofs.Common.{ap, arith, get_or}
 use Rattle.std.specs.List.{list_all}
 use Rattle.std.proofs.lemmas.List.Kept.{AllPairs-cons}
 use Rattle.std.proofs.lemmas.Nat.{and_assoc, and_comm}
@@ -28,8 +29,10 @@ never : (one other : Pattern) → are_apart one other ≡ true → NeverBoth mee
 never one other apart word here there =
     let first : bit_and word one.mask ≡ one.bits = eqb-true _ _ here in
     let second : bit_and word other.mask ≡ other.bits = eqb-true _ _ there in
-    let left : bit_and one.bits other.mask ≡ bit_and word (bit_and one.mask other.mask) = rw (← first) (and_assoc other.mask word one.mask) in
-    let right : bit_and other.bits one.mask ≡ bit_and word (bit_and one.mask other.mask) = rw (← second) (and_assoc one.mask word other.mask ∙ ap (λ m. bit_and word m) (and_comm other.mask one.mask)) in
+    let left : bit_and one.bits other.mask ≡ bit_and word (bit_and one.mask other.mask) =
+    rw (← first) (and_assoc other.mask word one.mask) in
+    let right : bit_and other.bits one.mask ≡ bit_and word (bit_and one.mask other.mask) =
+    rw (← second) (and_assoc one.mask word other.mask ∙ ap (λ m. bit_and word m) (and_comm other.mask one.mask)) in
     differ _ _ (left ∙ sym right) apart
 
 each : (row : Pattern) (rows : List Pattern) → list_all (are_apart row) rows ≡ true → All (NeverBoth meets row) rows

@@ -1,5 +1,6 @@
 -- The row that a word meets in the whole table is the one that it meets among the rows of its opcode.
-use Rattle.std.proofs.Common.{◌≡◌, ℕ, Bool, true, false, not, ◌&&◌, List, [], ◌∷◌, ◌++◌, Option, None, Some, bit_and, ◌==◌, ◌%◌, refl, sym, ◌∙◌, ap, arith, if◌then◌else◌}
+use Rattle.std.proofs.Common.{◌≡◌, ℕ, Bool, true, false, not, ◌&&◌, List, [], ◌∷◌, ◌++◌, Option, None, Some, bit_and}
+use Rattle.std.proofs.Common.{◌==◌, ◌%◌, refl, sym, ◌∙◌, ap, arith, if◌then◌else◌}
 use Rattle.std.specs.List.{list_all, find}
 use Rattle.std.specs.Option.{option_map, option_or}
 use Rattle.std.proofs.lemmas.Nat.{and_mod, and_mask}
@@ -8,7 +9,7 @@ use Rattle.std.proofs.lemmas.Bool.Decides.{nat_tests}
 use Rattle.std.proofs.lemmas.List.Folds.{find-append}
 use Rattle.rv_decode.specs.declared.patterns.Pattern.{Pattern}
 use Rattle.rv_decode.specs.Fields.{operation_of}
-use Rattle.rv_decode.specs.Table.{Opcode, opcodes, all_rows, rows_of, meets, decoded_by}
+use Rattle.rv_decode.specs.Table.{Opcode, opcodes, all_rows, rows_of_opcode, meets, decoded_op_by}
 
 -- the row asks for the opcode
 abbrev pub asks : ℕ → Pattern → Bool
@@ -17,7 +18,8 @@ asks code row = (row.mask % 128 == 127) && (row.bits % 128 == code)
 -- each row asks for its list's opcode, and no opcode comes twice
 abbrev pub is_map : List Opcode → Bool
 is_map [] = true
-is_map (opcode ∷ more) = list_all (asks opcode.code) opcode.rows && (list_all (λ other. not (other.code == opcode.code)) more && is_map more)
+is_map (opcode ∷ more) =
+    list_all (asks opcode.code) opcode.rows && (list_all (λ other. not (other.code == opcode.code)) more && is_map more)
 
 both : (a b : Bool) → (a && b) ≡ true → (a ≡ true) × (b ≡ true)
 both true b h = (refl, h)
@@ -28,28 +30,33 @@ neither true h = cc
 neither false h = refl
 
 -- what a row that the word meets says of the word's opcode
-opcode_met : (code mask bits word : ℕ) → mask % 128 ≡ 127 → bits % 128 ≡ code → bit_and word mask ≡ bits → word % 128 ≡ code
+opcode_met : (code mask bits word : ℕ) → mask % 128 ≡ 127 → bits % 128 ≡ code → bit_and word mask ≡ bits
+    → word % 128 ≡ code
 opcode_met code mask bits word all low met =
     let split : bit_and word mask % 128 ≡ bit_and (word % 128) (mask % 128) = and_mod word mask 7 in
     let kept : bit_and (word % 128) 127 ≡ word % 128 % 128 = and_mask (word % 128) 7 in
     let here : bits % 128 ≡ bit_and (word % 128) 127 = cc in
     omega arith
 
-unmet_row : (code : ℕ) (row : Pattern) (word : ℕ) → asks code row ≡ true → (code == word % 128) ≡ false → (met : Bool) → meets row word ≡ met → met ≡ false
+unmet_row : (code : ℕ) (row : Pattern) (word : ℕ) → asks code row ≡ true → (code == word % 128) ≡ false → (met : Bool)
+    → meets row word ≡ met → met ≡ false
 unmet_row code row word asked other true met =
     let parts = both (row.mask % 128 == 127) (row.bits % 128 == code) asked in
-    let same : word % 128 ≡ code = opcode_met code row.mask row.bits word (eqb-true _ _ parts.0) (eqb-true _ _ parts.1) (eqb-true _ _ met) in
+    let same : word % 128 ≡ code =
+    opcode_met code row.mask row.bits word (eqb-true _ _ parts.0) (eqb-true _ _ parts.1) (eqb-true _ _ met) in
     absurd (grind (arith, nat_tests))
 unmet_row code row word asked other false met = refl
 
-unmet : (code : ℕ) (rows : List Pattern) (word : ℕ) → list_all (asks code) rows ≡ true → (code == word % 128) ≡ false → find (λ row. meets row word) rows ≡ None
+unmet : (code : ℕ) (rows : List Pattern) (word : ℕ) → list_all (asks code) rows ≡ true → (code == word % 128) ≡ false
+    → find (λ row. meets row word) rows ≡ None
 unmet code [] word all other = refl
 unmet code (row ∷ rows) word all other =
     let parts = both (asks code row) (list_all (asks code) rows) all in
     let first : meets row word ≡ false = unmet_row code row word parts.0 other (meets row word) refl in
     rw first (unmet code rows word parts.1 other)
 
-none_with : (more : List Opcode) (code word : ℕ) → list_all (λ other. not (other.code == code)) more ≡ true → (code == word) ≡ true → rows_of more word ≡ []
+none_with : (more : List Opcode) (code word : ℕ) → list_all (λ other. not (other.code == code)) more ≡ true
+    → (code == word) ≡ true → rows_of_opcode more word ≡ []
 none_with [] code word others same = refl
 none_with (opcode ∷ more) code word others same =
     let parts = both (not (opcode.code == code)) (list_all (λ other. not (other.code == code)) more) others in
@@ -63,24 +70,30 @@ or_none (Some row) = refl
 by_test : (opcode : Opcode) (more : List Opcode) (word : ℕ)
     → list_all (asks opcode.code) opcode.rows ≡ true
     → list_all (λ other. not (other.code == opcode.code)) more ≡ true
-    → find (λ row. meets row word) (all_rows more) ≡ find (λ row. meets row word) (rows_of more (word % 128))
+    → find (λ row. meets row word) (all_rows more) ≡ find (λ row. meets row word) (rows_of_opcode more (word % 128))
     → (test : Bool) → (opcode.code == word % 128) ≡ test
-    → find (λ row. meets row word) (opcode.rows ++ all_rows more) ≡ find (λ row. meets row word) (if test then opcode.rows else rows_of more (word % 128))
+    → find (λ row. meets row word) (opcode.rows ++ all_rows more)
+    ≡ find (λ row. meets row word) (if test then opcode.rows else rows_of_opcode more (word % 128))
 by_test opcode more word rows others ih true is =
-    let gone : rows_of more (word % 128) ≡ [] = none_with more opcode.code (word % 128) others is in
+    let gone : rows_of_opcode more (word % 128) ≡ [] = none_with more opcode.code (word % 128) others is in
     let none : find (λ row. meets row word) (all_rows more) ≡ None = ih ∙ ap (find (λ row. meets row word)) gone in
-    find-append (λ row. meets row word) opcode.rows (all_rows more) ∙ (rw none (or_none (find (λ row. meets row word) opcode.rows)))
+    find-append (λ row. meets row word) opcode.rows (all_rows more)
+    ∙ (rw none (or_none (find (λ row. meets row word) opcode.rows)))
 by_test opcode more word rows others ih false is =
     let none : find (λ row. meets row word) opcode.rows ≡ None = unmet opcode.code opcode.rows word rows is in
     find-append (λ row. meets row word) opcode.rows (all_rows more) ∙ (rw none ih)
 
-pub found : (map : List Opcode) (word : ℕ) → is_map map ≡ true → find (λ row. meets row word) (all_rows map) ≡ find (λ row. meets row word) (rows_of map (word % 128))
+pub found : (map : List Opcode) (word : ℕ) → is_map map ≡ true
+    → find (λ row. meets row word) (all_rows map) ≡ find (λ row. meets row word) (rows_of_opcode map (word % 128))
 found [] word h = refl
 found (opcode ∷ more) word h =
-    let parts = both (list_all (asks opcode.code) opcode.rows) (list_all (λ other. not (other.code == opcode.code)) more && is_map more) h in
+    let parts =
+    both (list_all (asks opcode.code) opcode.rows)
+    (list_all (λ other. not (other.code == opcode.code)) more && is_map more) h in
     let rest = both (list_all (λ other. not (other.code == opcode.code)) more) (is_map more) parts.1 in
     by_test opcode more word parts.0 rest.0 (found more word rest.1) (opcode.code == word % 128) refl
 
-pub scanned : (word : ℕ) → decoded_by (rows_of opcodes (word % 128)) word ≡ decoded_by (all_rows opcodes) word
-unfolding decoded_by opcodes
+pub scanned : (word : ℕ)
+    → decoded_op_by (rows_of_opcode opcodes (word % 128)) word ≡ decoded_op_by (all_rows opcodes) word
+unfolding decoded_op_by opcodes
 scanned word = ap (option_map (λ row. operation_of row.form word)) (sym (found opcodes word refl))

@@ -1,5 +1,6 @@
 -- The fields of a 32-bit word and its immediates.
--- From the Unprivileged ISA's chapters on RV32I ("Base Instruction Formats", "Immediate Encoding Variants") and on control and status register instructions.
+-- From the Unprivileged ISA's chapters on RV32I ("Base Instruction Formats", "Immediate Encoding Variants") and on
+-- control and status register instructions.
 use Rattle.std.specs.Prelude.{ℕ, ◌+◌, ◌*◌, ◌^◌}
 use Rattle.hart_words.specs.Words.{bit_field, sign_extended}
 use Rattle.rv_decode.specs.declared.operation.Op.{Op}
@@ -8,8 +9,8 @@ use Rattle.rv_decode.specs.declared.patterns.Form.{Form}
 use Rattle.rv_decode.specs.declared.patterns.Form.TheVariants as forms
 
 -- a bit field, moved to start at another bit: so many bits from a bit on, and where to
-abbrev pub moved : ℕ → ℕ → ℕ → ℕ → ℕ
-moved first count to word = bit_field first count word * 2 ^ to
+abbrev pub field_at : ℕ → ℕ → ℕ → ℕ → ℕ
+field_at first count to word = bit_field first count word * 2 ^ to
 
 -- bits 31:20
 abbrev pub immediate_i : ℕ → ℕ
@@ -17,21 +18,21 @@ immediate_i word = sign_extended 12 (bit_field 20 12 word)
 
 -- bits 31:25 are bits 11:5, bits 11:7 are bits 4:0
 abbrev pub immediate_s : ℕ → ℕ
-immediate_s word = sign_extended 12 (moved 25 7 5 word + bit_field 7 5 word)
+immediate_s word = sign_extended 12 (field_at 25 7 5 word + bit_field 7 5 word)
 
 -- bit 31 is bit 12, bit 7 is bit 11, bits 30:25 are bits 10:5, bits 11:8 are bits 4:1
 abbrev pub immediate_b : ℕ → ℕ
 immediate_b word =
-    sign_extended 13 (moved 31 1 12 word + moved 7 1 11 word + moved 25 6 5 word + moved 8 4 1 word)
+    sign_extended 13 (field_at 31 1 12 word + field_at 7 1 11 word + field_at 25 6 5 word + field_at 8 4 1 word)
 
 -- bits 31:12 are its bits 31:12
 abbrev pub immediate_u : ℕ → ℕ
-immediate_u word = sign_extended 32 (moved 12 20 12 word)
+immediate_u word = sign_extended 32 (field_at 12 20 12 word)
 
 -- bit 31 is bit 20, bits 19:12 are in place, bit 20 is bit 11, bits 30:21 are bits 10:1
 abbrev pub immediate_j : ℕ → ℕ
 immediate_j word =
-    sign_extended 21 (moved 31 1 20 word + moved 12 8 12 word + moved 20 1 11 word + moved 21 10 1 word)
+    sign_extended 21 (field_at 31 1 20 word + field_at 12 8 12 word + field_at 20 1 11 word + field_at 21 10 1 word)
 
 -- the register that is written: bits 11:7
 abbrev pub rd : ℕ → ℕ

@@ -1,93 +1,44 @@
 -- The registers that an instruction writes and reads, and where its jumps go.
--- From the Unprivileged ISA's chapters on its instructions, and the Privileged Architecture's on those of traps and translation.
+-- From the Unprivileged ISA's chapters on its instructions, and the Privileged Architecture's on those of traps and
+-- translation.
 use Rattle.std.specs.Prelude.{◌≡◌, ℕ, ◌<◌, ◌%◌, ◌^◌}
 use Rattle.rv_decode.specs.declared.operation.Op.{Op}
-use Rattle.rv_decode.specs.declared.operation.Op.TheVariants.{Lui, Auipc, Jal, Jalr, Branch, Load, Store, Immediate, ImmediateWord, Register, RegisterWord, Fence, FenceI, Ecall, Ebreak, Mret, Sret, Wfi, SfenceVma, Csr, CsrImmediate, LoadReserved, StoreConditional, Amo}
+use Rattle.rv_decode.specs.declared.operation.Operands.{Operands}
+use Rattle.rv_decode.specs.declared.operation.Op.TheVariants.{Lui, Auipc, Jal, Jalr, Branch, Load, Store, Immediate}
+use Rattle.rv_decode.specs.declared.operation.Op.TheVariants.{ImmediateWord, Register, RegisterWord, Fence, FenceI}
+use Rattle.rv_decode.specs.declared.operation.Op.TheVariants.{Ecall, Ebreak, Mret, Sret, Wfi, SfenceVma, Csr}
+use Rattle.rv_decode.specs.declared.operation.Op.TheVariants.{CsrImmediate, LoadReserved, StoreConditional, Amo}
 
--- the register that is written, 0 where there is none
-abbrev pub destination_of : Op → ℕ
-destination_of (Lui rd imm) = rd
-destination_of (Auipc rd imm) = rd
-destination_of (Jal rd offset) = rd
-destination_of (Jalr rd rs1 offset) = rd
-destination_of (Branch op rs1 rs2 offset) = 0
-destination_of (Load op rd rs1 offset) = rd
-destination_of (Store op rs1 rs2 offset) = 0
-destination_of (Immediate op rd rs1 imm) = rd
-destination_of (ImmediateWord op rd rs1 imm) = rd
-destination_of (Register op rd rs1 rs2) = rd
-destination_of (RegisterWord op rd rs1 rs2) = rd
-destination_of Fence = 0
-destination_of FenceI = 0
-destination_of Ecall = 0
-destination_of Ebreak = 0
-destination_of Mret = 0
-destination_of Sret = 0
-destination_of Wfi = 0
-destination_of (SfenceVma rs1 rs2) = 0
-destination_of (Csr op rd rs1 csr) = rd
-destination_of (CsrImmediate op rd imm csr) = rd
-destination_of (LoadReserved width rd rs1) = rd
-destination_of (StoreConditional width rd rs1 rs2) = rd
-destination_of (Amo op width rd rs1 rs2) = rd
-
--- the register that is read as rs1, 0 where there is none
-abbrev pub first_source_of : Op → ℕ
-first_source_of (Lui rd imm) = 0
-first_source_of (Auipc rd imm) = 0
-first_source_of (Jal rd offset) = 0
-first_source_of (Jalr rd rs1 offset) = rs1
-first_source_of (Branch op rs1 rs2 offset) = rs1
-first_source_of (Load op rd rs1 offset) = rs1
-first_source_of (Store op rs1 rs2 offset) = rs1
-first_source_of (Immediate op rd rs1 imm) = rs1
-first_source_of (ImmediateWord op rd rs1 imm) = rs1
-first_source_of (Register op rd rs1 rs2) = rs1
-first_source_of (RegisterWord op rd rs1 rs2) = rs1
-first_source_of Fence = 0
-first_source_of FenceI = 0
-first_source_of Ecall = 0
-first_source_of Ebreak = 0
-first_source_of Mret = 0
-first_source_of Sret = 0
-first_source_of Wfi = 0
-first_source_of (SfenceVma rs1 rs2) = rs1
-first_source_of (Csr op rd rs1 csr) = rs1
-first_source_of (CsrImmediate op rd imm csr) = 0
-first_source_of (LoadReserved width rd rs1) = rs1
-first_source_of (StoreConditional width rd rs1 rs2) = rs1
-first_source_of (Amo op width rd rs1 rs2) = rs1
-
--- the register that is read as rs2, 0 where there is none
-abbrev pub second_source_of : Op → ℕ
-second_source_of (Lui rd imm) = 0
-second_source_of (Auipc rd imm) = 0
-second_source_of (Jal rd offset) = 0
-second_source_of (Jalr rd rs1 offset) = 0
-second_source_of (Branch op rs1 rs2 offset) = rs2
-second_source_of (Load op rd rs1 offset) = 0
-second_source_of (Store op rs1 rs2 offset) = rs2
-second_source_of (Immediate op rd rs1 imm) = 0
-second_source_of (ImmediateWord op rd rs1 imm) = 0
-second_source_of (Register op rd rs1 rs2) = rs2
-second_source_of (RegisterWord op rd rs1 rs2) = rs2
-second_source_of Fence = 0
-second_source_of FenceI = 0
-second_source_of Ecall = 0
-second_source_of Ebreak = 0
-second_source_of Mret = 0
-second_source_of Sret = 0
-second_source_of Wfi = 0
-second_source_of (SfenceVma rs1 rs2) = rs2
-second_source_of (Csr op rd rs1 csr) = 0
-second_source_of (CsrImmediate op rd imm csr) = 0
-second_source_of (LoadReserved width rd rs1) = 0
-second_source_of (StoreConditional width rd rs1 rs2) = rs2
-second_source_of (Amo op width rd rs1 rs2) = rs2
+-- the register that is written, and those that are read as rs1 and rs2: 0 where there is none
+abbrev pub operands_of : Op → Operands
+operands_of (Lui rd imm) = record { rd = rd; rs1 = 0; rs2 = 0 }
+operands_of (Auipc rd imm) = record { rd = rd; rs1 = 0; rs2 = 0 }
+operands_of (Jal rd offset) = record { rd = rd; rs1 = 0; rs2 = 0 }
+operands_of (Jalr rd rs1 offset) = record { rd = rd; rs1 = rs1; rs2 = 0 }
+operands_of (Branch op rs1 rs2 offset) = record { rd = 0; rs1 = rs1; rs2 = rs2 }
+operands_of (Load op rd rs1 offset) = record { rd = rd; rs1 = rs1; rs2 = 0 }
+operands_of (Store op rs1 rs2 offset) = record { rd = 0; rs1 = rs1; rs2 = rs2 }
+operands_of (Immediate op rd rs1 imm) = record { rd = rd; rs1 = rs1; rs2 = 0 }
+operands_of (ImmediateWord op rd rs1 imm) = record { rd = rd; rs1 = rs1; rs2 = 0 }
+operands_of (Register op rd rs1 rs2) = record { rd = rd; rs1 = rs1; rs2 = rs2 }
+operands_of (RegisterWord op rd rs1 rs2) = record { rd = rd; rs1 = rs1; rs2 = rs2 }
+operands_of Fence = record { rd = 0; rs1 = 0; rs2 = 0 }
+operands_of FenceI = record { rd = 0; rs1 = 0; rs2 = 0 }
+operands_of Ecall = record { rd = 0; rs1 = 0; rs2 = 0 }
+operands_of Ebreak = record { rd = 0; rs1 = 0; rs2 = 0 }
+operands_of Mret = record { rd = 0; rs1 = 0; rs2 = 0 }
+operands_of Sret = record { rd = 0; rs1 = 0; rs2 = 0 }
+operands_of Wfi = record { rd = 0; rs1 = 0; rs2 = 0 }
+operands_of (SfenceVma rs1 rs2) = record { rd = 0; rs1 = rs1; rs2 = rs2 }
+operands_of (Csr op rd rs1 csr) = record { rd = rd; rs1 = rs1; rs2 = 0 }
+operands_of (CsrImmediate op rd imm csr) = record { rd = rd; rs1 = 0; rs2 = 0 }
+operands_of (LoadReserved width rd rs1) = record { rd = rd; rs1 = rs1; rs2 = 0 }
+operands_of (StoreConditional width rd rs1 rs2) = record { rd = rd; rs1 = rs1; rs2 = rs2 }
+operands_of (Amo op width rd rs1 rs2) = record { rd = rd; rs1 = rs1; rs2 = rs2 }
 
 -- all registers are among the 32
 abbrev pub HasRegisters : Op → Type 0
-HasRegisters op = (destination_of op < 32) × (first_source_of op < 32) × (second_source_of op < 32)
+HasRegisters op = ((operands_of op).rd < 32) × ((operands_of op).rs1 < 32) × ((operands_of op).rs2 < 32)
 
 -- the address of a control and status register has 12 bits
 abbrev pub HasCsrAddress : Op → Type 0

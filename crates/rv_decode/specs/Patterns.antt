@@ -1,5 +1,6 @@
 -- What a row of the listing fixes of a 32-bit word, by the columns that it fills.
--- From the Unprivileged ISA's chapter "RV32/64G Instruction Set Listings" and the Privileged Architecture's "RISC-V Privileged Instruction Set Listings".
+-- From the Unprivileged ISA's chapter "RV32/64G Instruction Set Listings" and the Privileged Architecture's "RISC-V
+-- Privileged Instruction Set Listings".
 use Rattle.std.specs.Prelude.{ℕ, ◌+◌, ◌-◌, ◌*◌, ◌^◌}
 use Rattle.rv_decode.specs.declared.patterns.Form.{Form}
 use Rattle.rv_decode.specs.declared.patterns.Pattern.{Pattern}

@@ -1,20 +1,30 @@
 -- What a 32-bit word means: the row of the instruction table that it meets.
--- From the Unprivileged ISA's chapter "RV32/64G Instruction Set Listings" and the Privileged Architecture's "RISC-V Privileged Instruction Set Listings": a row gives the opcode (bits 6:0), funct3 (14:12), and funct7 (31:25), funct6 (31:26) or funct5 (31:27).
+-- From the Unprivileged ISA's chapter "RV32/64G Instruction Set Listings" and the Privileged Architecture's "RISC-V
+-- Privileged Instruction Set Listings": a row gives the opcode (bits 6:0), funct3 (14:12), and funct7 (31:25), funct6
+-- (31:26) or funct5 (31:27).
 use Rattle.std.specs.Prelude.{ℕ, Bool, List, [], ◌∷◌, ◌++◌, Option, option_map, find, bit_and, ◌==◌, if◌then◌else◌}
 use Rattle.rv_decode.specs.declared.operation.Op.{Op}
 use Rattle.rv_decode.specs.declared.operation.BranchOp.TheVariants.{Beq, Bne, Blt, Bge, Bltu, Bgeu}
 use Rattle.rv_decode.specs.declared.operation.LoadOp.TheVariants.{Lb, Lh, Lw, Ld, Lbu, Lhu, Lwu}
 use Rattle.rv_decode.specs.declared.operation.StoreOp.TheVariants.{Sb, Sh, Sw, Sd}
-use Rattle.rv_decode.specs.declared.operation.ImmediateOp.TheVariants.{Addi, Slti, Sltiu, Xori, Ori, Andi, Slli, Srli, Srai}
+use Rattle.rv_decode.specs.declared.operation.ImmediateOp.TheVariants.{Addi, Slti, Sltiu, Xori, Ori, Andi, Slli, Srli}
+use Rattle.rv_decode.specs.declared.operation.ImmediateOp.TheVariants.{Srai}
 use Rattle.rv_decode.specs.declared.operation.ImmediateWordOp.TheVariants.{Addiw, Slliw, Srliw, Sraiw}
-use Rattle.rv_decode.specs.declared.operation.RegisterOp.TheVariants.{Add, Sub, Sll, Slt, Sltu, Xor, Srl, Sra, Or, And, Mul, Mulh, Mulhsu, Mulhu, Div, Divu, Rem, Remu}
-use Rattle.rv_decode.specs.declared.operation.RegisterWordOp.TheVariants.{Addw, Subw, Sllw, Srlw, Sraw, Mulw, Divw, Divuw, Remw, Remuw}
+use Rattle.rv_decode.specs.declared.operation.RegisterOp.TheVariants.{Add, Sub, Sll, Slt, Sltu, Xor, Srl, Sra, Or, And}
+use Rattle.rv_decode.specs.declared.operation.RegisterOp.TheVariants.{Mul, Mulh, Mulhsu, Mulhu, Div, Divu, Rem, Remu}
+use Rattle.rv_decode.specs.declared.operation.RegisterWordOp.TheVariants.{Addw, Subw, Sllw, Srlw, Sraw, Mulw, Divw}
+use Rattle.rv_decode.specs.declared.operation.RegisterWordOp.TheVariants.{Divuw, Remw, Remuw}
 use Rattle.rv_decode.specs.declared.operation.CsrOp.TheVariants.{Write, Set, Clear}
 use Rattle.rv_decode.specs.declared.operation.Width.TheVariants.{Word, Doubleword}
-use Rattle.rv_decode.specs.declared.operation.AmoOp.TheVariants.{Amoswap, Amoadd, Amoxor, Amoand, Amoor, Amomin, Amomax, Amominu, Amomaxu}
-use Rattle.rv_decode.specs.declared.patterns.Form.TheVariants.{Lui, Auipc, Jal, Jalr, Branch, Load, Store, Immediate, Shift, ImmediateWord, ShiftWord, Register, RegisterWord, Fence, FenceI, Ecall, Ebreak, Mret, Sret, Wfi, SfenceVma, Csr, CsrImmediate, LoadReserved, StoreConditional, Amo}
+use Rattle.rv_decode.specs.declared.operation.AmoOp.TheVariants.{Amoswap, Amoadd, Amoxor, Amoand, Amoor, Amomin, Amomax}
+use Rattle.rv_decode.specs.declared.operation.AmoOp.TheVariants.{Amominu, Amomaxu}
+use Rattle.rv_decode.specs.declared.patterns.Form.TheVariants.{Lui, Auipc, Jal, Jalr, Branch, Load, Store, Immediate}
+use Rattle.rv_decode.specs.declared.patterns.Form.TheVariants.{Shift, ImmediateWord, ShiftWord, Register, RegisterWord}
+use Rattle.rv_decode.specs.declared.patterns.Form.TheVariants.{Fence, FenceI, Ecall, Ebreak, Mret, Sret, Wfi, SfenceVma}
+use Rattle.rv_decode.specs.declared.patterns.Form.TheVariants.{Csr, CsrImmediate, LoadReserved, StoreConditional, Amo}
 use Rattle.rv_decode.specs.declared.patterns.Pattern.{Pattern}
-use Rattle.rv_decode.specs.Patterns.{by_opcode, by_funct3, by_funct5, by_funct5_and_rs2, by_funct6, by_funct7, by_funct7_and_rd, by_word}
+use Rattle.rv_decode.specs.Patterns.{by_opcode, by_funct3, by_funct5, by_funct5_and_rs2, by_funct6, by_funct7}
+use Rattle.rv_decode.specs.Patterns.{by_funct7_and_rd, by_word}
 use Rattle.rv_decode.specs.Fields.{operation_of}
 
 -- LUI: the opcode alone
@@ -196,18 +206,18 @@ all_rows [] = []
 all_rows (opcode ∷ more) = opcode.rows ++ all_rows more
 
 -- the rows of one opcode
-abbrev pub rows_of : List Opcode → ℕ → List Pattern
-rows_of [] code = []
-rows_of (opcode ∷ more) code = if opcode.code == code then opcode.rows else rows_of more code
+abbrev pub rows_of_opcode : List Opcode → ℕ → List Pattern
+rows_of_opcode [] code = []
+rows_of_opcode (opcode ∷ more) code = if opcode.code == code then opcode.rows else rows_of_opcode more code
 
 -- the word meets the row
 abbrev pub meets : Pattern → ℕ → Bool
 meets row word = bit_and word row.mask == row.bits
 
 -- the instruction of the row that the word meets
-unfoldable pub decoded_by : List Pattern → ℕ → Option Op
-decoded_by rows word = option_map (λ row. operation_of row.form word) (find (λ row. meets row word) rows)
+unfoldable pub decoded_op_by : List Pattern → ℕ → Option Op
+decoded_op_by rows word = option_map (λ row. operation_of row.form word) (find (λ row. meets row word) rows)
 
 -- the instruction of the row of the table that the word meets
-unfoldable pub decoded : ℕ → Option Op
-decoded word = decoded_by (all_rows opcodes) word
+unfoldable pub decoded_op_of : ℕ → Option Op
+decoded_op_of word = decoded_op_by (all_rows opcodes) word

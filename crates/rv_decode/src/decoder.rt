@@ -2,7 +2,7 @@
 
 ghost use Rattle.std.specs.Prelude.{◌≡◌, IfSome};
 ghost use Rattle.rv_decode.specs.Operands.{HasCsrAddress, HasEvenOffset, HasRegisters};
-ghost use Rattle.rv_decode.specs.Table.{decoded, decoded_by};
+ghost use Rattle.rv_decode.specs.Table.{decoded_op_of, decoded_op_by};
 
 use crate::operands::operation;
 use crate::operation::Op;
@@ -10,9 +10,9 @@ use crate::patterns::{Pattern, rows_with};
 
 /// The instruction that a 32-bit word means, or `None` where it meets no row of the table: it is
 /// then illegal.
-#[tactic(auto, using(crate::proofs::ByOpcode::scanned), unfolding(crate::specs::Table::decoded))]
+#[tactic(auto, using(crate::proofs::ByOpcode::scanned), unfolding(crate::specs::Table::decoded_op_of))]
 pub fn decode(word: u32) -> Option<Op>
-    ensures meaning { result ≡ decoded word }
+    ensures meaning { result ≡ decoded_op_of word }
     ensures registers { IfSome result HasRegisters }
     ensures csr { IfSome result HasCsrAddress }
     ensures even { IfSome result HasEvenOffset }
@@ -21,9 +21,9 @@ pub fn decode(word: u32) -> Option<Op>
 }
 
 /// The instruction of the row that the word meets.
-#[tactic(auto, unfolding(crate::specs::Table::decoded_by))]
+#[tactic(auto, unfolding(crate::specs::Table::decoded_op_by))]
 fn decode_by(rows: &[Pattern], word: u32) -> Option<Op>
-    ensures meaning { result ≡ decoded_by rows.now word }
+    ensures meaning { result ≡ decoded_op_by rows.now word }
     ensures registers { IfSome result HasRegisters }
     ensures csr { IfSome result HasCsrAddress }
     ensures even { IfSome result HasEvenOffset }

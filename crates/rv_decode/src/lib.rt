@@ -13,8 +13,8 @@ mod patterns;
 
 pub use decoder::decode;
 pub use operation::{
-    AmoOp, BranchOp, CsrOp, ImmediateOp, ImmediateWordOp, LoadOp, Op, RegisterOp, RegisterWordOp,
-    StoreOp, Width,
+    AmoOp, BranchOp, CsrOp, ImmediateOp, ImmediateWordOp, LoadOp, Op, Operands, RegisterOp,
+    RegisterWordOp, StoreOp, Width,
 };
 
 #[cfg(test)]

@@ -12,7 +12,7 @@ use hart_words::sext;
 /// The `count` bits of `word` from bit `first` on.
 fn field_of(word: u32, first: u32, count: u32) -> u32
     requires inside { first < 32 }
-    requires few { count < 32 }
+    requires below_32 { count < 32 }
     ensures { result ≡ bit_field first count word }
 {
     (word >> first) % 2u32.pow(count)

@@ -135,103 +135,46 @@ pub enum Op {
     },
 }
 
+/// The registers of an instruction by number, 0 where it has none: the one that it writes, and those
+/// that it reads as rs1 and rs2.
+#[derive(Clone, Copy, Debug, PartialEq, Eq)]
+pub struct Operands {
+    pub rd: u8,
+    pub rs1: u8,
+    pub rs2: u8,
+}
+
 impl Op {
     ghost use Rattle.std.specs.Prelude.{◌≡◌};
-    ghost use Rattle.rv_decode.specs.Operands.{destination_of, first_source_of, second_source_of};
+    ghost use Rattle.rv_decode.specs.Operands.{operands_of};
 
-    /// The number of the register that it writes, 0 where it writes none.
-    pub fn destination(self) -> u8
-        ensures { result ≡ destination_of self }
+    /// The registers that it writes and reads.
+    pub fn operands(self) -> Operands
+        ensures { result ≡ operands_of self }
     {
         match self {
             Op::Lui { rd, .. }
             | Op::Auipc { rd, .. }
             | Op::Jal { rd, .. }
-            | Op::Jalr { rd, .. }
-            | Op::Load { rd, .. }
-            | Op::Immediate { rd, .. }
-            | Op::ImmediateWord { rd, .. }
-            | Op::Register { rd, .. }
-            | Op::RegisterWord { rd, .. }
-            | Op::Csr { rd, .. }
-            | Op::CsrImmediate { rd, .. }
-            | Op::LoadReserved { rd, .. }
-            | Op::StoreConditional { rd, .. }
-            | Op::Amo { rd, .. } => rd,
-            Op::Branch { .. }
-            | Op::Store { .. }
-            | Op::Fence
-            | Op::FenceI
-            | Op::Ecall
-            | Op::Ebreak
-            | Op::Mret
-            | Op::Sret
-            | Op::Wfi
-            | Op::SfenceVma { .. } => 0,
-        }
-    }
-
-    /// The number of the register that it reads as rs1, 0 where it reads none.
-    pub fn first_source(self) -> u8
-        ensures { result ≡ first_source_of self }
-    {
-        match self {
-            Op::Jalr { rs1, .. }
-            | Op::Branch { rs1, .. }
-            | Op::Load { rs1, .. }
-            | Op::Store { rs1, .. }
-            | Op::Immediate { rs1, .. }
-            | Op::ImmediateWord { rs1, .. }
-            | Op::Register { rs1, .. }
-            | Op::RegisterWord { rs1, .. }
-            | Op::SfenceVma { rs1, .. }
-            | Op::Csr { rs1, .. }
-            | Op::LoadReserved { rs1, .. }
-            | Op::StoreConditional { rs1, .. }
-            | Op::Amo { rs1, .. } => rs1,
-            Op::Lui { .. }
-            | Op::Auipc { .. }
-            | Op::Jal { .. }
-            | Op::Fence
-            | Op::FenceI
-            | Op::Ecall
-            | Op::Ebreak
-            | Op::Mret
-            | Op::Sret
-            | Op::Wfi
-            | Op::CsrImmediate { .. } => 0,
-        }
-    }
-
-    /// The number of the register that it reads as rs2, 0 where it reads none.
-    pub fn second_source(self) -> u8
-        ensures { result ≡ second_source_of self }
-    {
-        match self {
-            Op::Branch { rs2, .. }
-            | Op::Store { rs2, .. }
-            | Op::Register { rs2, .. }
-            | Op::RegisterWord { rs2, .. }
-            | Op::SfenceVma { rs2, .. }
-            | Op::StoreConditional { rs2, .. }
-            | Op::Amo { rs2, .. } => rs2,
-            Op::Lui { .. }
-            | Op::Auipc { .. }
-            | Op::Jal { .. }
-            | Op::Jalr { .. }
-            | Op::Load { .. }
-            | Op::Immediate { .. }
-            | Op::ImmediateWord { .. }
-            | Op::Fence
-            | Op::FenceI
-            | Op::Ecall
-            | Op::Ebreak
-            | Op::Mret
-            | Op::Sret
-            | Op::Wfi
-            | Op::Csr { .. }
-            | Op::CsrImmediate { .. }
-            | Op::LoadReserved { .. } => 0,
+            | Op::CsrImmediate { rd, .. } => Operands { rd, rs1: 0, rs2: 0 },
+            Op::Jalr { rd, rs1, .. }
+            | Op::Load { rd, rs1, .. }
+            | Op::Immediate { rd, rs1, .. }
+            | Op::ImmediateWord { rd, rs1, .. }
+            | Op::Csr { rd, rs1, .. }
+            | Op::LoadReserved { rd, rs1, .. } => Operands { rd, rs1, rs2: 0 },
+            Op::Register { rd, rs1, rs2, .. }
+            | Op::RegisterWord { rd, rs1, rs2, .. }
+            | Op::StoreConditional { rd, rs1, rs2, .. }
+            | Op::Amo { rd, rs1, rs2, .. } => Operands { rd, rs1, rs2 },
+            Op::Branch { rs1, rs2, .. } | Op::Store { rs1, rs2, .. } | Op::SfenceVma { rs1, rs2 } =>
+                Operands { rd: 0, rs1, rs2 },
+            Op::Fence | Op::FenceI | Op::Ecall | Op::Ebreak | Op::Mret | Op::Sret | Op::Wfi =>
+                Operands {
+                    rd: 0,
+                    rs1: 0,
+                    rs2: 0,
+                },
         }
     }
 }

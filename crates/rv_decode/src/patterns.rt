@@ -3,7 +3,7 @@
 //! in `specs/Table.antt`.
 
 ghost use Rattle.std.specs.Prelude.{◌≡◌};
-ghost use Rattle.rv_decode.specs.Table.{rows_of, opcodes};
+ghost use Rattle.rv_decode.specs.Table.{rows_of_opcode, opcodes};
 
 use crate::opcodes;
 use crate::operation::{
@@ -200,7 +200,7 @@ const AMO_ROWS: [Pattern; 22] = rows![
 /// The rows of an opcode, the low 7 bits of a word.
 #[tactic(auto, unfolding(crate::specs::Table::opcodes))]
 pub fn rows_with(opcode: u32) -> &'static [Pattern]
-    ensures { result.now ≡ rows_of opcodes opcode }
+    ensures { result.now ≡ rows_of_opcode opcodes opcode }
 {
     match opcode {
         opcodes::LUI => &LUI_ROWS,

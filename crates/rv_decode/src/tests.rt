@@ -601,10 +601,8 @@ fn names_registers(rt: HostRuntime) -> Result<(), Fail> {
         (Op::Ecall, (0, 0, 0)),
     ];
     for (op, registers) in rows {
-        assert_eq!(rt;
-            (op.destination(), op.first_source(), op.second_source()),
-            registers
-        );
+        let operands = op.operands();
+        assert_eq!(rt; (operands.rd, operands.rs1, operands.rs2), registers);
     }
     assert_eq!(rt; Width::Word.size(), AccessSize::Word);
     assert_eq!(rt; Width::Doubleword.size(), AccessSize::Doubleword);

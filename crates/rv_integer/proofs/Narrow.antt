@@ -3,10 +3,12 @@ use Rattle.std.proofs.Common.{◌≡◌, ℕ, ◌+◌, ◌-◌, ◌*◌, ◌%◌
 use Rattle.std.proofs.lemmas.Nat.{mul-mod}
 use Rattle.std.proofs.Math.Nat.{mod-mod}
 use Rattle.hart_words.proofs.Extended.{extends_signs}
-use Rattle.rv_decode.specs.declared.operation.RegisterWordOp.TheVariants.{Addw, Subw, Sllw, Srlw, Sraw, Mulw, Divw, Divuw, Remw, Remuw}
+use Rattle.rv_decode.specs.declared.operation.RegisterWordOp.TheVariants.{Addw, Subw, Sllw, Srlw, Sraw, Mulw, Divw}
+use Rattle.rv_decode.specs.declared.operation.RegisterWordOp.TheVariants.{Divuw, Remw, Remuw}
 use Rattle.rv_decode.specs.declared.operation.ImmediateWordOp.TheVariants.{Addiw, Slliw, Srliw, Sraiw}
-use Rattle.rv_integer.specs.Results.{low, computed_immediate_word, computed_register_word}
-use Rattle.rv_integer.specs.WordForms.{RegisterWordsAreWords, ImmediateWordsAreWords, RegisterWordsIgnoreUpperBits, ImmediateWordsIgnoreUpperBits}
+use Rattle.rv_integer.specs.Results.{low, immediate_word_result, register_word_result}
+use Rattle.rv_integer.specs.WordForms.{RegisterWordsAreWords, ImmediateWordsAreWords, RegisterWordsIgnoreUpperBits}
+use Rattle.rv_integer.specs.WordForms.{ImmediateWordsIgnoreUpperBits}
 use Rattle.std.specs.Int.{w64}
 use Rattle.hart_words.specs.Words.{sign_extended, residue, signed_of}
 
@@ -31,7 +33,7 @@ low_amount : (x : ℕ) → low x % 32 ≡ x % 32
 low_amount x = omega arith
 
 pub register_words : RegisterWordsAreWords
-unfolding computed_register_word
+unfolding register_word_result
 register_words Addw a b = twice _
 register_words Subw a b = twice _
 register_words Sllw a b = twice _
@@ -44,14 +46,14 @@ register_words Remw a b = twice _
 register_words Remuw a b = twice _
 
 pub immediate_words : ImmediateWordsAreWords
-unfolding computed_immediate_word
+unfolding immediate_word_result
 immediate_words Addiw a imm = twice _
 immediate_words Slliw a imm = twice _
 immediate_words Srliw a imm = twice _
 immediate_words Sraiw a imm = twice _
 
 pub registers_ignore : RegisterWordsIgnoreUpperBits
-unfolding computed_register_word
+unfolding register_word_result
 registers_ignore Addw a b fits = same_low (low a + low b) (a + b) (omega arith)
 registers_ignore Subw a b fits = same_low (low a + (2 ^ 64 - low b)) (a + (2 ^ 64 - b)) (omega arith)
 registers_ignore Sllw a b fits = rw (low_low a, low_amount b) refl
@@ -64,7 +66,7 @@ registers_ignore Remw a b fits = rw (low_low a, low_low b) refl
 registers_ignore Remuw a b fits = rw (low_low a, low_low b) refl
 
 pub immediates_ignore : ImmediateWordsIgnoreUpperBits
-unfolding computed_immediate_word
+unfolding immediate_word_result
 immediates_ignore Addiw a imm = same_low (low a + imm) (a + imm) (omega arith)
 immediates_ignore Slliw a imm = rw (low_low a) refl
 immediates_ignore Srliw a imm = rw (low_low a) refl

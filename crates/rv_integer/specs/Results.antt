@@ -1,11 +1,16 @@
 -- What each instruction computes or asks for: one equation a name, on whole numbers.
--- From the Unprivileged ISA's chapters "RV32I Base Integer Instruction Set", "RV64I Base Integer Instruction Set", "M Extension for Integer Multiplication and Division", "A Extension for Atomic Instructions" and "Zicsr Extension for Control and Status Register (CSR) Instructions", and the Privileged Architecture's "Machine-Level ISA" and "Supervisor-Level ISA".
-use Rattle.std.specs.Prelude.{ℕ, ◌+◌, ◌-◌, ◌*◌, ◌/◌, ◌%◌, ◌^◌, Bool, true, false, not, ◌==◌, nat_lt, pos, int_lt, if◌then◌else◌, bit_and, bit_or, bit_xor}
+-- From the Unprivileged ISA's chapters "RV32I Base Integer Instruction Set", "RV64I Base Integer Instruction Set", "M
+-- Extension for Integer Multiplication and Division", "A Extension for Atomic Instructions" and "Zicsr Extension for
+-- Control and Status Register (CSR) Instructions", and the Privileged Architecture's "Machine-Level ISA" and
+-- "Supervisor-Level ISA".
+use Rattle.std.specs.Prelude.{ℕ, ◌+◌, ◌-◌, ◌*◌, ◌/◌, ◌%◌, ◌^◌, Bool, true, false, not, ◌==◌, nat_lt, pos, int_lt}
+use Rattle.std.specs.Prelude.{if◌then◌else◌, bit_and, bit_or, bit_xor}
 use Rattle.std.specs.Int.{w32, w64, cast_signed, int_div_euclid}
 use Rattle.hart_words.specs.declared.access_size.AccessSize.{AccessSize}
 use Rattle.hart_words.specs.declared.access_size.AccessSize.TheVariants.{Byte, Halfword, Word, Doubleword}
 use Rattle.hart_words.specs.AccessSizes.{bits_of}
-use Rattle.hart_words.specs.Words.{residue, sign_extended, high_signed, high_mixed, high_unsigned, quotient_signed, quotient_unsigned, remainder_signed, remainder_unsigned}
+use Rattle.hart_words.specs.Words.{residue, sign_extended, high_signed, high_mixed, high_unsigned, quotient_signed}
+use Rattle.hart_words.specs.Words.{quotient_unsigned, remainder_signed, remainder_unsigned}
 use Rattle.rv_decode.specs.declared.operation.Op.{Op}
 use Rattle.rv_decode.specs.declared.operation.Op.TheVariants as ops
 use Rattle.rv_decode.specs.declared.operation.BranchOp.{BranchOp}
@@ -87,57 +92,57 @@ is_taken branches.Bltu a b = nat_lt a b
 is_taken branches.Bgeu a b = not (nat_lt a b)
 
 -- a register's value with an immediate
-unfoldable pub computed_immediate : ImmediateOp → ℕ → ℕ → ℕ
-computed_immediate immediates.Addi a imm = wrapped_sum a imm
-computed_immediate immediates.Slti a imm = is_less_signed a imm
-computed_immediate immediates.Sltiu a imm = is_less_unsigned a imm
-computed_immediate immediates.Xori a imm = bit_xor a imm
-computed_immediate immediates.Ori a imm = bit_or a imm
-computed_immediate immediates.Andi a imm = bit_and a imm
-computed_immediate immediates.Slli a imm = left_shift a imm
-computed_immediate immediates.Srli a imm = right_shift a imm
-computed_immediate immediates.Srai a imm = signed_right_shift a imm
+unfoldable pub immediate_result : ImmediateOp → ℕ → ℕ → ℕ
+immediate_result immediates.Addi a imm = wrapped_sum a imm
+immediate_result immediates.Slti a imm = is_less_signed a imm
+immediate_result immediates.Sltiu a imm = is_less_unsigned a imm
+immediate_result immediates.Xori a imm = bit_xor a imm
+immediate_result immediates.Ori a imm = bit_or a imm
+immediate_result immediates.Andi a imm = bit_and a imm
+immediate_result immediates.Slli a imm = left_shift a imm
+immediate_result immediates.Srli a imm = right_shift a imm
+immediate_result immediates.Srai a imm = signed_right_shift a imm
 
 -- the same on 32 bits
-unfoldable pub computed_immediate_word : ImmediateWordOp → ℕ → ℕ → ℕ
-computed_immediate_word immediate_words.Addiw a imm = sign_extended 32 (a + imm)
-computed_immediate_word immediate_words.Slliw a imm = left_shift_word a imm
-computed_immediate_word immediate_words.Srliw a imm = right_shift_word a imm
-computed_immediate_word immediate_words.Sraiw a imm = signed_right_shift_word a imm
+unfoldable pub immediate_word_result : ImmediateWordOp → ℕ → ℕ → ℕ
+immediate_word_result immediate_words.Addiw a imm = sign_extended 32 (a + imm)
+immediate_word_result immediate_words.Slliw a imm = left_shift_word a imm
+immediate_word_result immediate_words.Srliw a imm = right_shift_word a imm
+immediate_word_result immediate_words.Sraiw a imm = signed_right_shift_word a imm
 
 -- two registers' values
-unfoldable pub computed_register : RegisterOp → ℕ → ℕ → ℕ
-computed_register registers.Add a b = wrapped_sum a b
-computed_register registers.Sub a b = wrapped_difference a b
-computed_register registers.Sll a b = left_shift a b
-computed_register registers.Slt a b = is_less_signed a b
-computed_register registers.Sltu a b = is_less_unsigned a b
-computed_register registers.Xor a b = bit_xor a b
-computed_register registers.Srl a b = right_shift a b
-computed_register registers.Sra a b = signed_right_shift a b
-computed_register registers.Or a b = bit_or a b
-computed_register registers.And a b = bit_and a b
-computed_register registers.Mul a b = a * b % 2 ^ 64
-computed_register registers.Mulh a b = high_signed a b
-computed_register registers.Mulhsu a b = high_mixed a b
-computed_register registers.Mulhu a b = high_unsigned a b
-computed_register registers.Div a b = quotient_signed w64 a b
-computed_register registers.Divu a b = quotient_unsigned w64 a b
-computed_register registers.Rem a b = remainder_signed w64 a b
-computed_register registers.Remu a b = remainder_unsigned a b
+unfoldable pub register_result : RegisterOp → ℕ → ℕ → ℕ
+register_result registers.Add a b = wrapped_sum a b
+register_result registers.Sub a b = wrapped_difference a b
+register_result registers.Sll a b = left_shift a b
+register_result registers.Slt a b = is_less_signed a b
+register_result registers.Sltu a b = is_less_unsigned a b
+register_result registers.Xor a b = bit_xor a b
+register_result registers.Srl a b = right_shift a b
+register_result registers.Sra a b = signed_right_shift a b
+register_result registers.Or a b = bit_or a b
+register_result registers.And a b = bit_and a b
+register_result registers.Mul a b = a * b % 2 ^ 64
+register_result registers.Mulh a b = high_signed a b
+register_result registers.Mulhsu a b = high_mixed a b
+register_result registers.Mulhu a b = high_unsigned a b
+register_result registers.Div a b = quotient_signed w64 a b
+register_result registers.Divu a b = quotient_unsigned w64 a b
+register_result registers.Rem a b = remainder_signed w64 a b
+register_result registers.Remu a b = remainder_unsigned a b
 
 -- the same on 32 bits
-unfoldable pub computed_register_word : RegisterWordOp → ℕ → ℕ → ℕ
-computed_register_word register_words.Addw a b = sign_extended 32 (a + b)
-computed_register_word register_words.Subw a b = sign_extended 32 (a + (2 ^ 64 - b))
-computed_register_word register_words.Sllw a b = left_shift_word a b
-computed_register_word register_words.Srlw a b = right_shift_word a b
-computed_register_word register_words.Sraw a b = signed_right_shift_word a b
-computed_register_word register_words.Mulw a b = sign_extended 32 (a * b)
-computed_register_word register_words.Divw a b = sign_extended 32 (quotient_signed w32 (low a) (low b))
-computed_register_word register_words.Divuw a b = sign_extended 32 (quotient_unsigned w32 (low a) (low b))
-computed_register_word register_words.Remw a b = sign_extended 32 (remainder_signed w32 (low a) (low b))
-computed_register_word register_words.Remuw a b = sign_extended 32 (remainder_unsigned (low a) (low b))
+unfoldable pub register_word_result : RegisterWordOp → ℕ → ℕ → ℕ
+register_word_result register_words.Addw a b = sign_extended 32 (a + b)
+register_word_result register_words.Subw a b = sign_extended 32 (a + (2 ^ 64 - b))
+register_word_result register_words.Sllw a b = left_shift_word a b
+register_word_result register_words.Srlw a b = right_shift_word a b
+register_word_result register_words.Sraw a b = signed_right_shift_word a b
+register_word_result register_words.Mulw a b = sign_extended 32 (a * b)
+register_word_result register_words.Divw a b = sign_extended 32 (quotient_signed w32 (low a) (low b))
+register_word_result register_words.Divuw a b = sign_extended 32 (quotient_unsigned w32 (low a) (low b))
+register_word_result register_words.Remw a b = sign_extended 32 (remainder_signed w32 (low a) (low b))
+register_word_result register_words.Remuw a b = sign_extended 32 (remainder_unsigned (low a) (low b))
 
 -- an access to memory: an address, a size, and what is done with the bytes
 abbrev pub access_at : ℕ → AccessSize → MemoryOp → IntResult
@@ -196,30 +201,30 @@ csr_access_of op rd source operand csr = results.System (system.Csr (record {
 }))
 
 -- by instruction, its sources' values, its address and its length
-unfoldable pub computed : Op → ℕ → ℕ → ℕ → ℕ → IntResult
-computed (ops.Lui rd imm) a b pc len = results.Value imm
-computed (ops.Auipc rd imm) a b pc len = results.Value (wrapped_sum pc imm)
-computed (ops.Jal rd offset) a b pc len = results.Jump (wrapped_sum pc len) (wrapped_sum pc offset)
-computed (ops.Jalr rd rs1 offset) a b pc len =
+unfoldable pub result_of : Op → ℕ → ℕ → ℕ → ℕ → IntResult
+result_of (ops.Lui rd imm) a b pc len = results.Value imm
+result_of (ops.Auipc rd imm) a b pc len = results.Value (wrapped_sum pc imm)
+result_of (ops.Jal rd offset) a b pc len = results.Jump (wrapped_sum pc len) (wrapped_sum pc offset)
+result_of (ops.Jalr rd rs1 offset) a b pc len =
     results.Jump (wrapped_sum pc len) (wrapped_sum a offset / 2 * 2)
-computed (ops.Branch op rs1 rs2 offset) a b pc len =
+result_of (ops.Branch op rs1 rs2 offset) a b pc len =
     results.Continue (if is_taken op a b then wrapped_sum pc offset else wrapped_sum pc len)
-computed (ops.Load op rd rs1 offset) a b pc len = load_of op (wrapped_sum a offset)
-computed (ops.Store op rs1 rs2 offset) a b pc len = store_of op (wrapped_sum a offset) b
-computed (ops.Immediate op rd rs1 imm) a b pc len = results.Value (computed_immediate op a imm)
-computed (ops.ImmediateWord op rd rs1 imm) a b pc len = results.Value (computed_immediate_word op a imm)
-computed (ops.Register op rd rs1 rs2) a b pc len = results.Value (computed_register op a b)
-computed (ops.RegisterWord op rd rs1 rs2) a b pc len = results.Value (computed_register_word op a b)
-computed ops.Fence a b pc len = results.Continue (wrapped_sum pc len)
-computed ops.FenceI a b pc len = results.Continue (wrapped_sum pc len)
-computed ops.Ecall a b pc len = results.System system.EnvironmentCall
-computed ops.Ebreak a b pc len = results.System system.Breakpoint
-computed ops.Mret a b pc len = results.System system.MachineReturn
-computed ops.Sret a b pc len = results.System system.SupervisorReturn
-computed ops.Wfi a b pc len = results.System system.WaitForInterrupt
-computed (ops.SfenceVma rs1 rs2) a b pc len = results.System system.TranslationFence
-computed (ops.Csr op rd rs1 csr) a b pc len = csr_access_of op rd rs1 a csr
-computed (ops.CsrImmediate op rd imm csr) a b pc len = csr_access_of op rd imm imm csr
-computed (ops.LoadReserved width rd rs1) a b pc len = access_at a (size_of width) memory_ops.LoadReserved
-computed (ops.StoreConditional width rd rs1 rs2) a b pc len = store_conditional_of width a b
-computed (ops.Amo op width rd rs1 rs2) a b pc len = access_at a (size_of width) (memory_ops.Amo op width b)
+result_of (ops.Load op rd rs1 offset) a b pc len = load_of op (wrapped_sum a offset)
+result_of (ops.Store op rs1 rs2 offset) a b pc len = store_of op (wrapped_sum a offset) b
+result_of (ops.Immediate op rd rs1 imm) a b pc len = results.Value (immediate_result op a imm)
+result_of (ops.ImmediateWord op rd rs1 imm) a b pc len = results.Value (immediate_word_result op a imm)
+result_of (ops.Register op rd rs1 rs2) a b pc len = results.Value (register_result op a b)
+result_of (ops.RegisterWord op rd rs1 rs2) a b pc len = results.Value (register_word_result op a b)
+result_of ops.Fence a b pc len = results.Continue (wrapped_sum pc len)
+result_of ops.FenceI a b pc len = results.Continue (wrapped_sum pc len)
+result_of ops.Ecall a b pc len = results.System system.EnvironmentCall
+result_of ops.Ebreak a b pc len = results.System system.Breakpoint
+result_of ops.Mret a b pc len = results.System system.MachineReturn
+result_of ops.Sret a b pc len = results.System system.SupervisorReturn
+result_of ops.Wfi a b pc len = results.System system.WaitForInterrupt
+result_of (ops.SfenceVma rs1 rs2) a b pc len = results.System system.TranslationFence
+result_of (ops.Csr op rd rs1 csr) a b pc len = csr_access_of op rd rs1 a csr
+result_of (ops.CsrImmediate op rd imm csr) a b pc len = csr_access_of op rd imm imm csr
+result_of (ops.LoadReserved width rd rs1) a b pc len = access_at a (size_of width) memory_ops.LoadReserved
+result_of (ops.StoreConditional width rd rs1 rs2) a b pc len = store_conditional_of width a b
+result_of (ops.Amo op width rd rs1 rs2) a b pc len = access_at a (size_of width) (memory_ops.Amo op width b)

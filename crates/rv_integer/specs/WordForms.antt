@@ -1,10 +1,11 @@
--- What holds of every operation on 32 bits, in the words of the Unprivileged ISA's chapter "RV64I Base Integer Instruction Set":
+-- What holds of every operation on 32 bits, in the words of the Unprivileged ISA's chapter "RV64I Base Integer
+-- Instruction Set":
 -- it ignores the upper 32 bits of its inputs, and always produces a 32-bit signed value, sign-extended to 64 bits.
 use Rattle.std.specs.Prelude.{◌≡◌, ℕ, ◌^◌, ◌<◌}
 use Rattle.hart_words.specs.Words.{sign_extended}
 use Rattle.rv_decode.specs.declared.operation.ImmediateWordOp.{ImmediateWordOp}
 use Rattle.rv_decode.specs.declared.operation.RegisterWordOp.{RegisterWordOp}
-use Rattle.rv_integer.specs.Results.{low, computed_immediate_word, computed_register_word}
+use Rattle.rv_integer.specs.Results.{low, immediate_word_result, register_word_result}
 
 -- the number is the sign extension of its low 32 bits
 abbrev pub IsWord : ℕ → Type 0
@@ -12,18 +13,18 @@ IsWord x = sign_extended 32 x ≡ x
 
 -- every result is a word
 abbrev pub RegisterWordsAreWords : Type 0
-RegisterWordsAreWords = (op : RegisterWordOp) (a b : ℕ) → IsWord (computed_register_word op a b)
+RegisterWordsAreWords = (op : RegisterWordOp) (a b : ℕ) → IsWord (register_word_result op a b)
 
 -- with an immediate too
 abbrev pub ImmediateWordsAreWords : Type 0
-ImmediateWordsAreWords = (op : ImmediateWordOp) (a imm : ℕ) → IsWord (computed_immediate_word op a imm)
+ImmediateWordsAreWords = (op : ImmediateWordOp) (a imm : ℕ) → IsWord (immediate_word_result op a imm)
 
 -- the low 32 bits of the sources give the result
 abbrev pub RegisterWordsIgnoreUpperBits : Type 0
 RegisterWordsIgnoreUpperBits =
-    (op : RegisterWordOp) (a b : ℕ) → b < 2 ^ 64 → computed_register_word op (low a) (low b) ≡ computed_register_word op a b
+    (op : RegisterWordOp) (a b : ℕ) → b < 2 ^ 64 → register_word_result op (low a) (low b) ≡ register_word_result op a b
 
 -- with an immediate too
 abbrev pub ImmediateWordsIgnoreUpperBits : Type 0
 ImmediateWordsIgnoreUpperBits =
-    (op : ImmediateWordOp) (a imm : ℕ) → computed_immediate_word op (low a) imm ≡ computed_immediate_word op a imm
+    (op : ImmediateWordOp) (a imm : ℕ) → immediate_word_result op (low a) imm ≡ immediate_word_result op a imm

@@ -1,15 +1,15 @@
 //! Operations on 64 bits.
 
 ghost use Rattle.std.specs.Prelude.{◌≡◌};
-ghost use Rattle.rv_integer.specs.Results.{computed_immediate, computed_register, left_shift, right_shift, signed_right_shift};
+ghost use Rattle.rv_integer.specs.Results.{immediate_result, register_result, left_shift, right_shift, signed_right_shift};
 
 use hart_words::{div, divu, mulh, mulhsu, mulhu, rem, remu};
 use rv_decode::{ImmediateOp, RegisterOp};
 
 /// A register's value combined with an immediate, or shifted by its low 6 bits.
-#[tactic(auto, unfolding(crate::specs::Results::computed_immediate))]
+#[tactic(auto, unfolding(crate::specs::Results::immediate_result))]
 pub fn compute_immediate(op: ImmediateOp, a: u64, imm: u64) -> u64
-    ensures { result ≡ computed_immediate op a imm }
+    ensures { result ≡ immediate_result op a imm }
 {
     match op {
         ImmediateOp::Addi => a.wrapping_add(imm),
@@ -25,9 +25,9 @@ pub fn compute_immediate(op: ImmediateOp, a: u64, imm: u64) -> u64
 }
 
 /// Two registers' values combined, or the first shifted by the low 6 bits of the second.
-#[tactic(auto, unfolding(crate::specs::Results::computed_register))]
+#[tactic(auto, unfolding(crate::specs::Results::register_result))]
 pub fn compute_register(op: RegisterOp, a: u64, b: u64) -> u64
-    ensures { result ≡ computed_register op a b }
+    ensures { result ≡ register_result op a b }
 {
     match op {
         RegisterOp::Add => a.wrapping_add(b),

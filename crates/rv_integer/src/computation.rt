@@ -2,7 +2,7 @@
 
 ghost use Rattle.std.specs.Prelude.{◌≡◌, ◌%◌, ◌<◌, ◌^◌};
 ghost use Rattle.hart_words.specs.AccessSizes.{bits_of};
-ghost use Rattle.rv_integer.specs.Results.{computed, access_at, csr_access_of, is_csr_read, is_csr_written, is_taken, load_of, low_bits, size_of_store, store_of, store_conditional_of};
+ghost use Rattle.rv_integer.specs.Results.{result_of, access_at, csr_access_of, is_csr_read, is_csr_written, is_taken, load_of, low_bits, size_of_store, store_of, store_conditional_of};
 ghost use Rattle.rv_decode.specs.Operands.{HasEvenOffset};
 ghost use Rattle.rv_integer.specs.Even.{GoesToEven};
 ghost use Rattle.rv_integer.specs.Stores.{StoresWhatFits};
@@ -19,9 +19,9 @@ use rv_decode::{BranchOp, CsrOp, LoadOp, Op, StoreOp, Width};
 /// Integer Multiplication and Division", "A Extension for Atomic Instructions" and "Zicsr Extension
 /// for Control and Status Register (CSR) Instructions", and the Privileged Architecture's
 /// "Machine-Level ISA" and "Supervisor-Level ISA".
-#[tactic(auto, unfolding(crate::specs::Results::computed))]
+#[tactic(auto, unfolding(crate::specs::Results::result_of))]
 pub fn compute(op: Op, a: u64, b: u64, pc: u64, len: u64) -> IntResult
-    ensures value { result ≡ computed op a b pc len }
+    ensures value { result ≡ result_of op a b pc len }
     ensures fits { StoresWhatFits result }
     ensures even { pc % 2 ≡ 0 → len % 2 ≡ 0 → HasEvenOffset op → GoesToEven result }
 {

@@ -3,15 +3,15 @@
 ghost use Rattle.std.specs.Prelude.{◌≡◌, ◌+◌, ◌-◌, ◌*◌, ◌/◌, ◌%◌, ◌^◌, pos};
 ghost use Rattle.std.specs.Int.{w32, cast_signed, int_div_euclid};
 ghost use Rattle.hart_words.specs.Words.{sign_extended, residue, quotient_signed, quotient_unsigned, remainder_signed, remainder_unsigned};
-ghost use Rattle.rv_integer.specs.Results.{computed_immediate_word, computed_register_word, low};
+ghost use Rattle.rv_integer.specs.Results.{immediate_word_result, register_word_result, low};
 
 use hart_words::sext;
 use rv_decode::{ImmediateWordOp, RegisterWordOp};
 
 /// The low 32 bits of a register's value combined with an immediate, or shifted by its low 5 bits.
-#[tactic(auto, using(crate::proofs::Narrow::narrowed_word), unfolding(crate::specs::Results::computed_immediate_word))]
+#[tactic(auto, using(crate::proofs::Narrow::narrowed_word), unfolding(crate::specs::Results::immediate_word_result))]
 pub fn compute_immediate_word(op: ImmediateWordOp, a: u64, imm: u64) -> u64
-    ensures { result ≡ computed_immediate_word op a imm }
+    ensures { result ≡ immediate_word_result op a imm }
 {
     match op {
         ImmediateWordOp::Addiw => sum(a, imm),
@@ -23,9 +23,9 @@ pub fn compute_immediate_word(op: ImmediateWordOp, a: u64, imm: u64) -> u64
 
 /// The low 32 bits of two registers' values combined, or the first shifted by the low 5 bits of the
 /// second.
-#[tactic(auto, using(crate::proofs::Narrow::narrowed_word), unfolding(crate::specs::Results::computed_register_word))]
+#[tactic(auto, using(crate::proofs::Narrow::narrowed_word), unfolding(crate::specs::Results::register_word_result))]
 pub fn compute_register_word(op: RegisterWordOp, a: u64, b: u64) -> u64
-    ensures { result ≡ computed_register_word op a b }
+    ensures { result ≡ register_word_result op a b }
 {
     match op {
         RegisterWordOp::Addw => sum(a, b),

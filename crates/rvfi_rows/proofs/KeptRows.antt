@@ -1,22 +1,27 @@
 -- Rows that are kept, one by one.
-use Rattle.std.proofs.Common.{◌≡◌, ◌∙◌, sym, ap, refl, subst, ℕ, zero, suc, ◌+◌, ◌*◌, ◌≤◌, List, [], ◌∷◌, ◌++◌, length, take, drop, slice_get, Some, None, option_map, arith, length-append, length-drop}
+use Rattle.std.proofs.Common.{◌≡◌, ◌∙◌, sym, ap, refl, subst, ℕ, zero, suc, ◌+◌, ◌*◌, ◌≤◌, List, [], ◌∷◌, ◌++◌, length}
+use Rattle.std.proofs.Common.{take, drop, slice_get, Some, None, option_map, arith, length-append, length-drop}
 use Rattle.std.proofs.lemmas.List.{drop-drop, take-append-le, drop-append-le, take_all}
 use Rattle.std.proofs.lemmas.List.Elements.{All-push}
 use Rattle.std.specs.List.{All}
 use Rattle.hart_words.specs.declared.signal.Signal.{Signal}
 use Rattle.rvfi_rows.specs.declared.reading.Kept.{Kept}
 use Rattle.rvfi_rows.specs.Cells.{values_at}
-use Rattle.rvfi_rows.specs.Kept.{IsOf, kept_reading, kept_readings}
+use Rattle.rvfi_rows.specs.Kept.{ShowsOnly, kept_reading, kept_readings}
 use Rattle.rvfi_rows.specs.Rows.{RowReading}
 
 -- as many readings as rows
-pub kept-length : (signals : List Signal) (rows : List Kept) (values : List ℕ) → length (kept_readings signals rows values) ≡ length rows
+pub kept-length : (signals : List Signal) (rows : List Kept) (values : List ℕ)
+    → length (kept_readings signals rows values) ≡ length rows
 unfolding kept_readings
 kept-length signals [] values = refl
 kept-length signals (row ∷ rows) values = ap suc (kept-length signals rows (drop (length signals) values))
 
 -- the row at a place
-pub kept-get : (signals : List Signal) (rows : List Kept) (values : List ℕ) (place : ℕ) → slice_get (kept_readings signals rows values) place ≡ option_map (λ row. kept_reading signals row (take (length signals) (drop (place * length signals) values))) (slice_get rows place)
+pub kept-get : (signals : List Signal) (rows : List Kept) (values : List ℕ) (place : ℕ)
+    → slice_get (kept_readings signals rows values) place
+    ≡ option_map (λ row. kept_reading signals row (take (length signals) (drop (place * length signals) values)))
+    (slice_get rows place)
 unfolding kept_readings
 kept-get signals [] values place = refl
 kept-get signals (row ∷ rows) values zero =
@@ -28,46 +33,70 @@ kept-get signals (row ∷ rows) values (suc place) =
     ∙ ap (λ front. option_map (λ row. kept_reading signals row (take (length signals) front)) (slice_get rows place))
     (drop-drop (place * length signals) (length signals) values ∙ ap (λ n. drop n values) more)
 
-pub kept-none : (signals : List Signal) (rows : List Kept) (values : List ℕ) (place : ℕ) → None ≡ slice_get rows place → None ≡ slice_get (kept_readings signals rows values) place
-kept-none signals rows values place is = ap (option_map (λ row. kept_reading signals row (take (length signals) (drop (place * length signals) values)))) is ∙ sym (kept-get signals rows values place)
+pub kept-none : (signals : List Signal) (rows : List Kept) (values : List ℕ) (place : ℕ) → None ≡ slice_get rows place
+    → None ≡ slice_get (kept_readings signals rows values) place
+kept-none signals rows values place is =
+    ap (option_map (λ row. kept_reading signals row (take (length signals) (drop (place * length signals) values))))
+    is ∙ sym (kept-get signals rows values place)
 
-pub kept-some : (signals : List Signal) (rows : List Kept) (values : List ℕ) (place : ℕ) (row : Kept) → Some row ≡ slice_get rows place → Some (kept_reading signals row (take (length signals) (drop (place * length signals) values))) ≡ slice_get (kept_readings signals rows values) place
-kept-some signals rows values place row is = ap (option_map (λ row. kept_reading signals row (take (length signals) (drop (place * length signals) values)))) is ∙ sym (kept-get signals rows values place)
+pub kept-some : (signals : List Signal) (rows : List Kept) (values : List ℕ) (place : ℕ) (row : Kept)
+    → Some row ≡ slice_get rows place
+    → Some (kept_reading signals row (take (length signals) (drop (place * length signals) values)))
+    ≡ slice_get (kept_readings signals rows values) place
+kept-some signals rows values place row is =
+    ap (option_map (λ row. kept_reading signals row (take (length signals) (drop (place * length signals) values))))
+    is ∙ sym (kept-get signals rows values place)
 
 -- a row more
-pub kept-push : (signals : List Signal) (rows : List Kept) (values more : List ℕ) (row : Kept) → length values ≡ length rows * length signals → length more ≡ length signals
-    → kept_readings signals (rows ++ row ∷ []) (values ++ more) ≡ kept_readings signals rows values ++ kept_reading signals row more ∷ []
+pub kept-push : (signals : List Signal) (rows : List Kept) (values more : List ℕ) (row : Kept)
+    → length values ≡ length rows * length signals → length more ≡ length signals
+    → kept_readings signals (rows ++ row ∷ []) (values ++ more) ≡ kept_readings signals rows values
+    ++ kept_reading signals row more ∷ []
 unfolding kept_readings
-kept-push signals [] [] more row full fits = ap (λ list. kept_reading signals row list ∷ []) (take_all (length signals) more (omega (arith, fits)))
+kept-push signals [] [] more row full fits =
+    ap (λ list. kept_reading signals row list ∷ []) (take_all (length signals) more (omega (arith, fits)))
 kept-push signals [] (value ∷ values) more row full fits = absurd (omega (arith, full))
 kept-push signals (first ∷ rows) values more row full fits =
     let count : suc (length rows) * length signals ≡ length rows * length signals + length signals = omega arith in
     let enough : length signals ≤ length values = omega (arith, full, count) in
-    let rest : length (drop (length signals) values) ≡ length rows * length signals = omega (arith, full, count, length-drop (length signals) values) in
+    let rest : length (drop (length signals) values) ≡ length rows * length signals =
+    omega (arith, full, count, length-drop (length signals) values) in
     rw (take-append-le (length signals) values more enough, drop-append-le (length signals) values more enough)
-    (ap (λ list. kept_reading signals first (take (length signals) values) ∷ list) (kept-push signals rows (drop (length signals) values) more row rest fits))
+    (ap (λ list. kept_reading signals first (take (length signals) values) ∷ list)
+    (kept-push signals rows (drop (length signals) values) more row rest fits))
 
 values_length : (list : List ℕ) (signals : List Signal) → length (values_at list signals) ≡ length signals
 values_length list [] = refl
 values_length list (signal ∷ signals) = ap suc (values_length list signals)
 
 -- what is there with one row more
-pub full_more : (signals : List Signal) (rows now_rows : List Kept) (values now_values list : List ℕ) (row : Kept) → now_rows ≡ rows ++ row ∷ [] → now_values ≡ values ++ values_at list signals → length values ≡ length rows * length signals
+pub full_more : (signals : List Signal) (rows now_rows : List Kept) (values now_values list : List ℕ) (row : Kept)
+    → now_rows ≡ rows ++ row ∷ [] → now_values ≡ values ++ values_at list signals
+    → length values ≡ length rows * length signals
     → length now_values ≡ length now_rows * length signals
 full_more signals rows now_rows values now_values list row rows_are values_are full =
-    let many : length now_values ≡ length values + length signals = ap length values_are ∙ length-append values (values_at list signals) ∙ ap (λ n. length values + n) (values_length list signals) in
+    let many : length now_values ≡ length values + length signals =
+    ap length values_are ∙ length-append values (values_at list signals)
+    ∙ ap (λ n. length values + n) (values_length list signals) in
     let some : length now_rows ≡ length rows + 1 = ap length rows_are ∙ length-append rows (row ∷ []) in
     rw (many, some, full) (omega arith)
 
-pub theirs_more : (signals : List Signal) (rows now_rows : List Kept) (row : Kept) → now_rows ≡ rows ++ row ∷ [] → All (IsOf signals) rows → IsOf signals row → All (IsOf signals) now_rows
-theirs_more signals rows now_rows row rows_are all is = let P : List Kept → Type 0 = λ list. All (IsOf signals) list in subst P (sym rows_are) (All-push (IsOf signals) rows row all is)
+pub theirs_more : (signals : List Signal) (rows now_rows : List Kept) (row : Kept) → now_rows ≡ rows ++ row ∷ []
+    → All (ShowsOnly signals) rows → ShowsOnly signals row → All (ShowsOnly signals) now_rows
+theirs_more signals rows now_rows row rows_are all is =
+    let P : List Kept → Type 0 = λ list. All (ShowsOnly signals) list in
+    subst P (sym rows_are) (All-push (ShowsOnly signals) rows row all is)
 
-pub kept_more : (signals : List Signal) (rows now_rows : List Kept) (values now_values list : List ℕ) (row : Kept) (reading : RowReading) → now_rows ≡ rows ++ row ∷ [] → now_values ≡ values ++ values_at list signals → length values ≡ length rows * length signals → kept_reading signals row (values_at list signals) ≡ reading
+pub kept_more : (signals : List Signal) (rows now_rows : List Kept) (values now_values list : List ℕ) (row : Kept)
+    (reading : RowReading) → now_rows ≡ rows ++ row ∷ [] → now_values ≡ values ++ values_at list signals
+    → length values ≡ length rows * length signals → kept_reading signals row (values_at list signals) ≡ reading
     → kept_readings signals now_rows now_values ≡ kept_readings signals rows values ++ reading ∷ []
 kept_more signals rows now_rows values now_values list row reading rows_are values_are full is =
-    rw (rows_are, values_are) (kept-push signals rows values (values_at list signals) row full (values_length list signals)
+    rw (rows_are, values_are)
+    (kept-push signals rows values (values_at list signals) row full (values_length list signals)
     ∙ ap (λ last. kept_readings signals rows values ++ last ∷ []) is)
 
-pub none_kept : (signals : List Signal) (rows : List Kept) (values : List ℕ) → rows ≡ [] → kept_readings signals rows values ≡ []
+pub none_kept : (signals : List Signal) (rows : List Kept) (values : List ℕ) → rows ≡ []
+    → kept_readings signals rows values ≡ []
 unfolding kept_readings
 none_kept signals rows values none = rw none refl

@@ -1,5 +1,6 @@
 -- What a row shows, by its bits and values.
-use Rattle.std.proofs.Common.{◌≡◌, ◌≢◌, ◌∙◌, sym, ap, subst, ℕ, ◌*◌, ◌<◌, ◌/◌, ◌%◌, ◌^◌, ◌==◌, bit_or, List, length, inl, inr, Option, Some, None, arith}
+use Rattle.std.proofs.Common.{◌≡◌, ◌≢◌, ◌∙◌, sym, ap, subst, ℕ, ◌*◌, ◌<◌, ◌/◌, ◌%◌, ◌^◌, ◌==◌, bit_or, List, length}
+use Rattle.std.proofs.Common.{inl, inr, Option, Some, None, arith}
 use Rattle.std.specs.Prelude.{if◌then◌else◌, slice_index, slice_set}
 use Rattle.std.specs.Int.{bit_at, w128}
 use Rattle.std.proofs.Math.Path.{fun_ext}
@@ -19,18 +20,23 @@ cell_in bit value = if bit == 1 then Some value else None
 pub shows_nothing : (row : Row) → row.shown ≡ 0 → shown_in row ≡ nothing
 unfolding shown_in
 shows_nothing row is =
-    fun_ext (λ (signal : Signal). ap (λ b. cell_in b (slice_index row.values (index_of signal))) (ap (λ n. bit_at n (index_of signal)) is ∙ bit_at-zero (index_of signal)))
+    fun_ext
+    (λ (signal : Signal). ap (λ b. cell_in b (slice_index row.values (index_of signal)))
+    (ap (λ n. bit_at n (index_of signal)) is ∙ bit_at-zero (index_of signal)))
 
-pub is_shown : (row : Row) (signal : Signal) (index place : ℕ) → index ≡ index_of signal → place ≡ index → row.shown / 2 ^ index % 2 ≡ 1 → Some (slice_index row.values place) ≡ shown_in row signal
+pub is_shown : (row : Row) (signal : Signal) (index place : ℕ) → index ≡ index_of signal → place ≡ index
+    → row.shown / 2 ^ index % 2 ≡ 1 → Some (slice_index row.values place) ≡ shown_in row signal
 unfolding shown_in
 is_shown row signal index place is at bit =
     let here : bit_at row.shown (index_of signal) ≡ 1 = subst (λ i. bit_at row.shown i ≡ 1) is bit in
-    ap (λ i. Some (slice_index row.values i)) (at ∙ is) ∙ ap (λ b. cell_in b (slice_index row.values (index_of signal))) (sym here)
+    ap (λ i. Some (slice_index row.values i)) (at ∙ is)
+    ∙ ap (λ b. cell_in b (slice_index row.values (index_of signal))) (sym here)
 
 clear : (b : ℕ) → b < 2 → b ≢ 1 → b ≡ 0
 clear b few not_one = omega arith
 
-pub is_hidden : (row : Row) (signal : Signal) (index : ℕ) → index ≡ index_of signal → row.shown / 2 ^ index % 2 ≢ 1 → None ≡ shown_in row signal
+pub is_hidden : (row : Row) (signal : Signal) (index : ℕ) → index ≡ index_of signal → row.shown / 2 ^ index % 2 ≢ 1
+    → None ≡ shown_in row signal
 unfolding shown_in
 is_hidden row signal index is bit =
     let here : bit_at row.shown index ≡ 0 = clear _ (bit_at-lt row.shown index) bit in
@@ -39,15 +45,18 @@ is_hidden row signal index is bit =
 
 -- one bit and its value more, seen at the same index and at another
 cell_same : (shown : ℕ) (values : List ℕ) (index value : ℕ) → index < length values → index < 128
-    → cell_in (bit_at (bit_or shown (1 * 2 ^ index % 2 ^ 128)) index) (slice_index (slice_set values index value) index) ≡ Some value
+    → cell_in (bit_at (bit_or shown (1 * 2 ^ index % 2 ^ 128)) index)
+    (slice_index (slice_set values index value) index) ≡ Some value
 cell_same shown values index value within few =
     ap (λ b. cell_in b (slice_index (slice_set values index value) index)) (bit_at_set_same w128 shown index few)
     ∙ ap (λ v. Some v) (get_or-set_same values index value 0 within)
 
 cell_other : (shown : ℕ) (values : List ℕ) (index value other : ℕ) → index < 128 → other ≢ index
-    → cell_in (bit_at (bit_or shown (1 * 2 ^ index % 2 ^ 128)) other) (slice_index (slice_set values index value) other) ≡ cell_in (bit_at shown other) (slice_index values other)
+    → cell_in (bit_at (bit_or shown (1 * 2 ^ index % 2 ^ 128)) other)
+    (slice_index (slice_set values index value) other) ≡ cell_in (bit_at shown other) (slice_index values other)
 cell_other shown values index value other few apart =
-    ap (λ b. cell_in b (slice_index (slice_set values index value) other)) (bit_at_set_other w128 shown index few other apart)
+    ap (λ b. cell_in b (slice_index (slice_set values index value) other))
+    (bit_at_set_other w128 shown index few other apart)
     ∙ ap (λ v. cell_in (bit_at shown other) v) (get_or-set_other values index other value 0 apart)
 
 cell_after : (shown : ℕ) (values : List ℕ) (index value other : ℕ) → index < length values → index < 128
@@ -55,20 +64,25 @@ cell_after : (shown : ℕ) (values : List ℕ) (index value other : ℕ) → ind
     ≡ (if other == index then Some value else cell_in (bit_at shown other) (slice_index values other))
 cell_after shown values index value other within few = elim (eqb_tells other index) [
   | inl same ↦
-      rw same.0 (let P : ℕ → Type 0 = λ i. cell_in (bit_at (bit_or shown (1 * 2 ^ index % 2 ^ 128)) i) (slice_index (slice_set values index value) i) ≡ Some value in
+      rw same.0 (let P : ℕ → Type 0 = λ i. cell_in (bit_at (bit_or shown (1 * 2 ^ index % 2 ^ 128)) i)
+      (slice_index (slice_set values index value) i) ≡ Some value in
       subst P (sym same.1) (cell_same shown values index value within few))
   | inr differs ↦ rw differs.0 (cell_other shown values index value other few differs.1)
 ]
 
-pub shows_more : (row now : Row) (signal : Signal) (index place value : ℕ) → index ≡ index_of signal → place ≡ index → index < 110
+pub shows_more : (row now : Row) (signal : Signal) (index place value : ℕ) → index ≡ index_of signal → place ≡ index
+    → index < 110
     → now.shown ≡ bit_or row.shown (1 * 2 ^ index % 2 ^ 128) → now.values ≡ slice_set row.values place value
     → shown_in now ≡ with_shown (shown_in row) signal value
 unfolding shown_in
 shows_more row now signal index place value is at few shown values =
     let within : index < length row.values = omega (arith, row.full) in
-    let now_values : now.values ≡ slice_set row.values index value = values ∙ ap (λ i. slice_set row.values i value) at in
+    let now_values : now.values ≡ slice_set row.values index value =
+    values ∙ ap (λ i. slice_set row.values i value) at in
     fun_ext (λ (other : Signal).
     ap (λ n. cell_in (bit_at n (index_of other)) (slice_index now.values (index_of other))) shown
-    ∙ ap (λ v. cell_in (bit_at (bit_or row.shown (1 * 2 ^ index % 2 ^ 128)) (index_of other)) (slice_index v (index_of other))) now_values
+    ∙ ap (λ v. cell_in (bit_at (bit_or row.shown (1 * 2 ^ index % 2 ^ 128)) (index_of other))
+    (slice_index v (index_of other))) now_values
     ∙ cell_after row.shown row.values index value (index_of other) within (omega arith)
-    ∙ ap (λ i. if index_of other == i then Some value else cell_in (bit_at row.shown (index_of other)) (slice_index row.values (index_of other))) is)
+    ∙ ap (λ i. if index_of other == i then Some value else cell_in (bit_at row.shown (index_of other))
+    (slice_index row.values (index_of other))) is)

@@ -1,5 +1,7 @@
 -- Going over the columns and the fields of a line, one after the other.
-use Rattle.std.proofs.Common.{◌≡◌, ◌∙◌, sym, ap, refl, ℕ, zero, suc, ◌+◌, ◌<◌, ◌≤◌, Bool, List, [], ◌∷◌, ◌++◌, ◌==◌, true, false, length, take, drop, map, get_or, slice_get, cond, Option, Some, None, Result, Ok, Err, add-one, arith}
+use Rattle.std.proofs.Common.{◌≡◌, ◌∙◌, sym, ap, refl, ℕ, zero, suc, ◌+◌, ◌<◌, ◌≤◌, Bool, List, [], ◌∷◌, ◌++◌, ◌==◌}
+use Rattle.std.proofs.Common.{true, false, length, take, drop, map, get_or, slice_get, cond, Option, Some, None, Result}
+use Rattle.std.proofs.Common.{Ok, Err, add-one, arith}
 use Rattle.std.specs.Prelude.{if◌then◌else◌}
 use Rattle.std.specs.List.{position, position_from}
 use Rattle.std.proofs.Math.Path.{fun_ext}
@@ -14,8 +16,9 @@ use Rattle.hart_words.specs.Results.{◌>>=◌}
 use Rattle.hart_words.specs.Signals.{Shown, index_of}
 use Rattle.std.specs.Option.{option_or}
 use Rattle.csv_line.specs.Fields.{fields_of_line, has_return_in}
-use Rattle.rvfi_rows.specs.Columns.{ColumnList, stands_in, repeated_after, is_of}
-use Rattle.rvfi_rows.specs.Rows.{alone, cell_of, cells_of, field_shown, nothing, row_of_fields, row_of_line, shown_then, valid_of, with_shown}
+use Rattle.rvfi_rows.specs.Columns.{ColumnList, stands_in, first_repeated, is_column_of}
+use Rattle.rvfi_rows.specs.Rows.{alone, cell_of, cells_of, field_shown, nothing, row_of_fields, row_of_line, shown_then}
+use Rattle.rvfi_rows.specs.Rows.{valid_of, with_shown}
 use Rattle.rvfi_rows.specs.declared.fault.RowFault.{RowFault}
 
 -- what was shown before, and what the rest shows
@@ -48,7 +51,8 @@ past (y ∷ xs) (suc i) is = let more = past xs i is in omega (arith, more)
 
 -- ---- what the fields of a header name
 
-pub named-next : {A B : Type 0} (f : A → B) (xs : List A) (i : ℕ) (x : A) (made : List B) → i < length xs → Some x ≡ slice_get xs i → made ≡ map f (take i xs) → made ++ f x ∷ [] ≡ map f (take (i + 1) xs)
+pub named-next : {A B : Type 0} (f : A → B) (xs : List A) (i : ℕ) (x : A) (made : List B) → i < length xs
+    → Some x ≡ slice_get xs i → made ≡ map f (take i xs) → made ++ f x ∷ [] ≡ map f (take (i + 1) xs)
 named-next f xs i x made lt is so_far =
     let here : get_or xs i x ≡ x = get_or_from_slice_get xs i x x (sym is) in
     rw (take_more xs i x lt, here, map-append f (take i xs) (x ∷ []), so_far) refl
@@ -60,16 +64,20 @@ found_within (x ∷ xs) (suc i) lt is = found_within xs i (omega arith) is
 
 -- ---- the first signal that stands twice
 
-pub repeated-next : (columns : ColumnList) (i : ℕ) (stands : Bool) (wanted : Option Signal) → i < length columns → stands ≡ stands_in (take i columns) (get_or columns i None)
-    → repeated_after (take i columns) (drop i columns) ≡ wanted
-    → (if stands then get_or columns i None else repeated_after (take (i + 1) columns) (drop (i + 1) columns)) ≡ wanted
-unfolding repeated_after
+pub repeated-next : (columns : ColumnList) (i : ℕ) (stands : Bool) (wanted : Option Signal) → i < length columns
+    → stands ≡ stands_in (take i columns) (get_or columns i None)
+    → first_repeated (take i columns) (drop i columns) ≡ wanted
+    → (if stands then get_or columns i None else first_repeated (take (i + 1) columns) (drop (i + 1) columns)) ≡ wanted
+unfolding first_repeated
 repeated-next columns i stands wanted lt is so_far =
-    let here : (if stands then get_or columns i None else repeated_after (take i columns ++ get_or columns i None ∷ []) (drop (i + 1) columns)) ≡ wanted = rw is (rw (drop_at columns i None lt) at so_far) in
+    let here : (if stands then get_or columns i None else first_repeated
+    (take i columns ++ get_or columns i None ∷ []) (drop (i + 1) columns)) ≡ wanted =
+    rw is (rw (drop_at columns i None lt) at so_far) in
     rw (add-one, take-suc columns i None lt, ← add-one) here
 
-pub repeated-end : (columns : ColumnList) (i : ℕ) (wanted : Option Signal) → length columns ≤ i → repeated_after (take i columns) (drop i columns) ≡ wanted → None ≡ wanted
-unfolding repeated_after
+pub repeated-end : (columns : ColumnList) (i : ℕ) (wanted : Option Signal) → length columns ≤ i
+    → first_repeated (take i columns) (drop i columns) ≡ wanted → None ≡ wanted
+unfolding first_repeated
 repeated-end columns i wanted le so_far = rw (drop_past columns i le) at so_far
 
 -- ---- the column `valid`
@@ -90,7 +98,8 @@ no_fields [] = refl
 no_fields (column ∷ columns) = refl
 
 -- at one column: it is the one, or the rest tells
-choose : (test : Bool) (all : List (List ℕ)) (i : ℕ) (place : Option ℕ) (here rest : Result (Option ℕ) RowFault) → by_field (slice_get all i) ≡ here → by_place place all ≡ rest
+choose : (test : Bool) (all : List (List ℕ)) (i : ℕ) (place : Option ℕ) (here rest : Result (Option ℕ) RowFault)
+    → by_field (slice_get all i) ≡ here → by_place place all ≡ rest
     → by_place (cond test (Some i) place) all ≡ (if test then here else rest)
 choose true all i place here rest is more = is
 choose false all i place here rest is more = more
@@ -100,22 +109,30 @@ same true value = refl
 same false value = refl
 
 -- from a place on
-valid_from : (columns : ColumnList) (all : List (List ℕ)) (i : ℕ) → by_place (position_from (is_of Valid) i columns) all ≡ valid_of columns (drop i all)
+valid_from : (columns : ColumnList) (all : List (List ℕ)) (i : ℕ)
+    → by_place (position_from (is_column_of Valid) i columns) all ≡ valid_of columns (drop i all)
 unfolding valid_of
 valid_from [] all i = refl
 valid_from (column ∷ columns) all i = by (slice_get all i) refl (valid_from columns all (i + 1))
   where
-    by : (found : Option (List ℕ)) → found ≡ slice_get all i → by_place (position_from (is_of Valid) (i + 1) columns) all ≡ valid_of columns (drop (i + 1) all)
-        → by_place (cond (is_of Valid column) (Some i) (position_from (is_of Valid) (i + 1) columns)) all ≡ valid_of (column ∷ columns) (drop i all)
+    by : (found : Option (List ℕ)) → found ≡ slice_get all i
+        → by_place (position_from (is_column_of Valid) (i + 1) columns) all ≡ valid_of columns (drop (i + 1) all)
+        → by_place (cond (is_column_of Valid column) (Some i) (position_from (is_column_of Valid) (i + 1) columns))
+        all ≡ valid_of (column ∷ columns) (drop i all)
     by (Some field) at rest =
-        rw (drop_found all i field at) (choose (is_of Valid column) all i _ (cell_of Valid field) _ (ap by_field (sym at)) rest)
+        rw (drop_found all i field at)
+        (choose (is_column_of Valid column) all i _ (cell_of Valid field) _ (ap by_field (sym at)) rest)
     by None at rest =
         let none : drop (i + 1) all ≡ [] = drop_past all (i + 1) (omega (arith, past all i at)) in
-        rw (drop_gone all i at) (choose (is_of Valid column) all i _ (Ok None) (Ok None) (ap by_field (sym at)) (rest ∙ ap (valid_of columns) none ∙ no_fields columns) ∙ same (is_of Valid column) (Ok None))
+        rw (drop_gone all i at)
+        (choose (is_column_of Valid column) all i _ (Ok None) (Ok None) (ap by_field (sym at))
+        (rest ∙ ap (valid_of columns) none ∙ no_fields columns) ∙ same (is_column_of Valid column) (Ok None))
 
 -- it is the field at the first place of the column
-pub valid-at : (columns : ColumnList) (fields : List (List ℕ)) → by_place (position (is_of Valid) columns) fields ≡ valid_of columns fields
-valid-at columns fields = ap (λ place. by_place place fields) (position_from-zero (is_of Valid) columns) ∙ valid_from columns fields 0
+pub valid-at : (columns : ColumnList) (fields : List (List ℕ))
+    → by_place (position (is_column_of Valid) columns) fields ≡ valid_of columns fields
+valid-at columns fields =
+    ap (λ place. by_place place fields) (position_from-zero (is_column_of Valid) columns) ∙ valid_from columns fields 0
 
 -- ---- all cells
 
@@ -123,7 +140,8 @@ later : (one two three : Option ℕ) → option_or three (option_or two one) ≡
 later one two None = refl
 later one two (Some x) = refl
 
-joined : (front first others : Shown) → shown_then (shown_then front first) others ≡ shown_then front (shown_then first others)
+joined : (front first others : Shown)
+    → shown_then (shown_then front first) others ≡ shown_then front (shown_then first others)
 joined front first others = fun_ext (λ signal. later (front signal) (first signal) (others signal))
 
 none_later : (front : Shown) → shown_then front nothing ≡ front
@@ -141,14 +159,17 @@ none_alone false before = refl
 pub adds_none : (front : Shown) (signal : Signal) → shown_then front (alone signal None) ≡ front
 adds_none front signal = fun_ext (λ other. none_alone (index_of other == index_of signal) (front other))
 
-one_alone : (test : Bool) (value : ℕ) (before : Option ℕ) → option_or (if test then Some value else None) before ≡ (if test then Some value else before)
+one_alone : (test : Bool) (value : ℕ) (before : Option ℕ)
+    → option_or (if test then Some value else None) before ≡ (if test then Some value else before)
 one_alone true value before = refl
 one_alone false value before = refl
 
-pub adds_one : (front : Shown) (signal : Signal) (value : ℕ) → shown_then front (alone signal (Some value)) ≡ with_shown front signal value
+pub adds_one : (front : Shown) (signal : Signal) (value : ℕ)
+    → shown_then front (alone signal (Some value)) ≡ with_shown front signal value
 adds_one front signal value = fun_ext (λ other. one_alone (index_of other == index_of signal) value (front other))
 
-regroup : (front first : Shown) (rest : Result Shown RowFault) → with_front front (rest >>= λ others. Ok (shown_then first others)) ≡ with_front (shown_then front first) rest
+regroup : (front first : Shown) (rest : Result Shown RowFault)
+    → with_front front (rest >>= λ others. Ok (shown_then first others)) ≡ with_front (shown_then front first) rest
 regroup front first (Ok row) = ap (λ (cells : Shown). Ok cells) (sym (joined front first row))
 regroup front first (Err fault) = refl
 
@@ -156,56 +177,72 @@ regroup front first (Err fault) = refl
 after : Shown → Result Shown RowFault → Result Shown RowFault → Result Shown RowFault
 after front first rest = first >>= λ cells. with_front (shown_then front cells) rest
 
-cells-step : (columns : ColumnList) (fields : List (List ℕ)) (i : ℕ) (field : List ℕ) (front : Shown) (wanted : Result Shown RowFault) → i < length columns → Some field ≡ slice_get fields i
+cells-step : (columns : ColumnList) (fields : List (List ℕ)) (i : ℕ) (field : List ℕ) (front : Shown)
+    (wanted : Result Shown RowFault) → i < length columns → Some field ≡ slice_get fields i
     → with_front front (cells_of (drop i columns) (drop i fields)) ≡ wanted
-    → after front (field_shown (get_or columns i None) field) (cells_of (drop (i + 1) columns) (drop (i + 1) fields)) ≡ wanted
+    → after front (field_shown (get_or columns i None) field) (cells_of (drop (i + 1) columns) (drop (i + 1) fields))
+    ≡ wanted
 unfolding cells_of after
 cells-step columns fields i field front wanted lt is so_far =
     let here = rw (drop_at columns i None lt, drop_found fields i field is) at so_far in
-    step front (field_shown (get_or columns i None) field) (cells_of (drop (i + 1) columns) (drop (i + 1) fields)) ∙ here
+    step front (field_shown (get_or columns i None) field) (cells_of (drop (i + 1) columns) (drop (i + 1) fields))
+    ∙ here
   where
-    step : (front : Shown) (first rest : Result Shown RowFault) → after front first rest ≡ with_front front (first >>= λ cells. (rest >>= λ others. Ok (shown_then cells others)))
+    step : (front : Shown) (first rest : Result Shown RowFault)
+        → after front first rest
+        ≡ with_front front (first >>= λ cells. (rest >>= λ others. Ok (shown_then cells others)))
     step front (Ok cells) rest = sym (regroup front cells rest)
     step front (Err fault) rest = refl
 
-added : (front now : Shown) (first rest : Result Shown RowFault) (wanted : Result Shown RowFault) → with_front front first ≡ Ok now → after front first rest ≡ wanted → with_front now rest ≡ wanted
+added : (front now : Shown) (first rest : Result Shown RowFault) (wanted : Result Shown RowFault)
+    → with_front front first ≡ Ok now → after front first rest ≡ wanted → with_front now rest ≡ wanted
 unfolding after
 added front now (Ok cells) rest wanted is so_far = let same : shown_then front cells ≡ now = cc in rw (← same) so_far
 added front now (Err fault) rest wanted is so_far = absurd cc
 
-failed : (fault : RowFault) (front : Shown) (first rest : Result Shown RowFault) (wanted : Result Shown RowFault) → first ≡ Err fault → after front first rest ≡ wanted → Err fault ≡ wanted
+failed : (fault : RowFault) (front : Shown) (first rest : Result Shown RowFault) (wanted : Result Shown RowFault)
+    → first ≡ Err fault → after front first rest ≡ wanted → Err fault ≡ wanted
 unfolding after
 failed fault front (Ok cells) rest wanted is so_far = absurd cc
-failed fault front (Err other) rest wanted is so_far = let same : other ≡ fault = cc in ap (λ (f : RowFault). Err f) (sym same) ∙ so_far
+failed fault front (Err other) rest wanted is so_far =
+    let same : other ≡ fault = cc in ap (λ (f : RowFault). Err f) (sym same) ∙ so_far
 
-pub cells-next : (columns : ColumnList) (fields : List (List ℕ)) (i : ℕ) (field : List ℕ) (front now : Shown) (wanted : Result Shown RowFault) → i < length columns → Some field ≡ slice_get fields i
+pub cells-next : (columns : ColumnList) (fields : List (List ℕ)) (i : ℕ) (field : List ℕ) (front now : Shown)
+    (wanted : Result Shown RowFault) → i < length columns → Some field ≡ slice_get fields i
     → with_front front (field_shown (get_or columns i None) field) ≡ Ok now
     → with_front front (cells_of (drop i columns) (drop i fields)) ≡ wanted
     → with_front now (cells_of (drop (i + 1) columns) (drop (i + 1) fields)) ≡ wanted
-cells-next columns fields i field front now wanted lt is shown so_far = added front now _ _ wanted shown (cells-step columns fields i field front wanted lt is so_far)
+cells-next columns fields i field front now wanted lt is shown so_far =
+    added front now _ _ wanted shown (cells-step columns fields i field front wanted lt is so_far)
 
-pub cells-fail : (columns : ColumnList) (fields : List (List ℕ)) (i : ℕ) (field : List ℕ) (front : Shown) (fault : RowFault) (wanted : Result Shown RowFault) → i < length columns → Some field ≡ slice_get fields i
+pub cells-fail : (columns : ColumnList) (fields : List (List ℕ)) (i : ℕ) (field : List ℕ) (front : Shown)
+    (fault : RowFault) (wanted : Result Shown RowFault) → i < length columns → Some field ≡ slice_get fields i
     → field_shown (get_or columns i None) field ≡ Err fault
     → with_front front (cells_of (drop i columns) (drop i fields)) ≡ wanted
     → Err fault ≡ wanted
-cells-fail columns fields i field front fault wanted lt is shown so_far = failed fault front _ _ wanted shown (cells-step columns fields i field front wanted lt is so_far)
+cells-fail columns fields i field front fault wanted lt is shown so_far =
+    failed fault front _ _ wanted shown (cells-step columns fields i field front wanted lt is so_far)
 
 no_cells : (front : Shown) (columns : ColumnList) → with_front front (cells_of columns []) ≡ Ok front
 unfolding cells_of
 no_cells front [] = refl
 no_cells front (column ∷ columns) = refl
 
-pub cells-gone : (columns : ColumnList) (fields : List (List ℕ)) (i : ℕ) (front : Shown) (wanted : Result Shown RowFault) → None ≡ slice_get fields i
+pub cells-gone : (columns : ColumnList) (fields : List (List ℕ)) (i : ℕ) (front : Shown)
+    (wanted : Result Shown RowFault) → None ≡ slice_get fields i
     → with_front front (cells_of (drop i columns) (drop i fields)) ≡ wanted → Ok front ≡ wanted
-cells-gone columns fields i front wanted is so_far = sym (no_cells front (drop i columns)) ∙ (rw (drop_gone fields i is) at so_far)
+cells-gone columns fields i front wanted is so_far =
+    sym (no_cells front (drop i columns)) ∙ (rw (drop_gone fields i is) at so_far)
 
-pub cells-end : (columns : ColumnList) (fields : List (List ℕ)) (i : ℕ) (front : Shown) (wanted : Result Shown RowFault) → length columns ≤ i
+pub cells-end : (columns : ColumnList) (fields : List (List ℕ)) (i : ℕ) (front : Shown)
+    (wanted : Result Shown RowFault) → length columns ≤ i
     → with_front front (cells_of (drop i columns) (drop i fields)) ≡ wanted → Ok front ≡ wanted
 unfolding cells_of
 cells-end columns fields i front wanted le so_far = rw (drop_past columns i le) at so_far
 
 -- before the first cell
-pub cells-start : (columns : ColumnList) (fields : List (List ℕ)) (shown : Shown) → shown ≡ nothing → with_front shown (cells_of columns fields) ≡ cells_of columns fields
+pub cells-start : (columns : ColumnList) (fields : List (List ℕ)) (shown : Shown) → shown ≡ nothing
+    → with_front shown (cells_of columns fields) ≡ cells_of columns fields
 cells-start columns fields shown is = rw is (alone_front (cells_of columns fields))
   where
     alone_cell : (x : Option ℕ) → option_or x None ≡ x
@@ -218,6 +255,7 @@ cells-start columns fields shown is = rw is (alone_front (cells_of columns field
 
 -- ---- the row of a line
 
-pub of_line : (columns : ColumnList) (line : List ℕ) (has : Bool) (fields : List (List ℕ)) → has ≡ has_return_in line → fields ≡ fields_of_line line → row_of_fields columns has fields ≡ row_of_line columns line
+pub of_line : (columns : ColumnList) (line : List ℕ) (has : Bool) (fields : List (List ℕ)) → has ≡ has_return_in line
+    → fields ≡ fields_of_line line → row_of_fields columns has fields ≡ row_of_line columns line
 unfolding row_of_line
 of_line columns line has fields is are = rw (is, are) refl

@@ -1,5 +1,6 @@
 -- Values that are kept for signals, one after the other.
-use Rattle.std.proofs.Common.{◌≡◌, ◌∙◌, sym, ap, refl, subst, ℕ, ◌+◌, ◌<◌, ◌≤◌, ◌==◌, ◌||◌, Bool, true, false, List, [], ◌∷◌, length, drop, get_or, inl, inr, Option, Some, None, add-one, arith, lit<, length-set}
+use Rattle.std.proofs.Common.{◌≡◌, ◌∙◌, sym, ap, refl, subst, ℕ, ◌+◌, ◌<◌, ◌≤◌, ◌==◌, ◌||◌, Bool, true, false, List, []}
+use Rattle.std.proofs.Common.{◌∷◌, length, drop, get_or, inl, inr, Option, Some, None, add-one, arith, lit<, length-set}
 use Rattle.std.specs.Prelude.{if◌then◌else◌, slice_index, slice_set}
 use Rattle.std.specs.Option.{option_or}
 use Rattle.std.specs.Int.{bit_at}
@@ -10,9 +11,14 @@ use Rattle.std.proofs.lemmas.Bool.Decides.{eqb_tells}
 use Rattle.std.proofs.Math.ListN.{drop_of_length-le}
 use Rattle.std.proofs.Math.Seq.{drop-cons}
 use Rattle.hart_words.specs.declared.signal.Signal.{Signal}
-use Rattle.hart_words.specs.declared.signal.Signal.TheVariants.{Valid, Order, Intr, PcRdata, Mode, Ixl, Trap, Insn, Rs1Addr, Rs1Rdata, Rs2Addr, Rs2Rdata, RdAddr, RdWdata, PcWdata, MemAddr, MemRmask, MemRdata, MemWmask, MemWdata, MemPaddr, Halt, Csr}
+use Rattle.hart_words.specs.declared.signal.Signal.TheVariants.{Valid, Order, Intr, PcRdata, Mode, Ixl, Trap, Insn}
+use Rattle.hart_words.specs.declared.signal.Signal.TheVariants.{Rs1Addr, Rs1Rdata, Rs2Addr, Rs2Rdata, RdAddr, RdWdata}
+use Rattle.hart_words.specs.declared.signal.Signal.TheVariants.{PcWdata, MemAddr, MemRmask, MemRdata, MemWmask}
+use Rattle.hart_words.specs.declared.signal.Signal.TheVariants.{MemWdata, MemPaddr, Halt, Csr}
 use Rattle.hart_words.specs.declared.signal.CsrName.{CsrName}
-use Rattle.hart_words.specs.declared.signal.CsrName.TheVariants.{Mstatus, Misa, Medeleg, Mideleg, Mie, Mtvec, Mscratch, Mepc, Mcause, Mtval, Mip, Satp, Sstatus, Sie, Sip, Stvec, Sscratch, Sepc, Scause, Stval, Pmpcfg0, Pmpcfg2}
+use Rattle.hart_words.specs.declared.signal.CsrName.TheVariants.{Mstatus, Misa, Medeleg, Mideleg, Mie, Mtvec, Mscratch}
+use Rattle.hart_words.specs.declared.signal.CsrName.TheVariants.{Mepc, Mcause, Mtval, Mip, Satp, Sstatus, Sie, Sip}
+use Rattle.hart_words.specs.declared.signal.CsrName.TheVariants.{Stvec, Sscratch, Sepc, Scause, Stval, Pmpcfg0, Pmpcfg2}
 use Rattle.hart_words.specs.declared.signal.CsrSide.{CsrSide}
 use Rattle.hart_words.specs.declared.signal.CsrSide.TheVariants.{Rmask, Wmask, Rdata, Wdata}
 use Rattle.hart_words.specs.Signals.{csr_index_of, side_index_of, index_of}
@@ -89,11 +95,14 @@ placed (signal ∷ signals) (value ∷ values) list = placed signals values (sli
 drop_at : {A : Type 0} (xs : List A) (i : ℕ) (d : A) → i < length xs → drop i xs ≡ get_or xs i d ∷ drop (i + 1) xs
 drop_at xs i d within = rw add-one (drop-cons xs i d within)
 
-pub placed-next : (signals : List Signal) (values list : List ℕ) (i : ℕ) (d : Signal) (index : ℕ) → i < length signals → i < length values → index ≡ index_of (get_or signals i d)
-    → placed (drop (i + 1) signals) (drop (i + 1) values) (slice_set list index (get_or values i 0)) ≡ placed (drop i signals) (drop i values) list
+pub placed-next : (signals : List Signal) (values list : List ℕ) (i : ℕ) (d : Signal) (index : ℕ) → i < length signals
+    → i < length values → index ≡ index_of (get_or signals i d)
+    → placed (drop (i + 1) signals) (drop (i + 1) values) (slice_set list index (get_or values i 0))
+    ≡ placed (drop i signals) (drop i values) list
 unfolding placed
 placed-next signals values list i d index some many is =
-    rw (drop_at signals i d some, drop_at values i 0 many) (ap (λ n. placed (drop (i + 1) signals) (drop (i + 1) values) (slice_set list n (get_or values i 0))) is)
+    rw (drop_at signals i d some, drop_at values i 0 many)
+    (ap (λ n. placed (drop (i + 1) signals) (drop (i + 1) values) (slice_set list n (get_or values i 0))) is)
 
 -- ---- what they show
 
@@ -102,13 +111,19 @@ assoc : (a b c : Option ℕ) → option_or a (option_or b c) ≡ option_or (opti
 assoc None b c = refl
 assoc (Some x) b c = refl
 
-set_then : (list : List ℕ) (index value other : ℕ) → index < length list → Some (slice_index (slice_set list index value) other) ≡ option_or (if other == index then Some value else None) (Some (slice_index list other))
+set_then : (list : List ℕ) (index value other : ℕ) → index < length list
+    → Some (slice_index (slice_set list index value) other)
+    ≡ option_or (if other == index then Some value else None) (Some (slice_index list other))
 set_then list index value other within = elim (eqb_tells other index) [
-  | inl same ↦ rw same.0 (ap Some (let P : ℕ → Type 0 = λ i. slice_index (slice_set list index value) i ≡ value in subst P (sym same.1) (get_or-set_same list index value 0 within)))
+  | inl same ↦
+      rw same.0 (ap Some (let P : ℕ → Type 0 = λ i. slice_index (slice_set list index value) i ≡ value in
+      subst P (sym same.1) (get_or-set_same list index value 0 within)))
   | inr differs ↦ rw differs.0 (ap Some (get_or-set_other list index other value 0 differs.1))
 ]
 
-pub placed_at : (signals : List Signal) (values list : List ℕ) (signal : Signal) → length list ≡ 110 → Some (slice_index (placed signals values list) (index_of signal)) ≡ option_or (values_of signals values signal) (Some (slice_index list (index_of signal)))
+pub placed_at : (signals : List Signal) (values list : List ℕ) (signal : Signal) → length list ≡ 110
+    → Some (slice_index (placed signals values list) (index_of signal))
+    ≡ option_or (values_of signals values signal) (Some (slice_index list (index_of signal)))
 unfolding placed values_of
 placed_at [] values list signal full = refl
 placed_at (first ∷ signals) [] list signal full = refl
@@ -116,25 +131,32 @@ placed_at (first ∷ signals) (value ∷ values) list signal full =
     let below : index_of first < length list = omega (arith, index_below first, full) in
     placed_at signals values (slice_set list (index_of first) value) signal (length-set _ _ _ ∙ full)
     ∙ ap (option_or (values_of signals values signal)) (set_then list (index_of first) value (index_of signal) below)
-    ∙ assoc (values_of signals values signal) (alone first (Some value) signal) (Some (slice_index list (index_of signal)))
+    ∙ assoc (values_of signals values signal) (alone first (Some value) signal)
+    (Some (slice_index list (index_of signal)))
 
 -- a signal among them has one of these values
-among_has : (signals : List Signal) (values : List ℕ) (signal : Signal) (other : ℕ) → length values ≡ length signals → is_among signals signal ≡ true → option_or (values_of signals values signal) (Some other) ≡ values_of signals values signal
+among_has : (signals : List Signal) (values : List ℕ) (signal : Signal) (other : ℕ) → length values ≡ length signals
+    → is_among signals signal ≡ true
+    → option_or (values_of signals values signal) (Some other) ≡ values_of signals values signal
 unfolding values_of
 among_has [] values signal other as_many among = absurd cc
 among_has (first ∷ signals) [] signal other as_many among = absurd (omega (arith, as_many))
 among_has (first ∷ signals) (value ∷ values) signal other as_many among =
-    by (index_of signal == index_of first) (values_of signals values signal) among (among_has signals values signal other (omega (arith, as_many)))
+    by (index_of signal == index_of first) (values_of signals values signal) among
+    (among_has signals values signal other (omega (arith, as_many)))
   where
-    by : (test : Bool) (rest : Option ℕ) → (test || is_among signals signal) ≡ true → (is_among signals signal ≡ true → option_or rest (Some other) ≡ rest)
-        → option_or (option_or rest (if test then Some value else None)) (Some other) ≡ option_or rest (if test then Some value else None)
+    by : (test : Bool) (rest : Option ℕ) → (test || is_among signals signal) ≡ true
+        → (is_among signals signal ≡ true → option_or rest (Some other) ≡ rest)
+        → option_or (option_or rest (if test then Some value else None)) (Some other)
+        ≡ option_or rest (if test then Some value else None)
     by true None among more = refl
     by true (Some x) among more = refl
     by false None among more = more among
     by false (Some x) among more = refl
 
 -- the row has the values that are put, under these bits
-pub shows_taken : (row now : Row) (signals : List Signal) (values : List ℕ) (bits : ℕ) → AreOf signals bits → length values ≡ length signals → now.shown ≡ bits → now.values ≡ placed signals values row.values
+pub shows_taken : (row now : Row) (signals : List Signal) (values : List ℕ) (bits : ℕ) → AreOf signals bits
+    → length values ≡ length signals → now.shown ≡ bits → now.values ≡ placed signals values row.values
     → shown_in now ≡ with_bits bits (values_of signals values)
 unfolding shown_in with_bits
 shows_taken row now signals values bits are as_many shown taken =
@@ -144,28 +166,35 @@ shows_taken row now signals values bits are as_many shown taken =
     ∙ by signal (bit_at bits (index_of signal) == 1) refl)
   where
     by : (signal : Signal) (test : Bool) → (bit_at bits (index_of signal) == 1) ≡ test
-        → (if test then Some (slice_index (placed signals values row.values) (index_of signal)) else None) ≡ (if test then values_of signals values signal else None)
+        → (if test then Some (slice_index (placed signals values row.values) (index_of signal)) else None)
+        ≡ (if test then values_of signals values signal else None)
     by signal true is =
         placed_at signals values row.values signal row.full
-        ∙ among_has signals values signal (slice_index row.values (index_of signal)) as_many (are.theirs signal (eqb-true _ _ is))
+        ∙ among_has signals values signal (slice_index row.values (index_of signal)) as_many
+        (are.theirs signal (eqb-true _ _ is))
     by signal false is = refl
 
-pub placed-end : (signals : List Signal) (values list whole : List ℕ) (i : ℕ) → length signals ≤ i → placed (drop i signals) (drop i values) list ≡ whole → list ≡ whole
+pub placed-end : (signals : List Signal) (values list whole : List ℕ) (i : ℕ) → length signals ≤ i
+    → placed (drop i signals) (drop i values) list ≡ whole → list ≡ whole
 unfolding placed
 placed-end signals values list whole i past so_far = rw (drop_of_length-le signals past) at so_far
 
 -- ---- values that are kept
 
 -- the values at the signals' indices are theirs
-kept_at : (signals : List Signal) (list : List ℕ) (signal : Signal) → values_of signals (values_at list signals) signal ≡ (if is_among signals signal then Some (slice_index list (index_of signal)) else None)
+kept_at : (signals : List Signal) (list : List ℕ) (signal : Signal)
+    → values_of signals (values_at list signals) signal
+    ≡ (if is_among signals signal then Some (slice_index list (index_of signal)) else None)
 unfolding values_of
 kept_at [] list signal = refl
 kept_at (first ∷ signals) list signal =
-    ap (λ later. option_or later (alone first (Some (slice_index list (index_of first))) signal)) (kept_at signals list signal)
+    ap (λ later. option_or later (alone first (Some (slice_index list (index_of first))) signal))
+    (kept_at signals list signal)
     ∙ by (index_of signal == index_of first) refl (is_among signals signal)
   where
     by : (test : Bool) → (index_of signal == index_of first) ≡ test → (more : Bool)
-        → option_or (if more then Some (slice_index list (index_of signal)) else None) (if test then Some (slice_index list (index_of first)) else None)
+        → option_or (if more then Some (slice_index list (index_of signal)) else None)
+        (if test then Some (slice_index list (index_of first)) else None)
         ≡ (if test || more then Some (slice_index list (index_of signal)) else None)
     by true is true = refl
     by true is false = ap (λ i. Some (slice_index list i)) (sym (eqb-true _ _ is))
@@ -173,13 +202,16 @@ kept_at (first ∷ signals) list signal =
     by false is false = refl
 
 -- so a row that shows none but these signals is what its values at them show
-pub shows_kept : (row : Row) (signals : List Signal) → AreOf signals row.shown → with_bits row.shown (values_of signals (values_at row.values signals)) ≡ shown_in row
+pub shows_kept : (row : Row) (signals : List Signal) → AreOf signals row.shown
+    → with_bits row.shown (values_of signals (values_at row.values signals)) ≡ shown_in row
 unfolding shown_in with_bits
 shows_kept row signals are = fun_ext (λ (signal : Signal). by signal (bit_at row.shown (index_of signal) == 1) refl)
   where
     by : (signal : Signal) (test : Bool) → (bit_at row.shown (index_of signal) == 1) ≡ test
-        → (if test then values_of signals (values_at row.values signals) signal else None) ≡ (if test then Some (slice_index row.values (index_of signal)) else None)
+        → (if test then values_of signals (values_at row.values signals) signal else None)
+        ≡ (if test then Some (slice_index row.values (index_of signal)) else None)
     by signal true is =
         kept_at signals row.values signal
-        ∙ ap (λ b. if b then Some (slice_index row.values (index_of signal)) else None) (are.theirs signal (eqb-true _ _ is))
+        ∙ ap (λ b. if b then Some (slice_index row.values (index_of signal)) else None)
+        (are.theirs signal (eqb-true _ _ is))
     by signal false is = refl

@@ -1,5 +1,6 @@
 -- What a row's bits and values show.
-use Rattle.std.specs.Prelude.{◌≡◌, ℕ, ◌<◌, ◌^◌, ◌==◌, Bool, true, List, [], ◌∷◌, map, if◌then◌else◌, Some, None, slice_index}
+use Rattle.std.specs.Prelude.{◌≡◌, ℕ, ◌<◌, ◌^◌, ◌==◌, Bool, true, List, [], ◌∷◌, map, if◌then◌else◌, Some, None}
+use Rattle.std.specs.Prelude.{slice_index}
 use Rattle.std.specs.Int.{bit_at}
 use Rattle.std.specs.List.{list_any}
 use Rattle.hart_words.specs.declared.signal.Signal.{Signal}
@@ -9,7 +10,8 @@ use Rattle.rvfi_rows.specs.Rows.{alone, nothing, shown_then}
 
 -- a signal is shown where the bit at its index is set, with the value there
 unfoldable pub shown_in : Row → Shown
-shown_in row signal = if bit_at row.shown (index_of signal) == 1 then Some (slice_index row.values (index_of signal)) else None
+shown_in row signal =
+    if bit_at row.shown (index_of signal) == 1 then Some (slice_index row.values (index_of signal)) else None
 
 -- of what is shown, the signals whose bits are set
 unfoldable pub with_bits : ℕ → Shown → Shown

@@ -1,5 +1,6 @@
 -- The columns of a trace, as its header names them.
-use Rattle.std.specs.Prelude.{ℕ, Bool, false, ◌==◌, not, List, [], ◌∷◌, ◌++◌, map, drop, find, codes, nat_eq, Option, option_map, Some, None, Result, Ok, Err, if◌then◌else◌}
+use Rattle.std.specs.Prelude.{ℕ, Bool, false, ◌==◌, not, List, [], ◌∷◌, ◌++◌, map, drop, find, codes, nat_eq, Option}
+use Rattle.std.specs.Prelude.{option_map, Some, None, Result, Ok, Err, if◌then◌else◌}
 use Rattle.std.specs.List.{list_any, starts_with}
 use Rattle.std.specs.Str.{bytes_eq}
 use Rattle.hart_words.specs.Signals.{index_of}
@@ -23,21 +24,21 @@ unfoldable pub less_prefix : List ℕ → List ℕ
 less_prefix name = if starts_with nat_eq name (codes "rvfi_") then drop 5 name else name
 
 -- the signal of a name; a name that no signal has is passed over
-unfoldable pub signal_named : List ℕ → Option Signal
-signal_named name = option_map (λ entry. entry.signal) (find (λ entry. bytes_eq name (name_of entry.signal)) SIGNALS)
+unfoldable pub signal_of_name : List ℕ → Option Signal
+signal_of_name name = option_map (λ entry. entry.signal) (find (λ entry. bytes_eq name (name_of entry.signal)) SIGNALS)
 
 -- what a field of the header names
 abbrev pub column_of : List ℕ → Option Signal
-column_of field = signal_named (less_prefix field)
+column_of field = signal_of_name (less_prefix field)
 
 -- the column shows the signal
-abbrev pub is_of : Signal → Option Signal → Bool
-is_of signal None = false
-is_of signal (Some shown) = index_of shown == index_of signal
+abbrev pub is_column_of : Signal → Option Signal → Bool
+is_column_of signal None = false
+is_column_of signal (Some shown) = index_of shown == index_of signal
 
 -- some column shows the signal
 abbrev pub has_column : Signal → ColumnList → Bool
-has_column signal columns = list_any (is_of signal) columns
+has_column signal columns = list_any (is_column_of signal) columns
 
 -- a known column's signal stands in these columns too
 abbrev pub stands_in : ColumnList → Option Signal → Bool
@@ -45,9 +46,10 @@ stands_in columns None = false
 stands_in columns (Some signal) = has_column signal columns
 
 -- the first signal from the left that stood before; `before` is what stands left of the columns
-unfoldable pub repeated_after : ColumnList → ColumnList → Option Signal
-repeated_after before [] = None
-repeated_after before (column ∷ columns) = if stands_in before column then column else repeated_after (before ++ column ∷ []) columns
+unfoldable pub first_repeated : ColumnList → ColumnList → Option Signal
+first_repeated before [] = None
+first_repeated before (column ∷ columns) =
+    if stands_in before column then column else first_repeated (before ++ column ∷ []) columns
 
 -- no signal stands twice
 abbrev pub refuse_twice : Option Signal → Result (Unit {0}) HeaderFault
@@ -59,7 +61,7 @@ unfoldable pub header_columns : List ℕ → Result ColumnList HeaderFault
 header_columns line = do
   refuse_if (has_return_in line) StrayReturn
   let columns = map column_of (fields_of_line line)
-  refuse_twice (repeated_after [] columns)
+  refuse_twice (first_repeated [] columns)
   refuse_if (not (has_column Insn columns)) (NoColumn Insn)
   refuse_if (not (has_column PcRdata columns)) (NoColumn PcRdata)
   Ok columns

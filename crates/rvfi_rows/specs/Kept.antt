@@ -15,7 +15,8 @@ kept_reading signals (kept.Refused fault) values = Err fault
 -- the same of rows, each with as many values as there are signals
 unfoldable pub kept_readings : List Signal → List Kept → List ℕ → List RowReading
 kept_readings signals [] values = []
-kept_readings signals (row ∷ rows) values = kept_reading signals row (take (length signals) values) ∷ kept_readings signals rows (drop (length signals) values)
+kept_readings signals (row ∷ rows) values =
+    kept_reading signals row (take (length signals) values) ∷ kept_readings signals rows (drop (length signals) values)
 
 -- the bits of the signals that a row shows
 abbrev pub shown_bits : Kept → ℕ
@@ -24,5 +25,5 @@ shown_bits (kept.Shown bits) = bits
 shown_bits (kept.Refused fault) = 0
 
 -- a row shows none but these signals
-abbrev pub IsOf : List Signal → Kept → Type 0
-IsOf signals row = AreOf signals (shown_bits row)
+abbrev pub ShowsOnly : List Signal → Kept → Type 0
+ShowsOnly signals row = AreOf signals (shown_bits row)

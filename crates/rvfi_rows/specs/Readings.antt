@@ -14,5 +14,5 @@ reading_of reading.Valid shown = Ok (Some shown)
 reading_of (reading.Refused fault) shown = Err fault
 
 -- what the rows read as
-abbrev pub rows_in : Rows → List RowReading
-rows_in rows = kept_readings rows.signals.items rows.rows.items rows.values.items
+abbrev pub readings_in : Rows → List RowReading
+readings_in rows = kept_readings rows.signals.items rows.rows.items rows.values.items

@@ -1,5 +1,6 @@
 -- The rows of a trace, as its lines show them.
-use Rattle.std.specs.Prelude.{◌≡◌, ℕ, Bool, true, false, ◌==◌, ◌&&◌, not, List, [], ◌∷◌, length, map, Option, Some, None, Result, Ok, Err, if◌then◌else◌}
+use Rattle.std.specs.Prelude.{◌≡◌, ℕ, Bool, true, false, ◌==◌, ◌&&◌, not, List, [], ◌∷◌, length, map, Option, Some}
+use Rattle.std.specs.Prelude.{None, Result, Ok, Err, if◌then◌else◌}
 use Rattle.std.specs.List.{list_any}
 use Rattle.std.specs.Option.{is_some, option_or}
 use Rattle.hart_words.specs.Numbers.{number_within}
@@ -11,7 +12,7 @@ use Rattle.hart_words.specs.declared.signal.Signal.TheVariants.{Valid, Insn, PcR
 use Rattle.hart_words.specs.declared.signal.TheConstants.{SIGNALS}
 use Rattle.csv_line.specs.Fields.{fields_of_line, has_return_in}
 use Rattle.hart_words.specs.Results.{◌>>=◌, ◌>>◌, refuse_if}
-use Rattle.rvfi_rows.specs.Columns.{ColumnList, is_of}
+use Rattle.rvfi_rows.specs.Columns.{ColumnList, is_column_of}
 use Rattle.rvfi_rows.specs.declared.fault.RowFault.{RowFault}
 use Rattle.rvfi_rows.specs.declared.fault.RowFault.TheVariants.{StrayReturn, FieldCount, Empty, NotNumber, TooWide}
 use Rattle.rvfi_rows.specs.declared.fault.RowError.{RowError}
@@ -79,7 +80,8 @@ cells_of (column ∷ columns) (field ∷ fields) = do
 unfoldable pub valid_of : ColumnList → List (List ℕ) → Result (Option ℕ) RowFault
 valid_of [] fields = Ok None
 valid_of (column ∷ columns) [] = Ok None
-valid_of (column ∷ columns) (field ∷ fields) = if is_of Valid column then cell_of Valid field else valid_of columns fields
+valid_of (column ∷ columns) (field ∷ fields) =
+    if is_column_of Valid column then cell_of Valid field else valid_of columns fields
 
 -- `valid` shows 0
 abbrev pub is_invalid : Option ℕ → Bool

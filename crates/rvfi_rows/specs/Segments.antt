@@ -1,16 +1,25 @@
 -- Lines of a trace that are judged together.
-use Rattle.std.specs.Prelude.{◌≡◌, ℕ, List, Option, Some, None, slice_get}
+use Rattle.std.specs.Prelude.{◌≡◌, ℕ, List, length, Option, Some, None, slice_get}
+use Rattle.std.specs.List.{flat_map}
 use Rattle.std.specs.Borrow.{Bor}
 use Rattle.rvfi_rows.specs.declared.rows.Rows.{Rows}
 use Rattle.rvfi_rows.specs.declared.segment.Segment.{Segment}
 use Rattle.rvfi_rows.specs.declared.unread.PlaceRead.{PlaceRead}
 use Rattle.rvfi_rows.specs.Columns.{ColumnList}
 use Rattle.rvfi_rows.specs.RowsRead.{WasReadUnder}
-use Rattle.rvfi_rows.specs.Readings.{rows_in}
+use Rattle.rvfi_rows.specs.Readings.{readings_in}
 use Rattle.rvfi_rows.specs.Rows.{rows_of}
 
-abbrev pub lines_of : Segment → List (List ℕ)
-lines_of segment = segment.lines
+abbrev pub segment_lines : Segment → List (List ℕ)
+segment_lines segment = segment.lines
+
+-- how many lines segments have
+abbrev pub line_count_of : List Segment → ℕ
+line_count_of segments = length (flat_map segment_lines segments)
+
+-- how many rows segments have under these columns: one a line
+abbrev pub row_count_of : ColumnList → List Segment → ℕ
+row_count_of columns segments = length (flat_map segment_lines segments)
 
 -- the lines were read under these columns
 abbrev pub IsRead : ColumnList → Segment → Type 0
@@ -20,8 +29,9 @@ IsRead columns segment = WasReadUnder columns segment.read
 abbrev pub FindsRows : ColumnList → Segment → Option (Bor Rows) → Type 0
 FindsRows columns segment None = IsRead columns segment → ⊥
 FindsRows columns segment (Some rows) =
-    IsRead columns segment × (rows_in rows.now ≡ rows_of columns segment.lines)
+    IsRead columns segment × (readings_in rows.now ≡ rows_of columns segment.lines)
 
 -- what was read of one of several segments is what its lines read as
 pub record ReadsPlace (segments : List (List (List ℕ))) (one : PlaceRead) : Type 0 where
-  pub reads : (lines : List (List ℕ)) → slice_get segments one.place ≡ Some lines → rows_in one.read.rows ≡ rows_of one.read.columns lines
+  pub reads : (lines : List (List ℕ)) → slice_get segments one.place ≡ Some lines
+      → readings_in one.read.rows ≡ rows_of one.read.columns lines

@@ -1,7 +1,7 @@
 //! The rows of a trace, from its lines.
 
 ghost use Rattle.std.specs.Prelude.{◌≡◌, ℕ, List, option_map};
-ghost use Rattle.hart_words.specs.Results.{Gives, seen_by};
+ghost use Rattle.hart_words.specs.Results.{Gives, result_view};
 ghost use Rattle.rvfi_rows.specs.Cells.{shown_in};
 ghost use Rattle.rvfi_rows.specs.Rows.{cell_of, cells_of, is_needed, row_fault, row_from, row_of_fields, row_of_line, shown_if, valid_of, value_or_fault};
 
@@ -32,7 +32,7 @@ fn row_of_fields(
     has_return: bool,
     fields: &Fields,
 ) -> Result<Option<Row>, RowFault>
-    ensures { seen_by (option_map shown_in) result
+    ensures { result_view (option_map shown_in) result
         ≡ row_of_fields columns.now has_return fields.now }
 {
     let mut row = Row::empty();
@@ -51,7 +51,7 @@ pub(crate) fn fill_row(
     fields: &Fields,
     row: &mut Row,
 ) -> Result<bool, RowFault>
-    ensures { seen_by (shown_if (shown_in row.new)) result
+    ensures { result_view (shown_if (shown_in row.new)) result
         ≡ row_of_fields columns.now has_return fields.now }
 {
     if has_return {
@@ -66,7 +66,7 @@ pub(crate) fn fill_row(
 /// The same of fields that are as many as the columns, in a line with no carriage return.
 #[tactic(auto, unfolding(crate::specs::Rows::row_from))]
 fn fill_valid(columns: &Columns, fields: &Fields, row: &mut Row) -> Result<bool, RowFault>
-    ensures { seen_by (shown_if (shown_in row.new)) result ≡ row_from columns.now fields.now }
+    ensures { result_view (shown_if (shown_in row.new)) result ≡ row_from columns.now fields.now }
 {
     if valid_shown(columns, fields)? == Some(0) {
         return Ok(false);
@@ -90,7 +90,7 @@ fn valid_shown(columns: &Columns, fields: &Fields) -> Result<Option<u64>, RowFau
 
 /// Has `row` show all the known columns' cells.
 fn fill_cells(columns: &[Option<Signal>], fields: &Fields, row: &mut Row) -> Result<(), RowFault>
-    ensures { seen_by (λ done. shown_in row.new) result ≡ cells_of columns.now fields.now }
+    ensures { result_view (λ done. shown_in row.new) result ≡ cells_of columns.now fields.now }
 {
     row.clear();
     for index in 0..columns.len() {

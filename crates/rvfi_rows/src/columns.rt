@@ -8,7 +8,7 @@ ghost use Rattle.hart_words.specs.declared.signal.Signal.{Signal};
 ghost use Rattle.hart_words.specs.declared.signal.Signal.TheVariants.{Valid};
 ghost use Rattle.hart_words.specs.Results.{Gives};
 ghost use Rattle.csv_line.specs.Fields.{has_return_in};
-ghost use Rattle.rvfi_rows.specs.Columns.{header_columns, header_fault, column_of, signal_named, less_prefix, is_of, has_column, stands_in, repeated_after};
+ghost use Rattle.rvfi_rows.specs.Columns.{header_columns, header_fault, column_of, signal_of_name, less_prefix, is_column_of, has_column, stands_in, first_repeated};
 
 use crate::fault::{HeaderError, HeaderFault};
 use csv_line::{Fields, line_fields};
@@ -29,13 +29,13 @@ impl Model for Columns {
     ghost use Rattle.std.specs.List.{position};
     ghost use Rattle.hart_words.specs.declared.signal.Signal.{Signal};
     ghost use Rattle.hart_words.specs.declared.signal.Signal.TheVariants.{Valid};
-    ghost use Rattle.rvfi_rows.specs.Columns.{is_of};
+    ghost use Rattle.rvfi_rows.specs.Columns.{is_column_of};
 
     ghost Value = { List (Option Signal) };
 
     ghost view = { λ columns. columns.signals.items };
 
-    ghost invariant = { λ columns. columns.valid ≡ position (is_of Valid) columns.signals.items };
+    ghost invariant = { λ columns. columns.valid ≡ position (is_column_of Valid) columns.signals.items };
 }
 
 impl Columns {
@@ -65,7 +65,7 @@ impl Columns {
 
     /// The place of the first column that shows `valid`.
     pub(crate) fn valid(&self) -> Option<usize>
-        ensures { result ≡ position (is_of Valid) self.now }
+        ensures { result ≡ position (is_column_of Valid) self.now }
     {
         self.valid
     }
@@ -106,7 +106,7 @@ pub(crate) fn has_carriage_return(line: &[u8]) -> bool
 
 /// Whether the column shows the signal.
 pub(crate) fn is_column_of(signal: Signal, column: Option<Signal>) -> bool
-    ensures { result ≡ is_of signal column }
+    ensures { result ≡ is_column_of signal column }
 {
     match column {
         None => false,
@@ -157,7 +157,7 @@ fn stands(columns: &[Option<Signal>], column: Option<Signal>) -> bool
 
 /// The first signal from the left that stood before.
 fn repeated(columns: &[Option<Signal>]) -> Option<Signal>
-    ensures { result ≡ repeated_after [] columns.now }
+    ensures { result ≡ first_repeated [] columns.now }
 {
     for index in 0..columns.len() {
         let column = columns[index];
@@ -184,7 +184,7 @@ fn columns_named(alloc: Global, fields: &Fields) -> Result<Columns, HeaderError>
 
 /// The place of the first column that shows the signal.
 fn place_of(signal: Signal, columns: &[Option<Signal>]) -> Option<usize>
-    ensures { result ≡ position (is_of signal) columns.now }
+    ensures { result ≡ position (is_column_of signal) columns.now }
 {
     columns
         .iter()
@@ -195,7 +195,7 @@ fn place_of(signal: Signal, columns: &[Option<Signal>]) -> Option<usize>
 fn column_named(field: &[u8]) -> Option<Signal>
     ensures { result ≡ column_of field.now }
 {
-    signal_named(without_prefix(field))
+    signal_of_name(without_prefix(field))
 }
 
 #[tactic(auto, unfolding(crate::specs::Columns::less_prefix))]
@@ -210,9 +210,9 @@ fn without_prefix(name: &[u8]) -> &[u8]
 }
 
 /// The signal of a name.
-#[tactic(auto, unfolding(crate::specs::Columns::signal_named))]
-fn signal_named(name: &[u8]) -> Option<Signal>
-    ensures { result ≡ signal_named name.now }
+#[tactic(auto, unfolding(crate::specs::Columns::signal_of_name))]
+fn signal_of_name(name: &[u8]) -> Option<Signal>
+    ensures { result ≡ signal_of_name name.now }
 {
     signal_among(&SIGNALS, name)
 }

@@ -1,7 +1,15 @@
 //! What the reference hart did at a valid row of a trace.
 
 use csr_file::Csrs;
-use hart_words::{Cause, Mode, Registers};
+use hart_words::{Cause, Mode, Registers, Seen, Wrote};
+
+/// What a step gave: what the reference hart did, and what was read from memory and written to it.
+#[derive(Debug, Drop)]
+pub struct Stepped {
+    pub expected: Expected,
+    pub seen: Seen,
+    pub wrote: Wrote,
+}
 
 /// What the reference hart did at a row: facts alone. Which signals they hold the row to, and under
 /// which masks, is the comparison's to say.

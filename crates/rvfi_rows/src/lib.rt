@@ -2,7 +2,7 @@
 //!
 //! In comes a line of bytes. Out goes what the header names (`specs/Columns.antt`) or what the row
 //! shows (`specs/Rows.antt`), or the first fault; and for the crates above what the reference hart
-//! did at a row (`Expected`), and the verdict on rows (`Verdict`).
+//! did at a row (`Expected`, `Stepped`), and the verdict on rows (`Verdict`).
 #![tactic(auto)]
 
 mod cells;
@@ -22,7 +22,7 @@ mod window;
 
 pub use cells::read_row;
 pub use columns::{Columns, read_header};
-pub use expected::{Accessed, Effects, Expected, Retired};
+pub use expected::{Accessed, Effects, Expected, Retired, Stepped};
 pub use fault::{HeaderError, HeaderFault, RowError, RowFault};
 pub use lines::read_rows;
 pub use reading::Reading;
@@ -31,7 +31,7 @@ pub use rows::Rows;
 pub use segment::Segment;
 pub use segments::{read_segments, reuse_rows};
 pub use verdict::Verdict;
-pub use window::distance_in_window;
+pub use window::{distance_in_window, moved_down, moved_up};
 
 #[cfg(test)]
 mod tests;

@@ -2,7 +2,7 @@
 
 ghost use Rattle.std.specs.Prelude.{◌≡◌, IfOk};
 ghost use Rattle.rvfi_rows.specs.Rows.{rows_of};
-ghost use Rattle.rvfi_rows.specs.Readings.{rows_in};
+ghost use Rattle.rvfi_rows.specs.Readings.{readings_in};
 
 use crate::columns::Columns;
 use crate::row::Row;
@@ -12,10 +12,10 @@ use hart_words::NoMemory;
 use line_text::Lines;
 use std::alloc::Global;
 
-/// What lines read as under these columns: each as `read_row` reads it, behind one that is refused
+/// What lines read as under these columns: each as `read_row` reads it, after one that is refused
 /// too.
 pub fn read_rows(alloc: Global, columns: &Columns, lines: &Lines) -> Result<Rows, NoMemory>
-    ensures { IfOk result (λ rows. rows_in rows ≡ rows_of columns.now lines.now) }
+    ensures { IfOk result (λ rows. readings_in rows ≡ rows_of columns.now lines.now) }
 {
     read_rows_in(alloc, columns, lines, Rows::none(alloc))
 }
@@ -27,7 +27,7 @@ pub(crate) fn read_rows_in(
     lines: &Lines,
     spare: Rows,
 ) -> Result<Rows, NoMemory>
-    ensures { IfOk result (λ rows. rows_in rows ≡ rows_of columns.now lines.now) }
+    ensures { IfOk result (λ rows. readings_in rows ≡ rows_of columns.now lines.now) }
 {
     let mut rows = spare.emptied(alloc, columns.as_slice(), lines.len())?;
     let mut reader = LineReader::new(alloc, lines.text());

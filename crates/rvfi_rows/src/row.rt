@@ -91,7 +91,7 @@ impl Row {
         self.shown
     }
 
-    /// Puts the values at these signals behind others; they mean nothing where no value is shown.
+    /// Puts the values at these signals after others; they mean nothing where no value is shown.
     pub(crate) fn put_values(&self, signals: &[Signal], values: &mut Vec<u64>)
         requires { vec_len values.old + length signals.now ≤ vec_capacity values.old }
         ensures { values.new.items ≡ values.old.items ++ values_at self.now.values signals.now }

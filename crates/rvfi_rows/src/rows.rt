@@ -4,7 +4,7 @@ ghost use Rattle.std.specs.Prelude.{◌≡◌, ◌≤◌, ◌<◌, ◌+◌, ◌*
 ghost use Rattle.std.specs.List.{All};
 ghost use Rattle.rvfi_rows.specs.Cells.{shown_in, values_at};
 ghost use Rattle.rvfi_rows.specs.Rows.{row_of_fields, signals_of};
-ghost use Rattle.rvfi_rows.specs.Kept.{IsOf, kept_reading};
+ghost use Rattle.rvfi_rows.specs.Kept.{ShowsOnly, kept_reading};
 
 use crate::cells::fill_row;
 use crate::columns::Columns;
@@ -23,11 +23,11 @@ pub struct Rows {
     /// For each row as many values as there are signals; those that are not shown mean nothing.
     values: Vec<u64>,
     ghost full: { length values.items ≡ length rows.items * length signals.items },
-    ghost theirs: { All (IsOf signals.items) rows.items },
+    ghost theirs: { All (ShowsOnly signals.items) rows.items },
 }
 
 impl Rows {
-    ghost use Rattle.rvfi_rows.specs.Readings.{reading_of, rows_in};
+    ghost use Rattle.rvfi_rows.specs.Readings.{reading_of, readings_in};
 
     /// No rows, under no columns.
     pub(crate) fn none(alloc: Global) -> Rows {
@@ -45,21 +45,18 @@ impl Rows {
         columns: &[Option<Signal>],
         count: usize,
     ) -> Result<Rows, NoMemory>
-        ensures none { IfOk result (λ rows. rows_in rows ≡ []) }
+        ensures none { IfOk result (λ rows. readings_in rows ≡ []) }
         ensures signals { IfOk result (λ rows. rows.signals.items ≡ signals_of columns.now) }
     {
         let Rows { rows, values, .. } = self;
         let mut rows = rows;
         let mut values = values;
         let signals = known_signals(alloc, columns)?;
-        let room = match count.checked_mul(signals.len()) {
-            None => return Err(NoMemory),
-            Some(room) => room,
-        };
         rows.clear();
         rows.reserve(count)?;
         values.clear();
-        values.reserve(room)?;
+        // A product past 64 bits is more than the allocator gives.
+        values.reserve(count.saturating_mul(signals.len()))?;
         Ok(Rows {
             signals,
             rows,
@@ -67,7 +64,7 @@ impl Rows {
         })
     }
 
-    /// Puts the row of a line's fields behind the others; `row` is used for that.
+    /// Puts the row of a line's fields after the others; `row` is used for that.
     pub(crate) fn push(
         &mut self,
         columns: &Columns,
@@ -76,8 +73,8 @@ impl Rows {
         row: &mut Row,
     ) -> Result<(), NoMemory>
         requires { self.old.signals.items ≡ signals_of columns.now }
-        ensures pushed { OnOk result (rows_in self.new
-            ≡ rows_in self.old ++ row_of_fields columns.now has_return fields.now ∷ []) }
+        ensures pushed { OnOk result (readings_in self.new
+            ≡ readings_in self.old ++ row_of_fields columns.now has_return fields.now ∷ []) }
         ensures signals { self.new.signals.items ≡ self.old.signals.items }
     {
         let kept = kept_of(columns, has_return, fields, row);
@@ -90,8 +87,8 @@ impl Rows {
 
     /// How many rows there are; memory bounds their number.
     pub fn len(&self) -> usize
-        ensures count { result ≡ length (rows_in self.now) }
-        ensures few { result < 2 ^ 63 }
+        ensures count { result ≡ length (readings_in self.now) }
+        ensures below_2_to_63 { result < 2 ^ 63 }
     {
         self.rows.len()
     }
@@ -100,7 +97,7 @@ impl Rows {
     /// is valid.
     pub fn get(&self, place: usize, row: &mut Row) -> Option<Reading>
         ensures { option_map (λ reading. reading_of reading (shown_in row.new)) result
-            ≡ slice_get (rows_in self.now) place }
+            ≡ slice_get (readings_in self.now) place }
     {
         match kept_at(&self.rows, place) {
             None => None,
@@ -145,7 +142,7 @@ fn kept_of(columns: &Columns, has_return: bool, fields: &Fields, row: &mut Row) 
     ensures reading { kept_reading (signals_of columns.now) result
         (values_at row.new.values (signals_of columns.now))
         ≡ row_of_fields columns.now has_return fields.now }
-    ensures theirs { IsOf (signals_of columns.now) result }
+    ensures theirs { ShowsOnly (signals_of columns.now) result }
 {
     match fill_row(columns, has_return, fields, row) {
         Ok(true) => Kept::Shown(row.bits()),

@@ -1,7 +1,7 @@
 //! What lines read as, and under which columns.
 
 ghost use Rattle.std.specs.Prelude.{◌≡◌, IfOk};
-ghost use Rattle.rvfi_rows.specs.Readings.{rows_in};
+ghost use Rattle.rvfi_rows.specs.Readings.{readings_in};
 ghost use Rattle.rvfi_rows.specs.Rows.{rows_of};
 
 use crate::columns::Columns;
@@ -27,7 +27,7 @@ impl RowsRead {
         spare: Rows,
     ) -> Result<RowsRead, NoMemory>
         ensures columns { IfOk result (λ read. read.columns ≡ columns.now) }
-        ensures rows { IfOk result (λ read. rows_in read.rows ≡ rows_of columns.now lines.now) }
+        ensures rows { IfOk result (λ read. readings_in read.rows ≡ rows_of columns.now lines.now) }
     {
         let rows = read_rows_in(alloc, columns, lines, spare)?;
         let columns = columns.copy()?;

@@ -2,7 +2,7 @@
 
 ghost use Rattle.std.specs.Prelude.{◌≡◌, Decides, IfOk, OnOk, OnErr, Some};
 ghost use Rattle.std.specs.Option.{ForSome};
-ghost use Rattle.rvfi_rows.specs.Readings.{rows_in};
+ghost use Rattle.rvfi_rows.specs.Readings.{readings_in};
 ghost use Rattle.rvfi_rows.specs.Rows.{rows_of};
 
 use crate::columns::Columns;
@@ -22,7 +22,7 @@ pub struct Segment {
     /// Rows that are wanted no more, in whose memory the lines are read. A thread that reads them
     /// takes it through a `&`.
     spare: Mutex<Option<Rows>>,
-    ghost theirs: { ForSome read (λ read. rows_in read.rows ≡ rows_of read.columns lines) },
+    ghost theirs: { ForSome read (λ read. readings_in read.rows ≡ rows_of read.columns lines) },
 }
 
 impl Segment {
@@ -83,7 +83,7 @@ impl Segment {
     pub(crate) fn read_lines(&self, alloc: Global, columns: &Columns) -> Result<RowsRead, NoMemory>
         ensures columns { IfOk result (λ read. read.columns ≡ columns.now) }
         ensures rows { IfOk result
-            (λ read. rows_in read.rows ≡ rows_of columns.now self.now.lines) }
+            (λ read. readings_in read.rows ≡ rows_of columns.now self.now.lines) }
     {
         let spare = self.spare_rows(alloc);
         RowsRead::of_lines(alloc, columns, &self.lines, spare)
@@ -103,7 +103,7 @@ impl Segment {
 
     /// Keeps what the lines read as.
     pub(crate) fn keep(&mut self, read: RowsRead)
-        requires { rows_in read.rows ≡ rows_of read.columns self.old.lines }
+        requires { readings_in read.rows ≡ rows_of read.columns self.old.lines }
         ensures lines { self.new.lines ≡ self.old.lines }
         ensures read { self.new.read ≡ Some read }
     {

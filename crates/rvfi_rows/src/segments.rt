@@ -2,7 +2,7 @@
 
 ghost use Rattle.std.specs.Prelude.{◌≡◌, ◌<◌, IfOk, map, OnOk};
 ghost use Rattle.std.specs.List.{All};
-ghost use Rattle.rvfi_rows.specs.Segments.{IsRead, ReadsPlace, lines_of};
+ghost use Rattle.rvfi_rows.specs.Segments.{IsRead, ReadsPlace, segment_lines};
 
 use crate::columns::Columns;
 use crate::segment::Segment;
@@ -22,16 +22,24 @@ pub fn read_segments<R: Threads + Sync>(
     segments: &mut [Segment],
 ) -> Result<(), NoMemory>
     requires { 0 < threads }
-    ensures lines { map lines_of segments.new ≡ map lines_of segments.old }
+    ensures lines { map segment_lines segments.new ≡ map segment_lines segments.old }
     ensures read { OnOk result (All (IsRead columns.now) segments.new) }
 {
     let done = read_places(rt, alloc, threads, columns, segments)?;
     keep_all(segments, done);
-    if segments.iter().all(|segment| segment.is_read(columns)) {
-        Ok(())
-    } else {
-        Err(NoMemory)
+    read_unread(alloc, columns, segments)
+}
+
+/// Reads the lines of the segments that no thread read: of none, since the threads take all. So
+/// memory is refused only where a call asks for it.
+fn read_unread(alloc: Global, columns: &Columns, segments: &mut [Segment]) -> Result<(), NoMemory>
+    ensures lines { map segment_lines segments.new ≡ map segment_lines segments.old }
+    ensures read { OnOk result (All (IsRead columns.now) segments.new) }
+{
+    for place in 0..segments.len() {
+        segments[place].read(alloc, columns)?;
     }
+    Ok(())
 }
 
 /// What the segments that were not read under these columns read as, in any order.
@@ -42,7 +50,7 @@ fn read_places<R: Threads + Sync>(
     columns: &Columns,
     segments: &[Segment],
 ) -> Result<Vec<PlaceRead>, NoMemory>
-    ensures { IfOk result (λ done. All (ReadsPlace (map lines_of segments.now)) done.items) }
+    ensures { IfOk result (λ done. All (ReadsPlace (map segment_lines segments.now)) done.items) }
 {
     let unread = Unread {
         alloc,
@@ -62,7 +70,7 @@ fn read_in_threads<R: Threads + Sync>(
     unread: &Unread,
 ) -> Result<Vec<PlaceRead>, NoMemory>
     ensures { IfOk result (λ done.
-        All (ReadsPlace (map lines_of unread.now.segments.now)) done.items) }
+        All (ReadsPlace (map segment_lines unread.now.segments.now)) done.items) }
 {
     if threads < 2 {
         return unread.read();
@@ -70,11 +78,11 @@ fn read_in_threads<R: Threads + Sync>(
     let left = threads - 1;
     let there = || -> Result<Vec<PlaceRead>, NoMemory>
         ensures { IfOk result (λ done.
-            All (ReadsPlace (map lines_of unread.entry.now.segments.now)) done.items) }
+            All (ReadsPlace (map segment_lines unread.entry.now.segments.now)) done.items) }
     { unread.read() };
     let here = || -> Result<Vec<PlaceRead>, NoMemory>
         ensures { IfOk result (λ done.
-            All (ReadsPlace (map lines_of unread.entry.now.segments.now)) done.items) }
+            All (ReadsPlace (map segment_lines unread.entry.now.segments.now)) done.items) }
     { read_in_threads(rt, left, unread) };
     let (one, others) = join(rt, there, here);
     let mut done = others?;
@@ -84,8 +92,8 @@ fn read_in_threads<R: Threads + Sync>(
 
 /// Keeps what was read of segments in each of them.
 fn keep_all(segments: &mut [Segment], done: Vec<PlaceRead>)
-    requires { All (ReadsPlace (map lines_of segments.old)) done.items }
-    ensures { map lines_of segments.new ≡ map lines_of segments.old }
+    requires { All (ReadsPlace (map segment_lines segments.old)) done.items }
+    ensures { map segment_lines segments.new ≡ map segment_lines segments.old }
 {
     for one in done {
         let PlaceRead { place, read } = one;

@@ -48,7 +48,7 @@ fn reads_rows(rt: HostRuntime) -> Result<(), Fail> {
     Ok(())
 }
 
-/// Rows that were read once show what each line shows by itself, behind a refused one too.
+/// Rows that were read once show what each line shows by itself, after a refused one too.
 #[test]
 fn keeps_rows(rt: HostRuntime) -> Result<(), Fail> {
     let alloc = rt.alloc();
@@ -157,6 +157,24 @@ fn reads_segments(rt: HostRuntime) -> Result<(), Fail> {
         [short, Reading::Valid],
     ];
     check_segments(&rt, &segments, (&turned, &plain), &wanted, 10)
+}
+
+/// However few threads there are, they read all segments.
+#[test]
+fn reads_many_segments(rt: HostRuntime) -> Result<(), Fail> {
+    let alloc = rt.alloc();
+    let columns = read_header(alloc, b"insn,pc_rdata")?;
+    for threads in [1, 3] {
+        let mut segments = Vec::new(alloc);
+        for _ in 0..200 {
+            let mut lines = Lines::new(alloc);
+            lines.push(b"1,2")?;
+            segments.push(Segment::new(lines))?;
+        }
+        read_segments(&rt, alloc, threads, &columns, &mut segments)?;
+        assert!(rt; segments.iter().all(|segment| segment.is_read(&columns)));
+    }
+    Ok(())
 }
 
 /// Segments read as ever in the memory of others, under other columns and with more lines too.

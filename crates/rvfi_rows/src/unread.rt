@@ -2,7 +2,7 @@
 
 ghost use Rattle.std.specs.Prelude.{◌≡◌, ◌<◌, IfOk, length, map};
 ghost use Rattle.std.specs.List.{All};
-ghost use Rattle.rvfi_rows.specs.Segments.{ReadsPlace, lines_of};
+ghost use Rattle.rvfi_rows.specs.Segments.{ReadsPlace, segment_lines};
 
 use crate::columns::Columns;
 use crate::rows_read::RowsRead;
@@ -33,7 +33,7 @@ impl<'a> Unread<'a> {
     /// Reads those segments that this thread takes, unless they were read under these columns.
     pub fn read(&self) -> Result<Vec<PlaceRead>, NoMemory>
         ensures { IfOk result (λ done.
-            All (ReadsPlace (map lines_of self.now.segments.now)) done.items) }
+            All (ReadsPlace (map segment_lines self.now.segments.now)) done.items) }
     {
         let mut done = Vec::new(self.alloc);
         // No thread takes more than all.
@@ -53,7 +53,7 @@ impl<'a> Unread<'a> {
     /// Reads the segment at a place.
     fn read_at(&self, place: usize) -> Result<PlaceRead, NoMemory>
         requires { place < length self.now.segments.now }
-        ensures reads { IfOk result (ReadsPlace (map lines_of self.now.segments.now)) }
+        ensures reads { IfOk result (ReadsPlace (map segment_lines self.now.segments.now)) }
         ensures place { IfOk result (λ one. one.place ≡ place) }
     {
         let read = self.segments[place].read_lines(self.alloc, self.columns)?;

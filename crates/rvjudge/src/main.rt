@@ -5,7 +5,7 @@
 
 ghost use Rattle.std.specs.Prelude.{map, string_bytes};
 ghost use Rattle.std.specs.Process.{exit_status};
-ghost use Rattle.judge_run.specs.Ends.{Ends};
+ghost use Rattle.judge_run.specs.Ends.{Ends, moment_of};
 
 mod shelf;
 mod sink;
@@ -50,19 +50,9 @@ fn exit_code<R, H: Shelf, O: Sink>(
 ) -> ExitCode
 where
     R: Threads + Sync,
-    ensures { Ends (H.told shelf.old) (map string_bytes words.now.items)
-        (record {
-          faults = H.faults shelf.old;
-          misses = H.misses shelf.old;
-          held = O.held out.old;
-          sink_faults = O.faults out.old;
-        })
-        (record {
-          faults = H.faults shelf.new;
-          misses = H.misses shelf.new;
-          held = O.held out.new;
-          sink_faults = O.faults out.new;
-        })
+    ensures { Ends (H.known_files shelf.old) (map string_bytes words.now.items)
+        (moment_of H.faults H.misses O.held O.faults shelf.old out.old)
+        (moment_of H.faults H.misses O.held O.faults shelf.new out.new)
         (exit_status result) }
 {
     ExitCode::from(judge(rt, alloc, words, shelf, out, &OpenGate))

@@ -1,7 +1,7 @@
 //! Real files, read by place.
 
 ghost use Rattle.std.specs.Prelude.{◌≡◌, ◌≤◌, None, IfOk, OnOk, OnErr, length};
-ghost use Rattle.outside_ports.specs.Counts.{Rose, counted};
+ghost use Rattle.outside_ports.specs.Counts.{Rose, count_after_one};
 
 use outside_ports::{Failed, Shelf};
 use std::alloc::Global;
@@ -105,7 +105,7 @@ fn read_some<F: Read>(file: &mut F, buf: &mut [u8]) -> io::Result<usize>
 }
 
 impl<R: Files> Shelf for FileShelf<'_, R> {
-    ghost told = { λ _. None };
+    ghost known_files = { λ _. None };
 
     ghost faults = { λ shelf. shelf.faults };
 
@@ -113,8 +113,8 @@ impl<R: Files> Shelf for FileShelf<'_, R> {
 
     fn read(&mut self, name: &str, at: u64, buf: &mut [u8]) -> Result<usize, Failed>
         ensures within { IfOk result (λ count. count ≤ length buf.new) }
-        ensures calm { OnOk result (self.new.faults ≡ self.old.faults) }
-        ensures fault { OnErr result (self.new.faults ≡ counted self.old.faults) }
+        ensures no_fault { OnOk result (self.new.faults ≡ self.old.faults) }
+        ensures fault { OnErr result (self.new.faults ≡ count_after_one self.old.faults) }
         ensures rose { OnErr result (Rose self.old.faults self.new.faults) }
         ensures kept { self.old.faults ≤ self.new.faults }
     {

@@ -2,7 +2,7 @@
 
 ghost use Rattle.std.specs.Prelude.{◌≡◌, ◌≤◌, ◌<◌, None, IfOk, OnOk, OnErr, length, take};
 ghost use Rattle.std.specs.Io.KnownBytes.{Appends};
-ghost use Rattle.outside_ports.specs.Counts.{Rose, counted};
+ghost use Rattle.outside_ports.specs.Counts.{Rose, count_after_one};
 
 use outside_ports::{Failed, Sink};
 use std::io;
@@ -48,11 +48,11 @@ fn write_some<W: Write>(to: &mut W, piece: &[u8]) -> io::Result<usize>
 /// Writes bytes from the front of a piece, at least one of a nonempty piece, and counts a failure.
 pub fn write_counted<W: Write>(to: &mut W, piece: &[u8], faults: &mut u64) -> Result<usize, Failed>
     ensures within { IfOk result (λ count. count ≤ length piece.now) }
-    ensures some { IfOk result (λ count. 0 < length piece.now → 0 < count) }
+    ensures takes_one { IfOk result (λ count. 0 < length piece.now → 0 < count) }
     ensures taken { let before = W.contents to.old in let now = W.contents to.new in
         IfOk result (λ count. Appends before now (take count piece.now)) }
-    ensures calm { OnOk result (faults.new ≡ faults.old) }
-    ensures fault { OnErr result (faults.new ≡ counted faults.old) }
+    ensures no_fault { OnOk result (faults.new ≡ faults.old) }
+    ensures fault { OnErr result (faults.new ≡ count_after_one faults.old) }
     ensures kept { faults.old ≤ faults.new }
 {
     match write_some(to, piece) {
@@ -71,9 +71,9 @@ impl<R: Print> Sink for OutSink<'_, R> {
 
     fn write(&mut self, piece: &[u8]) -> Result<usize, Failed>
         ensures within { IfOk result (λ count. count ≤ length piece.now) }
-        ensures some { IfOk result (λ count. 0 < length piece.now → 0 < count) }
-        ensures calm { OnOk result (self.new.faults ≡ self.old.faults) }
-        ensures fault { OnErr result (self.new.faults ≡ counted self.old.faults) }
+        ensures takes_one { IfOk result (λ count. 0 < length piece.now → 0 < count) }
+        ensures no_fault { OnOk result (self.new.faults ≡ self.old.faults) }
+        ensures fault { OnErr result (self.new.faults ≡ count_after_one self.old.faults) }
         ensures rose { OnErr result (Rose self.old.faults self.new.faults) }
         ensures kept { self.old.faults ≤ self.new.faults }
     {

@@ -1,5 +1,6 @@
 -- Where the judging of rows ends.
-use Rattle.std.proofs.Common.{◌≡◌, ℕ, Bool, List, [], ◌∷◌, ◌++◌, if◌then◌else◌, Option, Some, None, option_map, refl, sym, ap, ◌∙◌, subst, append_assoc}
+use Rattle.std.proofs.Common.{◌≡◌, ℕ, Bool, List, [], ◌∷◌, ◌++◌, if◌then◌else◌, Option, Some, None, option_map, refl}
+use Rattle.std.proofs.Common.{sym, ap, ◌∙◌, subst, append_assoc}
 use Rattle.std.proofs.Math.Path.{fun_ext}
 use Rattle.hart_words.specs.Memory.{Bytes, after_writes}
 use Rattle.rvfi_rows.specs.declared.verdict.Verdict.{Verdict}
@@ -10,75 +11,97 @@ use Rattle.hart_step.specs.declared.state.Core.{Core}
 use Rattle.hart_step.specs.Harts.{state_of}
 use Rattle.hart_step.specs.Rows.{HartState}
 use Rattle.read_footprint.specs.declared.footprint.Footprint.{Footprint}
-use Rattle.read_footprint.specs.Footprints.{Touched, footprint_of, is_written, writes_of}
-use Rattle.read_footprint.specs.Sets.{IsOf, has_written}
+use Rattle.read_footprint.specs.Footprints.{Accesses, footprint_of, is_written, writes_of}
+use Rattle.read_footprint.specs.Sets.{IsFootprintOf, has_written}
 use Rattle.read_footprint.proofs.Agreement.{written_in_parts}
 use Rattle.read_footprint.proofs.Entries.{all_agree}
 use Rattle.segment_judge.specs.declared.judged.Judged.{Judged}
 use Rattle.segment_judge.specs.Judgements.{Judgement, by_hart}
-use Rattle.segment_judge.specs.Laws.{bytes_behind, judgement_from}
-use Rattle.segment_judge.specs.Judged.{IsJudgement, Stands}
+use Rattle.segment_judge.specs.Laws.{bytes_after_judgement, judgement_from}
+use Rattle.segment_judge.specs.Judged.{IsJudgement, HoldsInOtherMemories}
 use Rattle.segment_judge.proofs.Framed.{framed}
 
--- what was touched is written behind what was touched before
-pub bytes_turn : (start before now : Bytes) (touched more : List Touched) → before ≡ after_writes (writes_of touched) start → now ≡ after_writes (writes_of more) before → now ≡ after_writes (writes_of (touched ++ more)) start
-bytes_turn start before now touched more so_far is =
+-- what was touched is written after what was touched before
+pub bytes_turn : (start before now : Bytes) (accesses more : List Accesses)
+    → before ≡ after_writes (writes_of accesses) start → now ≡ after_writes (writes_of more) before
+    → now ≡ after_writes (writes_of (accesses ++ more)) start
+bytes_turn start before now accesses more so_far is =
     is ∙ ap (λ bytes. after_writes (writes_of more) bytes) so_far
-    ∙ sym (written_in_parts (writes_of touched) (writes_of more) start)
-    ∙ ap (λ writes. after_writes writes start) (sym (writes_joined touched more))
+    ∙ sym (written_in_parts (writes_of accesses) (writes_of more) start)
+    ∙ ap (λ writes. after_writes writes start) (sym (writes_joined accesses more))
   where
-    writes_joined : (xs ys : List Touched) → writes_of (xs ++ ys) ≡ writes_of xs ++ writes_of ys
+    writes_joined : (xs ys : List Accesses) → writes_of (xs ++ ys) ≡ writes_of xs ++ writes_of ys
     writes_joined [] ys = refl
-    writes_joined (x ∷ xs) ys = ap (λ rest. x.wrote ++ rest) (writes_joined xs ys) ∙ sym (append_assoc x.wrote (writes_of xs) (writes_of ys))
+    writes_joined (x ∷ xs) ys =
+        ap (λ rest. x.wrote ++ rest) (writes_joined xs ys) ∙ sym (append_assoc x.wrote (writes_of xs) (writes_of ys))
 
--- the state behind a judgement, by its end and what was touched
-abbrev end_with : Option Core → HartState → List Touched → Option HartState
-end_with end start touched = option_map (λ core. record { core = core; bytes = after_writes (writes_of touched) start.bytes }) end
+-- the state after a judgement, by its end and what was touched
+abbrev end_with : Option Core → HartState → List Accesses → Option HartState
+end_with end start accesses =
+    option_map (λ core. record { core = core; bytes = after_writes (writes_of accesses) start.bytes }) end
 
-abbrev judgement_at : Verdict → Option Core → List Touched → Judgement Core
-judgement_at verdict end touched = record { verdict = verdict; end = end; touched = touched }
+abbrev judgement_at : Verdict → Option Core → List Accesses → Judgement Core
+judgement_at verdict end accesses = record { verdict = verdict; end = end; accesses = accesses }
 
 -- a row ended it
-pub ended : {M : Type 0} (bytes_of : M → Bytes) (start : HartState) (rows : List RowReading) (verdict : Verdict) (touched : List Touched) (footprint : Footprint) → judgement_at verdict None touched ≡ judgement_from by_hart start rows → IsOf footprint touched → IsJudgement bytes_of start rows (record { verdict = verdict; end = None; footprint = footprint })
-ended bytes_of start rows verdict touched footprint whole is = record {
+pub ended : {M : Type 0} (bytes_of : M → Bytes) (start : HartState) (rows : List RowReading) (verdict : Verdict)
+    (accesses : List Accesses) (footprint : Footprint)
+    → judgement_at verdict None accesses ≡ judgement_from by_hart start rows → IsFootprintOf footprint accesses
+    → IsJudgement bytes_of start rows (record { verdict = verdict; end = None; footprint = footprint })
+ended bytes_of start rows verdict accesses footprint whole is = record {
   verdict = ap (λ judgement. judgement.verdict) whole;
-  end = ap (λ judgement. end_with judgement.end start judgement.touched) whole;
-  footprint = subst (λ judgement. IsOf footprint judgement.touched) whole is;
+  end = ap (λ judgement. end_with judgement.end start judgement.accesses) whole;
+  footprint = subst (λ judgement. IsFootprintOf footprint judgement.accesses) whole is;
 }
 
 -- all rows agreed
-pub agreed : {M : Type 0} (bytes_of : M → Bytes) (start : HartState) (rows : List RowReading) (hart : Hart M) (count valid : ℕ) (touched : List Touched) (footprint : Footprint) → judgement_at (Agrees count valid) (Some hart.core) touched ≡ judgement_from by_hart start rows → bytes_of hart.mem ≡ after_writes (writes_of touched) start.bytes → IsOf footprint touched → IsJudgement bytes_of start rows (record { verdict = Agrees count valid; end = Some hart; footprint = footprint })
-agreed bytes_of start rows hart count valid touched footprint whole bytes is =
-    let here : Some (state_of bytes_of hart) ≡ end_with (Some hart.core) start touched = rw bytes refl in
+pub agreed : {M : Type 0} (bytes_of : M → Bytes) (start : HartState) (rows : List RowReading) (hart : Hart M)
+    (count valid : ℕ) (accesses : List Accesses) (footprint : Footprint)
+    → judgement_at (Agrees count valid) (Some hart.core) accesses ≡ judgement_from by_hart start rows
+    → bytes_of hart.mem ≡ after_writes (writes_of accesses) start.bytes → IsFootprintOf footprint accesses
+    → IsJudgement bytes_of start rows (record { verdict = Agrees count valid; end = Some hart; footprint = footprint })
+agreed bytes_of start rows hart count valid accesses footprint whole bytes is =
+    let here : Some (state_of bytes_of hart) ≡ end_with (Some hart.core) start accesses = rw bytes refl in
     record {
       verdict = ap (λ judgement. judgement.verdict) whole;
-      end = here ∙ ap (λ judgement. end_with judgement.end start judgement.touched) whole;
-      footprint = subst (λ judgement. IsOf footprint judgement.touched) whole is;
+      end = here ∙ ap (λ judgement. end_with judgement.end start judgement.accesses) whole;
+      footprint = subst (λ judgement. IsFootprintOf footprint judgement.accesses) whole is;
     }
 
-mapped_twice : {A B D : Type 0} (f : B → D) (g : A → B) (x : Option A) → option_map f (option_map g x) ≡ option_map (λ a. f (g a)) x
+mapped_twice : {A B D : Type 0} (f : B → D) (g : A → B) (x : Option A)
+    → option_map f (option_map g x) ≡ option_map (λ a. f (g a)) x
 mapped_twice f g None = refl
 mapped_twice f g (Some a) = refl
 
 -- a state over another memory, with the bytes of a set as they are in it
 abbrev over : (ℕ → Bool) → Bytes → HartState → HartState
-over is_moved other state = record { core = state.core; bytes = λ address. if is_moved address then state.bytes address else other address }
+over is_moved other state =
+    record { core = state.core; bytes = λ address. if is_moved address then state.bytes address else other address }
 
 -- the judgement stands over each memory that agrees on what was read
-pub stands : {M : Type 0} (bytes_of : M → Bytes) (start : HartState) (rows : List RowReading) (judged : Judged M) → IsJudgement bytes_of start rows judged → Stands bytes_of start rows judged
+pub stands : {M : Type 0} (bytes_of : M → Bytes) (start : HartState) (rows : List RowReading) (judged : Judged M)
+    → IsJudgement bytes_of start rows judged → HoldsInOtherMemories bytes_of start rows judged
 stands bytes_of start rows judged is other same =
     let judgement = judgement_from by_hart start rows in
-    let agrees = all_agree start.bytes other (footprint_of judgement.touched) (λ address among. same address (is.footprint.read address ∙ among)) in
+    let agrees =
+    all_agree start.bytes other (footprint_of judgement.accesses)
+    (λ address among. same address (is.footprint.read address ∙ among)) in
     let frame = framed by_hart start.core rows start.bytes other agrees in
-    let moves : (ℕ → Bool) → Option HartState = λ is_moved. option_map (λ hart. over is_moved other (state_of bytes_of hart)) judged.end in
-    let goes : is_written (writes_of judgement.touched) ≡ has_written judged.footprint = fun_ext (λ address. sym (is.footprint.wrote address)) in
+    let moves : (ℕ → Bool) → Option HartState =
+    λ is_moved. option_map (λ hart. over is_moved other (state_of bytes_of hart)) judged.end in
+    let goes : is_written (writes_of judgement.accesses) ≡ has_written judged.footprint =
+    fun_ext (λ address. sym (is.footprint.wrote address)) in
     record {
       verdict = ap (λ (judgement : Judgement Core). judgement.verdict) frame.same ∙ sym is.verdict;
-      end = ap (λ (judgement : Judgement Core). end_with judgement.end (record { core = start.core; bytes = other }) judgement.touched) frame.same
+      end =
+          ap (λ (judgement : Judgement Core). end_with judgement.end (record { core = start.core; bytes = other })
+          judgement.accesses) frame.same
           ∙ ap (λ bytes. end_over bytes judgement.end) frame.moves
-          ∙ sym (mapped_twice (over (is_written (writes_of judgement.touched)) other) (λ core. record { core = core; bytes = bytes_behind judgement start.bytes }) judgement.end)
-          ∙ ap (option_map (over (is_written (writes_of judgement.touched)) other)) (sym is.end)
-          ∙ mapped_twice (over (is_written (writes_of judgement.touched)) other) (state_of bytes_of) judged.end
+          ∙ sym
+          (mapped_twice (over (is_written (writes_of judgement.accesses)) other)
+          (λ core. record { core = core; bytes = bytes_after_judgement judgement start.bytes }) judgement.end)
+          ∙ ap (option_map (over (is_written (writes_of judgement.accesses)) other)) (sym is.end)
+          ∙ mapped_twice (over (is_written (writes_of judgement.accesses)) other) (state_of bytes_of) judged.end
           ∙ ap moves goes;
     }
   where

@@ -4,3 +4,5 @@ pub mod Turns
 pub mod Within
 pub mod Progressed
 pub mod Ends
+pub mod Maps
+pub mod RamAlone

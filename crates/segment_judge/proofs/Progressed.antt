@@ -1,6 +1,7 @@
 -- Progress by one row.
 use Rattle.std.specs.Prelude.{◌||◌, ◌&&◌, not}
-use Rattle.std.proofs.Common.{◌≡◌, ℕ, ◌+◌, All, List, [], ◌∷◌, ◌++◌, Option, Some, None, Ok, Err, refl, sym, ap, ◌∙◌, subst, append-nil}
+use Rattle.std.proofs.Common.{◌≡◌, ℕ, ◌+◌, All, List, [], ◌∷◌, ◌++◌, Option, Some, None, Ok, Err, refl, sym, ap, ◌∙◌}
+use Rattle.std.proofs.Common.{subst, append-nil}
 use Rattle.hart_words.specs.declared.accesses.Read.{Read}
 use Rattle.hart_words.specs.declared.accesses.Write.{Write}
 use Rattle.hart_words.specs.declared.map.Map.{Map}
@@ -15,76 +16,131 @@ use Rattle.rvfi_rows.specs.declared.verdict.Verdict.{Verdict}
 use Rattle.rvfi_rows.specs.declared.verdict.Verdict.TheVariants.{Differs, Refused}
 use Rattle.hart_step.specs.Cores.{IsSound}
 use Rattle.hart_step.specs.Harts.{state_of}
-use Rattle.hart_step.specs.Steps.{stepped}
+use Rattle.hart_step.specs.Steps.{step_of}
 use Rattle.row_compare.specs.Difference.{difference_of}
-use Rattle.read_footprint.specs.Footprints.{Touched, is_written}
-use Rattle.read_footprint.specs.Sets.{IsOf, IsWithin, has_read, has_written, is_read}
+use Rattle.read_footprint.specs.Footprints.{Accesses, is_written}
+use Rattle.read_footprint.specs.Sets.{IsFootprintOf, LiesInRam, has_read, has_written, is_read}
 use Rattle.segment_judge.specs.declared.progress.Progress.{Progress}
-use Rattle.segment_judge.specs.Standings.{RowGives, touched_at}
+use Rattle.segment_judge.specs.Standings.{RowGives, accesses_at}
 use Rattle.segment_judge.specs.Progress.{CanJudge, JudgesRow, standing}
-use Rattle.segment_judge.proofs.Turns.{agreed_gives, behind_valid, differing_gives, invalid_gives, performed_state, performed_touched, refused_gives}
+use Rattle.segment_judge.proofs.Turns.{agreed_gives, behind_valid, differing_gives, invalid_gives, performed_state}
+use Rattle.segment_judge.proofs.Turns.{performed_touched, refused_gives}
 use Rattle.segment_judge.proofs.Within.{ReadLies, WriteLies, within_added}
 
-pub judges_refused : {M : Type 0} (bytes_of : M → Bytes) (before : Progress M) (fault : RowFault) (touched : List Touched) → JudgesRow bytes_of before before (Err fault) (Some (Refused (before.rows + 1) fault)) touched
+pub judges_refused : {M : Type 0} (bytes_of : M → Bytes) (before : Progress M) (fault : RowFault)
+    (accesses : List Accesses)
+    → JudgesRow bytes_of before before (Err fault) (Some (Refused (before.rows + 1) fault)) accesses
 unfolding after_writes
-judges_refused bytes_of before fault touched = record {
-  gives = refused_gives (standing bytes_of before touched) fault;
-  footprint = λ is. subst (IsOf before.footprint) (sym (append-nil touched)) is;
+judges_refused bytes_of before fault accesses = record {
+  gives = refused_gives (standing bytes_of before accesses) fault;
+  footprint = λ is. subst (IsFootprintOf before.footprint) (sym (append-nil accesses)) is;
   bytes = refl;
 }
 
-pub judges_invalid : {M : Type 0} (bytes_of : M → Bytes) (before : Progress M) (touched : List Touched) → JudgesRow bytes_of before (record before { rows = before.rows + 1 }) (Ok None) None touched
+pub judges_invalid : {M : Type 0} (bytes_of : M → Bytes) (before : Progress M) (accesses : List Accesses)
+    → JudgesRow bytes_of before (record before { rows = before.rows + 1 }) (Ok None) None accesses
 unfolding after_writes
-judges_invalid bytes_of before touched = record {
-  gives = invalid_gives (standing bytes_of before touched);
-  footprint = λ is. subst (IsOf before.footprint) (sym (append-nil touched)) is;
+judges_invalid bytes_of before accesses = record {
+  gives = invalid_gives (standing bytes_of before accesses);
+  footprint = λ is. subst (IsFootprintOf before.footprint) (sym (append-nil accesses)) is;
   bytes = refl;
 }
 
 -- a valid row was stepped, and what it touched was added
-pub record Stepped {M : Type 0} (bytes_of : M → Bytes) (before now : Progress M) (shown : Shown) (expected : Expected) (seen : List Read) (wrote : List Write) : Type 0 where
-  pub done : Performs (stepped before.hart.core shown) (record { next = now.hart.core; expected = expected }) [] seen [] wrote (bytes_of before.hart.mem) (bytes_of now.hart.mem)
-  pub added : (rows : List Touched) → IsOf before.footprint rows → IsOf now.footprint (rows ++ record { reads = seen; wrote = wrote } ∷ [])
+pub record Stepped {M : Type 0} (bytes_of : M → Bytes) (before now : Progress M) (shown : Shown) (expected : Expected)
+    (seen : List Read) (wrote : List Write) : Type 0 where
+  pub done : Performs (step_of before.hart.core shown) (record { next = now.hart.core; expected = expected }) [] seen
+      [] wrote (bytes_of before.hart.mem) (bytes_of now.hart.mem)
+  pub added : (rows : List Accesses) → IsFootprintOf before.footprint rows
+      → IsFootprintOf now.footprint (rows ++ record { reads = seen; wrote = wrote } ∷ [])
   pub rows : now.rows ≡ before.rows + 1
 
-behind : {M : Type 0} (bytes_of : M → Bytes) (before now : Progress M) (shown : Shown) (expected : Expected) (seen : List Read) (wrote : List Write) (touched : List Touched) → Stepped bytes_of before now shown expected seen wrote → behind_valid (standing bytes_of before touched) shown now.valid ≡ standing bytes_of now (touched ++ touched_at (state_of bytes_of before.hart) (Ok (Some shown)))
-behind bytes_of before now shown expected seen wrote touched stepped =
-    rw (stepped.rows, performed_state (state_of bytes_of before.hart) shown now.hart.core expected seen wrote (bytes_of now.hart.mem) stepped.done) refl
+following : {M : Type 0} (bytes_of : M → Bytes) (before now : Progress M) (shown : Shown) (expected : Expected)
+    (seen : List Read) (wrote : List Write) (accesses : List Accesses)
+    → Stepped bytes_of before now shown expected seen wrote
+    → behind_valid (standing bytes_of before accesses) shown now.valid
+    ≡ standing bytes_of now (accesses ++ accesses_at (state_of bytes_of before.hart) (Ok (Some shown)))
+following bytes_of before now shown expected seen wrote accesses step_of =
+    rw (
+      step_of.rows,
+      performed_state (state_of bytes_of before.hart) shown now.hart.core expected seen wrote
+          (bytes_of now.hart.mem) step_of.done,
+    ) refl
 
-judges_by : {M : Type 0} (bytes_of : M → Bytes) (before now : Progress M) (shown : Shown) (expected : Expected) (seen : List Read) (wrote : List Write) (touched : List Touched) (end : Option Verdict) → Stepped bytes_of before now shown expected seen wrote → RowGives (standing bytes_of before touched) (Ok (Some shown)) end (behind_valid (standing bytes_of before touched) shown now.valid) → JudgesRow bytes_of before now (Ok (Some shown)) end touched
-judges_by bytes_of before now shown expected seen wrote touched end stepped gives =
+judges_by : {M : Type 0} (bytes_of : M → Bytes) (before now : Progress M) (shown : Shown) (expected : Expected)
+    (seen : List Read) (wrote : List Write) (accesses : List Accesses) (end : Option Verdict)
+    → Stepped bytes_of before now shown expected seen wrote
+    → RowGives (standing bytes_of before accesses) (Ok (Some shown)) end
+    (behind_valid (standing bytes_of before accesses) shown now.valid)
+    → JudgesRow bytes_of before now (Ok (Some shown)) end accesses
+judges_by bytes_of before now shown expected seen wrote accesses end step_of gives =
     let state = state_of bytes_of before.hart in
-    let touches = performed_touched state shown now.hart.core expected seen wrote (bytes_of now.hart.mem) stepped.done in
+    let touches =
+    performed_touched state shown now.hart.core expected seen wrote (bytes_of now.hart.mem) step_of.done in
     record {
-      gives = subst (RowGives (standing bytes_of before touched) (Ok (Some shown)) end) (behind bytes_of before now shown expected seen wrote touched stepped) gives;
-      footprint = λ is. subst (λ more. IsOf now.footprint (touched ++ more)) (sym touches) (stepped.added touched is);
-      bytes = stepped.done.bytes_are ∙ ap (λ writes. after_writes writes (bytes_of before.hart.mem)) (sym (append-nil _));
+      gives =
+          subst (RowGives (standing bytes_of before accesses) (Ok (Some shown)) end)
+          (following bytes_of before now shown expected seen wrote accesses step_of) gives;
+      footprint =
+          λ is. subst (λ more. IsFootprintOf now.footprint (accesses ++ more)) (sym touches)
+          (step_of.added accesses is);
+      bytes =
+          step_of.done.bytes_are ∙ ap (λ writes. after_writes writes (bytes_of before.hart.mem)) (sym (append-nil _));
     }
 
-expected_is : {M : Type 0} (bytes_of : M → Bytes) (before now : Progress M) (shown : Shown) (expected : Expected) (seen : List Read) (wrote : List Write) → Stepped bytes_of before now shown expected seen wrote → expected ≡ ((stepped before.hart.core shown).run (bytes_of before.hart.mem)).value.expected
-expected_is bytes_of before now shown expected seen wrote stepped = ap (λ gave. gave.expected) stepped.done.value_is
+expected_is : {M : Type 0} (bytes_of : M → Bytes) (before now : Progress M) (shown : Shown) (expected : Expected)
+    (seen : List Read) (wrote : List Write) → Stepped bytes_of before now shown expected seen wrote
+    → expected ≡ ((step_of before.hart.core shown).run (bytes_of before.hart.mem)).value.expected
+expected_is bytes_of before now shown expected seen wrote step_of = ap (λ gave. gave.expected) step_of.done.value_is
 
-pub judges_agreed : {M : Type 0} (bytes_of : M → Bytes) (before now : Progress M) (shown : Shown) (expected : Expected) (seen : List Read) (wrote : List Write) (touched : List Touched) → Stepped bytes_of before now shown expected seen wrote → now.valid ≡ before.valid + 1 → difference_of expected shown ≡ None → JudgesRow bytes_of before now (Ok (Some shown)) None touched
-judges_agreed bytes_of before now shown expected seen wrote touched done valid agrees =
-    let start = standing bytes_of before touched in
-    let none : difference_of ((stepped before.hart.core shown).run (bytes_of before.hart.mem)).value.expected shown ≡ None = ap (λ did. difference_of did shown) (sym (expected_is bytes_of before now shown expected seen wrote done)) ∙ agrees in
-    judges_by bytes_of before now shown expected seen wrote touched None done
-    (subst (λ count. RowGives start (Ok (Some shown)) None (behind_valid start shown count)) (sym valid) (agreed_gives start shown none))
+pub judges_agreed : {M : Type 0} (bytes_of : M → Bytes) (before now : Progress M) (shown : Shown)
+    (expected : Expected) (seen : List Read) (wrote : List Write) (accesses : List Accesses)
+    → Stepped bytes_of before now shown expected seen wrote → now.valid ≡ before.valid + 1
+    → difference_of expected shown ≡ None → JudgesRow bytes_of before now (Ok (Some shown)) None accesses
+judges_agreed bytes_of before now shown expected seen wrote accesses done valid agrees =
+    let start = standing bytes_of before accesses in
+    let none : difference_of ((step_of before.hart.core shown).run (bytes_of before.hart.mem)).value.expected shown
+    ≡ None =
+    ap (λ did. difference_of did shown) (sym (expected_is bytes_of before now shown expected seen wrote done))
+    ∙ agrees in
+    judges_by bytes_of before now shown expected seen wrote accesses None done
+    (subst (λ count. RowGives start (Ok (Some shown)) None (behind_valid start shown count)) (sym valid)
+    (agreed_gives start shown none))
 
-pub judges_differing : {M : Type 0} (bytes_of : M → Bytes) (before now : Progress M) (shown : Shown) (expected : Expected) (seen : List Read) (wrote : List Write) (touched : List Touched) (difference : Difference) → Stepped bytes_of before now shown expected seen wrote → now.valid ≡ before.valid → difference_of expected shown ≡ Some difference → JudgesRow bytes_of before now (Ok (Some shown)) (Some (Differs (before.rows + 1) difference)) touched
-judges_differing bytes_of before now shown expected seen wrote touched difference done valid differs =
-    let start = standing bytes_of before touched in
-    let some : difference_of ((stepped before.hart.core shown).run (bytes_of before.hart.mem)).value.expected shown ≡ Some difference = ap (λ did. difference_of did shown) (sym (expected_is bytes_of before now shown expected seen wrote done)) ∙ differs in
+pub judges_differing : {M : Type 0} (bytes_of : M → Bytes) (before now : Progress M) (shown : Shown)
+    (expected : Expected) (seen : List Read) (wrote : List Write) (accesses : List Accesses) (difference : Difference)
+    → Stepped bytes_of before now shown expected seen wrote → now.valid ≡ before.valid
+    → difference_of expected shown ≡ Some difference
+    → JudgesRow bytes_of before now (Ok (Some shown)) (Some (Differs (before.rows + 1) difference)) accesses
+judges_differing bytes_of before now shown expected seen wrote accesses difference done valid differs =
+    let start = standing bytes_of before accesses in
+    let some : difference_of ((step_of before.hart.core shown).run (bytes_of before.hart.mem)).value.expected shown
+    ≡ Some difference =
+    ap (λ did. difference_of did shown) (sym (expected_is bytes_of before now shown expected seen wrote done))
+    ∙ differs in
     let end = Some (Differs (before.rows + 1) difference) in
-    judges_by bytes_of before now shown expected seen wrote touched end done
-    (subst (λ count. RowGives start (Ok (Some shown)) end (behind_valid start shown count)) (sym valid) (differing_gives start shown difference some))
+    judges_by bytes_of before now shown expected seen wrote accesses end done
+    (subst (λ count. RowGives start (Ok (Some shown)) end (behind_valid start shown count)) (sym valid)
+    (differing_gives start shown difference some))
 
 -- the next row may be judged too
-pub still_judges : {M : Type 0} (ram_of : M → Span) (before now : Progress M) (seen : List Read) (wrote : List Write) → CanJudge ram_of before → IsSound now.hart.core → now.hart.core.map ≡ before.hart.core.map → ram_of now.hart.mem ≡ ram_of before.hart.mem → ((address : ℕ) → has_read now.footprint address ≡ (has_read before.footprint address || (is_read seen address && not (has_written before.footprint address)))) → ((address : ℕ) → has_written now.footprint address ≡ (has_written before.footprint address || is_written wrote address)) → All (ReadLies before.hart.core.map.ram) seen → All (WriteLies before.hart.core.map.ram) wrote → CanJudge ram_of now
+pub still_judges : {M : Type 0} (ram_of : M → Span) (before now : Progress M) (seen : List Read) (wrote : List Write)
+    → CanJudge ram_of before → IsSound now.hart.core → now.hart.core.map ≡ before.hart.core.map
+    → ram_of now.hart.mem ≡ ram_of before.hart.mem
+    → ((address : ℕ)
+    → has_read now.footprint address
+    ≡ (has_read before.footprint address || (is_read seen address && not (has_written before.footprint address))))
+    → ((address : ℕ)
+    → has_written now.footprint address ≡ (has_written before.footprint address || is_written wrote address))
+    → All (ReadLies before.hart.core.map.ram) seen → All (WriteLies before.hart.core.map.ram) wrote
+    → CanJudge ram_of now
 still_judges ram_of before now seen wrote can sound map ram read written reads_in writes_in =
     let same : before.hart.core.map.ram ≡ ram_of now.hart.mem = sym (ram ∙ can.can_step.ram) in
     record {
       can_step = record { sound = sound; ram = ram ∙ can.can_step.ram ∙ sym (ap (λ (map : Map). map.ram) map) };
-      within = subst (λ span. IsWithin span now.footprint) same (within_added before.hart.core.map.ram before.footprint now.footprint seen wrote read written reads_in writes_in
-          (subst (λ span. IsWithin span before.footprint) can.can_step.ram can.within));
+      within =
+          subst (λ span. LiesInRam span now.footprint) same
+          (within_added before.hart.core.map.ram before.footprint now.footprint seen wrote read written reads_in
+          writes_in
+          (subst (λ span. LiesInRam span before.footprint) can.can_step.ram can.within));
     }

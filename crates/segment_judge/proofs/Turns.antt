@@ -1,5 +1,6 @@
 -- Judging one row more.
-use Rattle.std.proofs.Common.{◌≡◌, ℕ, zero, suc, ◌+◌, ◌≤◌, List, [], ◌∷◌, ◌++◌, length, drop, slice_get, Option, Some, None, Ok, Err, refl, sym, ap, ◌∙◌, append_assoc, append-nil, add-one, arith}
+use Rattle.std.proofs.Common.{◌≡◌, ℕ, zero, suc, ◌+◌, ◌≤◌, List, [], ◌∷◌, ◌++◌, length, drop, slice_get, Option, Some}
+use Rattle.std.proofs.Common.{None, Ok, Err, refl, sym, ap, ◌∙◌, append_assoc, append-nil, add-one, arith}
 use Rattle.std.proofs.lemmas.List.{drop_all}
 use Rattle.hart_words.specs.declared.accesses.Read.{Read}
 use Rattle.hart_words.specs.declared.accesses.Write.{Write}
@@ -14,63 +15,86 @@ use Rattle.rvfi_rows.specs.declared.verdict.Verdict.TheVariants.{Agrees, Differs
 use Rattle.rvfi_rows.specs.Rows.{RowReading}
 use Rattle.hart_step.specs.declared.state.Core.{Core}
 use Rattle.hart_step.specs.Rows.{HartState, after_row}
-use Rattle.hart_step.specs.Steps.{stepped}
+use Rattle.hart_step.specs.Steps.{step_of}
 use Rattle.row_compare.specs.Difference.{difference_of}
-use Rattle.read_footprint.specs.Footprints.{Touched}
-use Rattle.segment_judge.specs.Judgements.{Judgement, by_hart, counted_on, judgement_of}
+use Rattle.read_footprint.specs.Footprints.{Accesses}
+use Rattle.segment_judge.specs.Judgements.{Judgement, by_hart, verdict_after_rows, judgement_of}
 use Rattle.segment_judge.specs.Laws.{judgement_from}
-use Rattle.segment_judge.specs.Standings.{RowGives, Standing, judgement_behind, judgement_or, touched_at}
+use Rattle.segment_judge.specs.Standings.{RowGives, Standing, judgement_after, judgement_or, accesses_at}
 use Rattle.segment_judge.proofs.Parts.{counted_twice, uncounted}
 
--- the same verdict, counted on twice, behind what was touched
-abbrev judgement_with : Verdict → List Touched → Judgement Core → Judgement Core
-judgement_with verdict touched rest = record { verdict = verdict; end = rest.end; touched = touched }
+-- the same verdict, counted on twice, after what was touched
+abbrev judgement_with : Verdict → List Accesses → Judgement Core → Judgement Core
+judgement_with verdict accesses rest = record { verdict = verdict; end = rest.end; accesses = accesses }
 
-counted_rest : (before : Standing) (valid : ℕ) (touched : List Touched) (rest : Judgement Core) → judgement_with (counted_on before.rows before.valid (counted_on 1 valid rest.verdict)) (before.touched ++ (touched ++ rest.touched)) rest ≡ judgement_with (counted_on (before.rows + 1) (before.valid + valid) rest.verdict) ((before.touched ++ touched) ++ rest.touched) rest
-counted_rest before valid touched rest =
-    rw (counted_twice before.rows before.valid 1 valid rest.verdict, append_assoc before.touched touched rest.touched) refl
+counted_rest : (before : Standing) (valid : ℕ) (accesses : List Accesses) (rest : Judgement Core)
+    → judgement_with (verdict_after_rows before.rows before.valid (verdict_after_rows 1 valid rest.verdict))
+    (before.accesses ++ (accesses ++ rest.accesses)) rest
+    ≡ judgement_with (verdict_after_rows (before.rows + 1) (before.valid + valid) rest.verdict)
+    ((before.accesses ++ accesses) ++ rest.accesses) rest
+counted_rest before valid accesses rest =
+    rw (
+      counted_twice before.rows before.valid 1 valid rest.verdict,
+      append_assoc before.accesses accesses rest.accesses,
+    ) refl
 
-pub refused_gives : (before : Standing) (fault : RowFault) → RowGives before (Err fault) (Some (Refused (before.rows + 1) fault)) (record before { touched = before.touched ++ [] })
-unfolding judgement_behind judgement_of
+pub refused_gives : (before : Standing) (fault : RowFault)
+    → RowGives before (Err fault) (Some (Refused (before.rows + 1) fault))
+    (record before { accesses = before.accesses ++ [] })
+unfolding judgement_after judgement_of
 refused_gives before fault rows = refl
 
-pub invalid_gives : (before : Standing) → RowGives before (Ok None) None (record before { rows = before.rows + 1; touched = before.touched ++ [] })
-unfolding judgement_behind judgement_of
+pub invalid_gives : (before : Standing)
+    → RowGives before (Ok None) None (record before { rows = before.rows + 1; accesses = before.accesses ++ [] })
+unfolding judgement_after judgement_of
 invalid_gives before rows =
     let none : before.valid + 0 ≡ before.valid = omega arith in
     let rest = judgement_of by_hart before.state.core rows before.state.bytes in
-    counted_rest before 0 [] rest ∙ ap (λ valid. judgement_with (counted_on (before.rows + 1) valid rest.verdict) ((before.touched ++ []) ++ rest.touched) rest) none
+    counted_rest before 0 [] rest
+    ∙ ap (λ valid. judgement_with (verdict_after_rows (before.rows + 1) valid rest.verdict)
+    ((before.accesses ++ []) ++ rest.accesses) rest) none
 
 -- what the hart did at a row
 abbrev expected_at : HartState → Shown → Expected
-expected_at state shown = ((stepped state.core shown).run state.bytes).value.expected
+expected_at state shown = ((step_of state.core shown).run state.bytes).value.expected
 
--- behind a valid row
+-- after a valid row
 abbrev pub behind_valid : Standing → Shown → ℕ → Standing
 behind_valid before shown valid = record {
   state = after_row before.state shown;
   rows = before.rows + 1;
   valid = valid;
-  touched = before.touched ++ touched_at before.state (Ok (Some shown));
+  accesses = before.accesses ++ accesses_at before.state (Ok (Some shown));
 }
 
-pub agreed_gives : (before : Standing) (shown : Shown) → difference_of (expected_at before.state shown) shown ≡ None → RowGives before (Ok (Some shown)) None (behind_valid before shown (before.valid + 1))
-unfolding judgement_behind judgement_of by_hart mapped
+pub agreed_gives : (before : Standing) (shown : Shown) → difference_of (expected_at before.state shown) shown ≡ None
+    → RowGives before (Ok (Some shown)) None (behind_valid before shown (before.valid + 1))
+unfolding judgement_after judgement_of by_hart mapped
 agreed_gives before shown agrees rows =
     let now = after_row before.state shown in
-    rw agrees (counted_rest before 1 (touched_at before.state (Ok (Some shown))) (judgement_of by_hart now.core rows now.bytes))
+    rw agrees (counted_rest before 1 (accesses_at before.state (Ok (Some shown)))
+    (judgement_of by_hart now.core rows now.bytes))
 
-pub differing_gives : (before : Standing) (shown : Shown) (difference : Difference) → difference_of (expected_at before.state shown) shown ≡ Some difference → RowGives before (Ok (Some shown)) (Some (Differs (before.rows + 1) difference)) (behind_valid before shown before.valid)
-unfolding judgement_behind judgement_of by_hart mapped
+pub differing_gives : (before : Standing) (shown : Shown) (difference : Difference)
+    → difference_of (expected_at before.state shown) shown ≡ Some difference
+    → RowGives before (Ok (Some shown)) (Some (Differs (before.rows + 1) difference))
+    (behind_valid before shown before.valid)
+unfolding judgement_after judgement_of by_hart mapped
 differing_gives before shown difference differs rows = rw differs refl
 
 -- a step that was performed
-pub performed_state : (state : HartState) (shown : Shown) (next : Core) (expected : Expected) (seen : List Read) (wrote : List Write) (bytes : Bytes) → Performs (stepped state.core shown) (record { next = next; expected = expected }) [] seen [] wrote state.bytes bytes → record { core = next; bytes = bytes } ≡ after_row state shown
+pub performed_state : (state : HartState) (shown : Shown) (next : Core) (expected : Expected) (seen : List Read)
+    (wrote : List Write) (bytes : Bytes)
+    → Performs (step_of state.core shown) (record { next = next; expected = expected }) [] seen [] wrote state.bytes
+    bytes → record { core = next; bytes = bytes } ≡ after_row state shown
 performed_state state shown next expected seen wrote bytes done =
-    let core : next ≡ ((stepped state.core shown).run state.bytes).value.next = ap (λ gave. gave.next) done.value_is in
+    let core : next ≡ ((step_of state.core shown).run state.bytes).value.next = ap (λ gave. gave.next) done.value_is in
     rw (core, done.bytes_are) refl
 
-pub performed_touched : (state : HartState) (shown : Shown) (next : Core) (expected : Expected) (seen : List Read) (wrote : List Write) (bytes : Bytes) → Performs (stepped state.core shown) (record { next = next; expected = expected }) [] seen [] wrote state.bytes bytes → touched_at state (Ok (Some shown)) ≡ record { reads = seen; wrote = wrote } ∷ []
+pub performed_touched : (state : HartState) (shown : Shown) (next : Core) (expected : Expected) (seen : List Read)
+    (wrote : List Write) (bytes : Bytes)
+    → Performs (step_of state.core shown) (record { next = next; expected = expected }) [] seen [] wrote state.bytes
+    bytes → accesses_at state (Ok (Some shown)) ≡ record { reads = seen; wrote = wrote } ∷ []
 performed_touched state shown next expected seen wrote bytes done = rw (done.seen_is, done.wrote_is) refl
 
 drop_from : {A : Type 0} (xs : List A) (i : ℕ) (x : A) → Some x ≡ slice_get xs i → drop i xs ≡ x ∷ drop (suc i) xs
@@ -81,22 +105,36 @@ drop_from (y ∷ xs) (suc i) x is = drop_from xs i x is
 drop_found : {A : Type 0} (xs : List A) (i : ℕ) (x : A) → Some x ≡ slice_get xs i → drop i xs ≡ x ∷ drop (i + 1) xs
 drop_found xs i x is = rw add-one (drop_from xs i x is)
 
-pub row_turn : (before now : Standing) (rows : List RowReading) (place : ℕ) (row : RowReading) (end : Option Verdict) (whole : Judgement Core) → Some row ≡ slice_get rows place → RowGives before row end now → judgement_behind before (drop place rows) ≡ whole → judgement_or end now (drop (place + 1) rows) ≡ whole
+pub row_turn : (before now : Standing) (rows : List RowReading) (place : ℕ) (row : RowReading) (end : Option Verdict)
+    (whole : Judgement Core) → Some row ≡ slice_get rows place → RowGives before row end now
+    → judgement_after before (drop place rows) ≡ whole → judgement_or end now (drop (place + 1) rows) ≡ whole
 row_turn before now rows place row end whole here gives so_far =
-    sym (gives (drop (place + 1) rows)) ∙ sym (ap (λ rest. judgement_behind before rest) (drop_found rows place row here)) ∙ so_far
+    sym (gives (drop (place + 1) rows))
+    ∙ sym (ap (λ rest. judgement_after before rest) (drop_found rows place row here)) ∙ so_far
 
 -- no row is left
-pub rows_end : (before : Standing) (rows : List RowReading) (place : ℕ) (whole : Judgement Core) → length rows ≤ place → judgement_behind before (drop place rows) ≡ whole → record { verdict = Agrees before.rows before.valid; end = Some before.state.core; touched = before.touched } ≡ whole
-unfolding judgement_behind judgement_of
+pub rows_end : (before : Standing) (rows : List RowReading) (place : ℕ) (whole : Judgement Core) → length rows ≤ place
+    → judgement_after before (drop place rows) ≡ whole
+    → record { verdict = Agrees before.rows before.valid; end = Some before.state.core; accesses = before.accesses }
+    ≡ whole
+unfolding judgement_after judgement_of
 rows_end before rows place whole past so_far =
     let rows_same : before.rows + 0 ≡ before.rows = omega arith in
     let valid_same : before.valid + 0 ≡ before.valid = omega arith in
-    let all : record { verdict = Agrees before.rows before.valid; end = Some before.state.core; touched = before.touched } ≡ judgement_behind before [] = rw (rows_same, valid_same, append-nil before.touched) refl in
-    all ∙ sym (ap (λ rest. judgement_behind before rest) (drop_all place rows past)) ∙ so_far
+    let all : record {
+      verdict =
+          Agrees before.rows before.valid;
+      end = Some before.state.core;
+      accesses = before.accesses;
+    }
+    ≡ judgement_after before [] = rw (rows_same, valid_same, append-nil before.accesses) refl in
+    all ∙ sym (ap (λ rest. judgement_after before rest) (drop_all place rows past)) ∙ so_far
 
 -- nothing was judged yet
-pub rows_begin : (state : HartState) (rows : List RowReading) → judgement_behind (record { state = state; rows = 0; valid = 0; touched = [] }) rows ≡ judgement_from by_hart state rows
-unfolding judgement_behind
+pub rows_begin : (state : HartState) (rows : List RowReading)
+    → judgement_after (record { state = state; rows = 0; valid = 0; accesses = [] }) rows
+    ≡ judgement_from by_hart state rows
+unfolding judgement_after
 rows_begin state rows =
     let rest = judgement_from by_hart state rows in
-    ap (λ verdict. judgement_with verdict rest.touched rest) (uncounted rest.verdict)
+    ap (λ verdict. judgement_with verdict rest.accesses rest) (uncounted rest.verdict)

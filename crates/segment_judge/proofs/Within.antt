@@ -1,5 +1,6 @@
 -- All that a step reads and writes is RAM.
-use Rattle.std.proofs.Common.{◌≡◌, ℕ, inl, inr, Bool, true, false, List, [], ◌∷◌, Option, Some, None, refl, sym, ◌∙◌, arith, All}
+use Rattle.std.proofs.Common.{◌≡◌, ℕ, inl, inr, Bool, true, false, List, [], ◌∷◌, Option, Some, None, refl, sym, ◌∙◌}
+use Rattle.std.proofs.Common.{arith, All}
 use Rattle.std.specs.Prelude.{◌||◌, ◌&&◌, not, if◌then◌else◌}
 use Rattle.std.proofs.lemmas.Bool.{and_parts, or_cases}
 use Rattle.std.proofs.lemmas.Bool.Decides.{nat_tests}
@@ -11,19 +12,17 @@ use Rattle.hart_words.specs.Actions.{Performs}
 use Rattle.hart_words.specs.Memory.{Bytes, is_within}
 use Rattle.hart_words.specs.Signals.{Shown}
 use Rattle.hart_words.specs.Spans.{holds_all, is_in}
-use Rattle.rv_integer.specs.declared.int_result.IntResult.{IntResult}
-use Rattle.rv_integer.specs.declared.int_result.IntResult.TheVariants.{Access}
 use Rattle.read_footprint.specs.Footprints.{is_written}
 use Rattle.read_footprint.specs.declared.footprint.Footprint.{Footprint}
-use Rattle.read_footprint.specs.Sets.{IsNarrow, IsWithin, has_read, has_written, is_read}
+use Rattle.read_footprint.specs.Sets.{IsNarrow, LiesInRam, has_read, has_written, is_read}
 use Rattle.rvfi_rows.specs.declared.expected.Expected.{Expected}
 use Rattle.hart_step.specs.declared.state.Core.{Core}
-use Rattle.hart_step.specs.Laws.{asked}
-use Rattle.hart_step.specs.ProtectionLaws.{IsDataRead, IsStepRead, IsStepWrite}
+use Rattle.hart_step.specs.ProtectionLaws.{IsStepWrite}
 use Rattle.hart_step.specs.Choices.{asks_interrupt}
-use Rattle.hart_step.specs.Steps.{begun, counted, entered, interrupt_of, interrupted, interrupted_by, stepped}
+use Rattle.hart_step.specs.Steps.{before_instruction, core_after_count, core_after_entry, interrupt_of}
+use Rattle.hart_step.specs.Steps.{core_after_interrupt, core_after_interrupt_by, step_of}
 use Rattle.hart_words.specs.declared.privilege.Mode.{Mode}
-use Rattle.hart_step.proofs.Granted.{step_granted}
+use Rattle.hart_step.proofs.Permitted.{step_granted, step_reads_ram}
 
 -- all bytes of a read, and of a write, are RAM
 abbrev pub ReadLies : Span → Read → Type 0
@@ -32,44 +31,38 @@ ReadLies ram read = holds_all ram read.pa read.len ≡ true
 abbrev pub WriteLies : Span → Write → Type 0
 WriteLies ram write = holds_all ram write.pa write.len ≡ true
 
-data_read_lies : (core : Core) (asks : Option IntResult) (read : Read) → IsDataRead core asks read → ReadLies core.map.ram read
-data_read_lies core None read is = absurd is
-data_read_lies core (Some (Access request)) read is = rw is.1.0 is.1.1.0
-data_read_lies core (Some _) read is = absurd is
-
-step_read_lies : (core : Core) (asks : Option IntResult) (read : Read) → IsStepRead core asks read → ReadLies core.map.ram read
-step_read_lies core asks read (inl (inl entry)) = rw entry.0 (and_parts _ _ entry.1).0
-step_read_lies core asks read (inl (inr granted)) = rw granted.0 granted.1.0
-step_read_lies core asks read (inr bytes) = data_read_lies core asks read bytes
-
-taken_map : (core : Core) (interrupt : Option (ℕ × Mode)) → (interrupted_by core interrupt).map ≡ core.map
-unfolding entered
+taken_map : (core : Core) (interrupt : Option (ℕ × Mode)) → (core_after_interrupt_by core interrupt).map ≡ core.map
+unfolding core_after_entry
 taken_map core None = refl
 taken_map core (Some interrupt) = refl
 
-interrupted_map : (core : Core) (shown : Shown) → (interrupted core shown).map ≡ core.map
-unfolding interrupted
+interrupted_map : (core : Core) (shown : Shown) → (core_after_interrupt core shown).map ≡ core.map
+unfolding core_after_interrupt
 interrupted_map core shown = by (asks_interrupt core shown)
   where
-    by : (asks : Bool) → (if asks then interrupted_by core (interrupt_of core shown) else core).map ≡ core.map
+    by : (asks : Bool) → (if asks then core_after_interrupt_by core (interrupt_of core shown) else core).map ≡ core.map
     by true = taken_map core (interrupt_of core shown)
     by false = refl
 
 -- an interrupt that is entered leaves the map
-begun_map : (core : Core) (shown : Shown) → (begun core shown).map ≡ core.map
-unfolding begun counted
-begun_map core shown = interrupted_map (counted core shown) shown
+pub begun_map : (core : Core) (shown : Shown) → (before_instruction core shown).map ≡ core.map
+unfolding before_instruction core_after_count
+begun_map core shown = interrupted_map (core_after_count core shown) shown
 
-pub reads_lie : (core : Core) (shown : Shown) (bytes : Bytes) → All (ReadLies core.map.ram) ((stepped core shown).run bytes).reads
+pub reads_lie : (core : Core) (shown : Shown) (bytes : Bytes)
+    → All (ReadLies core.map.ram) ((step_of core shown).run bytes).reads
 reads_lie core shown bytes =
-    let begins = begun core shown in
-    let lies : All (ReadLies begins.map.ram) ((stepped core shown).run bytes).reads = All-weaker (IsStepRead begins (asked begins bytes)) (ReadLies begins.map.ram) (step_read_lies begins (asked begins bytes)) ((stepped core shown).run bytes).reads (step_granted core shown bytes).reads in
+    let begins = before_instruction core shown in
+    let lies : All (ReadLies begins.map.ram) ((step_of core shown).run bytes).reads = step_reads_ram core shown bytes in
     rw (begun_map core shown) at lies
 
-pub writes_lie : (core : Core) (shown : Shown) (bytes : Bytes) → All (WriteLies core.map.ram) ((stepped core shown).run bytes).wrote
+pub writes_lie : (core : Core) (shown : Shown) (bytes : Bytes)
+    → All (WriteLies core.map.ram) ((step_of core shown).run bytes).wrote
 writes_lie core shown bytes =
-    let begins = begun core shown in
-    let lies : All (WriteLies begins.map.ram) ((stepped core shown).run bytes).wrote = All-weaker (IsStepWrite begins) (WriteLies begins.map.ram) (λ write granted. granted.0) ((stepped core shown).run bytes).wrote (step_granted core shown bytes).writes in
+    let begins = before_instruction core shown in
+    let lies : All (WriteLies begins.map.ram) ((step_of core shown).run bytes).wrote =
+    All-weaker (IsStepWrite begins) (WriteLies begins.map.ram) (λ write granted. granted.0)
+    ((step_of core shown).run bytes).wrote (step_granted core shown bytes).writes in
     rw (begun_map core shown) at lies
 
 -- addresses of RAM are narrow
@@ -77,23 +70,32 @@ narrow : (ram : Span) (pa len : ℕ) → holds_all ram pa len ≡ true → IsNar
 narrow ram pa len holds =
     let below = ram.below in grind (arith, nat_tests, holds, below)
 
-pub reads_narrow : (ram : Span) (reads : List Read) → All (ReadLies ram) reads → All (λ read. IsNarrow read.pa read.len) reads
-reads_narrow ram reads all = All-weaker (ReadLies ram) (λ read. IsNarrow read.pa read.len) (λ read lies. narrow ram read.pa read.len lies) reads all
+pub reads_narrow : (ram : Span) (reads : List Read) → All (ReadLies ram) reads
+    → All (λ read. IsNarrow read.pa read.len) reads
+reads_narrow ram reads all =
+    All-weaker (ReadLies ram) (λ read. IsNarrow read.pa read.len) (λ read lies. narrow ram read.pa read.len lies)
+    reads all
 
-pub writes_narrow : (ram : Span) (writes : List Write) → All (WriteLies ram) writes → All (λ write. IsNarrow write.pa write.len) writes
-writes_narrow ram writes all = All-weaker (WriteLies ram) (λ write. IsNarrow write.pa write.len) (λ write lies. narrow ram write.pa write.len lies) writes all
+pub writes_narrow : (ram : Span) (writes : List Write) → All (WriteLies ram) writes
+    → All (λ write. IsNarrow write.pa write.len) writes
+writes_narrow ram writes all =
+    All-weaker (WriteLies ram) (λ write. IsNarrow write.pa write.len)
+    (λ write lies. narrow ram write.pa write.len lies) writes all
 
-one_in : (ram : Span) (pa len address : ℕ) → holds_all ram pa len ≡ true → is_within pa len address ≡ true → is_in ram address ≡ true
+one_in : (ram : Span) (pa len address : ℕ) → holds_all ram pa len ≡ true → is_within pa len address ≡ true
+    → is_in ram address ≡ true
 one_in ram pa len address holds within = grind (arith, nat_tests, holds, within)
 
-pub read_in : (ram : Span) (reads : List Read) (address : ℕ) → All (ReadLies ram) reads → is_read reads address ≡ true → is_in ram address ≡ true
+pub read_in : (ram : Span) (reads : List Read) (address : ℕ) → All (ReadLies ram) reads → is_read reads address ≡ true
+    → is_in ram address ≡ true
 read_in ram [] address all is = cc
 read_in ram (read ∷ reads) address all is = elim (or_cases _ _ is) [
   | inl here ↦ one_in ram read.pa read.len address (All-head (ReadLies ram) read reads all) here
   | inr later ↦ read_in ram reads address (All-tail (ReadLies ram) read reads all) later
 ]
 
-pub written_in : (ram : Span) (writes : List Write) (address : ℕ) → All (WriteLies ram) writes → is_written writes address ≡ true → is_in ram address ≡ true
+pub written_in : (ram : Span) (writes : List Write) (address : ℕ) → All (WriteLies ram) writes
+    → is_written writes address ≡ true → is_in ram address ≡ true
 written_in ram [] address all is = cc
 written_in ram (write ∷ writes) address all is = elim (or_cases _ _ is) [
   | inl here ↦ one_in ram write.pa write.len address (All-head (WriteLies ram) write writes all) here
@@ -101,14 +103,25 @@ written_in ram (write ∷ writes) address all is = elim (or_cases _ _ is) [
 ]
 
 -- what a step that was performed read and wrote
-pub performed_reads : (core next : Core) (shown : Shown) (expected : Expected) (seen : List Read) (wrote : List Write) (bytes after : Bytes) → Performs (stepped core shown) (record { next = next; expected = expected }) [] seen [] wrote bytes after → All (ReadLies core.map.ram) seen
+pub performed_reads : (core next : Core) (shown : Shown) (expected : Expected) (seen : List Read) (wrote : List Write)
+    (bytes after : Bytes)
+    → Performs (step_of core shown) (record { next = next; expected = expected }) [] seen [] wrote bytes after
+    → All (ReadLies core.map.ram) seen
 performed_reads core next shown expected seen wrote bytes after done = rw done.seen_is (reads_lie core shown bytes)
 
-pub performed_writes : (core next : Core) (shown : Shown) (expected : Expected) (seen : List Read) (wrote : List Write) (bytes after : Bytes) → Performs (stepped core shown) (record { next = next; expected = expected }) [] seen [] wrote bytes after → All (WriteLies core.map.ram) wrote
+pub performed_writes : (core next : Core) (shown : Shown) (expected : Expected) (seen : List Read)
+    (wrote : List Write) (bytes after : Bytes)
+    → Performs (step_of core shown) (record { next = next; expected = expected }) [] seen [] wrote bytes after
+    → All (WriteLies core.map.ram) wrote
 performed_writes core next shown expected seen wrote bytes after done = rw done.wrote_is (writes_lie core shown bytes)
 
 -- what is added to a footprint within RAM
-pub within_added : (ram : Span) (before after : Footprint) (reads : List Read) (writes : List Write) → ((address : ℕ) → has_read after address ≡ (has_read before address || (is_read reads address && not (has_written before address)))) → ((address : ℕ) → has_written after address ≡ (has_written before address || is_written writes address)) → All (ReadLies ram) reads → All (WriteLies ram) writes → IsWithin ram before → IsWithin ram after
+pub within_added : (ram : Span) (before after : Footprint) (reads : List Read) (writes : List Write)
+    → ((address : ℕ)
+    → has_read after address
+    ≡ (has_read before address || (is_read reads address && not (has_written before address))))
+    → ((address : ℕ) → has_written after address ≡ (has_written before address || is_written writes address))
+    → All (ReadLies ram) reads → All (WriteLies ram) writes → LiesInRam ram before → LiesInRam ram after
 within_added ram before after reads writes read wrote reads_in writes_in within = record {
   read = λ address is. elim (or_cases _ _ (sym (read address) ∙ is)) [
     | inl old ↦ within.read address old

@@ -14,18 +14,22 @@ use Rattle.segment_judge.specs.declared.judged.Judged.{Judged as JudgedSegment}
 use Rattle.segment_judge.specs.Judged.{IsJudgement, IsUsable}
 
 -- the judgement of a segment from the guess before it
-abbrev pub IsJudgedFrom : {M : Type 0} → (M → Bytes) → (M → Span) → ColumnList → List Segment → List (Hart M) → ℕ → JudgedSegment M → Type 0
+abbrev pub IsJudgedFrom : {M : Type 0} → (M → Bytes) → (M → Span) → ColumnList → List Segment → List (Hart M) → ℕ
+    → JudgedSegment M → Type 0
 IsJudgedFrom {M = M} bytes_of ram_of columns segments guesses number judged =
-    (segment : Segment) (guess : Hart M) → slice_get segments number ≡ Some segment → slice_get guesses number ≡ Some guess
+    (segment : Segment) (guess : Hart M) → slice_get segments number ≡ Some segment
+    → slice_get guesses number ≡ Some guess
     → IsJudgement bytes_of (state_of bytes_of guess) (rows_of columns segment.lines) judged
     × IsUsable ram_of (ram_of guess.mem) judged
 
 -- what was found is lawful: it names a segment, and a judgement is the segment's
-abbrev pub IsLawfulWhat : {M : Type 0} → (M → Bytes) → (M → Span) → ColumnList → List Segment → List (Hart M) → ℕ → What (JudgedSegment M) → Type 0
+abbrev pub IsLawfulWhat : {M : Type 0} → (M → Bytes) → (M → Span) → ColumnList → List Segment → List (Hart M) → ℕ
+    → What (JudgedSegment M) → Type 0
 IsLawfulWhat bytes_of ram_of columns segments guesses number (Judged judged) =
     IsJudgedFrom bytes_of ram_of columns segments guesses number judged
 IsLawfulWhat bytes_of ram_of columns segments guesses number (Skipped least) = Unit {0}
 
-pub record IsLawfulFound {M : Type 0} (bytes_of : M → Bytes) (ram_of : M → Span) (columns : ColumnList) (segments : List Segment) (guesses : List (Hart M)) (found : Found (JudgedSegment M)) : Type 0 where
+pub record IsLawfulFound {M : Type 0} (bytes_of : M → Bytes) (ram_of : M → Span) (columns : ColumnList)
+    (segments : List Segment) (guesses : List (Hart M)) (found : Found (JudgedSegment M)) : Type 0 where
   pub below : found.seg < length segments
   pub lawful : IsLawfulWhat bytes_of ram_of columns segments guesses found.seg found.what

@@ -5,24 +5,25 @@ use Rattle.hart_words.specs.Memory.{Bytes}
 use Rattle.rvfi_rows.specs.Rows.{RowReading}
 use Rattle.hart_step.specs.Harts.{CanStep, state_of}
 use Rattle.hart_step.specs.Rows.{HartState}
-use Rattle.read_footprint.specs.Sets.{IsOf, IsWithin, has_read, has_written}
+use Rattle.read_footprint.specs.Sets.{IsFootprintOf, LiesInRam, has_read, has_written}
 use Rattle.segment_judge.specs.declared.judged.Judged.{Judged}
 use Rattle.segment_judge.specs.Judgements.{by_hart}
 use Rattle.segment_judge.specs.Laws.{judgement_from, end_from}
 
--- it is the judgement of the rows from a state: its verdict, the state behind them, what they read and wrote
-pub record IsJudgement {M : Type 0} (bytes : M → Bytes) (start : HartState) (rows : List RowReading) (judged : Judged M) : Type 0 where
+-- it is the judgement of the rows from a state: its verdict, the state after them, what they read and wrote
+pub record IsJudgement {M : Type 0} (bytes : M → Bytes) (start : HartState) (rows : List RowReading)
+    (judged : Judged M) : Type 0 where
   pub verdict : judged.verdict ≡ (judgement_from by_hart start rows).verdict
   pub end : option_map (state_of bytes) judged.end ≡ end_from by_hart start rows
-  pub footprint : IsOf judged.footprint (judgement_from by_hart start rows).touched
+  pub footprint : IsFootprintOf judged.footprint (judgement_from by_hart start rows).accesses
 
--- the hart behind the rows can be stepped on over the same RAM, and all that was read or written is RAM
+-- the hart after the rows can be stepped on over the same RAM, and all that was read or written is RAM
 pub record IsUsable {M : Type 0} (ram_of : M → Span) (ram : Span) (judged : Judged M) : Type 0 where
   pub end : IfSome judged.end (CanStep ram_of)
   pub same : IfSome judged.end (λ hart. ram_of hart.mem ≡ ram)
-  pub within : IsWithin ram judged.footprint
+  pub within : LiesInRam ram judged.footprint
 
--- the hart behind the rows with another memory, in which the bytes that were written are as behind the rows
+-- the hart after the rows with another memory, in which the bytes that were written are as after the rows
 abbrev pub moved_end : {M : Type 0} → (M → Bytes) → Judged M → Bytes → Option HartState
 moved_end bytes judged other =
     option_map (λ hart. record {
@@ -32,13 +33,14 @@ moved_end bytes judged other =
 
 -- a memory that has the same bytes wherever the rows read any before they wrote it: the verdict stands there too, and
 -- the bytes that were written may be moved there
-pub record IsFramedBy {M : Type 0} (bytes : M → Bytes) (start : HartState) (rows : List RowReading) (judged : Judged M) (other : Bytes) : Type 0 where
+pub record IsFramedBy {M : Type 0} (bytes : M → Bytes) (start : HartState) (rows : List RowReading)
+    (judged : Judged M) (other : Bytes) : Type 0 where
   pub verdict : let state : HartState = record { core = start.core; bytes = other } in
       (judgement_from by_hart state rows).verdict ≡ judged.verdict
   pub end : let state : HartState = record { core = start.core; bytes = other } in
       end_from by_hart state rows ≡ moved_end bytes judged other
 
-abbrev pub Stands : {M : Type 0} → (M → Bytes) → HartState → List RowReading → Judged M → Type 0
-Stands bytes start rows judged =
+abbrev pub HoldsInOtherMemories : {M : Type 0} → (M → Bytes) → HartState → List RowReading → Judged M → Type 0
+HoldsInOtherMemories bytes start rows judged =
     (other : Bytes) → ((address : ℕ) → has_read judged.footprint address ≡ true → other address ≡ start.bytes address)
     → IsFramedBy bytes start rows judged other

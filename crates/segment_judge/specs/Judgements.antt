@@ -1,4 +1,5 @@
--- What rows come to, one after another, from a state on: the verdict on them. The state is a hart's, or another that rows
+-- What rows come to, one after another, from a state on: the verdict on them. The state is a hart's, or another that
+-- rows
 -- are judged by, one at a time.
 use Rattle.std.specs.Prelude.{ℕ, ◌+◌, List, [], ◌∷◌, ◌++◌, Option, Some, None, Ok, Err}
 use Rattle.hart_words.specs.declared.signal.Difference.{Difference}
@@ -9,62 +10,62 @@ use Rattle.rvfi_rows.specs.declared.verdict.Verdict.{Verdict}
 use Rattle.rvfi_rows.specs.declared.verdict.Verdict.TheVariants.{Agrees, Differs, Refused}
 use Rattle.rvfi_rows.specs.Rows.{RowReading}
 use Rattle.hart_step.specs.declared.state.Core.{Core}
-use Rattle.hart_step.specs.Steps.{Gave, stepped}
+use Rattle.hart_step.specs.Steps.{StepResult, step_of}
 use Rattle.row_compare.specs.Difference.{difference_of}
-use Rattle.read_footprint.specs.Footprints.{Touched}
+use Rattle.read_footprint.specs.Footprints.{Accesses}
 
 -- what a valid row came to: the state after it, and its first difference, if it has one
-pub record RowJudged (C : Type 0) : Type 0 where
+pub record RowJudgement (C : Type 0) : Type 0 where
   pub next : C
   pub difference : Option Difference
 
 -- how a valid row is judged from a state
 abbrev pub Judging : Type 0 → Type 0
-Judging C = C → Shown → Action (RowJudged C)
+Judging C = C → Shown → Action (RowJudgement C)
 
 -- by the reference hart: it is stepped by the row, and the row is compared with what it did
-abbrev pub compared : Shown → Gave → RowJudged Core
-compared shown gave = record { next = gave.next; difference = difference_of gave.expected shown }
+abbrev pub row_judgement_of : Shown → StepResult → RowJudgement Core
+row_judgement_of shown gave = record { next = gave.next; difference = difference_of gave.expected shown }
 
 unfoldable pub by_hart : Judging Core
-by_hart core shown = mapped (compared shown) (stepped core shown)
+by_hart core shown = mapped (row_judgement_of shown) (step_of core shown)
 
--- what rows come to: the verdict, the state behind them where they agree, and what each valid one touched in memory,
+-- what rows come to: the verdict, the state after them where they agree, and what each valid one touched in memory,
 -- one that differs too
 pub record Judgement (C : Type 0) : Type 0 where
   pub verdict : Verdict
   pub end : Option C
-  pub touched : List Touched
+  pub accesses : List Accesses
 
--- rows are numbered from 1: a verdict behind so many others, and so many valid ones among these
-abbrev pub counted_on : ℕ → ℕ → Verdict → Verdict
-counted_on rows valid (Agrees more others) = Agrees (rows + more) (valid + others)
-counted_on rows valid (Differs row difference) = Differs (rows + row) difference
-counted_on rows valid (Refused row fault) = Refused (rows + row) fault
+-- rows are numbered from 1: a verdict after so many others, and so many valid ones among these
+abbrev pub verdict_after_rows : ℕ → ℕ → Verdict → Verdict
+verdict_after_rows rows valid (Agrees more others) = Agrees (rows + more) (valid + others)
+verdict_after_rows rows valid (Differs row difference) = Differs (rows + row) difference
+verdict_after_rows rows valid (Refused row fault) = Refused (rows + row) fault
 
 -- what all come to, by the first row, which agrees, and the others
-abbrev pub behind_row : {C : Type 0} → ℕ → List Touched → Judgement C → Judgement C
-behind_row valid touched rest = record {
-  verdict = counted_on 1 valid rest.verdict;
+abbrev pub judgement_after_row : {C : Type 0} → ℕ → List Accesses → Judgement C → Judgement C
+judgement_after_row valid accesses rest = record {
+  verdict = verdict_after_rows 1 valid rest.verdict;
   end = rest.end;
-  touched = touched ++ rest.touched;
+  accesses = accesses ++ rest.accesses;
 }
 
-abbrev pub touched_by : {A : Type 0} → Run A → Touched
-touched_by run = record { reads = run.reads; wrote = run.wrote }
+abbrev pub accesses_by : {A : Type 0} → Run A → Accesses
+accesses_by run = record { reads = run.reads; wrote = run.wrote }
 
 -- a row that differs is the last
-abbrev pub by_difference : {C : Type 0} → Option Difference → Touched → Judgement C → Judgement C
-by_difference (Some difference) touched rest =
-    record { verdict = Differs 1 difference; end = None; touched = touched ∷ [] }
-by_difference None touched rest = behind_row 1 (touched ∷ []) rest
+abbrev pub by_difference : {C : Type 0} → Option Difference → Accesses → Judgement C → Judgement C
+by_difference (Some difference) accesses rest =
+    record { verdict = Differs 1 difference; end = None; accesses = accesses ∷ [] }
+by_difference None accesses rest = judgement_after_row 1 (accesses ∷ []) rest
 
 -- a refused row is the last, and one that is not valid counts, and changes nothing
 unfoldable pub judgement_of : {C : Type 0} → Judging C → C → List RowReading → Bytes → Judgement C
-judgement_of judging core [] bytes = record { verdict = Agrees 0 0; end = Some core; touched = [] }
-judgement_of judging core (Err fault ∷ rows) bytes = record { verdict = Refused 1 fault; end = None; touched = [] }
-judgement_of judging core (Ok None ∷ rows) bytes = behind_row 0 [] (judgement_of judging core rows bytes)
+judgement_of judging core [] bytes = record { verdict = Agrees 0 0; end = Some core; accesses = [] }
+judgement_of judging core (Err fault ∷ rows) bytes = record { verdict = Refused 1 fault; end = None; accesses = [] }
+judgement_of judging core (Ok None ∷ rows) bytes = judgement_after_row 0 [] (judgement_of judging core rows bytes)
 judgement_of judging core (Ok (Some shown) ∷ rows) bytes =
     let run = (judging core shown).run bytes in
-    by_difference run.value.difference (touched_by run)
+    by_difference run.value.difference (accesses_by run)
     (judgement_of judging run.value.next rows (after_writes run.wrote bytes))

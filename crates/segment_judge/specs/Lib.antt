@@ -4,3 +4,4 @@ pub mod Judged
 pub mod Standings
 pub mod Progress
 pub mod Founds
+pub mod Ram

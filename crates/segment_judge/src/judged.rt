@@ -9,7 +9,7 @@ use rvfi_rows::Verdict;
 pub struct Judged<M> {
     /// The verdict on its rows, which are numbered from 1.
     pub verdict: Verdict,
-    /// The hart behind them, where they agree.
+    /// The hart after them, where they agree.
     pub end: Option<Hart<M>>,
     /// What they read and wrote, a row that differs too.
     pub footprint: Footprint,

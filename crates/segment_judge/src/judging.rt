@@ -2,9 +2,9 @@
 
 ghost use Rattle.std.specs.Prelude.{IfOk};
 ghost use Rattle.hart_step.specs.Harts.{CanStep, state_of};
-ghost use Rattle.rvfi_rows.specs.Readings.{rows_in};
+ghost use Rattle.rvfi_rows.specs.Readings.{readings_in};
 ghost use Rattle.rvfi_rows.specs.Rows.{rows_of};
-ghost use Rattle.segment_judge.specs.Judged.{IsJudgement, IsUsable, Stands};
+ghost use Rattle.segment_judge.specs.Judged.{IsJudgement, IsUsable, HoldsInOtherMemories};
 
 use crate::judged::Judged;
 use crate::progress::Progress;
@@ -26,7 +26,7 @@ pub fn judge<M: PhysMem + Drop>(
         (rows_of columns.now segment.now.lines) judged) }
     ensures usable { IfOk result (λ judged. IsUsable M.ram (M.ram start.now.mem) judged) }
     // What was read of memory is all of it that the verdict depends on.
-    ensures stands { IfOk result (λ judged. Stands M.bytes (state_of M.bytes start.now)
+    ensures stands { IfOk result (λ judged. HoldsInOtherMemories M.bytes (state_of M.bytes start.now)
         (rows_of columns.now segment.now.lines) judged) }
 {
     judge_from(alloc, start.copy()?, columns, segment)
@@ -43,7 +43,7 @@ pub fn judge_from<M: PhysMem + Drop>(
     ensures judged { IfOk result (λ judged. IsJudgement M.bytes (state_of M.bytes start)
         (rows_of columns.now segment.now.lines) judged) }
     ensures usable { IfOk result (λ judged. IsUsable M.ram (M.ram start.mem) judged) }
-    ensures stands { IfOk result (λ judged. Stands M.bytes (state_of M.bytes start)
+    ensures stands { IfOk result (λ judged. HoldsInOtherMemories M.bytes (state_of M.bytes start)
         (rows_of columns.now segment.now.lines) judged) }
 {
     match segment.rows(columns) {
@@ -63,10 +63,10 @@ fn judge_rows<M: PhysMem + Drop>(
 ) -> Result<Judged<M>, NoMemory>
     requires { CanStep M.ram start }
     ensures judged { IfOk result (λ judged.
-        IsJudgement M.bytes (state_of M.bytes start) (rows_in rows.now) judged) }
+        IsJudgement M.bytes (state_of M.bytes start) (readings_in rows.now) judged) }
     ensures usable { IfOk result (λ judged. IsUsable M.ram (M.ram start.mem) judged) }
     ensures stands { IfOk result (λ judged.
-        Stands M.bytes (state_of M.bytes start) (rows_in rows.now) judged) }
+        HoldsInOtherMemories M.bytes (state_of M.bytes start) (readings_in rows.now) judged) }
 {
     let mut progress = Progress::before(alloc, start);
     let mut row = Row::empty();

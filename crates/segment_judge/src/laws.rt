@@ -5,11 +5,14 @@ ghost use Rattle.hart_words.specs.Memory.{Bytes};
 ghost use Rattle.hart_words.specs.States.{State};
 ghost use Rattle.rvfi_rows.specs.Rows.{RowReading};
 ghost use Rattle.hart_step.specs.declared.state.Core.{Core};
+ghost use Rattle.hart_step.specs.Rows.{HartState};
+ghost use Rattle.segment_judge.specs.declared.judged.Judged.{Judged};
 ghost use Rattle.segment_judge.specs.Judgements.{Judging, by_hart};
 ghost use Rattle.segment_judge.specs.Laws.{FramedByFootprint, JudgedInParts};
+ghost use Rattle.segment_judge.specs.Ram.{FootprintLiesInRam, TouchesRamAlone};
 
 /// Rows may be judged in parts: all of them, or the first part and then the others from the state
-/// behind it, come to the same verdict and the same end.
+/// after it, come to the same verdict and the same end.
 pub fn rows_are_judged_in_parts<C>()
     ensures { (judging : Judging C) (state : State C) (rows others : List RowReading)
         → JudgedInParts judging state rows others }
@@ -20,4 +23,13 @@ pub fn rows_are_judged_in_parts<C>()
 pub fn judgements_are_framed<C>()
     ensures { (judging : Judging C) (core : C) (rows : List RowReading) (one other : Bytes)
         → FramedByFootprint judging core rows one other }
+{}
+
+/// A judgement by the reference hart reads and writes RAM alone, and so all bytes that are noted of
+/// it are RAM: who judges elsewhere, over the same RAM, owes no proof of that.
+pub fn judgements_touch_ram_alone<M>()
+    ensures accesses { (core : Core) (rows : List RowReading) (bytes : Bytes)
+        → TouchesRamAlone core rows bytes }
+    ensures noted { (bytes_of : M → Bytes) (start : HartState) (rows : List RowReading)
+        (judged : Judged M) → FootprintLiesInRam bytes_of start rows judged }
 {}

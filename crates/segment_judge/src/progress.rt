@@ -4,14 +4,14 @@ ghost use Rattle.std.specs.Prelude.{◌≡◌, ◌≤◌, ◌<◌, ◌+◌, ◌^
 ghost use Rattle.hart_step.specs.Harts.{CanStep};
 ghost use Rattle.rvfi_rows.specs.Cells.{shown_in};
 ghost use Rattle.rvfi_rows.specs.Readings.{reading_of};
-ghost use Rattle.read_footprint.specs.Footprints.{Touched};
-ghost use Rattle.read_footprint.specs.Sets.{IsOf};
+ghost use Rattle.read_footprint.specs.Footprints.{Accesses};
+ghost use Rattle.read_footprint.specs.Sets.{IsFootprintOf};
 
-use hart_step::{Hart, Stepped};
+use hart_step::Hart;
 use hart_words::{NoMemory, PhysMem};
 use read_footprint::Footprint;
 use row_compare::first_difference;
-use rvfi_rows::{Reading, Row, Verdict};
+use rvfi_rows::{Reading, Row, Stepped, Verdict};
 use std::alloc::Global;
 
 /// How far a segment was judged: the hart, what the rows read and wrote, and how many rows and
@@ -33,7 +33,7 @@ impl<M: PhysMem + Drop> Progress<M> {
         ensures hart { result.hart ≡ hart }
         ensures rows { result.rows ≡ 0 }
         ensures valid { result.valid ≡ 0 }
-        ensures footprint { IsOf result.footprint [] }
+        ensures footprint { IsFootprintOf result.footprint [] }
         ensures can_judge { CanJudge M.ram result }
     {
         Progress {
@@ -48,10 +48,10 @@ impl<M: PhysMem + Drop> Progress<M> {
     /// the segment ends with it.
     pub fn judge_row(&mut self, reading: Reading, row: &Row) -> Result<Option<Verdict>, NoMemory>
         requires can_judge { CanJudge M.ram self.old }
-        requires few { self.old.rows < 2 ^ 63 }
+        requires below_2_to_63 { self.old.rows < 2 ^ 63 }
         requires valid { self.old.valid ≤ self.old.rows }
-        ensures judges { IfOk result (λ end. (touched : List Touched) → JudgesRow M.bytes self.old
-            self.new (reading_of reading (shown_in row.now)) end touched) }
+        ensures judges { IfOk result (λ end. (accesses : List Accesses) → JudgesRow M.bytes self.old
+            self.new (reading_of reading (shown_in row.now)) end accesses) }
         ensures can_judge { IfOk result (λ end. CanJudge M.ram self.new) }
         ensures ram { M.ram self.new.hart.mem ≡ M.ram self.old.hart.mem }
         ensures rows { IfOk result (λ end. IfNone end (self.new.rows ≡ self.old.rows + 1)) }
@@ -73,10 +73,10 @@ impl<M: PhysMem + Drop> Progress<M> {
     /// Judges a valid row: the hart is stepped by it, and it is compared with what the hart did.
     fn judge_valid(&mut self, row: &Row) -> Result<Option<Verdict>, NoMemory>
         requires can_judge { CanJudge M.ram self.old }
-        requires few { self.old.rows < 2 ^ 63 }
+        requires below_2_to_63 { self.old.rows < 2 ^ 63 }
         requires valid { self.old.valid ≤ self.old.rows }
-        ensures judges { IfOk result (λ end. (touched : List Touched) → JudgesRow M.bytes self.old
-            self.new (Ok (Some (shown_in row.now))) end touched) }
+        ensures judges { IfOk result (λ end. (accesses : List Accesses) → JudgesRow M.bytes self.old
+            self.new (Ok (Some (shown_in row.now))) end accesses) }
         ensures can_judge { IfOk result (λ end. CanJudge M.ram self.new) }
         ensures ram { M.ram self.new.hart.mem ≡ M.ram self.old.hart.mem }
         ensures rows { IfOk result (λ end. IfNone end (self.new.rows ≡ self.old.rows + 1)) }

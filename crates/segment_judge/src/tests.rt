@@ -1,13 +1,12 @@
 ghost use Rattle.std.specs.Prelude.{◌≡◌, IfOk, IfSome, IsTrue};
-ghost use Rattle.hart_words.specs.Memory.{IsPlace};
 ghost use Rattle.hart_step.specs.Cores.{IsSound};
 ghost use Rattle.hart_step.specs.Harts.{CanStep};
 ghost use Rattle.line_text.specs.Lines.{IsLine};
-ghost use Rattle.page_layers.specs.Memories.{map_bytes};
+ghost use Rattle.page_layers.specs.Memories.{map_bytes, map_bytes-fits};
 
 use super::*;
 use hart_step::{Core, Hart};
-use hart_words::{Difference, Map, Mode, NoMemory, PAGE_SIZE, PhysMem, Signal, Span};
+use hart_words::{Difference, Map, Mode, NoMemory, PhysMem, Signal, Span};
 use line_text::Lines;
 use page_layers::MapMem;
 use rvfi_rows::{Columns, RowFault, Segment, Verdict, read_header};
@@ -24,7 +23,7 @@ const ROOT: u64 = 0x8000_2000;
 
 const BELOW: u64 = 0x8000_3000;
 
-/// What stands before the first row at `DATA`, and behind that.
+/// What stands before the first row at `DATA`, and after that.
 const HELD: u64 = 0x8899_aabb_ccdd_eeff;
 
 const BEHIND: u64 = 0x0011_2233_4455_6677;
@@ -88,18 +87,11 @@ fn segment_of(alloc: Global, rows: &[&[u8]]) -> Result<Segment, Fail> {
     Ok(Segment::new(lines))
 }
 
-/// Whether so many bytes lie in one page of RAM.
-fn is_place(ram: &Span, pa: u64, len: u8) -> bool
-    ensures { IsTrue result → IsPlace ram.now pa len }
-{
-    1 <= len && len <= 8 && ram.holds(pa, len) && pa % PAGE_SIZE + u64::from(len) <= PAGE_SIZE
-}
-
 /// The number of so many bytes at an address.
 fn number_at(mem: &MapMem, ram: &Span, pa: u64, len: u8) -> Result<u64, Fail>
     requires ram { mem.now.ram ≡ ram.now }
 {
-    if !is_place(ram, pa, len) {
+    if !ram.is_place(pa, len) {
         return Err(Fail::from("no place of RAM"));
     }
     Ok(mem.read(pa, len))
@@ -110,7 +102,7 @@ fn put(mem: &mut MapMem, ram: &Span, pa: u64, len: u8, value: u64) -> Result<(),
     requires ram { mem.old.ram ≡ ram.now }
     ensures ram { mem.new.ram ≡ mem.old.ram }
 {
-    if !is_place(ram, pa, len) {
+    if !ram.is_place(pa, len) {
         return Err(Fail::from("no place of RAM"));
     }
     mem.write(pa, len, value)?;
@@ -171,7 +163,7 @@ fn translated(alloc: Global, pc: u64) -> Result<Hart<MapMem>, Fail>
     Ok(hart)
 }
 
-/// The numbers in pc, in x1, in x3, in x4 and behind `DATA`.
+/// The numbers in pc, in x1, in x3, in x4 and after `DATA`.
 type Numbers = (u64, u64, u64, u64, u64);
 
 fn numbers(hart: &Hart<MapMem>) -> Result<Numbers, Fail>
@@ -189,7 +181,7 @@ fn numbers(hart: &Hart<MapMem>) -> Result<Numbers, Fail>
 
 const BEGIN: Numbers = (CODE, 0, 0, 0, BEHIND);
 
-/// Rows, the verdict on them, and the numbers of the hart behind them.
+/// Rows, the verdict on them, and the numbers of the hart after them.
 type Case<'a> = (&'a [&'a [u8]], Verdict, Option<Numbers>);
 
 /// The judging gave what the case wants.
@@ -201,7 +193,7 @@ fn hold_judged(rt: &impl Abort, judged: &Judged<MapMem>, case: &Case) -> Result<
         None => None,
         Some(hart) => Some(numbers(hart)?),
     };
-    assert_eq!(rt; end, case.2, "behind {:?}", case.1);
+    assert_eq!(rt; end, case.2, "following {:?}", case.1);
     Ok(())
 }
 
@@ -355,7 +347,7 @@ fn notes_what_was_read(rt: HostRuntime) -> Result<(), Fail> {
         (CODE + 12, &[ALONE], DATA + 7, true),
         (CODE + 12, &[ALONE], DATA + 8, false),
         (CODE + 12, &[ALONE], DATA + 15, false),
-        // A row that differs, and what stands behind it.
+        // A row that differs, and what stands after it.
         (CODE + 8, &[ZERO, AGAIN], DATA, false),
         (CODE + 8, &[ZERO, AGAIN], CODE + 8, false),
         (CODE + 8, &[ZERO, AGAIN], CODE + 12, true),
@@ -402,6 +394,8 @@ impl PhysMem for Refusing {
 
     ghost is_ready = { λ _ _. ⊥ };
 
+    ghost bytes_are_bytes = { λ memory. map_bytes-fits memory.mem };
+
     fn read(&self, pa: u64, len: u8) -> u64 {
         self.mem.read(pa, len)
     }
@@ -433,7 +427,7 @@ fn start_refusing(alloc: Global) -> Result<Hart<Refusing>, Fail>
 }
 
 /// The verdict, where memory was not refused.
-fn told(judged: Result<Judged<Refusing>, NoMemory>) -> Option<Verdict> {
+fn known_files(judged: Result<Judged<Refusing>, NoMemory>) -> Option<Verdict> {
     match judged {
         Ok(judged) => Some(judged.verdict),
         Err(NoMemory) => None,
@@ -459,8 +453,11 @@ fn stops_without_memory(rt: HostRuntime) -> Result<(), Fail> {
         let columns = read_header(alloc, HEADER)?;
         let segment = segment_of(alloc, rows)?;
         let hart = start_refusing(alloc)?;
-        assert_eq!(rt; told(judge(alloc, &hart, &columns, &segment)), None);
-        assert_eq!(rt; told(judge_from(alloc, hart, &columns, &segment)), verdict);
+        assert_eq!(rt; known_files(judge(alloc, &hart, &columns, &segment)), None);
+        assert_eq!(rt;
+            known_files(judge_from(alloc, hart, &columns, &segment)),
+            verdict
+        );
     }
     Ok(())
 }

@@ -1,12 +1,13 @@
 -- The ways in which a worker finds out about a segment.
-use Rattle.std.proofs.Common.{◌≡◌, ℕ, ◌<◌, Bool, true, false, ◌&&◌, ◌==◌, List, [], ◌∷◌, refl, sym, ap, ◌∙◌, subst, arith}
+use Rattle.std.proofs.Common.{◌≡◌, ℕ, ◌<◌, ◌≤◌, Bool, true, false, ◌&&◌, ◌==◌, List, [], ◌∷◌, ◌++◌, refl, sym, ap, ◌∙◌}
+use Rattle.std.proofs.Common.{subst, arith}
 use Rattle.board_core.specs.Bags.{Has, Names, as_number, count, is_numbered}
 use Rattle.board_core.proofs.Bags.{Has-left, Has-push, count_push, counted, equal_test}
 use Rattle.segment_judge.specs.declared.found.What.TheVariants.{Judged, Skipped}
 use Rattle.segment_judge.specs.declared.judged.Judged.{Judged as JudgedSegment}
 use Rattle.verdict_board.specs.declared.view.View.{View}
 use Rattle.verdict_board.specs.Seats.{Posts}
-use Rattle.verdict_board.specs.Views.{lead, looked}
+use Rattle.verdict_board.specs.Views.{lead, view_after_look}
 use Rattle.segment_workers.specs.Runs.{ends_trace}
 use Rattle.segment_workers.specs.Works.{FindsSo}
 
@@ -20,12 +21,13 @@ if_true true other is = ap as_number is
 if_true false other is = refl
 
 -- a seat that drew a segment has it among its draws
-pub named : (view now : View) (least worker seg : ℕ) → now ≡ looked view least → Has view.draws (worker, seg) → Names now.draws seg
+pub named : (view now : View) (least worker seg : ℕ) → now ≡ view_after_look view least → Has view.draws (worker, seg)
+    → Names now.draws seg
 named view now least worker seg is has =
     let P : View → Type 0 = λ one. Names one.draws seg in
     subst P (sym is) (counted (is_numbered seg) view.draws (worker, seg) has (equal_test seg seg refl))
 
-module _ {M : Type 0} (before now : View) (seg least : ℕ) (is : now ≡ looked before least) where
+module _ {M : Type 0} (before now : View) (seg least : ℕ) (is : now ≡ view_after_look before least) where
   pub skips : least < seg → FindsSo {M = M} before now seg (Skipped least)
   skips low =
       let P : View → Type 0 = λ view. FindsSo {M = M} before view seg (Skipped least) in
@@ -36,23 +38,29 @@ module _ {M : Type 0} (before now : View) (seg least : ℕ) (is : now ≡ looked
         so = (low, Has-push before.looks (lead before, least));
       })
 
-  pub agrees : (judged : JudgedSegment M) → ends_trace judged.verdict ≡ false → FindsSo before now seg (Judged judged)
-  agrees judged no_end =
+  pub agrees : seg ≤ least → (judged : JudgedSegment M) → ends_trace judged.verdict ≡ false
+      → FindsSo before now seg (Judged judged)
+  agrees high judged no_end =
       let P : View → Type 0 = λ view. FindsSo before view seg (Judged judged) in
       subst P (sym is) (record {
         draws_are = refl;
         looks_stay = λ look. Has-left before.looks ((lead before, least) ∷ []) look;
         posts_are = λ number. omega (arith, if_false (seg == number) (ends_trace judged.verdict) no_end);
-        so = tt;
+        so = (least, high, Has-push before.looks (lead before, least));
       })
 
-  pub posts : (after : View) (judged : JudgedSegment M) → ends_trace judged.verdict ≡ true → Posts seg now after → FindsSo before after seg (Judged judged)
-  posts after judged an_end posted =
+  pub posts : seg ≤ least → (after : View) (judged : JudgedSegment M) → ends_trace judged.verdict ≡ true
+      → Posts seg now after → FindsSo before after seg (Judged judged)
+  posts high after judged an_end posted =
+      let after_is : after.looks ≡ before.looks ++ (lead before, least) ∷ [] =
+      ap (λ view. view.looks) posted.2 ∙ ap (λ view. view.looks) is in
+      let lead_is : lead after ≡ lead before = ap lead posted.2 ∙ ap lead is in
       record {
         draws_are = ap (λ view. view.draws) posted.2 ∙ ap (λ view. view.draws) is;
         looks_stay = λ look has.
             (let P : List (ℕ × ℕ) → Type 0 = λ looks. Has looks look in
-            subst P (sym (ap (λ view. view.looks) posted.2 ∙ ap (λ view. view.looks) is)) (Has-left before.looks ((lead before, least) ∷ []) look has));
+            subst P (sym (ap (λ view. view.looks) posted.2 ∙ ap (λ view. view.looks) is))
+            (Has-left before.looks ((lead before, least) ∷ []) look has));
         posts_are = λ number.
             omega (
               arith,
@@ -61,5 +69,11 @@ module _ {M : Type 0} (before now : View) (seg least : ℕ) (is : now ≡ looked
               count_push (is_numbered number) now.posts (posted.0, seg),
               ap (λ view. count (is_numbered number) view.posts) is,
             );
-        so = tt;
+        so = (
+          least,
+          high,
+          subst (λ worker. Has after.looks (worker, least)) (sym lead_is)
+              (subst (λ looks. Has looks (lead before, least)) (sym after_is)
+              (Has-push before.looks (lead before, least))),
+        );
       }

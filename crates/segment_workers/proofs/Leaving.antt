@@ -1,11 +1,12 @@
 -- What was found, as events leave it.
-use Rattle.std.proofs.Common.{◌≡◌, ℕ, ◌<◌, List, length, map, slice_get, Option, Some, None, refl, sym, ap, ◌∙◌, arith, unwrap_or, inl, inr}
+use Rattle.std.proofs.Common.{◌≡◌, ℕ, ◌<◌, List, length, map, slice_get, Option, Some, None, refl, sym, ap, ◌∙◌, arith}
+use Rattle.std.proofs.Common.{unwrap_or, inl, inr}
 use Rattle.std.proofs.lemmas.List.{length-map}
-use Rattle.std.proofs.lemmas.List.Elements.{All-map}
+use Rattle.std.proofs.lemmas.List.Elements.{All-map, All-weaker}
 use Rattle.std.proofs.lemmas.Option.{slice_get_cases}
 use Rattle.board_core.specs.declared.event.Event.{Event}
-use Rattle.board_core.specs.Bags.{Has, SameBag, as_number, is_pair}
-use Rattle.board_core.specs.Machine.{looks, opened, run}
+use Rattle.board_core.specs.Bags.{Has, SameBag, as_number, is_numbered, is_pair}
+use Rattle.board_core.specs.Machine.{looks, machine_at_start, machine_after_events}
 use Rattle.hart_words.specs.declared.span.Span.{Span}
 use Rattle.hart_words.specs.Memory.{Bytes}
 use Rattle.rvfi_rows.specs.Rows.{RowReading}
@@ -18,26 +19,33 @@ use Rattle.segment_judge.specs.Judgements.{by_hart}
 use Rattle.segment_judge.specs.Laws.{judgement_from}
 use Rattle.verdict_board.specs.declared.view.View.{View}
 use Rattle.verdict_join.specs.Founds.{IsLeftBy, WasFoundSo}
-use Rattle.verdict_join.specs.Joining.{finding, found_of, rows_in}
-use Rattle.segment_workers.specs.Laws.{EventsLeaveFounds, IsPromised, Ran}
-use Rattle.segment_workers.specs.Runs.{IsSeenSo}
+use Rattle.verdict_join.specs.Joining.{finding, found_of, rows_of_segment}
+use Rattle.segment_workers.specs.Laws.{EventsLeaveFounds, IsPromised, LeavesFounds, WorkerRun, view_by_events}
+use Rattle.segment_workers.specs.Runs.{HasReason, IsFoundBy, IsSeenSo, IsSkippedFor}
+use Rattle.segment_workers.proofs.Accounts.{found_stays}
 
 -- below its length a list has an element
 no_none : {X : Type 0} (xs : List X) (i : ℕ) → i < length xs → slice_get xs i ≡ None → ⊥
-no_none xs i low none = elim (slice_get_cases xs i).1 [ inl at ↦ (let is = at.2 in cc) | inr past ↦ omega (arith, past.0, low) ]
+no_none xs i low none =
+    elim (slice_get_cases xs i).1 [ inl at ↦ (let is = at.2 in cc) | inr past ↦ omega (arith, past.0, low) ]
 
 -- what one bag has the other has
 pub has_same : (one other : List (ℕ × ℕ)) → SameBag one other → (pair : ℕ × ℕ) → Has other pair → Has one pair
 has_same one other same pair has = omega (arith, has, same (λ x. as_number (is_pair pair x)))
 
-module _ {M : Type 0} (rows : List (List RowReading)) (states : List HartState) (view : View) (n : ℕ) (events : List Event)
-    (looks_same : SameBag (looks (opened n) events) view.looks) where
-  found_so : (worker number : ℕ) (what : What (JudgedSegment M)) → number < length rows → number < length states → IsSeenSo view worker number what
-      → WasFoundSo by_hart rows states n events worker number (finding (slice_get rows number) (slice_get states number) what)
-  found_so worker number (Skipped least) row state seen = (seen.0, has_same (looks (opened n) events) view.looks looks_same (worker, least) seen.1)
+module _ {M : Type 0} (rows : List (List RowReading)) (states : List HartState) (view : View) (n : ℕ)
+    (events : List Event)
+    (looks_same : SameBag (looks (machine_at_start n) events) view.looks) where
+  found_so : (worker number : ℕ) (what : What (JudgedSegment M)) → number < length rows → number < length states
+      → IsSeenSo view worker number what
+      → WasFoundSo by_hart rows states n events worker number
+      (finding (slice_get rows number) (slice_get states number) what)
+  found_so worker number (Skipped least) row state seen =
+      (seen.0, has_same (looks (machine_at_start n) events) view.looks looks_same (worker, least) seen.1)
   found_so worker number (Judged judged) row state seen = by (slice_get rows number) (slice_get states number) refl refl
     where
-      by : (mine : Option (List RowReading)) (guess : Option HartState) → slice_get rows number ≡ mine → slice_get states number ≡ guess
+      by : (mine : Option (List RowReading)) (guess : Option HartState) → slice_get rows number ≡ mine
+          → slice_get states number ≡ guess
           → WasFoundSo by_hart rows states n events worker number (finding mine guess (Judged judged))
       by None guess no_row at = absurd (no_none rows number row no_row)
       by (Some mine) None here no_state = absurd (no_none states number state no_state)
@@ -46,19 +54,64 @@ module _ {M : Type 0} (rows : List (List RowReading)) (states : List HartState) 
           let same_start : guess ≡ start = ap (λ some. unwrap_or some guess) (sym at ∙ is_start) in
           ap (λ one. judgement_from by_hart one mine) same_start ∙ ap (judgement_from by_hart start) same_rows
 
-pub events_leave_founds : {M : Type 0} (bytes_of : M → Bytes) (ram_of : M → Span) (ran : Ran M) → IsPromised bytes_of ram_of ran → EventsLeaveFounds bytes_of ran
-events_leave_founds {M} bytes_of ram_of ran sound drawn least closed =
-    let rows : List (List RowReading) = map (rows_in ran.columns) ran.segments in
+-- what run promises of a view holds of the events that have its draws, posts and looks
+by_events : {M : Type 0} (bytes_of : M → Bytes) (ram_of : M → Span) (ran : WorkerRun M) (events : List Event)
+    → let n : ℕ = length ran.segments in
+    SameBag (machine_after_events (machine_at_start n) events).draws ran.view.draws
+    → SameBag (machine_after_events (machine_at_start n) events).posts ran.view.posts
+    → SameBag (looks (machine_at_start n) events) ran.view.looks
+    → IsPromised bytes_of ram_of ran
+    → IsPromised bytes_of ram_of (record ran { view = view_by_events n events ran.view })
+by_events {M} bytes_of ram_of ran events draws_are posts_are looks_are promised =
+    let n = length ran.segments in
+    let now = view_by_events n events ran.view in
+    record {
+      one_each = promised.one_each;
+      lawful = promised.lawful;
+      once = promised.once;
+      by = All-weaker (IsFoundBy ran.view) (IsFoundBy now)
+          (found_stays ran.view now (has_same now.draws ran.view.draws draws_are)
+          (has_same now.looks ran.view.looks looks_are)) ran.founds promised.by;
+      reasons =
+          All-weaker (HasReason ran.view.posts) (HasReason now.posts) (λ found. reason found.what) ran.founds
+          promised.reasons;
+      posted = λ number. posts_are (λ post. as_number (is_numbered number post)) ∙ promised.posted number;
+    }
+  where
+    reason : (what : What (JudgedSegment M)) → IsSkippedFor ran.view.posts what
+        → IsSkippedFor (machine_after_events (machine_at_start (length ran.segments)) events).posts what
+    reason (Judged judged) named = tt
+    reason (Skipped least) named = omega (arith, named, posts_are (λ post. as_number (is_numbered least post)))
+
+leaves_founds : {M : Type 0} (bytes_of : M → Bytes) (ram_of : M → Span) (ran : WorkerRun M) (events : List Event)
+    → let n : ℕ = length ran.segments in
+    SameBag (machine_after_events (machine_at_start n) events).draws ran.view.draws
+    → SameBag (looks (machine_at_start n) events) ran.view.looks → IsPromised bytes_of ram_of ran
+    → LeavesFounds bytes_of ran events
+leaves_founds {M} bytes_of ram_of ran events draws_are looks_are promised =
+    let rows : List (List RowReading) = map (rows_of_segment ran.columns) ran.segments in
     let states : List HartState = map (state_of bytes_of) ran.guesses in
     let n = length ran.segments in
-    let rows_many : length rows ≡ n = length-map ran.segments (rows_in ran.columns) in
-    let states_many : length states ≡ n = length-map ran.guesses (state_of bytes_of) ∙ sound.one_each in
-    All-map (IsLeftBy by_hart rows states n closed.events) (found_of rows states) ran.founds (λ k d low.
-    let lawful = sound.lawful k d low in
-    let by = sound.by k d low in
+    let rows_many : length rows ≡ n = length-map ran.segments (rows_of_segment ran.columns) in
+    let states_many : length states ≡ n = length-map ran.guesses (state_of bytes_of) ∙ promised.one_each in
+    All-map (IsLeftBy by_hart rows states n events) (found_of rows states) ran.founds (λ k d low.
+    let lawful = promised.lawful k d low in
+    let by = promised.by k d low in
     record {
       below = lawful.below;
       worker = by.worker;
-      drew = has_same (run (opened n) closed.events).draws ran.view.draws closed.draws_are _ by.drew;
-      so = found_so rows states ran.view n closed.events closed.looks_are by.worker _ _ (omega (arith, lawful.below, rows_many)) (omega (arith, lawful.below, states_many)) by.so;
+      drew = has_same (machine_after_events (machine_at_start n) events).draws ran.view.draws draws_are _ by.drew;
+      so =
+          found_so rows states ran.view n events looks_are by.worker _ _ (omega (arith, lawful.below, rows_many))
+          (omega (arith, lawful.below, states_many)) by.so;
     })
+
+pub events_leave_founds : {M : Type 0} (bytes_of : M → Bytes) (ram_of : M → Span) (ran : WorkerRun M)
+    → IsPromised bytes_of ram_of ran → EventsLeaveFounds bytes_of ram_of ran
+events_leave_founds bytes_of ram_of ran promised drawn least closed = record {
+  draws_are = closed.draws_are;
+  posts_are = closed.posts_are;
+  looks_are = closed.looks_are;
+  promised = by_events bytes_of ram_of ran closed.events closed.draws_are closed.posts_are closed.looks_are promised;
+  leave = leaves_founds bytes_of ram_of ran closed.events closed.draws_are closed.looks_are promised;
+}

@@ -5,3 +5,4 @@ pub mod Gathering
 pub mod Seats
 pub mod Leaving
 pub mod Turns
+pub mod Agreeing

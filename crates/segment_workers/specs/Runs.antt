@@ -1,4 +1,5 @@
--- Segments judged side by side by workers at a board: what was found of them, and what the seat of all workers has of it.
+-- Segments judged side by side by workers at a board: what was found of them, and what the seat of all workers has of
+-- it.
 use Rattle.std.specs.Prelude.{◌≡◌, ℕ, ◌<◌, ◌≤◌, Bool, true, false, ◌&&◌, ◌==◌, nat_lt, List}
 use Rattle.board_core.specs.Bags.{Has, Names, as_number, count, is_numbered}
 use Rattle.rvfi_rows.specs.declared.verdict.Verdict.{Verdict}
@@ -20,12 +21,12 @@ pub record AreAllSeats (n : ℕ) (board : Board) (seats : List Seat) : Type 0 wh
   pub opened : AreOpened n count board seats
 
 -- it was found of the segment of this number
-abbrev pub is_of : {V : Type 0} → ℕ → Found V → Bool
-is_of number found = found.seg == number
+abbrev pub is_found_of : {V : Type 0} → ℕ → Found V → Bool
+is_found_of number found = found.seg == number
 
 -- each segment below n was found once, and no other
 abbrev pub FoundBelow : {V : Type 0} → ℕ → List (Found V) → Type 0
-FoundBelow n founds = (number : ℕ) → count (is_of number) founds ≡ as_number (nat_lt number n)
+FoundBelow n founds = (number : ℕ) → count (is_found_of number) founds ≡ as_number (nat_lt number n)
 
 -- each segment below n was drawn, once
 abbrev pub DrewEach : ℕ → List (ℕ × ℕ) → Type 0
@@ -43,15 +44,16 @@ is_end (Judged judged) = ends_trace judged.verdict
 is_end (Skipped least) = false
 
 abbrev pub is_end_of : {M : Type 0} → ℕ → Found (JudgedSegment M) → Bool
-is_end_of number found = is_of number found && is_end found.what
+is_end_of number found = is_found_of number found && is_end found.what
 
 -- a segment was posted as often as it was found to end the trace
 abbrev pub ArePosted : {M : Type 0} → List (Found (JudgedSegment M)) → List (ℕ × ℕ) → Type 0
 ArePosted founds posts = (number : ℕ) → count (is_numbered number) posts ≡ count (is_end_of number) founds
 
--- a skipped segment has a higher number than a look of the worker's was answered
+-- a look of the worker's was answered by no less than the number of a judged segment, and by less than that of a
+-- skipped one
 abbrev pub IsSeenSo : {V : Type 0} → View → ℕ → ℕ → What V → Type 0
-IsSeenSo view worker number (Judged judged) = Unit {0}
+IsSeenSo view worker number (Judged judged) = (least : ℕ) × (number ≤ least) × Has view.looks (worker, least)
 IsSeenSo view worker number (Skipped least) = (least < number) × Has view.looks (worker, least)
 
 -- a worker that drew the segment found this of it, by what the view has of draws and looks

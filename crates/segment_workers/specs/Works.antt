@@ -8,24 +8,25 @@ use Rattle.verdict_board.specs.declared.view.View.{View}
 use Rattle.verdict_board.specs.declared.seat.Seat.{Seat}
 use Rattle.verdict_board.specs.declared.board.Board.{Board}
 use Rattle.verdict_board.specs.Seats.{IsAt, view_of}
-use Rattle.verdict_board.specs.Views.{fresh, is_past, lead}
+use Rattle.verdict_board.specs.Views.{fresh_view, is_past, lead}
 use Rattle.segment_workers.specs.declared.work.Work.{Work}
 use Rattle.segment_workers.specs.declared.work.Worker.{Worker}
-use Rattle.segment_workers.specs.Runs.{ArePosted, IsFoundBy, IsSeenSo, is_end, is_of}
+use Rattle.segment_workers.specs.Runs.{ArePosted, IsFoundBy, IsSeenSo, is_end, is_found_of}
 
 -- a seat of one number that has done nothing
 pub record IsFreshSeat (n : ℕ) (board : Board) (seat : Seat) : Type 0 where
   pub at : IsAt board seat
   pub number : ℕ
-  pub view_is : view_of seat ≡ fresh n (view_of seat).seats (number ∷ [])
+  pub view_is : view_of seat ≡ fresh_view n (view_of seat).seats (number ∷ [])
 
 abbrev pub seat_of : Worker → Seat
 seat_of worker = worker.seat
 
 -- of each segment that was drawn one thing was found, lawfully, and what ends the trace was posted
-pub record Accounts {M : Type 0} (IsLawful : Found (JudgedSegment M) → Type 0) (n : ℕ) (view : View) (founds : List (Found (JudgedSegment M))) : Type 0 where
+pub record Accounts {M : Type 0} (IsLawful : Found (JudgedSegment M) → Type 0) (n : ℕ) (view : View)
+    (founds : List (Found (JudgedSegment M))) : Type 0 where
   pub lawful : All IsLawful founds
-  pub each : (number : ℕ) → number < n → count (is_of number) founds ≡ count (is_numbered number) view.draws
+  pub each : (number : ℕ) → number < n → count (is_found_of number) founds ≡ count (is_numbered number) view.draws
   pub by : All (IsFoundBy view) founds
   pub posted : ArePosted founds view.posts
 
@@ -38,7 +39,8 @@ pub record FindsSo {M : Type 0} (before now : View) (segment : ℕ) (what : What
   pub so : IsSeenSo now (lead now) segment what
 
 -- so many workers of a board, whose seats are one, and which found no segment left
-pub record HaveDone {M : Type 0} (IsLawful : Found (JudgedSegment M) → Type 0) (n seats done : ℕ) (board : Board) (work : Work M) : Type 0 where
+pub record HaveDone {M : Type 0} (IsLawful : Found (JudgedSegment M) → Type 0) (n seats done : ℕ) (board : Board)
+    (work : Work M) : Type 0 where
   pub at : IsAt board work.seat
   pub done_is : length (view_of work.seat).numbers ≡ done
   pub seats_is : (view_of work.seat).seats ≡ seats

@@ -31,9 +31,9 @@ pub(crate) fn call_each<R: Threads + Sync, J: Send + Drop, X: Send + Drop, F: Fn
         requires { AcceptsJobs F.Fn work.now jobs.items }
         ensures { IfOk result (λ results. GivesFor F.Fn work.entry.now jobs.items results.items) }
     { call_each(rt, work, jobs) };
-    let (behind, done) = join(rt, there, here);
+    let (following, done) = join(rt, there, here);
     let mut results = done?;
-    results.append(&mut behind?)?;
+    results.append(&mut following?)?;
     Ok(results)
 }
 

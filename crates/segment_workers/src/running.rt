@@ -40,7 +40,7 @@ pub fn run<R: Threads + Sync, M: PhysMem + Drop + Send + Sync, G: Gate, L: Ledge
     requires seats { AreAllSeats (length segments.now) board.now seats.items }
     requires one_each { length guesses.now ≡ length segments.now }
     requires can_step { All (CanStep M.ram) guesses.now }
-    requires few { length segments.now < 2 ^ 32 }
+    requires below_2_to_32 { length segments.now < 2 ^ 32 }
     ensures lawful { IfOk result (λ done. All
         (IsLawfulFound M.bytes M.ram columns.now segments.now guesses.now) done.0.items) }
     ensures once { IfOk result (λ done. FoundBelow (length segments.now) done.0.items) }

@@ -57,7 +57,7 @@ impl<'a, M: PhysMem + Drop, G: Gate> Task<'a, M, G> {
 
     /// Joins the seats of all workers, and gathers what they found.
     pub fn gather(&self, mut works: Vec<Result<Work<M>, NoMemory>>) -> Result<Work<M>, NoMemory>
-        requires some { 0 < vec_len works }
+        requires nonempty { 0 < vec_len works }
         requires done { All (λ work. IfOk work (HaveDone
             (IsLawfulFound M.bytes M.ram self.now.columns.now self.now.segments.now
             self.now.guesses.now)

@@ -1,12 +1,11 @@
-ghost use Rattle.std.specs.Prelude.{◌≡◌, ◌<◌, ◌≤◌, ◌%◌, IfOk, IsTrue};
+ghost use Rattle.std.specs.Prelude.{◌≡◌, ◌<◌, ◌≤◌, IfOk, IsTrue};
 ghost use Rattle.std.specs.List.{All};
 ghost use Rattle.hart_step.specs.Harts.{CanStep};
-ghost use Rattle.hart_words.specs.Memory.{IsPlace};
 ghost use Rattle.line_text.specs.Lines.{IsLine};
 
 use super::*;
 use hart_step::Hart;
-use hart_words::{Map, PAGE_SIZE, PhysMem, Span};
+use hart_words::{Map, PhysMem, Span};
 use line_text::Lines;
 use outside_ports::{Gate, HoldGate, OpenGate};
 use page_layers::MapMem;
@@ -67,19 +66,12 @@ fn put_line(lines: &mut Lines, line: &[u8]) -> Result<(), Fail> {
     Ok(())
 }
 
-/// Whether so many bytes lie in one page of RAM.
-fn is_place(ram: &Span, pa: u64, len: u8) -> bool
-    ensures { IsTrue result → IsPlace ram.now pa len }
-{
-    1 <= len && len <= 8 && ram.holds(pa, len) && pa % PAGE_SIZE + u64::from(len) <= PAGE_SIZE
-}
-
 /// Writes to memory, where so many bytes lie in one page of RAM.
 fn put(mem: &mut MapMem, ram: &Span, pa: u64, len: u8, value: u64) -> Result<(), Fail>
     requires ram { mem.old.ram ≡ ram.now }
     ensures ram { mem.new.ram ≡ mem.old.ram }
 {
-    if !is_place(ram, pa, len) {
+    if !ram.is_place(pa, len) {
         return Err(Fail::from("no place of RAM"));
     }
     mem.write(pa, len, value)?;
@@ -143,7 +135,7 @@ enum Told {
     Skipped(u32),
 }
 
-fn told_of(found: &Found<Judged<MapMem>>) -> Told {
+fn known_files_of(found: &Found<Judged<MapMem>>) -> Told {
     match &found.what {
         What::Skipped(least) => Told::Skipped(*least),
         What::Judged(judged) => match &judged.verdict {
@@ -158,9 +150,12 @@ fn told_of(found: &Found<Judged<MapMem>>) -> Told {
 fn hold_told(rt: &impl Abort, founds: &[Found<Judged<MapMem>>], wanted: &[Told]) {
     assert_eq!(rt; founds.len(), wanted.len());
     let mut number: u32 = 0;
-    for told in wanted {
-        let found = founds.iter().find(|found| found.seg == number).map(told_of);
-        assert_eq!(rt; found, Some(*told), "segment {number}");
+    for known_files in wanted {
+        let found = founds
+            .iter()
+            .find(|found| found.seg == number)
+            .map(known_files_of);
+        assert_eq!(rt; found, Some(*known_files), "segment {number}");
         number = number.wrapping_add(1);
     }
 }
@@ -170,7 +165,7 @@ fn hold_told(rt: &impl Abort, founds: &[Found<Judged<MapMem>>], wanted: &[Told])
 struct Case<'a> {
     rows: Rows<'a>,
     seats: u32,
-    told: &'a [Told],
+    known_files: &'a [Told],
     drawn: u64,
     least: u32,
 }
@@ -196,7 +191,7 @@ fn hold_counted<R: Threads + Sync + Abort, G: Gate, L: Ledger>(
     requires seats { (1 ≤ case.now.seats) × (case.now.seats ≤ 64) }
     requires name { blank.name ≡ L.name }
     requires parts { blank.parts ≡ L.parts }
-    requires some { 0 < blank.parts }
+    requires positive { 0 < blank.parts }
 {
     let columns = read_header(alloc, HEADER)?;
     let segments = segments_of(alloc, case.rows)?;
@@ -211,19 +206,19 @@ fn hold_counted<R: Threads + Sync + Abort, G: Gate, L: Ledger>(
         rt, alloc, &board, all, &guesses, &columns, &segments, gate, &mut steps,
     )?;
     let (drawn, least) = board.close(seat);
-    hold_told(rt, &founds, case.told);
+    hold_told(rt, &founds, case.known_files);
     assert_eq!(rt; (drawn, least), (case.drawn, case.least));
     Ok(())
 }
 
-/// The second segment differs from its guess or cannot be read, and those behind it are skipped.
+/// The second segment differs from its guess or cannot be read, and those after it are skipped.
 #[test]
 fn skips_behind_what_was_posted(rt: HostRuntime) -> Result<(), Fail> {
     let skipped = Told::Skipped(1);
     let differs = Case {
         rows: &FOUR,
         seats: 1,
-        told: &[Told::Agrees, Told::Differs, skipped, skipped],
+        known_files: &[Told::Agrees, Told::Differs, skipped, skipped],
         drawn: 5,
         least: 1,
     };
@@ -231,7 +226,7 @@ fn skips_behind_what_was_posted(rt: HostRuntime) -> Result<(), Fail> {
     let refused = Case {
         rows: &REFUSED,
         seats: 1,
-        told: &[Told::Agrees, Told::Refused, skipped],
+        known_files: &[Told::Agrees, Told::Refused, skipped],
         drawn: 4,
         least: 1,
     };
@@ -246,7 +241,7 @@ fn passes_the_gate(rt: HostRuntime) -> Result<(), Fail> {
     let case = Case {
         rows: &SIX,
         seats: 2,
-        told: &[Told::Agrees; 6],
+        known_files: &[Told::Agrees; 6],
         drawn: 8,
         least: 6,
     };
@@ -263,7 +258,7 @@ fn has_more_seats_than_segments(rt: HostRuntime) -> Result<(), Fail> {
     let case = Case {
         rows: &[SIX[0], SIX[1], SIX[2]],
         seats: 64,
-        told: &[Told::Agrees; 3],
+        known_files: &[Told::Agrees; 3],
         drawn: 67,
         least: 3,
     };

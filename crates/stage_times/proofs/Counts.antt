@@ -6,11 +6,11 @@ use Rattle.hart_words.specs.Memory.{Bytes}
 use Rattle.hart_step.specs.declared.hart.Hart.{Hart}
 use Rattle.hart_step.specs.Harts.{state_of}
 use Rattle.hart_step.specs.Rows.{HartState}
-use Rattle.boundary_guess.specs.Cuts.{lines_through}
+use Rattle.boundary_guess.specs.Cuts.{lines_of_pieces}
 use Rattle.boundary_guess.specs.Guesses.{guesses_of}
 use Rattle.rvfi_rows.specs.Columns.{ColumnList}
 use Rattle.rvfi_rows.specs.declared.segment.Segment.{Segment}
-use Rattle.rvfi_rows.specs.Segments.{lines_of}
+use Rattle.rvfi_rows.specs.Segments.{segment_lines}
 use Rattle.trace_lines.specs.declared.piece.Ending.{Ending}
 use Rattle.trace_lines.specs.declared.piece.Ending.TheVariants.{End, More, TooLarge, TooLong}
 use Rattle.trace_lines.specs.Pieces.{FitsEnding}
@@ -25,10 +25,15 @@ fits_most TooLarge asked count fits = omega (arith, fits)
 fits_most (TooLong line) asked count fits = omega (arith, fits)
 
 -- there is a guess for each segment
-pub guess_for_each_segment : {M : Type 0} (bytes_of : M → Bytes) (start : HartState) (columns : ColumnList) (segments : List Segment) (guesses : List (Hart M)) → map (state_of bytes_of) guesses ≡ guesses_of start columns (map lines_of segments) → length guesses ≡ length segments
+pub guess_for_each_segment : {M : Type 0} (bytes_of : M → Bytes) (start : HartState) (columns : ColumnList)
+    (segments : List Segment) (guesses : List (Hart M))
+    → map (state_of bytes_of) guesses ≡ guesses_of start columns (map segment_lines segments)
+    → length guesses ≡ length segments
 guess_for_each_segment bytes_of start columns segments guesses is =
-    sym (length-map guesses (state_of bytes_of)) ∙ ap length is ∙ guess_for_each start columns (map lines_of segments) ∙ length-map segments lines_of
+    sym (length-map guesses (state_of bytes_of)) ∙ ap length is
+    ∙ guess_for_each start columns (map segment_lines segments) ∙ length-map segments segment_lines
 
 -- segments that were read have as many lines as before
-pub as_many_lines : (one other : List Segment) → map lines_of one ≡ map lines_of other → length (flat_map lines_of one) ≡ length (flat_map lines_of other)
-as_many_lines one other same = ap length (through one ∙ ap lines_through same ∙ sym (through other))
+pub as_many_lines : (one other : List Segment) → map segment_lines one ≡ map segment_lines other
+    → length (flat_map segment_lines one) ≡ length (flat_map segment_lines other)
+as_many_lines one other same = ap length (through one ∙ ap lines_of_pieces same ∙ sym (through other))

@@ -42,7 +42,7 @@ struct Words {
     ghost few: { workers ≤ 64 },
 }
 
-/// The words of the command line behind the program's name.
+/// The words of the command line after the program's name.
 fn read_words<R: Runtime + AllocGlobal>(rt: &R, alloc: Global) -> Result<Words, Failure> {
     let mut args = env::args(rt)?;
     let _program = args.next();

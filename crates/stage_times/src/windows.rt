@@ -3,7 +3,7 @@
 ghost use Rattle.std.specs.Prelude.{◌≡◌, ◌≤◌, ◌<◌, ◌+◌, ◌*◌, ◌^◌, IfOk, IfSome, OnOk, length, map};
 ghost use Rattle.std.specs.List.{All, flat_map};
 ghost use Rattle.hart_step.specs.Harts.{CanStep};
-ghost use Rattle.rvfi_rows.specs.Segments.{lines_of};
+ghost use Rattle.rvfi_rows.specs.Segments.{segment_lines};
 ghost use Rattle.segment_judge.specs.Founds.{IsLawfulFound};
 
 use crate::failure::Failure;
@@ -37,7 +37,7 @@ pub(crate) struct Window {
     pub segments: Vec<Segment>,
     pub is_last: bool,
     ghost few: { length segments.items ≤ 64 },
-    ghost lines: { length (flat_map lines_of segments.items) ≤ 64 * 4096 },
+    ghost lines: { length (flat_map segment_lines segments.items) ≤ 64 * 4096 },
 }
 
 /// What is known before a window: the hart, and where lines are taken from.
@@ -70,10 +70,10 @@ fn since<R: Clock>(rt: &R, time: Instant) -> Result<u64, Failure> {
     )
 }
 
-/// Puts lines behind the others, as a segment of their own.
+/// Puts lines after the others, as a segment of their own.
 fn push_lines(segments: &mut Vec<Segment>, lines: Lines) -> Result<(), NoMemory>
-    ensures lines { OnOk result (length (flat_map lines_of segments.new.items)
-        ≡ length (flat_map lines_of segments.old.items) + length lines) }
+    ensures lines { OnOk result (length (flat_map segment_lines segments.new.items)
+        ≡ length (flat_map segment_lines segments.old.items) + length lines) }
     ensures one { OnOk result (length segments.new.items ≡ length segments.old.items + 1) }
 {
     segments.push(Segment::new(lines))?;
@@ -110,12 +110,12 @@ fn find<R: Threads + Sync, M: PhysMem + Drop + Send + Sync, L: Ledger>(
     segments: &[Segment],
     blank: Blank,
 ) -> Result<Vec<Found<Judged<M>>>, NoMemory>
-    requires few { length segments.now < 2 ^ 32 }
+    requires below_2_to_32 { length segments.now < 2 ^ 32 }
     requires one_each { length guesses.now ≡ length segments.now }
     requires guesses { All (CanStep M.ram) guesses.now }
     requires name { blank.name ≡ L.name }
     requires parts { blank.parts ≡ L.parts }
-    requires some { 0 < blank.parts }
+    requires positive { 0 < blank.parts }
     ensures { IfOk result (λ founds. All
         (IsLawfulFound M.bytes M.ram columns.now segments.now guesses.now) founds.items) }
 {
@@ -144,7 +144,7 @@ fn read<R: Threads + Sync>(
     segments: Vec<Segment>,
     judged: Vec<Segment>,
 ) -> Result<Vec<Segment>, NoMemory>
-    ensures { IfOk result (λ read. map lines_of read.items ≡ map lines_of segments.items) }
+    ensures { IfOk result (λ read. map segment_lines read.items ≡ map segment_lines segments.items) }
 {
     let count = workers.count as usize;
     let mut segments = segments;
@@ -153,7 +153,7 @@ fn read<R: Threads + Sync>(
     Ok(segments)
 }
 
-/// Judges segments that were read, behind a hart: what the stages took, and the hart behind them.
+/// Judges segments that were read, after a hart: what the stages took, and the hart after them.
 fn judge_segments<R: Threads + Sync + Clock, M: PhysMem + Drop + Send + Sync>(
     workers: &Workers<R>,
     columns: &Columns,
@@ -161,8 +161,8 @@ fn judge_segments<R: Threads + Sync + Clock, M: PhysMem + Drop + Send + Sync>(
     segments: &[Segment],
 ) -> Result<(Stages, Hart<M>), Failure>
     requires can_step { CanStep M.ram start }
-    requires few { length segments.now < 2 ^ 32 }
-    requires lines { length (flat_map lines_of segments.now) < 2 ^ 60 }
+    requires below_2_to_32 { length segments.now < 2 ^ 32 }
+    requires lines { length (flat_map segment_lines segments.now) < 2 ^ 60 }
     ensures { IfOk result (λ judged. CanStep M.ram judged.1) }
 {
     let begin = Instant::now(workers.rt)?;
@@ -190,7 +190,7 @@ fn judge_segments<R: Threads + Sync + Clock, M: PhysMem + Drop + Send + Sync>(
     }
 }
 
-/// Takes and judges the rows of the next window: what the stages took, and what is known behind it,
+/// Takes and judges the rows of the next window: what the stages took, and what is known after it,
 /// unless it is the last.
 pub fn pass_window<R: Threads + Sync + Clock, M: PhysMem + Drop + Send + Sync, H: Shelf>(
     workers: &Workers<R>,

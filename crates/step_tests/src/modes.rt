@@ -5,7 +5,7 @@ ghost use Rattle.csr_file.specs.Legal.{IsLegal};
 ghost use Rattle.hart_step.specs.Cores.{IsSound};
 
 use crate::tests::{CODE, memory_with, put, ram_and_devices};
-use csr_file::Csrs;
+use csr_file::{Csrs, StoredCsr};
 use hart_step::Hart;
 use hart_words::Mode::{Machine, Supervisor, User};
 use hart_words::{Cause, Map, Mode, PmpEntry};
@@ -114,7 +114,7 @@ fn hart_in(mem: MapMem, map: Map, mode: Mode, writes: &[(u16, u64)]) -> Result<H
 }
 
 /// What the instruction at `CODE` does: the value of x12, or the cause of its trap; and the mode
-/// and the pc behind it.
+/// and the pc after it.
 fn stepped(
     alloc: Global,
     instruction: u64,
@@ -139,7 +139,7 @@ fn stepped(
     Ok((outcome, hart.core.mode, hart.core.pc))
 }
 
-/// What a step gives: the value of x12 or the cause of its trap, and the mode and the pc behind it.
+/// What a step gives: the value of x12 or the cause of its trap, and the mode and the pc after it.
 type After = (Result<u64, Cause>, Mode, u64);
 
 /// A mode, values of registers, an instruction, a row, and what the step gives.
@@ -370,4 +370,78 @@ fn delegates(rt: HostRuntime) -> Result<(), Fail> {
         ),
     ];
     hold(&rt, rt.alloc(), cases.as_slice())
+}
+
+/// The base of M's vectors, and where its timer interrupt goes, whose code is 7.
+const VECTORS: u64 = 0x8000_0300;
+
+const TIMER_VECTOR: u64 = VECTORS + 28;
+
+/// The value of mcause for M's timer interrupt.
+const TIMER: u64 = (1 << 63) + 7;
+
+/// Whether a row lacks an interrupt, where its instruction is fetched and in which mode, and mepc
+/// and mcause after it.
+type Entered = (bool, u64, Mode, u64, u64);
+
+/// The second of two rows. The first one runs an instruction in U; calls are delegated to S, M's
+/// timer interrupt is enabled and not delegated.
+fn entered_second(alloc: Global, first: u64, line: &[u8]) -> Result<Entered, Fail> {
+    let map = ram_and_devices()?;
+    let mut mem = memory_with(alloc, map.ram, first)?;
+    put(&mut mem, &map.ram, HANDLER, 4, NOP)?;
+    put(&mut mem, &map.ram, TIMER_VECTOR, 4, NOP)?;
+    let writes = [
+        (MEDELEG, 0x100),
+        (STVEC, HANDLER),
+        (MIE, 0x80),
+        (MTVEC, VECTORS + 1),
+    ];
+    let mut hart = hart_in(mem, map, User, &writes)?;
+    let columns = read_header(alloc, HEADER)?;
+    let blank = read_row(alloc, &columns, BLANK)?.ok_or("the row is valid")?;
+    let row = read_row(alloc, &columns, line)?.ok_or("the row is valid")?;
+    let _first = hart.step(&blank)?;
+    let step = hart.step(&row)?;
+    match step.expected {
+        Expected::Halted => Err(Fail::from("the hart has not halted")),
+        Expected::Retired(retired) => Ok((
+            retired.lacks_interrupt,
+            retired.pc,
+            retired.mode,
+            hart.core.csrs.get(StoredCsr::Mepc),
+            hart.core.csrs.get(StoredCsr::Mcause),
+        )),
+    }
+}
+
+/// `intr` says that an interrupt was entered, but not in the first row of a trap's handler: there
+/// the row must show another address than the handler's.
+#[test]
+fn enters_interrupts_after_a_trap(rt: HostRuntime) -> Result<(), Fail> {
+    let entered = (false, TIMER_VECTOR, Machine, HANDLER, TIMER);
+    let handled = (false, HANDLER, Supervisor, 0, 0);
+    let cases: [(u64, &[u8], Entered); 7] = [
+        (ECALL, b"0,0x8000031c,1,,,0x80", entered),
+        (ECALL, b"0,0x80000104,1,,,0x80", entered),
+        (ECALL, b"0,0x80000100,1,,,0x80", handled),
+        (ECALL, b"0,0x80000100,1,,,0", handled),
+        (ECALL, b"0,0x8000031c,0,,,0x80", handled),
+        (
+            ECALL,
+            b"0,0x8000031c,1,,,0",
+            (true, HANDLER, Supervisor, 0, 0),
+        ),
+        // After an instruction that did not trap the row's address does not matter.
+        (
+            NOP,
+            b"0,0x80000004,1,,,0x80",
+            (false, TIMER_VECTOR, Machine, NEXT, TIMER),
+        ),
+    ];
+    for (first, line, wanted) in cases {
+        let found = entered_second(rt.alloc(), first, line)?;
+        assert_eq!(rt; found, wanted, "after {first}");
+    }
+    Ok(())
 }

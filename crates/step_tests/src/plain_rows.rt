@@ -3,7 +3,7 @@
 ghost use Rattle.std.specs.Prelude.{◌≡◌, IfOk};
 ghost use Rattle.hart_step.specs.Cores.{IsSound};
 
-use crate::tests::{CODE, is_place, memory_with, ram_and_devices};
+use crate::tests::{CODE, memory_with, ram_and_devices};
 use hart_step::{Core, Hart};
 use hart_words::{Map, Mode, PhysMem, PmpEntry, Span};
 use page_layers::MapMem;
@@ -209,7 +209,7 @@ fn takes_registers(rt: HostRuntime) -> Result<(), Fail> {
 fn number_at(mem: &MapMem, ram: &Span, pa: u64) -> Result<u64, Fail>
     requires { mem.now.ram ≡ ram.now }
 {
-    if !is_place(ram, pa, 8) {
+    if !ram.is_place(pa, 8) {
         return Err(Fail::from("no place of RAM"));
     }
     Ok(mem.read(pa, 8))
@@ -268,7 +268,7 @@ fn takes_stores(rt: HostRuntime) -> Result<(), Fail> {
             0x8000_1000,
             0x8899_aabb_5566_7788,
         ),
-        // The last eight bytes of RAM, and four bytes of which two are behind it.
+        // The last eight bytes of RAM, and four bytes of which two are after it.
         (
             b"0x00b53023,0,,,,,,,,0x80001ff8,255,0x1122334455667788,",
             0x8000_1ff8,
@@ -295,7 +295,7 @@ fn takes_stores(rt: HostRuntime) -> Result<(), Fail> {
             0x8000_1000,
             0x8899_aabb_1122_3344,
         ),
-        // Half outside RAM, behind it and before it.
+        // Half outside RAM, after it and before it.
         (
             b"0x00b53023,0,,,,,,,,0x80001ffc,255,0x1122334455667788,",
             0x8000_1ff8,

@@ -1,13 +1,12 @@
-ghost use Rattle.std.specs.Prelude.{◌≡◌, ◌%◌, IfOk, IsTrue};
+ghost use Rattle.std.specs.Prelude.{◌≡◌, ◌%◌, IfOk};
 ghost use Rattle.hart_step.specs.Cores.{IsSound};
-ghost use Rattle.hart_words.specs.Memory.{IsPlace};
 
-use hart_step::{Hart, Stepped};
-use hart_words::{Cause, Map, Mode, PAGE_SIZE, PhysMem, Span};
+use hart_step::Hart;
+use hart_words::{Cause, Map, Mode, PhysMem, Span};
 use image_text::read_image;
 use page_image::PageImage;
 use page_layers::{Layered, MapMem};
-use rvfi_rows::{Effects, Expected, Retired, Row, read_header, read_row};
+use rvfi_rows::{Effects, Expected, Retired, Row, Stepped, read_header, read_row};
 use std::alloc::Global;
 use std::test::Fail;
 
@@ -63,19 +62,12 @@ fn hart_at<M: PhysMem + Drop>(mem: M, map: Map, pc: u64, values: [u64; 3]) -> Ha
     hart
 }
 
-/// Whether so many bytes lie in one page of RAM.
-pub(crate) fn is_place(ram: &Span, pa: u64, len: u8) -> bool
-    ensures { IsTrue result → IsPlace ram.now pa len }
-{
-    1 <= len && len <= 8 && ram.holds(pa, len) && pa % PAGE_SIZE + u64::from(len) <= PAGE_SIZE
-}
-
 /// Writes to memory, where so many bytes lie in one page of RAM.
 pub(crate) fn put(mem: &mut MapMem, ram: &Span, pa: u64, len: u8, value: u64) -> Result<(), Fail>
     requires ram { mem.old.ram ≡ ram.now }
     ensures ram { mem.new.ram ≡ mem.old.ram }
 {
-    if !is_place(ram, pa, len) {
+    if !ram.is_place(pa, len) {
         return Err(Fail::from("no place of RAM"));
     }
     mem.write(pa, len, value)?;
@@ -86,7 +78,7 @@ pub(crate) fn put(mem: &mut MapMem, ram: &Span, pa: u64, len: u8, value: u64) ->
 fn held(mem: &MapMem, ram: &Span) -> Result<u64, Fail>
     requires ram { mem.now.ram ≡ ram.now }
 {
-    if !is_place(ram, DATA, 8) {
+    if !ram.is_place(DATA, 8) {
         return Err(Fail::from("no place of RAM"));
     }
     Ok(mem.read(DATA, 8))

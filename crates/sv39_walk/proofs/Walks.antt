@@ -1,5 +1,6 @@
 -- What the walk's action gives, reads and writes, step by step and by its chain.
-use Rattle.std.proofs.Common.{◌≡◌, ℕ, zero, suc, ◌-◌, ◌<◌, inl, inr, Bool, true, false, ◌&&◌, cond, List, [], ◌∷◌, ◌++◌, refl, sym, ◌∙◌, ap, append_assoc, arith}
+use Rattle.std.proofs.Common.{◌≡◌, ℕ, zero, suc, ◌-◌, ◌<◌, inl, inr, Bool, true, false, ◌&&◌, cond, List, [], ◌∷◌, ◌++◌}
+use Rattle.std.proofs.Common.{refl, sym, ◌∙◌, ap, append_assoc, arith}
 use Rattle.std.specs.Prelude.{Some, None, Result, Err}
 use Rattle.std.proofs.lemmas.Bool.{cond-true, cond-false, cases_Bool, and_left, and_right, and_from}
 use Rattle.std.proofs.lemmas.List.{append-nil}
@@ -11,7 +12,8 @@ use Rattle.hart_words.specs.Memory.{Bytes, number_at, entry_of, after_writes}
 use Rattle.hart_words.specs.Actions.{Run, Action, pure, read_memory, run_then, ◌>>=◌}
 use Rattle.sv39_walk.specs.Entries.{page_number, is_link, final_result, entry_address, is_canonical}
 use Rattle.hart_words.specs.Privilege.{access_fault_of, page_fault_of}
-use Rattle.sv39_walk.specs.Walk.{root_of, entry_read, visited, walk_of, translation_of, Visit, chain_from, chain, chain_result, reads_of, by_chain}
+use Rattle.sv39_walk.specs.Walk.{root_of, entry_read, visit_of, walk_of, translation_of, Visit, chain_from, chain}
+use Rattle.sv39_walk.specs.Walk.{chain_result, entry_reads_of, by_chain}
 
 abbrev Got : Type 0
 Got = Run (Result ℕ Cause)
@@ -24,15 +26,21 @@ alone value = record { value = value; reads = []; wrote = [] }
 abbrev pub after : ℕ → Got → Got
 after pa got = record { value = got.value; reads = entry_read pa ∷ got.reads; wrote = got.wrote }
 
-visited_read : (readable : ℕ → Bool) (bytes : Bytes) (access : Access) (pa : ℕ) (next : ℕ → Action (Result ℕ Cause)) → readable pa ≡ true → (visited readable access pa next).run bytes ≡ after pa ((next (number_at bytes pa 8)).run bytes)
-unfolding visited read_memory ◌>>=◌ run_then after_writes
+visited_read : (readable : ℕ → Bool) (bytes : Bytes) (access : Access) (pa : ℕ) (next : ℕ → Action (Result ℕ Cause))
+    → readable pa ≡ true
+    → (visit_of readable access pa next).run bytes ≡ after pa ((next (number_at bytes pa 8)).run bytes)
+unfolding visit_of read_memory ◌>>=◌ run_then after_writes
 visited_read readable bytes access pa next e =
-    ap (λ action. action.run bytes) (cond-true (readable pa) (read_memory (entry_read pa) >>= next) (pure (Err (access_fault_of access))) e)
+    ap (λ action. action.run bytes)
+    (cond-true (readable pa) (read_memory (entry_read pa) >>= next) (pure (Err (access_fault_of access))) e)
 
-visited_refused : (readable : ℕ → Bool) (bytes : Bytes) (access : Access) (pa : ℕ) (next : ℕ → Action (Result ℕ Cause)) → readable pa ≡ false → (visited readable access pa next).run bytes ≡ alone (Err (access_fault_of access))
-unfolding visited pure
+visited_refused : (readable : ℕ → Bool) (bytes : Bytes) (access : Access) (pa : ℕ)
+    (next : ℕ → Action (Result ℕ Cause)) → readable pa ≡ false
+    → (visit_of readable access pa next).run bytes ≡ alone (Err (access_fault_of access))
+unfolding visit_of pure
 visited_refused readable bytes access pa next e =
-    ap (λ action. action.run bytes) (cond-false (readable pa) (read_memory (entry_read pa) >>= next) (pure (Err (access_fault_of access))) e)
+    ap (λ action. action.run bytes)
+    (cond-false (readable pa) (read_memory (entry_read pa) >>= next) (pure (Err (access_fault_of access))) e)
 
 given : (bytes : Bytes) (value : Result ℕ Cause) → (pure value).run bytes ≡ alone value
 unfolding pure
@@ -40,43 +48,74 @@ given bytes value = refl
 
 -- ---- one step
 
-pub walk_of_refused : (readable : ℕ → Bool) (bytes : Bytes) (flags : WalkFlags) (va : ℕ) (access : Access) (level table : ℕ) → readable (entry_address level table va) ≡ false → (walk_of readable flags va access level table).run bytes ≡ alone (Err (access_fault_of access))
+pub walk_of_refused : (readable : ℕ → Bool) (bytes : Bytes) (flags : WalkFlags) (va : ℕ) (access : Access)
+    (level table : ℕ) → readable (entry_address level table va) ≡ false
+    → (walk_of readable flags va access level table).run bytes ≡ alone (Err (access_fault_of access))
 unfolding walk_of
-walk_of_refused readable bytes flags va access zero table e = visited_refused readable bytes access (entry_address 0 table va) (λ entry. pure (final_result 0 flags va access entry)) e
+walk_of_refused readable bytes flags va access zero table e =
+    visited_refused readable bytes access (entry_address 0 table va)
+    (λ entry. pure (final_result 0 flags va access entry)) e
 walk_of_refused readable bytes flags va access (suc level) table e =
-    visited_refused readable bytes access (entry_address (suc level) table va) (λ entry. cond (is_link entry) (walk_of readable flags va access level (page_number entry)) (pure (final_result (suc level) flags va access entry))) e
+    visited_refused readable bytes access (entry_address (suc level) table va)
+    (λ entry. cond (is_link entry) (walk_of readable flags va access level (page_number entry))
+    (pure (final_result (suc level) flags va access entry))) e
 
-pub walk_of_on : (readable : ℕ → Bool) (bytes : Bytes) (flags : WalkFlags) (va : ℕ) (access : Access) (level table : ℕ) → readable (entry_address (suc level) table va) ≡ true → is_link (number_at bytes (entry_address (suc level) table va) 8) ≡ true → (walk_of readable flags va access (suc level) table).run bytes ≡ after (entry_address (suc level) table va) ((walk_of readable flags va access level (page_number (number_at bytes (entry_address (suc level) table va) 8))).run bytes)
+pub walk_of_on : (readable : ℕ → Bool) (bytes : Bytes) (flags : WalkFlags) (va : ℕ) (access : Access)
+    (level table : ℕ) → readable (entry_address (suc level) table va) ≡ true
+    → is_link (number_at bytes (entry_address (suc level) table va) 8) ≡ true
+    → (walk_of readable flags va access (suc level) table).run bytes
+    ≡ after (entry_address (suc level) table va)
+    ((walk_of readable flags va access level
+    (page_number (number_at bytes (entry_address (suc level) table va) 8))).run bytes)
 unfolding walk_of
 walk_of_on readable bytes flags va access level table e link =
     let pa : ℕ = entry_address (suc level) table va in
     let entry : ℕ = number_at bytes pa 8 in
-    visited_read readable bytes access pa (λ entry. cond (is_link entry) (walk_of readable flags va access level (page_number entry)) (pure (final_result (suc level) flags va access entry))) e
-    ∙ ap (λ (action : Action (Result ℕ Cause)). after pa (action.run bytes)) (cond-true (is_link entry) (walk_of readable flags va access level (page_number entry)) (pure (final_result (suc level) flags va access entry)) link)
+    visited_read readable bytes access pa
+    (λ entry. cond (is_link entry) (walk_of readable flags va access level (page_number entry))
+    (pure (final_result (suc level) flags va access entry))) e
+    ∙ ap (λ (action : Action (Result ℕ Cause)). after pa (action.run bytes))
+    (cond-true (is_link entry) (walk_of readable flags va access level (page_number entry))
+    (pure (final_result (suc level) flags va access entry)) link)
 
-pub walk_of_last : (readable : ℕ → Bool) (bytes : Bytes) (flags : WalkFlags) (va : ℕ) (access : Access) (table : ℕ) → readable (entry_address 0 table va) ≡ true → (walk_of readable flags va access 0 table).run bytes ≡ after (entry_address 0 table va) (alone (final_result 0 flags va access (number_at bytes (entry_address 0 table va) 8)))
+pub walk_of_last : (readable : ℕ → Bool) (bytes : Bytes) (flags : WalkFlags) (va : ℕ) (access : Access) (table : ℕ)
+    → readable (entry_address 0 table va) ≡ true
+    → (walk_of readable flags va access 0 table).run bytes
+    ≡ after (entry_address 0 table va)
+    (alone (final_result 0 flags va access (number_at bytes (entry_address 0 table va) 8)))
 unfolding walk_of
 walk_of_last readable bytes flags va access table e =
     let pa : ℕ = entry_address 0 table va in
     visited_read readable bytes access pa (λ entry. pure (final_result 0 flags va access entry)) e
     ∙ ap (after pa) (given bytes (final_result 0 flags va access (number_at bytes pa 8)))
 
-pub walk_of_stops : (readable : ℕ → Bool) (bytes : Bytes) (flags : WalkFlags) (va : ℕ) (access : Access) (level table : ℕ) → readable (entry_address level table va) ≡ true → is_link (number_at bytes (entry_address level table va) 8) ≡ false → (walk_of readable flags va access level table).run bytes ≡ after (entry_address level table va) (alone (final_result level flags va access (number_at bytes (entry_address level table va) 8)))
+pub walk_of_stops : (readable : ℕ → Bool) (bytes : Bytes) (flags : WalkFlags) (va : ℕ) (access : Access)
+    (level table : ℕ) → readable (entry_address level table va) ≡ true
+    → is_link (number_at bytes (entry_address level table va) 8) ≡ false
+    → (walk_of readable flags va access level table).run bytes
+    ≡ after (entry_address level table va)
+    (alone (final_result level flags va access (number_at bytes (entry_address level table va) 8)))
 unfolding walk_of
 walk_of_stops readable bytes flags va access zero table e none = walk_of_last readable bytes flags va access table e
 walk_of_stops readable bytes flags va access (suc level) table e none =
     let pa : ℕ = entry_address (suc level) table va in
     let entry : ℕ = number_at bytes pa 8 in
-    visited_read readable bytes access pa (λ entry. cond (is_link entry) (walk_of readable flags va access level (page_number entry)) (pure (final_result (suc level) flags va access entry))) e
-    ∙ ap (λ (action : Action (Result ℕ Cause)). after pa (action.run bytes)) (cond-false (is_link entry) (walk_of readable flags va access level (page_number entry)) (pure (final_result (suc level) flags va access entry)) none)
+    visited_read readable bytes access pa
+    (λ entry. cond (is_link entry) (walk_of readable flags va access level (page_number entry))
+    (pure (final_result (suc level) flags va access entry))) e
+    ∙ ap (λ (action : Action (Result ℕ Cause)). after pa (action.run bytes))
+    (cond-false (is_link entry) (walk_of readable flags va access level (page_number entry))
+    (pure (final_result (suc level) flags va access entry)) none)
     ∙ ap (after pa) (given bytes (final_result (suc level) flags va access entry))
 
 -- ---- one step, from what the call of `entry` says
 
-read_fact : (readable : ℕ → Bool) (bytes : Bytes) (pa entry : ℕ) → entry_of readable bytes pa ≡ Some entry → (readable pa ≡ true) × (number_at bytes pa 8 ≡ entry)
+read_fact : (readable : ℕ → Bool) (bytes : Bytes) (pa entry : ℕ) → entry_of readable bytes pa ≡ Some entry
+    → (readable pa ≡ true) × (number_at bytes pa 8 ≡ entry)
 read_fact readable bytes pa entry e = go (readable pa) refl e
   where
-    go : (b : Bool) → readable pa ≡ b → cond b (Some (number_at bytes pa 8)) None ≡ Some entry → (readable pa ≡ true) × (number_at bytes pa 8 ≡ entry)
+    go : (b : Bool) → readable pa ≡ b → cond b (Some (number_at bytes pa 8)) None ≡ Some entry
+        → (readable pa ≡ true) × (number_at bytes pa 8 ≡ entry)
     go true is got = (is, cc)
     go false is got = cc
 
@@ -90,11 +129,18 @@ refused_fact readable bytes pa e = go (readable pa) refl e
 abbrev run_of : (ℕ → Bool) → Bytes → WalkFlags → ℕ → Access → ℕ → ℕ → Got
 run_of readable bytes flags va access level table = (walk_of readable flags va access level table).run bytes
 
-pub step_refused : (readable : ℕ → Bool) (bytes : Bytes) (flags : WalkFlags) (va : ℕ) (access : Access) (level table : ℕ) → entry_of readable bytes (entry_address level table va) ≡ None → run_of readable bytes flags va access level table ≡ alone (Err (access_fault_of access))
+pub step_refused : (readable : ℕ → Bool) (bytes : Bytes) (flags : WalkFlags) (va : ℕ) (access : Access)
+    (level table : ℕ) → entry_of readable bytes (entry_address level table va) ≡ None
+    → run_of readable bytes flags va access level table ≡ alone (Err (access_fault_of access))
 step_refused readable bytes flags va access level table got =
-    walk_of_refused readable bytes flags va access level table (refused_fact readable bytes (entry_address level table va) got)
+    walk_of_refused readable bytes flags va access level table
+    (refused_fact readable bytes (entry_address level table va) got)
 
-pub step_on : (readable : ℕ → Bool) (bytes : Bytes) (flags : WalkFlags) (va : ℕ) (access : Access) (level table entry : ℕ) → entry_of readable bytes (entry_address level table va) ≡ Some entry → 0 < level → is_link entry ≡ true → run_of readable bytes flags va access level table ≡ after (entry_address level table va) (run_of readable bytes flags va access (level - 1) (page_number entry))
+pub step_on : (readable : ℕ → Bool) (bytes : Bytes) (flags : WalkFlags) (va : ℕ) (access : Access)
+    (level table entry : ℕ) → entry_of readable bytes (entry_address level table va) ≡ Some entry → 0 < level
+    → is_link entry ≡ true
+    → run_of readable bytes flags va access level table
+    ≡ after (entry_address level table va) (run_of readable bytes flags va access (level - 1) (page_number entry))
 step_on readable bytes flags va access zero table entry got above link = absurd (omega arith)
 step_on readable bytes flags va access (suc level) table entry got above link =
     let pa : ℕ = entry_address (suc level) table va in
@@ -104,7 +150,10 @@ step_on readable bytes flags va access (suc level) table entry got above link =
     ∙ ap (λ e. after pa (run_of readable bytes flags va access level (page_number e))) fact.1
     ∙ ap (λ l. after pa (run_of readable bytes flags va access l (page_number entry))) (sym below)
 
-pub step_last : (readable : ℕ → Bool) (bytes : Bytes) (flags : WalkFlags) (va : ℕ) (access : Access) (level table entry : ℕ) → entry_of readable bytes (entry_address level table va) ≡ Some entry → level ≡ 0 → run_of readable bytes flags va access level table ≡ after (entry_address level table va) (alone (final_result level flags va access entry))
+pub step_last : (readable : ℕ → Bool) (bytes : Bytes) (flags : WalkFlags) (va : ℕ) (access : Access)
+    (level table entry : ℕ) → entry_of readable bytes (entry_address level table va) ≡ Some entry → level ≡ 0
+    → run_of readable bytes flags va access level table
+    ≡ after (entry_address level table va) (alone (final_result level flags va access entry))
 step_last readable bytes flags va access zero table entry got last =
     let pa : ℕ = entry_address 0 table va in
     let fact : (readable pa ≡ true) × (number_at bytes pa 8 ≡ entry) = read_fact readable bytes pa entry got in
@@ -112,7 +161,11 @@ step_last readable bytes flags va access zero table entry got last =
     ∙ ap (λ e. after pa (alone (final_result 0 flags va access e))) fact.1
 step_last readable bytes flags va access (suc level) table entry got last = absurd (omega arith)
 
-pub step_ends : (readable : ℕ → Bool) (bytes : Bytes) (flags : WalkFlags) (va : ℕ) (access : Access) (level table entry : ℕ) → entry_of readable bytes (entry_address level table va) ≡ Some entry → is_link entry ≡ false → run_of readable bytes flags va access level table ≡ after (entry_address level table va) (alone (final_result level flags va access entry))
+pub step_ends : (readable : ℕ → Bool) (bytes : Bytes) (flags : WalkFlags) (va : ℕ) (access : Access)
+    (level table entry : ℕ) → entry_of readable bytes (entry_address level table va) ≡ Some entry
+    → is_link entry ≡ false
+    → run_of readable bytes flags va access level table
+    ≡ after (entry_address level table va) (alone (final_result level flags va access entry))
 step_ends readable bytes flags va access level table entry got none =
     let pa : ℕ = entry_address level table va in
     let fact : (readable pa ≡ true) × (number_at bytes pa 8 ≡ entry) = read_fact readable bytes pa entry got in
@@ -124,98 +177,170 @@ step_ends readable bytes flags va access level table entry got none =
 pub no_reads : (reads : List Read) → reads ++ [] ≡ reads
 no_reads reads = append-nil reads
 
-pub one_read : (reads : List Read) (read : Read) (more : List Read) → (reads ++ read ∷ []) ++ more ≡ reads ++ read ∷ more
+pub one_read : (reads : List Read) (read : Read) (more : List Read)
+    → (reads ++ read ∷ []) ++ more ≡ reads ++ read ∷ more
 one_read reads read more = append_assoc reads (read ∷ []) more
 
 -- ---- the whole translation
 
-pub translation_walks : (readable : ℕ → Bool) (bytes : Bytes) (satp : ℕ) (flags : WalkFlags) (va : ℕ) (access : Access) → is_canonical va ≡ true → (translation_of readable satp flags va access).run bytes ≡ run_of readable bytes flags va access 2 (root_of satp)
+pub translation_walks : (readable : ℕ → Bool) (bytes : Bytes) (satp : ℕ) (flags : WalkFlags) (va : ℕ)
+    (access : Access) → is_canonical va ≡ true
+    → (translation_of readable satp flags va access).run bytes ≡ run_of readable bytes flags va access 2 (root_of satp)
 unfolding translation_of
 translation_walks readable bytes satp flags va access e =
-    ap (λ action. action.run bytes) (cond-true (is_canonical va) (walk_of readable flags va access 2 (root_of satp)) (pure (Err (page_fault_of access))) e)
+    ap (λ action. action.run bytes)
+    (cond-true (is_canonical va) (walk_of readable flags va access 2 (root_of satp))
+    (pure (Err (page_fault_of access))) e)
 
-pub translation_refused : (readable : ℕ → Bool) (bytes : Bytes) (satp : ℕ) (flags : WalkFlags) (va : ℕ) (access : Access) → is_canonical va ≡ false → (translation_of readable satp flags va access).run bytes ≡ alone (Err (page_fault_of access))
+pub translation_refused : (readable : ℕ → Bool) (bytes : Bytes) (satp : ℕ) (flags : WalkFlags) (va : ℕ)
+    (access : Access) → is_canonical va ≡ false
+    → (translation_of readable satp flags va access).run bytes ≡ alone (Err (page_fault_of access))
 unfolding translation_of
 translation_refused readable bytes satp flags va access e =
-    ap (λ action. action.run bytes) (cond-false (is_canonical va) (walk_of readable flags va access 2 (root_of satp)) (pure (Err (page_fault_of access))) e)
+    ap (λ action. action.run bytes)
+    (cond-false (is_canonical va) (walk_of readable flags va access 2 (root_of satp))
+    (pure (Err (page_fault_of access))) e)
     ∙ given bytes (Err (page_fault_of access))
 
 -- ---- by the chain
 
-pub chain_from-stops : (readable : ℕ → Bool) (bytes : Bytes) (va level table : ℕ) → (readable (entry_address (suc level) table va) && is_link (number_at bytes (entry_address (suc level) table va) 8)) ≡ false → chain_from readable bytes va (suc level) table ≡ record { level = suc level; pa = entry_address (suc level) table va } ∷ []
+pub chain_from-stops : (readable : ℕ → Bool) (bytes : Bytes) (va level table : ℕ)
+    → (readable (entry_address (suc level) table va)
+    && is_link (number_at bytes (entry_address (suc level) table va) 8)) ≡ false
+    → chain_from readable bytes va (suc level) table
+    ≡ record { level = suc level; pa = entry_address (suc level) table va } ∷ []
 unfolding chain_from
 chain_from-stops readable bytes va level table e =
     let pa : ℕ = entry_address (suc level) table va in
     let entry : ℕ = number_at bytes pa 8 in
-    ap (λ (visits : List Visit). record { level = suc level; pa = pa } ∷ visits) (cond-false (readable pa && is_link entry) (chain_from readable bytes va level (page_number entry)) [] e)
+    ap (λ (visits : List Visit). record { level = suc level; pa = pa } ∷ visits)
+    (cond-false (readable pa && is_link entry) (chain_from readable bytes va level (page_number entry)) [] e)
 
-pub chain_from-goes_on : (readable : ℕ → Bool) (bytes : Bytes) (va level table : ℕ) → (readable (entry_address (suc level) table va) && is_link (number_at bytes (entry_address (suc level) table va) 8)) ≡ true → chain_from readable bytes va (suc level) table ≡ record { level = suc level; pa = entry_address (suc level) table va } ∷ chain_from readable bytes va level (page_number (number_at bytes (entry_address (suc level) table va) 8))
+pub chain_from-goes_on : (readable : ℕ → Bool) (bytes : Bytes) (va level table : ℕ)
+    → (readable (entry_address (suc level) table va)
+    && is_link (number_at bytes (entry_address (suc level) table va) 8)) ≡ true
+    → chain_from readable bytes va (suc level) table
+    ≡ record { level = suc level; pa = entry_address (suc level) table va }
+    ∷ chain_from readable bytes va level (page_number (number_at bytes (entry_address (suc level) table va) 8))
 unfolding chain_from
 chain_from-goes_on readable bytes va level table e =
     let pa : ℕ = entry_address (suc level) table va in
     let entry : ℕ = number_at bytes pa 8 in
-    ap (λ (visits : List Visit). record { level = suc level; pa = pa } ∷ visits) (cond-true (readable pa && is_link entry) (chain_from readable bytes va level (page_number entry)) [] e)
+    ap (λ (visits : List Visit). record { level = suc level; pa = pa } ∷ visits)
+    (cond-true (readable pa && is_link entry) (chain_from readable bytes va level (page_number entry)) [] e)
 
-pub chain_from-last : (readable : ℕ → Bool) (bytes : Bytes) (va table : ℕ) → chain_from readable bytes va 0 table ≡ record { level = 0; pa = entry_address 0 table va } ∷ []
+pub chain_from-last : (readable : ℕ → Bool) (bytes : Bytes) (va table : ℕ)
+    → chain_from readable bytes va 0 table ≡ record { level = 0; pa = entry_address 0 table va } ∷ []
 unfolding chain_from
 chain_from-last readable bytes va table = refl
 
 -- a chain of one entry
-single-read : (readable : ℕ → Bool) (bytes : Bytes) (flags : WalkFlags) (va : ℕ) (access : Access) (level pa : ℕ) → readable pa ≡ true → after pa (alone (final_result level flags va access (number_at bytes pa 8))) ≡ by_chain readable bytes flags va access (record { level = level; pa = pa } ∷ [])
+single-read : (readable : ℕ → Bool) (bytes : Bytes) (flags : WalkFlags) (va : ℕ) (access : Access) (level pa : ℕ)
+    → readable pa ≡ true
+    → after pa (alone (final_result level flags va access (number_at bytes pa 8)))
+    ≡ by_chain readable bytes flags va access (record { level = level; pa = pa } ∷ [])
 unfolding chain_result
 single-read readable bytes flags va access level pa e = rw e refl
 
-single-refused : (readable : ℕ → Bool) (bytes : Bytes) (flags : WalkFlags) (va : ℕ) (access : Access) (level pa : ℕ) → readable pa ≡ false → alone (Err (access_fault_of access)) ≡ by_chain readable bytes flags va access (record { level = level; pa = pa } ∷ [])
+single-refused : (readable : ℕ → Bool) (bytes : Bytes) (flags : WalkFlags) (va : ℕ) (access : Access) (level pa : ℕ)
+    → readable pa ≡ false
+    → alone (Err (access_fault_of access))
+    ≡ by_chain readable bytes flags va access (record { level = level; pa = pa } ∷ [])
 unfolding chain_result
 single-refused readable bytes flags va access level pa e = rw e refl
 
 -- an entry before a chain of some entries
-chain_result-front : (readable : ℕ → Bool) (bytes : Bytes) (flags : WalkFlags) (va : ℕ) (access : Access) (visit : Visit) (level table : ℕ) → chain_result readable bytes flags va access (visit ∷ chain_from readable bytes va level table) ≡ chain_result readable bytes flags va access (chain_from readable bytes va level table)
+chain_result-front : (readable : ℕ → Bool) (bytes : Bytes) (flags : WalkFlags) (va : ℕ) (access : Access)
+    (visit : Visit) (level table : ℕ)
+    → chain_result readable bytes flags va access (visit ∷ chain_from readable bytes va level table)
+    ≡ chain_result readable bytes flags va access (chain_from readable bytes va level table)
 unfolding chain_result chain_from
 chain_result-front readable bytes flags va access visit zero table = refl
 chain_result-front readable bytes flags va access visit (suc level) table = refl
 
-reads-front : (readable : ℕ → Bool) (level pa : ℕ) (visits : List Visit) → readable pa ≡ true → entry_read pa ∷ reads_of readable visits ≡ reads_of readable (record { level = level; pa = pa } ∷ visits)
+reads-front : (readable : ℕ → Bool) (level pa : ℕ) (visits : List Visit) → readable pa ≡ true
+    → entry_read pa ∷ entry_reads_of readable visits
+    ≡ entry_reads_of readable (record { level = level; pa = pa } ∷ visits)
 reads-front readable level pa visits e = rw e refl
 
-front : (readable : ℕ → Bool) (bytes : Bytes) (flags : WalkFlags) (va : ℕ) (access : Access) (above pa level table : ℕ) → readable pa ≡ true → after pa (by_chain readable bytes flags va access (chain_from readable bytes va level table)) ≡ by_chain readable bytes flags va access (record { level = above; pa = pa } ∷ chain_from readable bytes va level table)
+front : (readable : ℕ → Bool) (bytes : Bytes) (flags : WalkFlags) (va : ℕ) (access : Access)
+    (above pa level table : ℕ) → readable pa ≡ true
+    → after pa (by_chain readable bytes flags va access (chain_from readable bytes va level table))
+    ≡ by_chain readable bytes flags va access
+    (record { level = above; pa = pa } ∷ chain_from readable bytes va level table)
 front readable bytes flags va access above pa level table e =
     let visits : List Visit = chain_from readable bytes va level table in
-    ap (λ value. record { value = value; reads = entry_read pa ∷ reads_of readable visits; wrote = [] }) (sym (chain_result-front readable bytes flags va access (record { level = above; pa = pa }) level table))
-    ∙ ap (λ reads. record { value = chain_result readable bytes flags va access (record { level = above; pa = pa } ∷ visits); reads = reads; wrote = [] }) (reads-front readable above pa visits e)
+    ap (λ value. record { value = value; reads = entry_read pa ∷ entry_reads_of readable visits; wrote = [] })
+    (sym (chain_result-front readable bytes flags va access (record { level = above; pa = pa }) level table))
+    ∙ ap (λ reads.
+    record {
+      value =
+          chain_result readable bytes flags va access (record { level = above; pa = pa } ∷ visits);
+      reads =
+          reads;
+      wrote = [];
+    }) (reads-front readable above pa visits e)
 
-walk-by_chain : (readable : ℕ → Bool) (bytes : Bytes) (flags : WalkFlags) (va : ℕ) (access : Access) (level table : ℕ) → run_of readable bytes flags va access level table ≡ by_chain readable bytes flags va access (chain_from readable bytes va level table)
+walk-by_chain : (readable : ℕ → Bool) (bytes : Bytes) (flags : WalkFlags) (va : ℕ) (access : Access) (level table : ℕ)
+    → run_of readable bytes flags va access level table
+    ≡ by_chain readable bytes flags va access (chain_from readable bytes va level table)
 walk-by_chain readable bytes flags va access zero table =
     let pa : ℕ = entry_address 0 table va in
     elim (cases_Bool (readable pa)) [
-      | inl can ↦ walk_of_last readable bytes flags va access table can ∙ single-read readable bytes flags va access 0 pa can ∙ ap (by_chain readable bytes flags va access) (sym (chain_from-last readable bytes va table))
-      | inr cannot ↦ walk_of_refused readable bytes flags va access 0 table cannot ∙ single-refused readable bytes flags va access 0 pa cannot ∙ ap (by_chain readable bytes flags va access) (sym (chain_from-last readable bytes va table))
+      | inl can ↦
+          walk_of_last readable bytes flags va access table can ∙ single-read readable bytes flags va access 0 pa can
+          ∙ ap (by_chain readable bytes flags va access) (sym (chain_from-last readable bytes va table))
+      | inr cannot ↦
+          walk_of_refused readable bytes flags va access 0 table cannot
+          ∙ single-refused readable bytes flags va access 0 pa cannot
+          ∙ ap (by_chain readable bytes flags va access) (sym (chain_from-last readable bytes va table))
     ]
 walk-by_chain readable bytes flags va access (suc level) table =
     let pa : ℕ = entry_address (suc level) table va in
     let entry : ℕ = number_at bytes pa 8 in
-    let below : run_of readable bytes flags va access level (page_number entry) ≡ by_chain readable bytes flags va access (chain_from readable bytes va level (page_number entry)) = walk-by_chain readable bytes flags va access level (page_number entry) in
+    let below : run_of readable bytes flags va access level (page_number entry)
+    ≡ by_chain readable bytes flags va access (chain_from readable bytes va level (page_number entry)) =
+    walk-by_chain readable bytes flags va access level (page_number entry) in
     elim (cases_Bool (readable pa)) [
-      | inr cannot ↦ walk_of_refused readable bytes flags va access (suc level) table cannot ∙ single-refused readable bytes flags va access (suc level) pa cannot
-          ∙ ap (by_chain readable bytes flags va access) (sym (chain_from-stops readable bytes va level table (and_left (readable pa) (is_link entry) cannot)))
+      | inr cannot ↦
+          walk_of_refused readable bytes flags va access (suc level) table cannot
+          ∙ single-refused readable bytes flags va access (suc level) pa cannot
+          ∙ ap (by_chain readable bytes flags va access)
+          (sym (chain_from-stops readable bytes va level table (and_left (readable pa) (is_link entry) cannot)))
       | inl can ↦ elim (cases_Bool (is_link entry)) [
-        | inl link ↦ walk_of_on readable bytes flags va access level table can link ∙ ap (after pa) below ∙ front readable bytes flags va access (suc level) pa level (page_number entry) can
-            ∙ ap (by_chain readable bytes flags va access) (sym (chain_from-goes_on readable bytes va level table (and_from (readable pa) (is_link entry) can link)))
-        | inr none ↦ walk_of_stops readable bytes flags va access (suc level) table can none ∙ single-read readable bytes flags va access (suc level) pa can
-            ∙ ap (by_chain readable bytes flags va access) (sym (chain_from-stops readable bytes va level table (and_right (readable pa) (is_link entry) none)))
+        | inl link ↦
+            walk_of_on readable bytes flags va access level table can link ∙ ap (after pa) below
+            ∙ front readable bytes flags va access (suc level) pa level (page_number entry) can
+            ∙ ap (by_chain readable bytes flags va access)
+            (sym
+            (chain_from-goes_on readable bytes va level table (and_from (readable pa) (is_link entry) can link)))
+        | inr none ↦
+            walk_of_stops readable bytes flags va access (suc level) table can none
+            ∙ single-read readable bytes flags va access (suc level) pa can
+            ∙ ap (by_chain readable bytes flags va access)
+            (sym (chain_from-stops readable bytes va level table (and_right (readable pa) (is_link entry) none)))
       ]
     ]
 
-pub translation-by_chain : (readable : ℕ → Bool) (bytes : Bytes) (satp : ℕ) (flags : WalkFlags) (va : ℕ) (access : Access) → (translation_of readable satp flags va access).run bytes ≡ by_chain readable bytes flags va access (chain readable bytes satp va)
+pub translation-by_chain : (readable : ℕ → Bool) (bytes : Bytes) (satp : ℕ) (flags : WalkFlags) (va : ℕ)
+    (access : Access)
+    → (translation_of readable satp flags va access).run bytes
+    ≡ by_chain readable bytes flags va access (chain readable bytes satp va)
 unfolding chain chain_result
 translation-by_chain readable bytes satp flags va access =
     elim (cases_Bool (is_canonical va)) [
-      | inl can ↦ translation_walks readable bytes satp flags va access can ∙ walk-by_chain readable bytes flags va access 2 (root_of satp)
-          ∙ ap (by_chain readable bytes flags va access) (sym (cond-true (is_canonical va) (chain_from readable bytes va 2 (root_of satp)) [] can))
+      | inl can ↦
+          translation_walks readable bytes satp flags va access can
+          ∙ walk-by_chain readable bytes flags va access 2 (root_of satp)
+          ∙ ap (by_chain readable bytes flags va access)
+          (sym (cond-true (is_canonical va) (chain_from readable bytes va 2 (root_of satp)) [] can))
       | inr cannot ↦ translation_refused readable bytes satp flags va access cannot
-          ∙ ap (by_chain readable bytes flags va access) (sym (cond-false (is_canonical va) (chain_from readable bytes va 2 (root_of satp)) [] cannot))
+          ∙ ap (by_chain readable bytes flags va access)
+          (sym (cond-false (is_canonical va) (chain_from readable bytes va 2 (root_of satp)) [] cannot))
     ]
 
 -- no walk writes
-pub translation_writes : (readable : ℕ → Bool) (bytes : Bytes) (satp : ℕ) (flags : WalkFlags) (va : ℕ) (access : Access) → ((translation_of readable satp flags va access).run bytes).wrote ≡ []
-translation_writes readable bytes satp flags va access = ap (λ got. got.wrote) (translation-by_chain readable bytes satp flags va access)
+pub translation_writes : (readable : ℕ → Bool) (bytes : Bytes) (satp : ℕ) (flags : WalkFlags) (va : ℕ)
+    (access : Access) → ((translation_of readable satp flags va access).run bytes).wrote ≡ []
+translation_writes readable bytes satp flags va access =
+    ap (λ got. got.wrote) (translation-by_chain readable bytes satp flags va access)

@@ -1,6 +1,7 @@
 -- The entries of Sv39 page tables and what they allow, from the Privileged Architecture's chapter "Supervisor-Level
 -- ISA". A virtual address has 9 bits for each of the levels 2, 1 and 0 above the 12 of a page's offset.
-use Rattle.std.specs.Prelude.{ℕ, ◌+◌, ◌-◌, ◌*◌, ◌/◌, ◌%◌, ◌^◌, Bool, not, ◌&&◌, ◌||◌, ◌==◌, if◌then◌else◌, Result, Ok, Err}
+use Rattle.std.specs.Prelude.{ℕ, ◌+◌, ◌-◌, ◌*◌, ◌/◌, ◌%◌, ◌^◌, Bool, not, ◌&&◌, ◌||◌, ◌==◌, if◌then◌else◌, Result, Ok}
+use Rattle.std.specs.Prelude.{Err}
 use Rattle.hart_words.specs.declared.privilege.Mode.{Mode}
 use Rattle.hart_words.specs.declared.privilege.Mode.TheVariants.{User, Supervisor, Machine}
 use Rattle.hart_words.specs.declared.privilege.Access.{Access}
@@ -10,8 +11,10 @@ use Rattle.hart_words.specs.declared.privilege.WalkFlags.{WalkFlags}
 use Rattle.hart_words.specs.declared.span.TheConstants.{PAGE_SIZE}
 use Rattle.hart_words.specs.Privilege.{page_fault_of}
 use Rattle.sv39_walk.specs.declared.entry.Flag.{Flag}
-use Rattle.sv39_walk.specs.declared.entry.Flag.TheVariants.{Valid, Readable, Writable, Executable, ForUser, Accessed, Dirty}
-use Rattle.sv39_walk.specs.declared.entry.TheConstants.{OFFSET_BITS, INDEX_BITS, ENTRY_SIZE, ENTRIES, NUMBER_BIT, NUMBER_BITS, RESERVED_BIT, ADDRESS_BITS}
+use Rattle.sv39_walk.specs.declared.entry.Flag.TheVariants.{Valid, Readable, Writable, Executable, ForUser, Accessed}
+use Rattle.sv39_walk.specs.declared.entry.Flag.TheVariants.{Dirty}
+use Rattle.sv39_walk.specs.declared.entry.TheConstants.{OFFSET_BITS, INDEX_BITS, ENTRY_SIZE, ENTRIES, NUMBER_BIT}
+use Rattle.sv39_walk.specs.declared.entry.TheConstants.{NUMBER_BITS, RESERVED_BIT, ADDRESS_BITS}
 
 -- the bits V, R, W, X, U, A and D of an entry
 abbrev pub bit_of : Flag → ℕ

@@ -1,6 +1,7 @@
 -- The walk of a virtual address through the page tables, with what it reads, from the Privileged Architecture's
 -- chapter "Supervisor-Level ISA".
-use Rattle.std.specs.Prelude.{◌≡◌, ℕ, zero, suc, ◌%◌, ◌^◌, ◌<◌, ◌≤◌, ◌⊎◌, Bool, true, false, ◌&&◌, if◌then◌else◌, List, [], ◌∷◌, length, slice_index_or, map, filter, Result, Err}
+use Rattle.std.specs.Prelude.{◌≡◌, ℕ, zero, suc, ◌%◌, ◌^◌, ◌<◌, ◌≤◌, ◌⊎◌, Bool, true, false, ◌&&◌, if◌then◌else◌, List}
+use Rattle.std.specs.Prelude.{[], ◌∷◌, length, slice_index_or, map, filter, Result, Err}
 use Rattle.hart_words.specs.declared.privilege.Access.{Access}
 use Rattle.hart_words.specs.declared.privilege.Cause.{Cause}
 use Rattle.hart_words.specs.declared.privilege.WalkFlags.{WalkFlags}
@@ -17,16 +18,16 @@ abbrev pub entry_read : ℕ → Read
 entry_read pa = record { pa = pa; len = ENTRY_SIZE }
 
 -- the entry at an address is read and taken on; where it may not be read, that is a fault of the access
-unfoldable pub visited : (ℕ → Bool) → Access → ℕ → (ℕ → Action (Result ℕ Cause)) → Action (Result ℕ Cause)
-visited readable access pa next =
+unfoldable pub visit_of : (ℕ → Bool) → Access → ℕ → (ℕ → Action (Result ℕ Cause)) → Action (Result ℕ Cause)
+visit_of readable access pa next =
     if readable pa then (read_memory (entry_read pa) >>= next) else pure (Err (access_fault_of access))
 
 -- from the table of a level on, by its page number
 unfoldable pub walk_of : (ℕ → Bool) → WalkFlags → ℕ → Access → ℕ → ℕ → Action (Result ℕ Cause)
 walk_of readable flags va access zero table =
-    visited readable access (entry_address 0 table va) (λ entry. pure (final_result 0 flags va access entry))
+    visit_of readable access (entry_address 0 table va) (λ entry. pure (final_result 0 flags va access entry))
 walk_of readable flags va access (suc level) table =
-    visited readable access (entry_address (suc level) table va) (λ entry.
+    visit_of readable access (entry_address (suc level) table va) (λ entry.
     if is_link entry
     then walk_of readable flags va access level (page_number entry)
     else pure (final_result (suc level) flags va access entry))
@@ -78,14 +79,14 @@ chain_result readable bytes flags va access (visit ∷ next ∷ more) =
     chain_result readable bytes flags va access (next ∷ more)
 
 -- the reads of a chain: its entries that can be read
-abbrev pub reads_of : (ℕ → Bool) → List Visit → List Read
-reads_of readable visits = map (λ visit. entry_read visit.pa) (filter (λ visit. readable visit.pa) visits)
+abbrev pub entry_reads_of : (ℕ → Bool) → List Visit → List Read
+entry_reads_of readable visits = map (λ visit. entry_read visit.pa) (filter (λ visit. readable visit.pa) visits)
 
 -- the value, the reads and the writes that a chain makes
 abbrev pub by_chain : (ℕ → Bool) → Bytes → WalkFlags → ℕ → Access → List Visit → Run (Result ℕ Cause)
 by_chain readable bytes flags va access visits = record {
   value = chain_result readable bytes flags va access visits;
-  reads = reads_of readable visits;
+  reads = entry_reads_of readable visits;
   wrote = [];
 }
 

@@ -189,7 +189,7 @@ impl Entry {
 fn page_size(level: u32) -> u64
     requires { level ≤ TOP_LEVEL }
     ensures value { result ≡ page_size level }
-    ensures some { 0 < result }
+    ensures positive { 0 < result }
     ensures bound { result ≤ 2 ^ 30 }
 {
     1 << (OFFSET_BITS + INDEX_BITS * level)

@@ -1,5 +1,5 @@
 ghost use Rattle.std.specs.Prelude.{◌≡◌, ◌<◌, ◌^◌, ◌==◌, ◌&&◌, ◌||◌, not};
-ghost use Rattle.hart_words.specs.Memory.{stored};
+ghost use Rattle.hart_words.specs.Memory.{bytes_after_store};
 
 use super::*;
 use hart_words::{Access, Cause, Mode, Read, Seen, WalkFlags, WalkMem};
@@ -29,7 +29,7 @@ struct Tables {
 impl WalkMem for Tables {
     ghost use Rattle.sv39_walk.specs.declared.tests.TheConstants.{ROOT, MIDDLE, LAST};
 
-    ghost bytes = { λ t. stored ROOT 8 t.root (stored MIDDLE 8 t.middle (stored LAST 8 t.last (λ a. 0))) };
+    ghost bytes = { λ t. bytes_after_store ROOT 8 t.root (bytes_after_store MIDDLE 8 t.middle (bytes_after_store LAST 8 t.last (λ a. 0))) };
 
     ghost is_readable = { λ t pa. not (pa == t.hidden) && (pa == ROOT || pa == MIDDLE || pa == LAST) };
 

@@ -34,7 +34,7 @@ pub fn translate<W: WalkMem>(
     requires { length seen.old + 3 ≤ MOST_READS }
     ensures translation { Observes (translation_of (W.is_readable w.now) satp flags va access)
         result seen.old seen.new (W.bytes w.now) }
-    ensures few { length seen.new ≤ length seen.old + 3 }
+    ensures walk_reads { length seen.new ≤ length seen.old + 3 }
     ensures bound { IfOk result (λ pa. pa < 2 ^ 56) }
     ensures offset { IfOk result (λ pa. pa % PAGE_SIZE ≡ va % PAGE_SIZE) }
 {
@@ -61,7 +61,7 @@ fn walk<W: WalkMem>(
         ≡ (walk_run (W.is_readable w.now) (W.bytes w.now) request level table).value }
     ensures reads { seen.new
         ≡ seen.old ++ (walk_run (W.is_readable w.now) (W.bytes w.now) request level table).reads }
-    ensures few { length seen.new ≤ length seen.old + level + 1 }
+    ensures walk_reads { length seen.new ≤ length seen.old + level + 1 }
     ensures bound { IfOk result (λ pa. pa < 2 ^ 56) }
     ensures offset { IfOk result (λ pa. pa % PAGE_SIZE ≡ request.va % PAGE_SIZE) }
 {

@@ -1,9 +1,10 @@
 -- The byte order mark at the front of a file.
-use Rattle.std.proofs.Common.{◌≡◌, ℕ, ◌≤◌, ◌⊎◌, inl, inr, Bool, true, false, ◌&&◌, ◌==◌, if◌then◌else◌, nat_lt, List, [], ◌∷◌, ◌++◌, length, take, drop, refl, sym, ap, ◌∙◌, arith, append-nil}
-use Rattle.trace_lines.specs.declared.line_cursor.Behind.{Behind}
-use Rattle.trace_lines.specs.declared.line_cursor.Behind.TheVariants.{Unread, End, TooLarge}
+use Rattle.std.proofs.Common.{◌≡◌, ℕ, ◌≤◌, ◌⊎◌, inl, inr, Bool, true, false, ◌&&◌, ◌==◌, if◌then◌else◌, nat_lt, List}
+use Rattle.std.proofs.Common.{[], ◌∷◌, ◌++◌, length, take, drop, refl, sym, ap, ◌∙◌, arith, append-nil}
+use Rattle.trace_lines.specs.declared.line_cursor.Following.{Following}
+use Rattle.trace_lines.specs.declared.line_cursor.Following.TheVariants.{Unread, End, TooLarge}
 use Rattle.trace_lines.specs.Cursors.{unread_of}
-use Rattle.trace_lines.specs.Lines.{lines_from, parts_of, has_mark, without_mark, lines_of}
+use Rattle.trace_lines.specs.Lines.{lines_from, parts_of, has_mark, without_mark, file_lines}
 
 -- a text with a mark has three bytes
 marked_by : (first second : Bool) → (first && second && false) ≡ true → ⊥
@@ -16,40 +17,53 @@ unfolding without_mark
 text_marked [] unread marked = absurd (marked_by (0 == 239) (0 == 187) marked)
 text_marked (a ∷ []) unread marked = absurd (marked_by (a == 239) (0 == 187) marked)
 text_marked (a ∷ b ∷ []) unread marked = absurd (marked_by (a == 239) (b == 187) marked)
-text_marked (a ∷ b ∷ c ∷ bytes) unread marked = ap (λ (test : Bool). if test then bytes ++ unread else a ∷ b ∷ c ∷ (bytes ++ unread)) marked
+text_marked (a ∷ b ∷ c ∷ bytes) unread marked =
+    ap (λ (test : Bool). if test then bytes ++ unread else a ∷ b ∷ c ∷ (bytes ++ unread)) marked
 
-plain_whole : (bytes unread : List ℕ) → has_mark bytes ≡ false → unread ≡ [] → without_mark (bytes ++ unread) ≡ bytes ++ unread
+plain_whole : (bytes unread : List ℕ) → has_mark bytes ≡ false → unread ≡ []
+    → without_mark (bytes ++ unread) ≡ bytes ++ unread
 unfolding without_mark
 plain_whole bytes unread plain none =
     let whole : bytes ++ unread ≡ bytes = ap (λ rest. bytes ++ rest) none ∙ append-nil bytes in
     ap without_mark whole ∙ ap (λ (test : Bool). if test then drop 3 bytes else bytes) plain ∙ sym whole
 
-text_unmarked : (bytes unread : List ℕ) → has_mark bytes ≡ false → (3 ≤ length bytes) ⊎ (unread ≡ []) → without_mark (bytes ++ unread) ≡ bytes ++ unread
+text_unmarked : (bytes unread : List ℕ) → has_mark bytes ≡ false → (3 ≤ length bytes) ⊎ (unread ≡ [])
+    → without_mark (bytes ++ unread) ≡ bytes ++ unread
 unfolding without_mark
 text_unmarked bytes unread plain (inr none) = plain_whole bytes unread plain none
 text_unmarked [] unread plain (inl enough) = absurd (omega (arith, enough))
 text_unmarked (a ∷ []) unread plain (inl enough) = absurd (omega (arith, enough))
 text_unmarked (a ∷ b ∷ []) unread plain (inl enough) = absurd (omega (arith, enough))
-text_unmarked (a ∷ b ∷ c ∷ bytes) unread plain (inl enough) = ap (λ (test : Bool). if test then bytes ++ unread else a ∷ b ∷ c ∷ (bytes ++ unread)) plain
+text_unmarked (a ∷ b ∷ c ∷ bytes) unread plain (inl enough) =
+    ap (λ (test : Bool). if test then bytes ++ unread else a ∷ b ∷ c ∷ (bytes ++ unread)) plain
 
 -- the lines of a file of which nothing was taken
-left_first : (most number : ℕ) (more : Bool) (file text whole : List ℕ) → number ≡ 1 → more ≡ nat_lt most (length file) → whole ≡ take most file → without_mark whole ≡ text → lines_from more number (parts_of text) ≡ lines_of most file
-unfolding lines_of
+left_first : (most number : ℕ) (more : Bool) (file text whole : List ℕ) → number ≡ 1
+    → more ≡ nat_lt most (length file) → whole ≡ take most file → without_mark whole ≡ text
+    → lines_from more number (parts_of text) ≡ file_lines most file
+unfolding file_lines
 left_first most number more file text whole first is all passed =
     ap (λ n. lines_from more n (parts_of text)) first
     ∙ ap (λ (m : Bool). lines_from m 1 (parts_of text)) is
     ∙ ap (λ bytes. lines_from (nat_lt most (length file)) 1 (parts_of bytes)) (sym passed ∙ ap without_mark all)
 
-pub left_marked : (most number : ℕ) (more : Bool) (file bytes unread : List ℕ) → number ≡ 1 → more ≡ nat_lt most (length file) → bytes ++ unread ≡ take most file → true ≡ has_mark bytes → lines_from more number (parts_of (drop 3 bytes ++ unread)) ≡ lines_of most file
+pub left_marked : (most number : ℕ) (more : Bool) (file bytes unread : List ℕ) → number ≡ 1
+    → more ≡ nat_lt most (length file) → bytes ++ unread ≡ take most file → true ≡ has_mark bytes
+    → lines_from more number (parts_of (drop 3 bytes ++ unread)) ≡ file_lines most file
 left_marked most number more file bytes unread first is all marked =
-    left_first most number more file (drop 3 bytes ++ unread) (bytes ++ unread) first is all (text_marked bytes unread (sym marked))
+    left_first most number more file (drop 3 bytes ++ unread) (bytes ++ unread) first is all
+    (text_marked bytes unread (sym marked))
 
-pub left_unmarked : (most number : ℕ) (more : Bool) (file bytes unread : List ℕ) → number ≡ 1 → more ≡ nat_lt most (length file) → bytes ++ unread ≡ take most file → false ≡ has_mark bytes → (3 ≤ length bytes) ⊎ (unread ≡ []) → lines_from more number (parts_of (bytes ++ unread)) ≡ lines_of most file
+pub left_unmarked : (most number : ℕ) (more : Bool) (file bytes unread : List ℕ) → number ≡ 1
+    → more ≡ nat_lt most (length file) → bytes ++ unread ≡ take most file → false ≡ has_mark bytes
+    → (3 ≤ length bytes) ⊎ (unread ≡ []) → lines_from more number (parts_of (bytes ++ unread)) ≡ file_lines most file
 left_unmarked most number more file bytes unread first is all plain enough =
-    left_first most number more file (bytes ++ unread) (bytes ++ unread) first is all (text_unmarked bytes unread (sym plain) enough)
+    left_first most number more file (bytes ++ unread) (bytes ++ unread) first is all
+    (text_unmarked bytes unread (sym plain) enough)
 
 -- three bytes were read, or all
-pub enough_read : (behind : Behind) (place most : ℕ) (file bytes : List ℕ) → (behind ≡ Unread → 3 ≤ length bytes) → (3 ≤ length bytes) ⊎ (unread_of behind place most file ≡ [])
+pub enough_read : (following : Following) (place most : ℕ) (file bytes : List ℕ)
+    → (following ≡ Unread → 3 ≤ length bytes) → (3 ≤ length bytes) ⊎ (unread_of following place most file ≡ [])
 enough_read Unread place most file bytes enough = inl (enough refl)
 enough_read End place most file bytes enough = inr refl
 enough_read TooLarge place most file bytes enough = inr refl

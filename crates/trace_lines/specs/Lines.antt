@@ -1,5 +1,6 @@
 -- The lines of a file of which at most so many bytes are read.
-use Rattle.std.specs.Prelude.{ℕ, ◌+◌, ◌-◌, Bool, true, false, not, ◌&&◌, ◌==◌, nat_lt, if◌then◌else◌, List, [], ◌∷◌, length, take, drop, slice_index}
+use Rattle.std.specs.Prelude.{ℕ, ◌+◌, ◌-◌, Bool, true, false, not, ◌&&◌, ◌==◌, nat_lt, if◌then◌else◌, List, [], ◌∷◌}
+use Rattle.std.specs.Prelude.{length, take, drop, slice_index}
 use Rattle.trace_lines.specs.declared.piece.Ending.{Ending}
 use Rattle.trace_lines.specs.declared.next.TheConstants.{LONGEST}
 use Rattle.trace_lines.specs.declared.piece.Ending.TheVariants.{End, TooLong, TooLarge}
@@ -16,19 +17,19 @@ pub record Part : Type 0 where
   pub ended : Bool
 
 -- a byte goes before the first part
-abbrev pub with_first : ℕ → List Part → List Part
-with_first byte [] = record { bytes = byte ∷ []; ended = false } ∷ []
-with_first byte (part ∷ parts) = record { bytes = byte ∷ part.bytes; ended = part.ended } ∷ parts
+abbrev pub with_byte_in_first : ℕ → List Part → List Part
+with_byte_in_first byte [] = record { bytes = byte ∷ []; ended = false } ∷ []
+with_byte_in_first byte (part ∷ parts) = record { bytes = byte ∷ part.bytes; ended = part.ended } ∷ parts
 
 -- what the line feeds of a text separate; nothing follows a last line feed
 unfoldable pub parts_of : List ℕ → List Part
 parts_of [] = []
 parts_of (byte ∷ bytes) =
     if byte == line_feed then record { bytes = []; ended = true } ∷ parts_of bytes
-    else with_first byte (parts_of bytes)
+    else with_byte_in_first byte (parts_of bytes)
 
 -- lines, and how they end
-pub record Left : Type 0 where
+pub record RemainingLines : Type 0 where
   pub lines : List (List ℕ)
   pub ending : Ending
 
@@ -39,7 +40,7 @@ line_in bytes =
     if slice_index bytes front == carriage_return then take front bytes else bytes
 
 -- a line goes before others, unless it is blank
-abbrev pub with_line : List ℕ → Left → Left
+abbrev pub with_line : List ℕ → RemainingLines → RemainingLines
 with_line line left = record {
   lines = if length line == 0 then left.lines else line ∷ left.lines;
   ending = left.ending;
@@ -47,7 +48,7 @@ with_line line left = record {
 
 -- the lines of parts that begin with the line of this number; `more` says that the file has bytes
 -- past these
-unfoldable pub lines_from : Bool → ℕ → List Part → Left
+unfoldable pub lines_from : Bool → ℕ → List Part → RemainingLines
 lines_from more number [] = record { lines = []; ending = if more then TooLarge else End }
 lines_from more number (part ∷ parts) =
     if nat_lt LONGEST (length part.bytes) then record { lines = []; ending = TooLong number }
@@ -63,5 +64,5 @@ unfoldable pub without_mark : List ℕ → List ℕ
 without_mark text = if has_mark text then drop 3 text else text
 
 -- the lines of a file
-unfoldable pub lines_of : ℕ → List ℕ → Left
-lines_of most file = lines_from (nat_lt most (length file)) 1 (parts_of (without_mark (take most file)))
+unfoldable pub file_lines : ℕ → List ℕ → RemainingLines
+file_lines most file = lines_from (nat_lt most (length file)) 1 (parts_of (without_mark (take most file)))

@@ -5,8 +5,8 @@ use Rattle.trace_lines.specs.declared.piece.Ending as ends
 use Rattle.trace_lines.specs.declared.line_cursor.LineCursor.{LineCursor}
 use Rattle.trace_lines.specs.declared.next.Next.{Next}
 use Rattle.trace_lines.specs.declared.next.Next.TheVariants.{Line, Ending}
-use Rattle.trace_lines.specs.Cursors.{held_in, left_in, left_behind}
-use Rattle.trace_lines.specs.Lines.{Left, with_line, line_in}
+use Rattle.trace_lines.specs.Cursors.{buffered_bytes, lines_from_cursor, lines_after_next}
+use Rattle.trace_lines.specs.Lines.{RemainingLines, with_line, line_in}
 use Rattle.trace_lines.specs.Pieces.{IsLast, with_lines}
 
 -- so many bytes stand before the first line feed, or in all
@@ -23,18 +23,18 @@ pub record IsHeld (bytes : List ℕ) (len used : ℕ) : Type 0 where
   pub within : used ≤ length bytes
 
 abbrev pub FitsHeld : LineCursor → Next → Type 0
-FitsHeld cursor (Line len used) = IsHeld (held_in cursor) len used
+FitsHeld cursor (Line len used) = IsHeld (buffered_bytes cursor) len used
 FitsHeld cursor (Ending ending) = IsLast ending
 
--- a line stands before what is left behind it, or the ending stands alone
+-- a line stands before what is left after it, or the ending stands alone
 abbrev pub Follows : List ℕ → LineCursor → Next → Type 0
 Follows file cursor (Line len used) =
-    left_in file cursor
-    ≡ with_line (line_in (take len (held_in cursor))) (left_behind file cursor used)
-Follows file cursor (Ending ending) = left_in file cursor ≡ record { lines = []; ending = ending }
+    lines_from_cursor file cursor
+    ≡ with_line (line_in (take len (buffered_bytes cursor))) (lines_after_next file cursor used)
+Follows file cursor (Ending ending) = lines_from_cursor file cursor ≡ record { lines = []; ending = ending }
 
 -- one more line was taken, of which a blank one is dropped; or the ending is all that is left
-abbrev pub TakesNext : List (List ℕ) → Left → Option ends.Ending → List (List ℕ) → Left → Type 0
+abbrev pub TakesNext : List (List ℕ) → RemainingLines → Option ends.Ending → List (List ℕ) → RemainingLines → Type 0
 TakesNext lines left None now rest = with_lines now rest ≡ with_lines lines left
 TakesNext lines left (Some ending) now rest =
     (left ≡ record { lines = []; ending = ending }) × (rest ≡ left) × (now ≡ lines)

@@ -3,24 +3,24 @@ use Rattle.std.specs.Prelude.{◌≡◌, ℕ, ◌<◌, List, ◌++◌, length, t
 use Rattle.trace_lines.specs.declared.piece.Piece.{Piece}
 use Rattle.trace_lines.specs.declared.piece.Ending.{Ending}
 use Rattle.trace_lines.specs.declared.piece.Ending.TheVariants.{More}
-use Rattle.trace_lines.specs.Lines.{Left}
+use Rattle.trace_lines.specs.Lines.{RemainingLines}
 
 -- a piece as lines and what follows
-abbrev pub piece_view : Piece → Left
+abbrev pub piece_view : Piece → RemainingLines
 piece_view piece = record { lines = piece.lines; ending = piece.ending }
 
 -- so many lines of those that are left, where there are as many; else all, and their ending
-unfoldable pub front_of : ℕ → Left → Left
+unfoldable pub front_of : ℕ → RemainingLines → RemainingLines
 front_of count left =
     if nat_le count (length left.lines) then record { lines = take count left.lines; ending = More }
     else left
 
--- the lines behind these
-unfoldable pub back_of : ℕ → Left → Left
+-- the lines after these
+unfoldable pub back_of : ℕ → RemainingLines → RemainingLines
 back_of count left = record { lines = drop count left.lines; ending = left.ending }
 
 -- lines before what is left
-abbrev pub with_lines : List (List ℕ) → Left → Left
+abbrev pub with_lines : List (List ℕ) → RemainingLines → RemainingLines
 with_lines lines left = record { lines = lines ++ left.lines; ending = left.ending }
 
 -- nothing comes after this ending

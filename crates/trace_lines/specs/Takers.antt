@@ -3,18 +3,18 @@ use Rattle.std.specs.Prelude.{◌≡◌, ℕ, List, Option, Some, None, string_b
 use Rattle.trace_lines.specs.declared.piece.Piece.{Piece}
 use Rattle.trace_lines.specs.declared.line_cursor.LineCursor.{LineCursor}
 use Rattle.trace_lines.specs.declared.line_taker.LineTaker.{LineTaker}
-use Rattle.trace_lines.specs.Cursors.{left_in, room_in}
-use Rattle.trace_lines.specs.Lines.{Left, lines_of}
+use Rattle.trace_lines.specs.Cursors.{lines_from_cursor, room_in}
+use Rattle.trace_lines.specs.Lines.{RemainingLines, file_lines}
 use Rattle.trace_lines.specs.Pieces.{piece_view, front_of, back_of}
 
 -- what is left of a file that may have been read
-abbrev pub left_after : ℕ → List ℕ → Option LineCursor → Left
-left_after most file None = lines_of most file
-left_after most file (Some cursor) = left_in file cursor
+abbrev pub lines_left_after : ℕ → List ℕ → Option LineCursor → RemainingLines
+lines_left_after most file None = file_lines most file
+lines_left_after most file (Some cursor) = lines_from_cursor file cursor
 
 -- what the taker has left to take
-abbrev pub left_of : List ℕ → LineTaker → Left
-left_of file taker = left_after taker.most file taker.cursor
+abbrev pub remaining_lines_of : List ℕ → LineTaker → RemainingLines
+remaining_lines_of file taker = lines_left_after taker.most file taker.cursor
 
 -- how many bytes may still come
 abbrev pub room_after : ℕ → Option LineCursor → ℕ
@@ -34,11 +34,11 @@ pub record Opens (file_name : List ℕ) (max : ℕ) (taker : LineTaker) : Type 0
 -- the piece is the front of what was left, and the taker has the back
 pub record Takes (file : List ℕ) (lines : ℕ) (before : LineTaker) (piece : Piece)
     (after : LineTaker) : Type 0 where
-  pub taken : piece_view piece ≡ front_of lines (left_of file before)
-  pub left : left_of file after ≡ back_of lines (left_of file before)
+  pub taken : piece_view piece ≡ front_of lines (remaining_lines_of file before)
+  pub left : remaining_lines_of file after ≡ back_of lines (remaining_lines_of file before)
   pub name : after.name ≡ before.name
 
 -- the same where the file is told
-abbrev pub TakesTold : Option (List ℕ) → ℕ → LineTaker → Piece → LineTaker → Type 0
-TakesTold None lines before piece after = Unit {0}
-TakesTold (Some file) lines before piece after = Takes file lines before piece after
+abbrev pub TakesWhereKnown : Option (List ℕ) → ℕ → LineTaker → Piece → LineTaker → Type 0
+TakesWhereKnown None lines before piece after = Unit {0}
+TakesWhereKnown (Some file) lines before piece after = Takes file lines before piece after

@@ -2,7 +2,7 @@
 
 ghost use Rattle.std.specs.Prelude.{◌≡◌, ◌≤◌, ◌<◌, ◌+◌, length, take, drop};
 
-use crate::line_cursor::{Behind, LineCursor};
+use crate::line_cursor::{Following, LineCursor};
 use crate::next::{LONGEST, Next};
 use crate::piece::{Ending, LineError};
 use memchr::memchr;
@@ -12,22 +12,22 @@ impl LineCursor {
     ghost use Rattle.std.specs.Prelude.{List, ℕ, IfOk, OnOk, IfSome, MatchOption};
     ghost use Rattle.outside_ports.specs.Faults.{CountsFault, CountsMiss};
     ghost use Rattle.outside_ports.specs.Ports.{file_of};
-    ghost use Rattle.trace_lines.specs.Cursors.{held_in, left_in, left_behind, room_in, ForFile, IsUnknown};
+    ghost use Rattle.trace_lines.specs.Cursors.{buffered_bytes, lines_from_cursor, lines_after_next, room_in, ForFile, IsUnknown};
     ghost use Rattle.trace_lines.specs.Errors.{is_read_fault};
     ghost use Rattle.trace_lines.specs.Nexts.{FitsHeld, Follows, IsBeforeFeed};
 
     /// Finds what stands next, and reads on until that is known.
     pub fn find_next<H: Shelf>(&mut self, shelf: &mut H, name: &str) -> Result<Next, LineError>
-        ensures told { H.told shelf.new ≡ H.told shelf.old }
+        ensures known_files { H.known_files shelf.new ≡ H.known_files shelf.old }
         ensures fits { IfOk result (FitsHeld self.new) }
-        ensures next { IfOk result (λ next. ForFile (file_of (H.told shelf.old) name.now)
+        ensures next { IfOk result (λ next. ForFile (file_of (H.known_files shelf.old) name.now)
             (λ file. Follows file self.new next
-            × (left_in file self.new ≡ left_in file self.old))) }
+            × (lines_from_cursor file self.new ≡ lines_from_cursor file self.old))) }
         ensures room { OnOk result (room_in self.new ≡ room_in self.old) }
         ensures faults { CountsFault is_read_fault result (H.faults shelf.old)
             (H.faults shelf.new) }
-        ensures misses { let told = H.told shelf.old in
-            CountsMiss is_read_fault result told name.now (H.misses shelf.old)
+        ensures misses { let known_files = H.known_files shelf.old in
+            CountsMiss is_read_fault result known_files name.now (H.misses shelf.old)
             (H.misses shelf.new) }
     {
         'reading: loop {
@@ -45,7 +45,7 @@ impl LineCursor {
     /// What stands next, where the bytes that are held tell it: all before the first line feed were
     /// searched.
     fn known(&self) -> Option<Next>
-        requires { IsBeforeFeed (held_in self.now) self.now.searched }
+        requires { IsBeforeFeed (buffered_bytes self.now) self.now.searched }
         ensures found { MatchOption result (IsUnknown self.now) (FitsHeld self.now) }
         ensures next { IfSome result (λ next. (file : List ℕ) → Follows file self.now next) }
     {
@@ -60,11 +60,11 @@ impl LineCursor {
                 used: place + 1,
             });
         }
-        match self.behind {
-            Behind::Unread => None,
-            Behind::TooLarge => Some(Next::Ending(Ending::TooLarge)),
-            Behind::End if held == 0 => Some(Next::Ending(Ending::End)),
-            Behind::End => Some(Next::Line {
+        match self.following {
+            Following::Unread => None,
+            Following::TooLarge => Some(Next::Ending(Ending::TooLarge)),
+            Following::End if held == 0 => Some(Next::Ending(Ending::End)),
+            Following::End => Some(Next::Line {
                 length: held,
                 used: held,
             }),
@@ -73,17 +73,17 @@ impl LineCursor {
 
     /// The bytes of the line that stands next.
     pub fn line(&self, count: usize) -> &[u8]
-        requires { count ≤ length (held_in self.now) }
-        ensures { result.now ≡ take count (held_in self.now) }
+        requires { count ≤ length (buffered_bytes self.now) }
+        ensures { result.now ≡ take count (buffered_bytes self.now) }
     {
         &self.bytes[self.at..self.at + count]
     }
 
     /// Passes over the line that stands next.
     pub fn pass(&mut self, used: usize)
-        requires some { 0 < used }
-        requires within { used ≤ length (held_in self.old) }
-        ensures left { (file : List ℕ) → left_in file self.new ≡ left_behind file self.old used }
+        requires positive { 0 < used }
+        requires within { used ≤ length (buffered_bytes self.old) }
+        ensures left { (file : List ℕ) → lines_from_cursor file self.new ≡ lines_after_next file self.old used }
         ensures room { room_in self.new + used ≡ room_in self.old }
     {
         self.at += used;
@@ -93,7 +93,7 @@ impl LineCursor {
 
     /// How many bytes are held before the first line feed, or in all.
     fn before_feed(&self) -> usize
-        ensures { IsBeforeFeed (held_in self.now) result }
+        ensures { IsBeforeFeed (buffered_bytes self.now) result }
     {
         let from = self.at + self.searched;
         match memchr(b'\n', rest_of(&self.bytes, from)) {

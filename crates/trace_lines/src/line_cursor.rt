@@ -12,9 +12,9 @@ use line_text::Lines;
 use outside_ports::{Shelf, new_chunk};
 use std::alloc::{AllocError, Global};
 
-/// What stands behind the bytes that were read.
+/// What stands after the bytes that were read.
 #[derive(Clone, Copy, PartialEq, Eq)]
-pub enum Behind {
+pub enum Following {
     /// Bytes that were not read, or none.
     Unread,
     /// The end of the file.
@@ -39,7 +39,7 @@ pub struct LineCursor {
     pub most: u64,
     /// How many bytes of it were read.
     pub place: u64,
-    pub behind: Behind,
+    pub following: Following,
     /// Where a read puts its bytes.
     pub chunk: Vec<u8>,
     ghost inside: { at + searched ≤ vec_len bytes },
@@ -55,9 +55,9 @@ impl LineCursor {
     ghost use Rattle.std.specs.Prelude.{List, ℕ, IfOk, OnOk, length};
     ghost use Rattle.outside_ports.specs.Faults.{CountsFault, CountsMiss};
     ghost use Rattle.outside_ports.specs.Ports.{file_of, IsThere};
-    ghost use Rattle.trace_lines.specs.Cursors.{left_in, room_in, ForFile, IsUntaken, IsNew, Holds};
+    ghost use Rattle.trace_lines.specs.Cursors.{lines_from_cursor, room_in, ForFile, IsUntaken, IsNew, Holds};
     ghost use Rattle.trace_lines.specs.Errors.{is_read_fault};
-    ghost use Rattle.trace_lines.specs.Lines.{lines_of};
+    ghost use Rattle.trace_lines.specs.Lines.{file_lines};
     ghost use Rattle.trace_lines.specs.Nexts.{TakesNext, LeavesRoom};
     ghost use Rattle.trace_lines.specs.Pieces.{front_of, back_of, piece_view, FitsAsked};
 
@@ -69,20 +69,20 @@ impl LineCursor {
         most: u64,
     ) -> Result<Self, LineError>
         requires { most < 2 ^ 62 }
-        ensures told { H.told shelf.new ≡ H.told shelf.old }
-        ensures there { OnOk result (IsThere (H.told shelf.old) name.now) }
-        ensures left { IfOk result (λ cursor. ForFile (file_of (H.told shelf.old) name.now)
-            (λ file. left_in file cursor ≡ lines_of most file)) }
+        ensures known_files { H.known_files shelf.new ≡ H.known_files shelf.old }
+        ensures file_exists { OnOk result (IsThere (H.known_files shelf.old) name.now) }
+        ensures left { IfOk result (λ cursor. ForFile (file_of (H.known_files shelf.old) name.now)
+            (λ file. lines_from_cursor file cursor ≡ file_lines most file)) }
         ensures room { IfOk result (λ cursor. room_in cursor ≤ most) }
         ensures faults { CountsFault is_read_fault result (H.faults shelf.old)
             (H.faults shelf.new) }
-        ensures misses { let told = H.told shelf.old in
-            CountsMiss is_read_fault result told name.now (H.misses shelf.old)
+        ensures misses { let known_files = H.known_files shelf.old in
+            CountsMiss is_read_fault result known_files name.now (H.misses shelf.old)
             (H.misses shelf.new) }
     {
         let mut cursor = LineCursor::new(alloc, most)?;
         cursor.fill(shelf, name)?;
-        'marking: while cursor.bytes.len() < 3 && cursor.behind == Behind::Unread {
+        'marking: while cursor.bytes.len() < 3 && cursor.following == Following::Unread {
             cursor.fill(shelf, name)?;
         }
         cursor.pass_mark();
@@ -100,18 +100,18 @@ impl LineCursor {
         asked: usize,
         capacity: Capacity,
     ) -> Result<Piece, LineError>
-        ensures told { H.told shelf.new ≡ H.told shelf.old }
-        ensures piece { IfOk result (λ piece. ForFile (file_of (H.told shelf.old) name.now)
-            (λ file. piece_view piece ≡ front_of asked (left_in file self.old))) }
-        ensures rest { OnOk result (ForFile (file_of (H.told shelf.old) name.now)
-            (λ file. left_in file self.new ≡ back_of asked (left_in file self.old))) }
+        ensures known_files { H.known_files shelf.new ≡ H.known_files shelf.old }
+        ensures piece { IfOk result (λ piece. ForFile (file_of (H.known_files shelf.old) name.now)
+            (λ file. piece_view piece ≡ front_of asked (lines_from_cursor file self.old))) }
+        ensures rest { OnOk result (ForFile (file_of (H.known_files shelf.old) name.now)
+            (λ file. lines_from_cursor file self.new ≡ back_of asked (lines_from_cursor file self.old))) }
         ensures counts { IfOk result (FitsAsked asked) }
         ensures room { let before = room_in self.old in let now = room_in self.new in
             IfOk result (λ piece. length piece.lines + now ≤ before) }
         ensures faults { CountsFault is_read_fault result (H.faults shelf.old)
             (H.faults shelf.new) }
-        ensures misses { let told = H.told shelf.old in
-            CountsMiss is_read_fault result told name.now (H.misses shelf.old)
+        ensures misses { let known_files = H.known_files shelf.old in
+            CountsMiss is_read_fault result known_files name.now (H.misses shelf.old)
             (H.misses shelf.new) }
     {
         let mut lines = capacity.new_lines(alloc, asked)?;
@@ -141,7 +141,7 @@ impl LineCursor {
             number: 1,
             most,
             place: 0,
-            behind: Behind::Unread,
+            following: Following::Unread,
             chunk,
         })
     }
@@ -150,7 +150,7 @@ impl LineCursor {
     fn pass_mark(&mut self)
         requires { IsUntaken self.old }
         ensures left { (file : List ℕ) → Holds self.old.most self.old file
-            → left_in file self.new ≡ lines_of self.old.most file }
+            → lines_from_cursor file self.new ≡ file_lines self.old.most file }
         ensures room { room_in self.new ≤ room_in self.old }
     {
         if begins_with_mark(&self.bytes) {
@@ -166,16 +166,16 @@ impl LineCursor {
         name: &str,
         lines: &mut Lines,
     ) -> Result<Option<Ending>, LineError>
-        ensures told { H.told shelf.new ≡ H.told shelf.old }
-        ensures takes { IfOk result (λ end. ForFile (file_of (H.told shelf.old) name.now)
-            (λ file. TakesNext lines.old (left_in file self.old) end lines.new
-            (left_in file self.new))) }
+        ensures known_files { H.known_files shelf.new ≡ H.known_files shelf.old }
+        ensures takes { IfOk result (λ end. ForFile (file_of (H.known_files shelf.old) name.now)
+            (λ file. TakesNext lines.old (lines_from_cursor file self.old) end lines.new
+            (lines_from_cursor file self.new))) }
         ensures room { IfOk result (λ end. LeavesRoom end
             (length lines.old) (room_in self.old) (length lines.new) (room_in self.new)) }
         ensures faults { CountsFault is_read_fault result (H.faults shelf.old)
             (H.faults shelf.new) }
-        ensures misses { let told = H.told shelf.old in
-            CountsMiss is_read_fault result told name.now (H.misses shelf.old)
+        ensures misses { let known_files = H.known_files shelf.old in
+            CountsMiss is_read_fault result known_files name.now (H.misses shelf.old)
             (H.misses shelf.new) }
     {
         let next = self.find_next(shelf, name)?;

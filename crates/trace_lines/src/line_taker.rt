@@ -30,7 +30,7 @@ pub struct LineTaker {
 impl LineTaker {
     ghost use Rattle.std.specs.Prelude.{◌+◌, None, length, string_bytes};
     ghost use Rattle.trace_lines.specs.Pieces.{FitsAsked};
-    ghost use Rattle.trace_lines.specs.Takers.{Opens, TakesTold, room_of};
+    ghost use Rattle.trace_lines.specs.Takers.{Opens, TakesWhereKnown, room_of};
 
     /// A taker of the lines of the file of this name, of which at most `max` bytes are read.
     pub fn open(alloc: Global, name: &str, max: u64) -> Result<LineTaker, AllocError>
@@ -55,18 +55,18 @@ impl LineTaker {
         lines: usize,
     ) -> Result<(Piece, LineTaker), LineError>
         requires { 0 < lines }
-        ensures told { H.told shelf.new ≡ H.told shelf.old }
-        ensures takes { let file = file_of (H.told shelf.old) (string_bytes self.name) in
-            IfOk result (λ taken. TakesTold file lines self taken.0 taken.1) }
-        ensures there { let name = string_bytes self.name in
-            OnOk result (self.cursor ≡ None → IsThere (H.told shelf.old) name) }
+        ensures known_files { H.known_files shelf.new ≡ H.known_files shelf.old }
+        ensures takes { let file = file_of (H.known_files shelf.old) (string_bytes self.name) in
+            IfOk result (λ taken. TakesWhereKnown file lines self taken.0 taken.1) }
+        ensures file_exists { let name = string_bytes self.name in
+            OnOk result (self.cursor ≡ None → IsThere (H.known_files shelf.old) name) }
         ensures counts { IfOk result (λ taken. FitsAsked lines taken.0) }
         ensures room { let before = room_of self in
             IfOk result (λ taken. length taken.0.lines + room_of taken.1 ≤ before) }
         ensures faults { let before = H.faults shelf.old in let now = H.faults shelf.new in
             CountsFault is_read_fault result before now }
-        ensures misses { let told = H.told shelf.old in let name = string_bytes self.name in
-            CountsMiss is_read_fault result told name (H.misses shelf.old) (H.misses shelf.new) }
+        ensures misses { let known_files = H.known_files shelf.old in let name = string_bytes self.name in
+            CountsMiss is_read_fault result known_files name (H.misses shelf.old) (H.misses shelf.new) }
     {
         let LineTaker {
             name,

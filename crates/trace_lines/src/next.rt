@@ -2,7 +2,7 @@
 
 ghost use Rattle.std.specs.Prelude.{◌≡◌, ◌++◌, ◌∷◌, ◌≤◌, ◌+◌, [], length, OnOk};
 ghost use Rattle.line_text.specs.Lines.{IsLine};
-ghost use Rattle.trace_lines.specs.Lines.{Left, line_in, with_line};
+ghost use Rattle.trace_lines.specs.Lines.{RemainingLines, line_in, with_line};
 ghost use Rattle.trace_lines.specs.Pieces.{with_lines};
 
 use crate::piece::Ending;
@@ -24,7 +24,7 @@ pub enum Next {
 /// Adds a line at the end, unless it is blank; a carriage return at its end is dropped.
 pub fn push_line(lines: &mut Lines, bytes: &[u8]) -> Result<(), AllocError>
     requires { IsLine bytes.now }
-    ensures line { OnOk result ((rest : Left) → with_lines lines.new rest
+    ensures line { OnOk result ((rest : RemainingLines) → with_lines lines.new rest
         ≡ with_lines lines.old (with_line (line_in bytes.now) rest)) }
     ensures count { OnOk result (length lines.new ≤ length lines.old + 1) }
 {

@@ -1,4 +1,5 @@
--- The rows of a made trace: AUIPC, and then turns of five instructions. From the Unprivileged ISA's chapter "RV64I Base Integer Instruction Set".
+-- The rows of a made trace: AUIPC, and then turns of five instructions. From the Unprivileged ISA's chapter "RV64I Base
+-- Integer Instruction Set".
 use Rattle.std.specs.Prelude.{ℕ, zero, suc, ◌+◌, ◌-◌, ◌*◌, ◌/◌, ◌%◌, ◌^◌, ◌==◌, if◌then◌else◌, bit_xor}
 use Rattle.trace_maker.specs.declared.made_row.MadeRow.{MadeRow}
 
@@ -10,14 +11,14 @@ immediate_of number = number % 2048
 abbrev pub addi_of : ℕ → ℕ
 addi_of number = 0x00008093 + immediate_of number * 2 ^ 20
 
--- x1 behind a turn: each turn adds the immediate
-unfoldable pub x1_behind : ℕ → ℕ → ℕ
-x1_behind number turn = turn * immediate_of number % 2 ^ 64
+-- x1 after a turn: each turn adds the immediate
+unfoldable pub x1_after : ℕ → ℕ → ℕ
+x1_after number turn = turn * immediate_of number % 2 ^ 64
 
--- x3 behind a turn: the exclusive or of x1 behind each turn up to it
-unfoldable pub x3_behind : ℕ → ℕ → ℕ
-x3_behind number zero = 0
-x3_behind number (suc turn) = bit_xor (x3_behind number turn) (x1_behind number (suc turn))
+-- x3 after a turn: the exclusive or of x1 after each turn up to it
+unfoldable pub x3_after : ℕ → ℕ → ℕ
+x3_after number zero = 0
+x3_after number (suc turn) = bit_xor (x3_after number turn) (x1_after number (suc turn))
 
 -- the row of an instruction that goes on to the next one, writes no register, and has no access to memory
 abbrev pub bare_row : (order insn pc_rdata : ℕ) → MadeRow
@@ -41,7 +42,7 @@ bare_row order insn pc_rdata = record {
 abbrev pub first_row : MadeRow
 first_row = record (bare_row 0 0x00001117 0x80000000) { rd_addr = 2; rd_wdata = 0x80001000 }
 
--- the row at a place of a turn, from 0, by what is in x1 and x3 behind the turn
+-- the row at a place of a turn, from 0, by what is in x1 and x3 after the turn
 -- ADDI x1, x1; XOR x3, x3, x1; SD x3, 0(x2); LD x4, 0(x2); JAL x0, back to ADDI
 unfoldable pub turn_row : (number x1 x3 order place : ℕ) → MadeRow
 turn_row number x1 x3 order place =
@@ -69,11 +70,11 @@ turn_row number x1 x3 order place =
 abbrev pub turn_of : ℕ → ℕ
 turn_of order = (order - 1) / 5 + 1
 
-abbrev pub place_of : ℕ → ℕ
-place_of order = (order - 1) % 5
+abbrev pub turn_place : ℕ → ℕ
+turn_place order = (order - 1) % 5
 
 -- the row of a number
 unfoldable pub made_row : (number order : ℕ) → MadeRow
 made_row number order =
     if order == 0 then first_row
-    else turn_row number (x1_behind number (turn_of order)) (x3_behind number (turn_of order)) order (place_of order)
+    else turn_row number (x1_after number (turn_of order)) (x3_after number (turn_of order)) order (turn_place order)

@@ -50,7 +50,7 @@ impl Run {
 
     /// Begins a turn where the row is its first.
     fn go_on(&mut self, order: u64)
-        requires some { order ≢ 0 }
+        requires not_zero { order ≢ 0 }
         requires before { IsBefore self.old order }
         ensures number { self.new.number ≡ self.old.number }
         ensures before { IsBefore self.new (order + 1) }

@@ -14,34 +14,43 @@ use Rattle.trap_entry.specs.Laws.{ChangesOnly, EntersOnly, is_of_machine, is_of_
 never : true ≡ false → ⊥
 never wrong = cc
 
-apart : (some : StoredCsr → Bool) (stored named : StoredCsr) → some named ≡ true → some stored ≡ false → stored_index_of stored ≢ stored_index_of named
+apart : (some : StoredCsr → Bool) (stored named : StoredCsr) → some named ≡ true → some stored ≡ false
+    → stored_index_of stored ≢ stored_index_of named
 apart some stored named is out same = never (sym is ∙ ap some (sym (same_index stored named same)) ∙ out)
 
-four : (csrs : Csrs) (some : StoredCsr → Bool) (a b c d stored : StoredCsr) (v w x y : ℕ) → some a ≡ true → some b ≡ true → some c ≡ true → some d ≡ true → some stored ≡ false → value_at (with_at (with_at (with_at (with_at csrs a v) b w) c x) d y) stored ≡ value_at csrs stored
+four : (csrs : Csrs) (some : StoredCsr → Bool) (a b c d stored : StoredCsr) (v w x y : ℕ) → some a ≡ true
+    → some b ≡ true → some c ≡ true → some d ≡ true → some stored ≡ false
+    → value_at (with_at (with_at (with_at (with_at csrs a v) b w) c x) d y) stored ≡ value_at csrs stored
 four csrs some a b c d stored v w x y is_a is_b is_c is_d out =
     at_other (with_at (with_at (with_at csrs a v) b w) c x) d stored y (apart some stored d is_d out)
     ∙ at_other (with_at (with_at csrs a v) b w) c stored x (apart some stored c is_c out)
     ∙ at_other (with_at csrs a v) b stored w (apart some stored b is_b out)
     ∙ at_other csrs a stored v (apart some stored a is_a out)
 
-machine_only : (csrs : Csrs) (mode : Mode) (interrupt : Bool) (cause tval pc : ℕ) → ChangesOnly is_of_machine csrs (enter_machine_of csrs mode (cause_value interrupt cause) tval pc)
+machine_only : (csrs : Csrs) (mode : Mode) (interrupt : Bool) (cause tval pc : ℕ)
+    → ChangesOnly is_of_machine csrs (enter_machine_of csrs mode (cause_value interrupt cause) tval pc)
 unfolding enter_machine_of with_at
 machine_only csrs mode interrupt cause tval pc = record {
   registers = λ stored out. four csrs is_of_machine Mepc Mcause Mtval Mstatus stored _ _ _ _ refl refl refl refl out;
   entries = refl;
 }
 
-supervisor_only : (csrs : Csrs) (mode : Mode) (interrupt : Bool) (cause tval pc : ℕ) → ChangesOnly is_of_supervisor csrs (enter_supervisor_of csrs mode (cause_value interrupt cause) tval pc)
+supervisor_only : (csrs : Csrs) (mode : Mode) (interrupt : Bool) (cause tval pc : ℕ)
+    → ChangesOnly is_of_supervisor csrs (enter_supervisor_of csrs mode (cause_value interrupt cause) tval pc)
 unfolding enter_supervisor_of with_at
 supervisor_only csrs mode interrupt cause tval pc = record {
   registers = λ stored out. four csrs is_of_supervisor Sepc Scause Stval Mstatus stored _ _ _ _ refl refl refl refl out;
   entries = refl;
 }
 
-pub enters_only : (csrs : Csrs) (mode : Mode) (interrupt : Bool) (cause tval pc : ℕ) → EntersOnly csrs mode interrupt cause tval pc
+pub enters_only : (csrs : Csrs) (mode : Mode) (interrupt : Bool) (cause tval pc : ℕ)
+    → EntersOnly csrs mode interrupt cause tval pc
 unfolding enter_of
 enters_only csrs mode interrupt cause tval pc =
-    let Only : Bool → Type 0 = λ b. ChangesOnly (if b then is_of_supervisor else is_of_machine) csrs (if b then enter_supervisor_of csrs mode (cause_value interrupt cause) tval pc else enter_machine_of csrs mode (cause_value interrupt cause) tval pc) in
+    let Only : Bool → Type 0 =
+    λ b. ChangesOnly (if b then is_of_supervisor else is_of_machine) csrs
+    (if b then enter_supervisor_of csrs mode (cause_value interrupt cause) tval pc else enter_machine_of csrs mode
+    (cause_value interrupt cause) tval pc) in
     elim (cases_Bool (is_delegated csrs mode interrupt cause)) [
       | inl taken ↦ subst Only (sym taken) (supervisor_only csrs mode interrupt cause tval pc)
       | inr out ↦ subst Only (sym out) (machine_only csrs mode interrupt cause tval pc)

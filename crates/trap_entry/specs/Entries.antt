@@ -6,10 +6,11 @@ use Rattle.hart_words.specs.declared.privilege.Mode.{Mode}
 use Rattle.hart_words.specs.declared.privilege.Mode.TheVariants.{User, Supervisor, Machine}
 use Rattle.hart_words.specs.Privilege.{mode_number}
 use Rattle.csr_file.specs.declared.csrs.Csrs.{Csrs}
-use Rattle.csr_file.specs.declared.stored_csr.StoredCsr.TheVariants.{Mstatus, Medeleg, Mideleg, Mtvec, Mepc, Mcause, Mtval, Stvec, Sepc, Scause, Stval}
+use Rattle.csr_file.specs.declared.stored_csr.StoredCsr.TheVariants.{Mstatus, Medeleg, Mideleg, Mtvec, Mepc, Mcause}
+use Rattle.csr_file.specs.declared.stored_csr.StoredCsr.TheVariants.{Mtval, Stvec, Sepc, Scause, Stval}
 use Rattle.csr_file.specs.declared.fields.TheConstants.{SIE, MIE, SPIE, MPIE, SPP, MPP}
 use Rattle.csr_file.specs.Registers.{at, with_at}
-use Rattle.csr_file.specs.Fields.{bits, field_bits, bit_is_set, merged}
+use Rattle.csr_file.specs.Fields.{bits, field_bits, bit_is_set, masked_update}
 
 -- a trap in S or U goes to S where the bit of its code is set, in mideleg for an interrupt and in medeleg for an
 -- exception; a trap in M never does
@@ -39,12 +40,12 @@ supervisor_stack = bits (SIE ∷ SPIE ∷ SPP ∷ [])
 -- mstatus in M: MPIE is MIE, MIE is 0, MPP is the old mode
 unfoldable pub status_into_machine : ℕ → Mode → ℕ
 status_into_machine status mode =
-    merged machine_stack status (2 ^ MPIE * bit_at status MIE + 2 ^ MPP * mode_number mode)
+    masked_update machine_stack status (2 ^ MPIE * bit_at status MIE + 2 ^ MPP * mode_number mode)
 
 -- mstatus in S: SPIE is SIE, SIE is 0, SPP is the old mode, which is S or U
 unfoldable pub status_into_supervisor : ℕ → Mode → ℕ
 status_into_supervisor status mode =
-    merged supervisor_stack status (2 ^ SPIE * bit_at status SIE + 2 ^ SPP * mode_number mode)
+    masked_update supervisor_stack status (2 ^ SPIE * bit_at status SIE + 2 ^ SPP * mode_number mode)
 
 -- entry to M, with the value of mcause
 unfoldable pub enter_machine_of : Csrs → Mode → ℕ → ℕ → ℕ → Csrs

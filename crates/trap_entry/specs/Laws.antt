@@ -12,7 +12,8 @@ use Rattle.csr_file.specs.Registers.{at}
 use Rattle.csr_file.specs.Fields.{bit_is_set, mpp_of}
 use Rattle.csr_file.specs.Legal.{IsLegal}
 use Rattle.trap_entry.specs.Entries.{is_delegated, enter_of, machine_stack, mode_by_enter, supervisor_stack}
-use Rattle.trap_entry.specs.Returns.{machine_stack_and_mprv, mode_by_mret, mode_by_sret, mret_of, sret_of, supervisor_stack_and_mprv}
+use Rattle.trap_entry.specs.Returns.{machine_stack_and_mprv, mode_by_mret, mode_by_sret, mret_of, sret_of}
+use Rattle.trap_entry.specs.Returns.{supervisor_stack_and_mprv}
 
 -- the registers that an entry to M writes
 abbrev pub is_of_machine : StoredCsr → Bool

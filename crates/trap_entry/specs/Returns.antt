@@ -7,16 +7,16 @@ use Rattle.csr_file.specs.declared.csrs.Csrs.{Csrs}
 use Rattle.csr_file.specs.declared.stored_csr.StoredCsr.TheVariants.{Mstatus}
 use Rattle.csr_file.specs.declared.fields.TheConstants.{SIE, MIE, SPIE, MPIE, SPP, MPRV}
 use Rattle.csr_file.specs.Registers.{at, with_at}
-use Rattle.csr_file.specs.Fields.{bits, merged, mode_numbered, mpp_of}
+use Rattle.csr_file.specs.Fields.{bits, masked_update, mode_of_encoding, mpp_of}
 use Rattle.trap_entry.specs.Entries.{machine_stack, supervisor_stack}
 
 -- the mode that MRET returns to: MPP
 unfoldable pub mode_by_mret : Csrs → Mode
-mode_by_mret csrs = mode_numbered (mpp_of (at csrs Mstatus))
+mode_by_mret csrs = mode_of_encoding (mpp_of (at csrs Mstatus))
 
 -- the mode that SRET returns to: SPP
 unfoldable pub mode_by_sret : Csrs → Mode
-mode_by_sret csrs = mode_numbered (bit_at (at csrs Mstatus) SPP)
+mode_by_sret csrs = mode_of_encoding (bit_at (at csrs Mstatus) SPP)
 
 -- MPRV is cleared on a return to another mode than M
 abbrev pub machine_stack_and_mprv : ℕ
@@ -28,14 +28,14 @@ supervisor_stack_and_mprv = supervisor_stack + bits (MPRV ∷ [])
 -- mstatus after MRET: MIE is MPIE, MPIE is 1, MPP is U, and MPRV is cleared where the new mode is not M
 unfoldable pub status_by_mret : ℕ → ℕ
 status_by_mret status =
-    merged
+    masked_update
     (if mpp_of status == 3 then machine_stack else machine_stack_and_mprv)
     status
     (2 ^ MIE * bit_at status MPIE + 2 ^ MPIE)
 
 -- mstatus after SRET: SIE is SPIE, SPIE is 1, SPP is U, and MPRV is cleared
 unfoldable pub status_by_sret : ℕ → ℕ
-status_by_sret status = merged supervisor_stack_and_mprv status (2 ^ SIE * bit_at status SPIE + 2 ^ SPIE)
+status_by_sret status = masked_update supervisor_stack_and_mprv status (2 ^ SIE * bit_at status SPIE + 2 ^ SPIE)
 
 -- the registers after MRET
 unfoldable pub mret_of : Csrs → Csrs

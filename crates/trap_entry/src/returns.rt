@@ -7,7 +7,7 @@ ghost use Rattle.csr_file.specs.Registers.{at};
 ghost use Rattle.trap_entry.specs.Returns.{mode_by_mret, mode_by_sret, status_by_mret, status_by_sret, mret_of, sret_of};
 
 use csr_file::fields::{MIE, MPIE, MPP, SIE, SPIE, SPP};
-use csr_file::{Csrs, StoredCsr, merge, mode_numbered};
+use csr_file::{Csrs, StoredCsr, merge, mode_of_encoding};
 use hart_words::Mode;
 
 /// The fields of mstatus that MRET writes: MIE, MPIE, MPP, and MPRV on a return to S or U.
@@ -39,7 +39,7 @@ pub fn mret(csrs: &mut Csrs) -> (Mode, u64)
     let status = csrs.get(StoredCsr::Mstatus);
     let pc = csrs.get(StoredCsr::Mepc);
     csrs.set(StoredCsr::Mstatus, status_by_mret(status));
-    (mode_numbered((status >> MPP) % 4), pc)
+    (mode_of_encoding((status >> MPP) % 4), pc)
 }
 
 /// Returns from a trap in S, as SRET does: gives the new mode and pc.
@@ -54,7 +54,7 @@ pub fn sret(csrs: &mut Csrs) -> (Mode, u64)
     let status = csrs.get(StoredCsr::Mstatus);
     let pc = csrs.get(StoredCsr::Sepc);
     csrs.set(StoredCsr::Mstatus, status_by_sret(status));
-    (mode_numbered((status >> SPP) % 2), pc)
+    (mode_of_encoding((status >> SPP) % 2), pc)
 }
 
 /// mstatus after MRET: MIE is MPIE, MPIE is 1, MPP is U, and MPRV is cleared where the new mode is

@@ -1,16 +1,18 @@
 -- What a board leaves that is closed by the seat of all seats, and what it is opened with.
-use Rattle.std.proofs.Common.{◌≡◌, ℕ, suc, ◌+◌, ◌-◌, ◌^◌, ◌<◌, List, [], ◌∷◌, ◌++◌, length, map, take, drop, refl, sym, ap, subst, ◌∙◌, arith}
+use Rattle.std.proofs.Common.{◌≡◌, ℕ, suc, ◌+◌, ◌-◌, ◌^◌, ◌<◌, List, [], ◌∷◌, ◌++◌, length, map, take, drop, refl, sym}
+use Rattle.std.proofs.Common.{ap, subst, ◌∙◌, arith}
 use Rattle.std.specs.List.{range_with_len}
 use Rattle.std.proofs.lemmas.List.{map-append}
 use Rattle.std.proofs.lemmas.List.FromFn.{length-range_with_len}
 use mathlib.Core.Option.{some, some-injective}
 use lib.ListN.{get_elem?}
 use Rattle.atomic_table.specs.Table.{Final, Seen}
-use Rattle.board_core.specs.Machine.{looks, opened, run}
+use Rattle.board_core.specs.Machine.{looks, machine_at_start, machine_after_events}
 use Rattle.board_core.specs.Sound.{IsLeast}
 use Rattle.board_core.proofs.Machines.{range_push, sound}
 use Rattle.verdict_board.specs.declared.view.View.{View}
-use Rattle.verdict_board.specs.Views.{DrewBelow, IsFresh, IsWhole, cut_first, cut_rest, fresh, fresh_each, numbers_below}
+use Rattle.verdict_board.specs.Views.{DrewBelow, IsFresh, IsWhole, cut_first, cut_rest, fresh_view, fresh_each}
+use Rattle.verdict_board.specs.Views.{numbers_below}
 use Rattle.verdict_board.specs.Rule.{Kept}
 use Rattle.verdict_board.specs.Points.{IsIdle}
 use Rattle.verdict_board.specs.Seats.{LeavesAll, view_of}
@@ -24,58 +26,94 @@ pub record Closes (n : ℕ) (view : View) (drawn least : ℕ) : Type 0 where
   pub leaves : LeavesAll n view drawn least
   pub small : least < 2 ^ 32
 
-kept_closes : (n seats place : ℕ) (view : View) (words : List ℕ) (views : List View) (drawn least : ℕ) → Kept n seats words views → get_elem? views place ≡ some view → 0 < length view.numbers → IsWhole view
+kept_closes : (n seats place : ℕ) (view : View) (words : List ℕ) (views : List View) (drawn least : ℕ)
+    → Kept n seats words views → get_elem? views place ≡ some view → 0 < length view.numbers → IsWhole view
     → get_elem? words 0 ≡ some drawn → get_elem? words 1 ≡ some least → Closes n view drawn least
 kept_closes n seats place view words views drawn least kept at live whole first second =
-    let machine = run (opened n) kept.events in
+    let machine = machine_after_events (machine_at_start n) kept.events in
     let is_sound = sound n kept.events in
-    let all = has_all n seats machine (looks (opened n) kept.events) words views place view kept.shows at live whole in
-    let next_is : machine.next ≡ drawn = some-injective machine.next drawn (sym (ap (λ words. get_elem? words 0) kept.shows.words_are) ∙ first) in
-    let least_is : machine.least ≡ least = some-injective machine.least least (sym (ap (λ words. get_elem? words 1) kept.shows.words_are) ∙ second) in
+    let all =
+    has_all n seats machine (looks (machine_at_start n) kept.events) words views place view kept.shows at live
+    whole in
+    let next_is : machine.next ≡ drawn =
+    some-injective machine.next drawn (sym (ap (λ words. get_elem? words 0) kept.shows.words_are) ∙ first) in
+    let least_is : machine.least ≡ least =
+    some-injective machine.least least (sym (ap (λ words. get_elem? words 1) kept.shows.words_are) ∙ second) in
     record {
-      draws = let P : ℕ → Type 0 = λ end. DrewBelow end view.draws in subst P next_is (all_drawn n machine view.draws is_sound all.draws_all);
-      least_is = subst (IsLeast n view.posts) least_is (least_in n machine.posts view.posts machine.least all.posts_all is_sound.least);
-      leaves = record { events = kept.events; next_is = next_is; least_is = least_is; draws_are = all.draws_all; posts_are = all.posts_all; looks_are = all.looks_all };
+      draws =
+          let P : ℕ → Type 0 = λ end. DrewBelow end view.draws in
+          subst P next_is (all_drawn n machine view.draws is_sound all.draws_all);
+      least_is =
+          subst (IsLeast n view.posts) least_is
+          (least_in n machine.posts view.posts machine.least all.posts_all is_sound.least);
+      leaves =
+          record {
+            events =
+                kept.events;
+            next_is =
+                next_is;
+            least_is =
+                least_is;
+            draws_are = all.draws_all;
+            posts_are = all.posts_all;
+            looks_are = all.looks_all;
+          };
       small = omega (arith, least_is, is_sound.least.within, kept.few_segments);
     }
 
-pub closes : (n seats place : ℕ) (view : View) (words : List ℕ) (slots : List (Unit {0})) (drawn least : ℕ) → Final (Seen (KeptIn n seats) place view) words slots → 0 < length view.numbers → IsWhole view
+pub closes : (n seats place : ℕ) (view : View) (words : List ℕ) (slots : List (Unit {0})) (drawn least : ℕ)
+    → Final (Seen (KeptIn n seats) place view) words slots → 0 < length view.numbers → IsWhole view
     → get_elem? words 0 ≡ some drawn → get_elem? words 1 ≡ some least → Closes n view drawn least
 closes n seats place view words slots drawn least final live whole first second =
     let words_are = final.2 in
-    kept_closes n seats place view final.0.words final.0.views drawn least final.1.0 final.1.1 live whole (ap (λ words. get_elem? words 0) words_are ∙ first) (ap (λ words. get_elem? words 1) words_are ∙ second)
+    kept_closes n seats place view final.0.words final.0.views drawn least final.1.0 final.1.1 live whole
+    (ap (λ words. get_elem? words 0) words_are ∙ first) (ap (λ words. get_elem? words 1) words_are ∙ second)
 
 pub fresh_idle : (view : View) → IsFresh view → IsIdle view
-fresh_idle view is = record { no_draws = ap (λ v. v.draws) is; no_posts = ap (λ v. v.posts) is; no_looks = ap (λ v. v.looks) is }
+fresh_idle view is =
+    record { no_draws = ap (λ v. v.draws) is; no_posts = ap (λ v. v.posts) is; no_looks = ap (λ v. v.looks) is }
 
 -- the first number of a seat that stands for those from k on, and the rest
 split_numbers : (k seats : ℕ) → k < seats → range_with_len k (seats - k) ≡ k ∷ range_with_len (k + 1) (seats - (k + 1))
 split_numbers k seats low = let more : seats - k ≡ suc (seats - (k + 1)) = omega (arith, low) in rw more refl
 
-pub dealt_first : (n seats k : ℕ) (view first : View) → k + 1 < seats → view ≡ fresh n seats (range_with_len k (seats - k)) → first ≡ cut_first view → first ≡ fresh n seats (k ∷ [])
+pub dealt_first : (n seats k : ℕ) (view first : View) → k + 1 < seats
+    → view ≡ fresh_view n seats (range_with_len k (seats - k)) → first ≡ cut_first view
+    → first ≡ fresh_view n seats (k ∷ [])
 dealt_first n seats k view first low is made =
-    made ∙ ap cut_first is ∙ ap (λ numbers. fresh n seats (take 1 numbers)) (split_numbers k seats (omega (arith, low)))
+    made ∙ ap cut_first is
+    ∙ ap (λ numbers. fresh_view n seats (take 1 numbers)) (split_numbers k seats (omega (arith, low)))
 
-pub dealt_rest : (n seats k : ℕ) (view rest : View) → k + 1 < seats → view ≡ fresh n seats (range_with_len k (seats - k)) → rest ≡ cut_rest view → rest ≡ fresh n seats (range_with_len (k + 1) (seats - (k + 1)))
+pub dealt_rest : (n seats k : ℕ) (view rest : View) → k + 1 < seats
+    → view ≡ fresh_view n seats (range_with_len k (seats - k)) → rest ≡ cut_rest view
+    → rest ≡ fresh_view n seats (range_with_len (k + 1) (seats - (k + 1)))
 dealt_rest n seats k view rest low is made =
-    made ∙ ap cut_rest is ∙ ap (λ numbers. fresh n seats (drop 1 numbers)) (split_numbers k seats (omega (arith, low)))
+    made ∙ ap cut_rest is
+    ∙ ap (λ numbers. fresh_view n seats (drop 1 numbers)) (split_numbers k seats (omega (arith, low)))
 
-pub dealt_several : (n seats k : ℕ) (view : View) → k + 1 < seats → view ≡ fresh n seats (range_with_len k (seats - k)) → 1 < length view.numbers
-dealt_several n seats k view low is = omega (arith, low, ap (λ v. length v.numbers) is, length-range_with_len k (seats - k))
+pub dealt_several : (n seats k : ℕ) (view : View) → k + 1 < seats
+    → view ≡ fresh_view n seats (range_with_len k (seats - k)) → 1 < length view.numbers
+dealt_several n seats k view low is =
+    omega (arith, low, ap (λ v. length v.numbers) is, length-range_with_len k (seats - k))
 
-pub dealt_fresh : (n seats : ℕ) (numbers : List ℕ) (view : View) → view ≡ fresh n seats numbers → IsFresh view
+pub dealt_fresh : (n seats : ℕ) (numbers : List ℕ) (view : View) → view ≡ fresh_view n seats numbers → IsFresh view
 dealt_fresh n seats numbers view is = let P : View → Type 0 = IsFresh in subst P (sym is) refl
 
-pub dealt_last : (n seats k : ℕ) (view : View) → k + 1 ≡ seats → view ≡ fresh n seats (range_with_len k (seats - k)) → view ≡ fresh n seats (k ∷ [])
-dealt_last n seats k view all is = let one : seats - k ≡ 1 = omega (arith, all) in is ∙ ap (λ m. fresh n seats (range_with_len k m)) one
+pub dealt_last : (n seats k : ℕ) (view : View) → k + 1 ≡ seats
+    → view ≡ fresh_view n seats (range_with_len k (seats - k)) → view ≡ fresh_view n seats (k ∷ [])
+dealt_last n seats k view all is =
+    let one : seats - k ≡ 1 = omega (arith, all) in is ∙ ap (λ m. fresh_view n seats (range_with_len k m)) one
 
 -- one seat more
-pub dealt_more : (n seats k : ℕ) (dealt : List Seat) (seat : Seat) → map view_of dealt ≡ fresh_each n seats (numbers_below k) → view_of seat ≡ fresh n seats (k ∷ []) → map view_of (dealt ++ seat ∷ []) ≡ fresh_each n seats (numbers_below (k + 1))
+pub dealt_more : (n seats k : ℕ) (dealt : List Seat) (seat : Seat)
+    → map view_of dealt ≡ fresh_each n seats (numbers_below k) → view_of seat ≡ fresh_view n seats (k ∷ [])
+    → map view_of (dealt ++ seat ∷ []) ≡ fresh_each n seats (numbers_below (k + 1))
 dealt_more n seats k dealt seat so_far is =
     let at : 0 + k ≡ k = omega arith in
-    let numbers : numbers_below k ++ k ∷ [] ≡ numbers_below (k + 1) = ap (λ m. numbers_below k ++ m ∷ []) (sym at) ∙ range_push 0 k in
+    let numbers : numbers_below k ++ k ∷ [] ≡ numbers_below (k + 1) =
+    ap (λ m. numbers_below k ++ m ∷ []) (sym at) ∙ range_push 0 k in
     map-append view_of dealt (seat ∷ [])
     ∙ ap (λ views. views ++ view_of seat ∷ []) so_far
     ∙ ap (λ view. fresh_each n seats (numbers_below k) ++ view ∷ []) is
-    ∙ sym (map-append (λ number. fresh n seats (number ∷ [])) (numbers_below k) (k ∷ []))
+    ∙ sym (map-append (λ number. fresh_view n seats (number ∷ [])) (numbers_below k) (k ∷ []))
     ∙ ap (fresh_each n seats) numbers

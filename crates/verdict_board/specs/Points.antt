@@ -25,6 +25,8 @@ pub record HasSeen (n least : ℕ) (views : List View) (view : View) : Type 0 wh
   pub least_is : IsSeen n views view.least
   -- each answer of its looks is n or a post, and none is below what it has seen
   pub looks_are : (look : ℕ × ℕ) → Has view.looks look → IsSeen n views look.1 × (view.least ≤ look.1)
+  -- none of its posts is below what it has seen
+  pub posts_high : (post : ℕ × ℕ) → Has view.posts post → view.least ≤ post.1
 
 -- of each view
 pub record IsOrderly (n least : ℕ) (views : List View) (view : View) : Type 0 where
@@ -41,7 +43,7 @@ pub record IsOrderly (n least : ℕ) (views : List View) (view : View) : Type 0 
   pub few_past : count (is_past n) view.draws ≤ length view.numbers
 
 -- of the words and all views
-pub record Follows (n seats : ℕ) (words : List ℕ) (views : List View) : Type 0 where
+pub record FollowsRule (n seats : ℕ) (words : List ℕ) (views : List View) : Type 0 where
   -- each number of a seat stands in one view, once
   pub numbers_once : (number : ℕ) →
       count (λ one. one == number) (all_of numbers_of views) ≡ as_number (nat_lt number seats)

@@ -5,7 +5,7 @@ use lib.ListN.{get_elem?}
 use Rattle.verdict_board.specs.declared.view.View.{View}
 use Rattle.board_core.specs.declared.event.Event.{Event}
 use Rattle.board_core.specs.Bags.{Has, Names, SameBag, count}
-use Rattle.board_core.specs.Machine.{Machine, looks, opened, run}
+use Rattle.board_core.specs.Machine.{Machine, looks, machine_at_start, machine_after_events}
 use Rattle.board_core.specs.Sound.{AreDrawn}
 use Rattle.verdict_board.specs.Views.{is_past, numbers_below}
 
@@ -41,6 +41,7 @@ pub record Knows (n seats : ℕ) (machine : Machine) (view : View) : Type 0 wher
   pub least_low : machine.least ≤ view.least
   pub least_is : (view.least ≡ n) ⊎ Names machine.posts view.least
   pub looks_high : (look : ℕ × ℕ) → Has view.looks look → view.least ≤ look.1
+  pub posts_high : (post : ℕ × ℕ) → Has view.posts post → view.least ≤ post.1
 
 -- how a view stands to the machine
 pub record Fits (n seats : ℕ) (machine : Machine) (view : View) : Type 0 where
@@ -64,7 +65,7 @@ pub record Mirrors (n seats : ℕ) (machine : Machine) (answers : List (ℕ × �
 -- the words and the views are those of a run of the machine
 abbrev pub Shows : ℕ → ℕ → List Event → List ℕ → List View → Type 0
 Shows n seats events words views =
-    Mirrors n seats (run (opened n) events) (looks (opened n) events) words views
+    Mirrors n seats (machine_after_events (machine_at_start n) events) (looks (machine_at_start n) events) words views
 
 -- the rule: there is such a run
 pub record Kept (n seats : ℕ) (words : List ℕ) (views : List View) : Type 0 where

@@ -1,5 +1,6 @@
 -- What seats have done.
-use Rattle.std.specs.Prelude.{◌≡◌, ◌≢◌, ℕ, ◌<◌, Bool, nat_le, nat_lt, min, List, [], ◌∷◌, ◌++◌, length, get_or, take, drop, map}
+use Rattle.std.specs.Prelude.{◌≡◌, ◌≢◌, ℕ, ◌<◌, Bool, nat_le, nat_lt, min, List, [], ◌∷◌, ◌++◌, length, get_or, take}
+use Rattle.std.specs.Prelude.{drop, map}
 use Rattle.std.specs.List.{range_with_len}
 use Rattle.verdict_board.specs.declared.view.View.{View}
 use Rattle.board_core.specs.Bags.{Has, Names, as_number, count, is_numbered}
@@ -9,8 +10,8 @@ abbrev pub numbers_below : ℕ → List ℕ
 numbers_below seats = range_with_len 0 seats
 
 -- seats of these numbers, before they do anything
-abbrev pub fresh : ℕ → ℕ → List ℕ → View
-fresh n seats numbers = record {
+abbrev pub fresh_view : ℕ → ℕ → List ℕ → View
+fresh_view n seats numbers = record {
   segments = n;
   seats = seats;
   numbers = numbers;
@@ -22,11 +23,11 @@ fresh n seats numbers = record {
 
 -- a seat of each of these numbers
 abbrev pub fresh_each : ℕ → ℕ → List ℕ → List View
-fresh_each n seats numbers = map (λ number. fresh n seats (number ∷ [])) numbers
+fresh_each n seats numbers = map (λ number. fresh_view n seats (number ∷ [])) numbers
 
 -- a seat that was joined to another
-abbrev pub spent : View
-spent = record { segments = 0; seats = 0; numbers = []; draws = []; posts = []; looks = []; least = 0 }
+abbrev pub spent_view : View
+spent_view = record { segments = 0; seats = 0; numbers = []; draws = []; posts = []; looks = []; least = 0 }
 
 -- the number under which it draws and looks
 abbrev pub lead : View → ℕ
@@ -41,20 +42,21 @@ abbrev pub is_done : View → Bool
 is_done view = nat_lt 0 (count (is_past view.segments) view.draws)
 
 -- it has drawn this number
-abbrev pub drew : View → ℕ → View
-drew view number = record view { draws = view.draws ++ (lead view, number) ∷ [] }
+abbrev pub view_after_draw : View → ℕ → View
+view_after_draw view number = record view { draws = view.draws ++ (lead view, number) ∷ [] }
 
 -- its look was answered so
-abbrev pub looked : View → ℕ → View
-looked view answer = record view { looks = view.looks ++ (lead view, answer) ∷ []; least = answer }
+abbrev pub view_after_look : View → ℕ → View
+view_after_look view answer = record view { looks = view.looks ++ (lead view, answer) ∷ []; least = answer }
 
--- it has posted the segment, which was drawn under this number
-abbrev pub posted : View → ℕ → ℕ → View
-posted view number segment = record view { posts = view.posts ++ (number, segment) ∷ [] }
+-- it has posted the segment, which was drawn under this number, and has seen what the least post is now
+abbrev pub view_after_post : View → ℕ → ℕ → ℕ → View
+view_after_post view number segment least =
+    record view { posts = view.posts ++ (number, segment) ∷ []; least = least }
 
 -- two seats as one
-abbrev pub joined : View → View → View
-joined one other = record {
+abbrev pub joined_views : View → View → View
+joined_views one other = record {
   segments = one.segments;
   seats = one.seats;
   numbers = one.numbers ++ other.numbers;
@@ -66,7 +68,7 @@ joined one other = record {
 
 -- the first of its numbers, and the rest
 abbrev pub cut_first : View → View
-cut_first view = fresh view.segments view.seats (take 1 view.numbers)
+cut_first view = fresh_view view.segments view.seats (take 1 view.numbers)
 
 abbrev pub cut_rest : View → View
 cut_rest view = record view { numbers = drop 1 view.numbers }
@@ -93,4 +95,4 @@ AreBelow number draws = (draw : ℕ × ℕ) → Has draws draw → draw.1 < numb
 
 -- it has done nothing, and looked at nothing
 abbrev pub IsFresh : View → Type 0
-IsFresh view = view ≡ fresh view.segments view.seats view.numbers
+IsFresh view = view ≡ fresh_view view.segments view.seats view.numbers

@@ -24,13 +24,13 @@ impl Board {
     ghost use Rattle.std.specs.Prelude.{◌<◌, ◌≤◌, ℕ, IfNone, IfOk, IfSome, [], length, vec_capacity};
     ghost use Rattle.board_core.specs.Bags.{Has, Names};
     ghost use Rattle.board_core.specs.Sound.{IsLeast};
-    ghost use Rattle.verdict_board.specs.Views.{DrewBelow, IsExact, IsFresh, IsWhole, cut_first, cut_rest, fresh, joined, looked, numbers_below};
+    ghost use Rattle.verdict_board.specs.Views.{DrewBelow, IsExact, IsFresh, IsWhole, cut_first, cut_rest, fresh_view, joined_views, view_after_look, numbers_below};
     ghost use Rattle.verdict_board.specs.Seats.{AreOpened, DrawsNext, IsAt, FindsNone, IsSameSeat, LeavesAll, Posts, view_of};
 
     /// A board for n segments, and its seats in the order of their numbers.
     pub fn open(alloc: Global, n: u32, seats: u32) -> Result<(Board, Vec<Seat>), NoMemory>
-        requires some { 1 ≤ seats }
-        requires few { seats ≤ 64 }
+        requires at_least_1 { 1 ≤ seats }
+        requires at_most_64 { seats ≤ 64 }
         ensures { IfOk result (λ opened. AreOpened n seats opened.0 opened.1.items) }
     {
         let dealt = Vec::with_capacity(alloc, seats as usize)?;
@@ -45,8 +45,8 @@ impl Board {
     /// Deals a seat of each number from one that stands for all of them.
     fn deal_all(&self, all: Seat, mut dealt: Vec<Seat>, seats: u32) -> Vec<Seat>
         requires at { IsAt self.now all }
-        requires fresh { view_of all ≡ fresh self.now.segments seats (numbers_below seats) }
-        requires some { 1 ≤ seats }
+        requires fresh { view_of all ≡ fresh_view self.now.segments seats (numbers_below seats) }
+        requires at_least_1 { 1 ≤ seats }
         requires none { dealt.items ≡ [] }
         requires room { seats ≤ vec_capacity dealt }
         ensures { AreOpened self.now.segments seats self.now result.items }
@@ -79,7 +79,7 @@ impl Board {
     pub fn claim(&self, seat: &mut Seat) -> Option<u32>
         requires at { IsAt self.now seat.old }
         ensures at { IsAt self.now seat.new }
-        ensures some { IfSome result (λ segment. (segment < self.now.segments)
+        ensures drawn { IfSome result (λ segment. (segment < self.now.segments)
             × DrawsNext segment (view_of seat.old) (view_of seat.new)) }
         ensures none { IfNone result (FindsNone (view_of seat.old) (view_of seat.new)) }
         ensures same { IsSameSeat (view_of seat.old) (view_of seat.new) }
@@ -102,7 +102,7 @@ impl Board {
         requires at { IsAt self.now seat.old }
         ensures at { IsAt self.now seat.new }
         ensures same { IsSameSeat (view_of seat.old) (view_of seat.new) }
-        ensures looked { view_of seat.new ≡ looked (view_of seat.old) result }
+        ensures looked { view_of seat.new ≡ view_after_look (view_of seat.old) result }
         ensures within { result ≤ self.now.segments }
         ensures falls { result ≤ (view_of seat.old).least }
         ensures posts { (post : ℕ × ℕ) → Has (view_of seat.old).posts post → result ≤ post.1 }
@@ -111,7 +111,8 @@ impl Board {
         self.table.shared.load::<See>(&mut seat.place, 1) as u32
     }
 
-    /// Posts a segment that this seat drew.
+    /// Posts a segment that this seat drew. The seat has then seen the least post as it became: at
+    /// most the segment, and at most what it had seen.
     pub fn post(&self, seat: &mut Seat, segment: u32)
         requires at { IsAt self.now seat.old }
         requires within { segment < self.now.segments }
@@ -119,6 +120,8 @@ impl Board {
         ensures at { IsAt self.now seat.new }
         ensures same { IsSameSeat (view_of seat.old) (view_of seat.new) }
         ensures posted { Posts segment (view_of seat.old) (view_of seat.new) }
+        ensures within { (view_of seat.new).least ≤ segment }
+        ensures falls { (view_of seat.new).least ≤ (view_of seat.old).least }
         ensures exact { IsWhole (view_of seat.new) → IsExact (view_of seat.new) }
     {
         self.table
@@ -131,7 +134,7 @@ impl Board {
         requires at { IsAt self.now seat.old }
         requires other { IsAt self.now other }
         ensures at { IsAt self.now seat.new }
-        ensures joined { view_of seat.new ≡ joined (view_of seat.old) (view_of other) }
+        ensures joined { view_of seat.new ≡ joined_views (view_of seat.old) (view_of other) }
         ensures exact { IsWhole (view_of seat.new) → IsExact (view_of seat.new) }
     {
         let Seat { place, done } = other;

@@ -1,6 +1,6 @@
 //! The rule of the two words, and what each kind of step tells.
 
-ghost use Rattle.verdict_board.specs.Views.{cut_first, cut_rest, fresh, joined, numbers_below, spent};
+ghost use Rattle.verdict_board.specs.Views.{cut_first, cut_rest, fresh_view, joined_views, numbers_below, spent_view};
 ghost use Rattle.verdict_board.specs.Rule.{Kept};
 ghost use Rattle.verdict_board.specs.Plays.{Draws, Learns, Puts, Sees};
 
@@ -20,7 +20,7 @@ pub struct Order;
 impl TableRule<(), View, Setup> for Order {
     ghost holds = { λ setup state. Kept setup.segments setup.seats state.words state.views };
 
-    ghost first = { λ setup. fresh setup.segments setup.seats (numbers_below setup.seats) };
+    ghost first = { λ setup. fresh_view setup.segments setup.seats (numbers_below setup.seats) };
 }
 
 /// The next number is drawn.
@@ -64,7 +64,7 @@ impl Split<View> for Cut {
 pub struct Glue;
 
 impl Join<View> for Glue {
-    ghost both = { joined };
+    ghost both = { joined_views };
 
-    ghost spent = { spent };
+    ghost spent = { spent_view };
 }

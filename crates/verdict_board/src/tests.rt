@@ -1,6 +1,6 @@
 ghost use Rattle.std.specs.Prelude.{◌≡◌, ◌<◌, [], ◌∷◌, IfOk, IfSome};
 ghost use Rattle.board_core.specs.Bags.{Names};
-ghost use Rattle.verdict_board.specs.Views.{IsWhole, fresh, joined};
+ghost use Rattle.verdict_board.specs.Views.{IsWhole, fresh_view, joined_views};
 ghost use Rattle.verdict_board.specs.Seats.{IsAt, IsSameSeat, view_of};
 
 use super::*;
@@ -60,7 +60,7 @@ fn two_threads_share(rt: HostRuntime) -> Result<(), Fail> {
 fn share<R: Threads + Sync>(rt: &R, board: Board, a: Seat, b: Seat) -> (u64, u32)
     requires a { IsAt board a }
     requires b { IsAt board b }
-    requires whole { IsWhole (joined (view_of a) (view_of b)) }
+    requires whole { IsWhole (joined_views (view_of a) (view_of b)) }
 {
     let shared = &board;
     let (mut a, b) = join(
@@ -105,7 +105,7 @@ fn post_and_look(board: &Board, seat: &mut Seat, drawn: Option<u32>) -> u32
 
 fn one_seat(alloc: Global, n: u32) -> Result<(Board, Seat), NoMemory>
     ensures { IfOk result (λ opened. IsAt opened.0 opened.1
-        × (view_of opened.1 ≡ fresh n 1 (0 ∷ []))) }
+        × (view_of opened.1 ≡ fresh_view n 1 (0 ∷ []))) }
 {
     let (board, mut seats) = Board::open(alloc, n, 1)?;
     match seats.pop() {
@@ -116,8 +116,8 @@ fn one_seat(alloc: Global, n: u32) -> Result<(Board, Seat), NoMemory>
 
 fn two_seats(alloc: Global, n: u32) -> Result<(Board, Seat, Seat), NoMemory>
     ensures { IfOk result (λ opened. IsAt opened.0 opened.1 × IsAt opened.0 opened.2
-        × (view_of opened.1 ≡ fresh n 2 (0 ∷ []))
-        × (view_of opened.2 ≡ fresh n 2 (1 ∷ []))) }
+        × (view_of opened.1 ≡ fresh_view n 2 (0 ∷ []))
+        × (view_of opened.2 ≡ fresh_view n 2 (1 ∷ []))) }
 {
     let (board, mut seats) = Board::open(alloc, n, 2)?;
     let second = match seats.pop() {

@@ -19,7 +19,7 @@ pub struct View {
     pub ghost posts: { List (ℕ × ℕ) },
     /// What looks were answered, as pairs of a seat's number and the answer.
     pub ghost looks: { List (ℕ × ℕ) },
-    /// The least answer, and at first how many segments there are.
+    /// The least word that it has seen, by a look or a post; at first how many segments there are.
     pub ghost least: { ℕ },
 }
 

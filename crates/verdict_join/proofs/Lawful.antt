@@ -1,5 +1,6 @@
 -- What is found of segments is lawful, and the rows of all are those of the lines.
-use Rattle.std.proofs.Common.{◌≡◌, ℕ, suc, ◌+◌, ◌==◌, Bool, true, false, List, [], ◌∷◌, ◌++◌, length, map, slice_get, if◌then◌else◌, Option, Some, refl, sym, ap, ◌∙◌, subst, arith, All, IfSome}
+use Rattle.std.proofs.Common.{◌≡◌, ℕ, suc, ◌+◌, ◌==◌, Bool, true, false, List, [], ◌∷◌, ◌++◌, length, map, slice_get}
+use Rattle.std.proofs.Common.{if◌then◌else◌, Option, Some, refl, sym, ap, ◌∙◌, subst, arith, All, IfSome}
 use Rattle.std.specs.List.{flat_map}
 use Rattle.std.proofs.lemmas.Bool.{eqb-true}
 use Rattle.std.proofs.lemmas.List.{map-append}
@@ -15,80 +16,120 @@ use Rattle.segment_judge.specs.declared.found.What.TheVariants.{Judged, Skipped}
 use Rattle.segment_judge.specs.Judgements.{Judgement, Judging}
 use Rattle.segment_judge.specs.Laws.{judgement_from}
 use Rattle.hart_step.specs.Rows.{HartState}
-use Rattle.boundary_guess.specs.Cuts.{lines_through}
+use Rattle.boundary_guess.specs.Cuts.{lines_of_pieces}
 use Rattle.boundary_guess.specs.Guesses.{guess_after, guesses_of}
-use Rattle.verdict_join.specs.Founds.{IsLeftBy, Leaves, WasFoundSo, candidates_from, judgement_found, judgement_of_segment}
+use Rattle.verdict_join.specs.Founds.{IsLeftBy, Leaves, WasFoundSo, candidates_from, found_judgement}
+use Rattle.verdict_join.specs.Founds.{judgement_of_segment}
 use Rattle.verdict_join.specs.Joins.{Candidate}
-use Rattle.verdict_join.specs.Laws.{IsLawful, rows_through}
+use Rattle.verdict_join.specs.Laws.{IsLawfulCandidate, rows_through}
 
 -- what was found of a segment is its judgement from its guess, if anything was
 abbrev pub Theirs : {C : Type 0} → Judging C → List (Found (Judgement C)) → ℕ → List RowReading → State C → Type 0
-Theirs judging founds number rows guess = IfSome (judgement_found founds number) (λ judgement. judgement ≡ judgement_from judging guess rows)
+Theirs judging founds number rows guess =
+    IfSome (found_judgement founds number) (λ judgement. judgement ≡ judgement_from judging guess rows)
 
-abbrev pub AreTheirs : {C : Type 0} → Judging C → ℕ → List (List RowReading) → List (State C) → List (Found (Judgement C)) → Type 0
+abbrev pub AreTheirs : {C : Type 0} → Judging C → ℕ → List (List RowReading) → List (State C)
+    → List (Found (Judgement C)) → Type 0
 AreTheirs {C = C} judging from segments guesses founds =
-    (index : ℕ) (rows : List RowReading) (guess : State C) → slice_get segments index ≡ Some rows → slice_get guesses index ≡ Some guess → Theirs judging founds (from + index) rows guess
+    (index : ℕ) (rows : List RowReading) (guess : State C) → slice_get segments index ≡ Some rows
+    → slice_get guesses index ≡ Some guess → Theirs judging founds (from + index) rows guess
 
-pub all_lawful : {C : Type 0} (judging : Judging C) (from : ℕ) (segments : List (List RowReading)) (guesses : List (State C)) (founds : List (Found (Judgement C))) → AreTheirs judging from segments guesses founds → All (IsLawful judging) (candidates_from from segments guesses founds)
+pub all_lawful : {C : Type 0} (judging : Judging C) (from : ℕ) (segments : List (List RowReading))
+    (guesses : List (State C)) (founds : List (Found (Judgement C))) → AreTheirs judging from segments guesses founds
+    → All (IsLawfulCandidate judging) (candidates_from from segments guesses founds)
 unfolding candidates_from
-all_lawful judging from [] guesses founds theirs = All-nil (IsLawful judging)
-all_lawful judging from (rows ∷ segments) [] founds theirs = All-nil (IsLawful judging)
+all_lawful judging from [] guesses founds theirs = All-nil (IsLawfulCandidate judging)
+all_lawful judging from (rows ∷ segments) [] founds theirs = All-nil (IsLawfulCandidate judging)
 all_lawful judging from (rows ∷ segments) (guess ∷ guesses) founds theirs =
     let first : from + 0 ≡ from = omega arith in
-    let one : Theirs judging founds from rows guess = subst (λ n. Theirs judging founds n rows guess) first (theirs 0 rows guess refl refl) in
-    All-cons (IsLawful judging) (record { rows = rows; guess = guess; found = judgement_found founds from }) (candidates_from (from + 1) segments guesses founds) one
+    let one : Theirs judging founds from rows guess =
+    subst (λ n. Theirs judging founds n rows guess) first (theirs 0 rows guess refl refl) in
+    All-cons (IsLawfulCandidate judging) (record { rows = rows; guess = guess; found = found_judgement founds from })
+    (candidates_from (from + 1) segments guesses founds) one
     (all_lawful judging (from + 1) segments guesses founds (λ index rows guess here there.
     let next : from + suc index ≡ from + 1 + index = omega arith in
     subst (λ n. Theirs judging founds n rows guess) next (theirs (suc index) rows guess here there)))
 
 -- what a list of events leaves is lawful
-one_left : {C : Type 0} (judging : Judging C) (segments : List (List RowReading)) (guesses : List (State C)) (n : ℕ) (events : List Event) (worker number segment : ℕ) (what : What (Judgement C)) (rest : Option (Judgement C)) (rows : List RowReading) (guess : State C) → slice_get segments number ≡ Some rows → slice_get guesses number ≡ Some guess → WasFoundSo judging segments guesses n events worker segment what → IfSome rest (λ judgement. judgement ≡ judgement_from judging guess rows) → (test : Bool) → (segment == number) ≡ test → IfSome (judgement_of_segment number segment what rest) (λ judgement. judgement ≡ judgement_from judging guess rows)
-one_left judging segments guesses n events worker number segment (Skipped least) rest rows guess here there so later test is = later
-one_left {C = C} judging segments guesses n events worker number segment (Judged judgement) rest rows guess here there so later true is =
+one_left : {C : Type 0} (judging : Judging C) (segments : List (List RowReading)) (guesses : List (State C)) (n : ℕ)
+    (events : List Event) (worker number segment : ℕ) (what : What (Judgement C)) (rest : Option (Judgement C))
+    (rows : List RowReading) (guess : State C) → slice_get segments number ≡ Some rows
+    → slice_get guesses number ≡ Some guess → WasFoundSo judging segments guesses n events worker segment what
+    → IfSome rest (λ judgement. judgement ≡ judgement_from judging guess rows) → (test : Bool)
+    → (segment == number) ≡ test
+    → IfSome (judgement_of_segment number segment what rest)
+    (λ judgement. judgement ≡ judgement_from judging guess rows)
+one_left judging segments guesses n events worker number segment (Skipped least) rest rows guess here there so later
+    test is = later
+one_left {C = C} judging segments guesses n events worker number segment (Judged judgement) rest rows guess here there
+    so later true is =
     let same = eqb-true segment number is in
-    let mine : judgement ≡ judgement_from judging guess rows = so rows guess (ap (slice_get segments) same ∙ here) (ap (slice_get guesses) same ∙ there) in
-    subst (λ test. IfSome (if test then Some judgement else rest) (λ judgement. judgement ≡ judgement_from judging guess rows)) (sym is) mine
-one_left judging segments guesses n events worker number segment (Judged judgement) rest rows guess here there so later false is =
-    subst (λ test. IfSome (if test then Some judgement else rest) (λ judgement. judgement ≡ judgement_from judging guess rows)) (sym is) later
+    let mine : judgement ≡ judgement_from judging guess rows =
+    so rows guess (ap (slice_get segments) same ∙ here) (ap (slice_get guesses) same ∙ there) in
+    subst
+    (λ test. IfSome (if test then Some judgement else rest)
+    (λ judgement. judgement ≡ judgement_from judging guess rows)) (sym is) mine
+one_left judging segments guesses n events worker number segment (Judged judgement) rest rows guess here there so
+    later false is =
+    subst
+    (λ test. IfSome (if test then Some judgement else rest)
+    (λ judgement. judgement ≡ judgement_from judging guess rows)) (sym is) later
 
-pub left_theirs : {C : Type 0} (judging : Judging C) (segments : List (List RowReading)) (guesses : List (State C)) (n : ℕ) (events : List Event) (founds : List (Found (Judgement C))) (number : ℕ) (rows : List RowReading) (guess : State C) → Leaves judging segments guesses n events founds → slice_get segments number ≡ Some rows → slice_get guesses number ≡ Some guess → Theirs judging founds number rows guess
-unfolding judgement_found
+pub left_theirs : {C : Type 0} (judging : Judging C) (segments : List (List RowReading)) (guesses : List (State C))
+    (n : ℕ) (events : List Event) (founds : List (Found (Judgement C))) (number : ℕ) (rows : List RowReading)
+    (guess : State C) → Leaves judging segments guesses n events founds → slice_get segments number ≡ Some rows
+    → slice_get guesses number ≡ Some guess → Theirs judging founds number rows guess
+unfolding found_judgement
 left_theirs judging segments guesses n events [] number rows guess left here there = tt
 left_theirs judging segments guesses n events (found ∷ founds) number rows guess left here there =
     let first = All-head (IsLeftBy judging segments guesses n events) found founds left in
-    let later = left_theirs judging segments guesses n events founds number rows guess (All-tail (IsLeftBy judging segments guesses n events) found founds left) here there in
-    one_left judging segments guesses n events first.worker number found.seg found.what (judgement_found founds number) rows guess here there first.so later (found.seg == number) refl
+    let later =
+    left_theirs judging segments guesses n events founds number rows guess
+    (All-tail (IsLeftBy judging segments guesses n events) found founds left) here there in
+    one_left judging segments guesses n events first.worker number found.seg found.what
+    (found_judgement founds number) rows guess here there first.so later (found.seg == number) refl
 
-pub left_lawful : {C : Type 0} (judging : Judging C) (segments : List (List RowReading)) (guesses : List (State C)) (n : ℕ) (events : List Event) (founds : List (Found (Judgement C))) → Leaves judging segments guesses n events founds → All (IsLawful judging) (candidates_from 0 segments guesses founds)
+pub left_lawful : {C : Type 0} (judging : Judging C) (segments : List (List RowReading)) (guesses : List (State C))
+    (n : ℕ) (events : List Event) (founds : List (Found (Judgement C)))
+    → Leaves judging segments guesses n events founds
+    → All (IsLawfulCandidate judging) (candidates_from 0 segments guesses founds)
 left_lawful judging segments guesses n events founds left =
     all_lawful judging 0 segments guesses founds (λ index rows guess here there.
     let number : index ≡ 0 + index = omega arith in
-    subst (λ n. Theirs judging founds n rows guess) number (left_theirs judging segments guesses n events founds index rows guess left here there))
+    subst (λ n. Theirs judging founds n rows guess) number
+    (left_theirs judging segments guesses n events founds index rows guess left here there))
 
 -- the rows of all candidates
 abbrev all_rows : List (List RowReading) → List RowReading
 all_rows segments = flat_map (λ rows. rows) segments
 
-pub candidates_rows : {C : Type 0} (from : ℕ) (segments : List (List RowReading)) (guesses : List (State C)) (founds : List (Found (Judgement C))) → length guesses ≡ length segments → rows_through (candidates_from from segments guesses founds) ≡ all_rows segments
+pub candidates_rows : {C : Type 0} (from : ℕ) (segments : List (List RowReading)) (guesses : List (State C))
+    (founds : List (Found (Judgement C))) → length guesses ≡ length segments
+    → rows_through (candidates_from from segments guesses founds) ≡ all_rows segments
 unfolding candidates_from
 candidates_rows from [] guesses founds one_each = refl
 candidates_rows from (rows ∷ segments) [] founds one_each = absurd (omega (arith, one_each))
 candidates_rows {C = C} from (rows ∷ segments) (guess ∷ guesses) founds one_each =
-    flat_map-cons (λ (segment : Candidate C). segment.rows) (record { rows = rows; guess = guess; found = judgement_found founds from }) (candidates_from (from + 1) segments guesses founds)
+    flat_map-cons (λ (segment : Candidate C). segment.rows)
+    (record { rows = rows; guess = guess; found = found_judgement founds from })
+    (candidates_from (from + 1) segments guesses founds)
     ∙ ap (λ rest. rows ++ rest) (candidates_rows (from + 1) segments guesses founds (omega (arith, one_each)))
     ∙ sym (flat_map-cons (λ rows. rows) rows segments)
 
 -- pieces read as their lines do
-pub pieces_read : (columns : ColumnList) (pieces : List (List (List ℕ))) → all_rows (map (rows_of columns) pieces) ≡ rows_of columns (lines_through pieces)
+pub pieces_read : (columns : ColumnList) (pieces : List (List (List ℕ)))
+    → all_rows (map (rows_of columns) pieces) ≡ rows_of columns (lines_of_pieces pieces)
 pieces_read columns [] = refl
 pieces_read columns (piece ∷ pieces) =
     flat_map-cons (λ rows. rows) (rows_of columns piece) (map (rows_of columns) pieces)
     ∙ ap (λ rest. rows_of columns piece ++ rest) (pieces_read columns pieces)
-    ∙ sym (map-append (row_of_line columns) piece (lines_through pieces))
+    ∙ sym (map-append (row_of_line columns) piece (lines_of_pieces pieces))
     ∙ ap (rows_of columns) (sym (flat_map-cons (λ piece. piece) piece pieces))
 
 -- there is a guess for each segment
-pub guess_for_each : (state : HartState) (columns : ColumnList) (segments : List (List (List ℕ))) → length (guesses_of state columns segments) ≡ length segments
+pub guess_for_each : (state : HartState) (columns : ColumnList) (segments : List (List (List ℕ)))
+    → length (guesses_of state columns segments) ≡ length segments
 unfolding guesses_of
 guess_for_each state columns [] = refl
-guess_for_each state columns (lines ∷ segments) = ap suc (guess_for_each (guess_after state (rows_of columns lines)) columns segments)
+guess_for_each state columns (lines ∷ segments) =
+    ap suc (guess_for_each (guess_after state (rows_of columns lines)) columns segments)

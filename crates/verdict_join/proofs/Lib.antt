@@ -10,3 +10,5 @@ pub mod Guessed
 pub mod Lawful
 pub mod Rounds
 pub mod Coded
+pub mod Agreement
+pub mod Elsewhere

@@ -1,5 +1,6 @@
 -- Passing one segment more.
-use Rattle.std.proofs.Common.{◌≡◌, ℕ, suc, ◌+◌, ◌≤◌, true, List, [], ◌∷◌, length, Option, Some, None, Ok, Err, option_map, refl, sym, ap, ◌∙◌, subst, arith, add-one}
+use Rattle.std.proofs.Common.{◌≡◌, ℕ, suc, ◌+◌, ◌≤◌, true, List, [], ◌∷◌, length, Option, Some, None, Ok, Err}
+use Rattle.std.proofs.Common.{option_map, refl, sym, ap, ◌∙◌, subst, arith, add-one}
 use Rattle.hart_words.specs.declared.signal.Difference.{Difference}
 use Rattle.hart_words.specs.Memory.{Bytes, after_writes}
 use Rattle.rvfi_rows.specs.declared.verdict.Verdict.{Verdict}
@@ -11,17 +12,21 @@ use Rattle.hart_step.specs.declared.state.Core.{Core}
 use Rattle.hart_step.specs.Harts.{state_of}
 use Rattle.hart_step.specs.Rows.{HartState}
 use Rattle.hart_words.specs.States.{State}
-use Rattle.read_footprint.specs.Footprints.{Touched}
+use Rattle.read_footprint.specs.Footprints.{Accesses}
 use Rattle.read_footprint.specs.Sets.{has_read}
 use Rattle.segment_judge.specs.declared.judged.Judged.{Judged as JudgedSegment}
-use Rattle.segment_judge.specs.Judged.{Stands, moved_end}
-use Rattle.segment_judge.specs.Judgements.{Judgement, Judging, behind_row, by_difference, by_hart, counted_on, judgement_of, touched_by}
-use Rattle.segment_judge.specs.Laws.{bytes_behind, conclusion_from, end_from, judgement_from}
+use Rattle.segment_judge.specs.Judged.{HoldsInOtherMemories, moved_end}
+use Rattle.segment_judge.specs.Judgements.{Judgement, Judging, judgement_after_row, by_difference, by_hart}
+use Rattle.segment_judge.specs.Judgements.{verdict_after_rows, judgement_of, accesses_by}
+use Rattle.segment_judge.specs.Laws.{bytes_after_judgement, conclusion_from, end_from, judgement_from}
 use Rattle.verdict_join.specs.declared.walk.Walk.{Walk}
-use Rattle.verdict_join.specs.Walks.{Concludes, CountsOn, IsReached, IsWithinRows, LeadsTo, Passes}
+use Rattle.verdict_join.specs.Walks.{Concludes, CountsOn, IsReached, IsWithinRows, LeadsToState, PassesRows}
 
 -- what stands over each memory that agrees concludes the rows from such a state
-pub concludes : {M : Type 0} (bytes_of : M → Bytes) (guess now : HartState) (rows : List RowReading) (judged : JudgedSegment M) → guess.core ≡ now.core → ((address : ℕ) → has_read judged.footprint address ≡ true → now.bytes address ≡ guess.bytes address) → Stands bytes_of guess rows judged → Concludes bytes_of now rows judged
+pub concludes : {M : Type 0} (bytes_of : M → Bytes) (guess now : HartState) (rows : List RowReading)
+    (judged : JudgedSegment M) → guess.core ≡ now.core
+    → ((address : ℕ) → has_read judged.footprint address ≡ true → now.bytes address ≡ guess.bytes address)
+    → HoldsInOtherMemories bytes_of guess rows judged → Concludes bytes_of now rows judged
 unfolding conclusion_from
 concludes bytes_of guess now rows judged same agree stands =
     let framed = stands now.bytes agree in
@@ -33,7 +38,7 @@ concludes bytes_of guess now rows judged same agree stands =
     end_over : Core → Option HartState
     end_over core = let state : HartState = record { core = core; bytes = now.bytes } in end_from by_hart state rows
 
--- a verdict agrees just where there is a state behind it
+-- a verdict agrees just where there is a state after it
 abbrev pub EndsWhereAgrees : {C : Type 0} → Verdict → Option C → Type 0
 EndsWhereAgrees (Agrees rows valid) None = ⊥
 EndsWhereAgrees (Agrees rows valid) (Some core) = Unit {0}
@@ -42,7 +47,8 @@ EndsWhereAgrees (Differs row difference) (Some core) = ⊥
 EndsWhereAgrees (Refused row fault) None = Unit {0}
 EndsWhereAgrees (Refused row fault) (Some core) = ⊥
 
-still_ends : {C : Type 0} (rows valid : ℕ) (verdict : Verdict) (end : Option C) → EndsWhereAgrees verdict end → EndsWhereAgrees (counted_on rows valid verdict) end
+still_ends : {C : Type 0} (rows valid : ℕ) (verdict : Verdict) (end : Option C) → EndsWhereAgrees verdict end
+    → EndsWhereAgrees (verdict_after_rows rows valid verdict) end
 still_ends rows valid (Agrees n m) None is = is
 still_ends rows valid (Agrees n m) (Some core) is = is
 still_ends rows valid (Differs row difference) None is = is
@@ -50,11 +56,14 @@ still_ends rows valid (Differs row difference) (Some core) is = is
 still_ends rows valid (Refused row fault) None is = is
 still_ends rows valid (Refused row fault) (Some core) is = is
 
-ends_by_difference : {C : Type 0} (difference : Option Difference) (touched : Touched) (rest : Judgement C) → EndsWhereAgrees rest.verdict rest.end → EndsWhereAgrees (by_difference difference touched rest).verdict (by_difference difference touched rest).end
-ends_by_difference None touched rest is = still_ends 1 1 rest.verdict rest.end is
-ends_by_difference (Some difference) touched rest is = tt
+ends_by_difference : {C : Type 0} (difference : Option Difference) (accesses : Accesses) (rest : Judgement C)
+    → EndsWhereAgrees rest.verdict rest.end
+    → EndsWhereAgrees (by_difference difference accesses rest).verdict (by_difference difference accesses rest).end
+ends_by_difference None accesses rest is = still_ends 1 1 rest.verdict rest.end is
+ends_by_difference (Some difference) accesses rest is = tt
 
-pub judgement_ends : {C : Type 0} (judging : Judging C) (core : C) (rows : List RowReading) (bytes : Bytes) → EndsWhereAgrees (judgement_of judging core rows bytes).verdict (judgement_of judging core rows bytes).end
+pub judgement_ends : {C : Type 0} (judging : Judging C) (core : C) (rows : List RowReading) (bytes : Bytes)
+    → EndsWhereAgrees (judgement_of judging core rows bytes).verdict (judgement_of judging core rows bytes).end
 unfolding judgement_of
 judgement_ends judging core [] bytes = tt
 judgement_ends judging core (Err fault ∷ rows) bytes = tt
@@ -63,9 +72,12 @@ judgement_ends judging core (Ok None ∷ rows) bytes =
     still_ends 1 0 rest.verdict rest.end (judgement_ends judging core rows bytes)
 judgement_ends judging core (Ok (Some shown) ∷ rows) bytes =
     let run = (judging core shown).run bytes in
-    ends_by_difference run.value.difference (touched_by run) (judgement_of judging run.value.next rows (after_writes run.wrote bytes)) (judgement_ends judging run.value.next rows (after_writes run.wrote bytes))
+    ends_by_difference run.value.difference (accesses_by run)
+    (judgement_of judging run.value.next rows (after_writes run.wrote bytes))
+    (judgement_ends judging run.value.next rows (after_writes run.wrote bytes))
 
-mapped_ends : {A B : Type 0} (f : A → B) (verdict : Verdict) (end : Option A) → EndsWhereAgrees verdict end → EndsWhereAgrees verdict (option_map f end)
+mapped_ends : {A B : Type 0} (f : A → B) (verdict : Verdict) (end : Option A) → EndsWhereAgrees verdict end
+    → EndsWhereAgrees verdict (option_map f end)
 mapped_ends f (Agrees rows valid) None is = is
 mapped_ends f (Agrees rows valid) (Some a) is = is
 mapped_ends f (Differs row difference) None is = is
@@ -73,70 +85,105 @@ mapped_ends f (Differs row difference) (Some a) is = is
 mapped_ends f (Refused row fault) None is = is
 mapped_ends f (Refused row fault) (Some a) is = is
 
-pub conclusion_ends : {C : Type 0} (judging : Judging C) (now : State C) (rows : List RowReading) → EndsWhereAgrees (conclusion_from judging now rows).verdict (conclusion_from judging now rows).end
+pub conclusion_ends : {C : Type 0} (judging : Judging C) (now : State C) (rows : List RowReading)
+    → EndsWhereAgrees (conclusion_from judging now rows).verdict (conclusion_from judging now rows).end
 unfolding conclusion_from
 conclusion_ends judging now rows =
     let judgement = judgement_from judging now rows in
-    mapped_ends (λ core. record { core = core; bytes = bytes_behind judgement now.bytes }) judgement.verdict judgement.end (judgement_ends judging now.core rows now.bytes)
+    mapped_ends (λ core. record { core = core; bytes = bytes_after_judgement judgement now.bytes }) judgement.verdict
+    judgement.end (judgement_ends judging now.core rows now.bytes)
 
 -- rows are counted as they are
-more_within : (valid count : ℕ) (verdict : Verdict) → valid ≤ 1 → IsWithinRows count verdict → IsWithinRows (count + 1) (counted_on 1 valid verdict)
+more_within : (valid count : ℕ) (verdict : Verdict) → valid ≤ 1 → IsWithinRows count verdict
+    → IsWithinRows (count + 1) (verdict_after_rows 1 valid verdict)
 more_within valid count (Agrees n m) one within = (omega (arith, within.0), omega (arith, within.1, one))
 more_within valid count (Differs row difference) one within = omega (arith, within)
 more_within valid count (Refused row fault) one within = omega (arith, within)
 
-within_by_difference : {C : Type 0} (difference : Option Difference) (touched : Touched) (rest : Judgement C) (count : ℕ) → IsWithinRows count rest.verdict → IsWithinRows (count + 1) (by_difference difference touched rest).verdict
-within_by_difference None touched rest count within = more_within 1 count rest.verdict (omega arith) within
-within_by_difference (Some difference) touched rest count within = omega arith
+within_by_difference : {C : Type 0} (difference : Option Difference) (accesses : Accesses) (rest : Judgement C)
+    (count : ℕ) → IsWithinRows count rest.verdict
+    → IsWithinRows (count + 1) (by_difference difference accesses rest).verdict
+within_by_difference None accesses rest count within = more_within 1 count rest.verdict (omega arith) within
+within_by_difference (Some difference) accesses rest count within = omega arith
 
 one_more : (count : ℕ) (verdict : Verdict) → IsWithinRows (count + 1) verdict → IsWithinRows (suc count) verdict
 one_more count verdict within = subst (λ n. IsWithinRows n verdict) (add-one count) within
 
-judgement_within : {C : Type 0} (judging : Judging C) (core : C) (rows : List RowReading) (bytes : Bytes) → IsWithinRows (length rows) (judgement_of judging core rows bytes).verdict
+judgement_within : {C : Type 0} (judging : Judging C) (core : C) (rows : List RowReading) (bytes : Bytes)
+    → IsWithinRows (length rows) (judgement_of judging core rows bytes).verdict
 unfolding judgement_of
 judgement_within judging core [] bytes = (omega arith, omega arith)
 judgement_within judging core (Err fault ∷ rows) bytes = omega arith
-judgement_within judging core (Ok None ∷ rows) bytes = one_more (length rows) (behind_row 0 [] (judgement_of judging core rows bytes)).verdict (more_within 0 (length rows) (judgement_of judging core rows bytes).verdict (omega arith) (judgement_within judging core rows bytes))
+judgement_within judging core (Ok None ∷ rows) bytes =
+    one_more (length rows) (judgement_after_row 0 [] (judgement_of judging core rows bytes)).verdict
+    (more_within 0 (length rows) (judgement_of judging core rows bytes).verdict (omega arith)
+    (judgement_within judging core rows bytes))
 judgement_within judging core (Ok (Some shown) ∷ rows) bytes =
     let run = (judging core shown).run bytes in
     let rest = judgement_of judging run.value.next rows (after_writes run.wrote bytes) in
-    one_more (length rows) (by_difference run.value.difference (touched_by run) rest).verdict (within_by_difference run.value.difference (touched_by run) (judgement_of judging run.value.next rows (after_writes run.wrote bytes)) (length rows) (judgement_within judging run.value.next rows (after_writes run.wrote bytes)))
+    one_more (length rows) (by_difference run.value.difference (accesses_by run) rest).verdict
+    (within_by_difference run.value.difference (accesses_by run)
+    (judgement_of judging run.value.next rows (after_writes run.wrote bytes)) (length rows)
+    (judgement_within judging run.value.next rows (after_writes run.wrote bytes)))
 
-pub conclusion_within : (now : HartState) (rows : List RowReading) → IsWithinRows (length rows) (conclusion_from by_hart now rows).verdict
+pub conclusion_within : (now : HartState) (rows : List RowReading)
+    → IsWithinRows (length rows) (conclusion_from by_hart now rows).verdict
 unfolding conclusion_from
 conclusion_within now rows = judgement_within by_hart now.core rows now.bytes
 
--- the walk passes rows whose verdict it counts, and goes on from the state behind them
-leads_on : {M : Type 0} (bytes_of : M → Bytes) (now : Walk M) (state : Option HartState) (rows valid : ℕ) → EndsWhereAgrees (Agrees rows valid) state → IsReached state (state_of bytes_of now.hart) → state ≡ Some (state_of bytes_of now.hart)
+-- the walk passes rows whose verdict it counts, and goes on from the state after them
+leads_on : {M : Type 0} (bytes_of : M → Bytes) (now : Walk M) (state : Option HartState) (rows valid : ℕ)
+    → EndsWhereAgrees (Agrees rows valid) state → IsReached state (state_of bytes_of now.hart)
+    → state ≡ Some (state_of bytes_of now.hart)
 leads_on bytes_of now None rows valid ends reached = absurd ends
 leads_on bytes_of now (Some state) rows valid ends reached = ap Some (sym reached)
 
-leads_by : {M : Type 0} (bytes_of : M → Bytes) (before now : Walk M) (verdict : Verdict) (state : Option HartState) (end : Option Verdict) → EndsWhereAgrees verdict state → CountsOn before now verdict end → IsReached state (state_of bytes_of now.hart) → LeadsTo bytes_of now state end
-leads_by bytes_of before now (Agrees rows valid) state end ends counts reached = subst (LeadsTo bytes_of now state) (sym counts.0) (leads_on bytes_of now state rows valid ends reached)
-leads_by bytes_of before now (Differs row difference) None end ends counts reached = subst (LeadsTo bytes_of now None) (sym counts) refl
+leads_by : {M : Type 0} (bytes_of : M → Bytes) (before now : Walk M) (verdict : Verdict) (state : Option HartState)
+    (end : Option Verdict) → EndsWhereAgrees verdict state → CountsOn before now verdict end
+    → IsReached state (state_of bytes_of now.hart) → LeadsToState bytes_of now state end
+leads_by bytes_of before now (Agrees rows valid) state end ends counts reached =
+    subst (LeadsToState bytes_of now state) (sym counts.0) (leads_on bytes_of now state rows valid ends reached)
+leads_by bytes_of before now (Differs row difference) None end ends counts reached =
+    subst (LeadsToState bytes_of now None) (sym counts) refl
 leads_by bytes_of before now (Differs row difference) (Some state) end ends counts reached = absurd ends
-leads_by bytes_of before now (Refused row fault) None end ends counts reached = subst (LeadsTo bytes_of now None) (sym counts) refl
+leads_by bytes_of before now (Refused row fault) None end ends counts reached =
+    subst (LeadsToState bytes_of now None) (sym counts) refl
 leads_by bytes_of before now (Refused row fault) (Some state) end ends counts reached = absurd ends
 
 -- counting alone looks at no hart
-counts_from : {M : Type 0} (first before now : Walk M) (verdict : Verdict) (end : Option Verdict) → before.rows ≡ first.rows → before.valid ≡ first.valid → CountsOn before now verdict end → CountsOn first now verdict end
+counts_from : {M : Type 0} (first before now : Walk M) (verdict : Verdict) (end : Option Verdict)
+    → before.rows ≡ first.rows → before.valid ≡ first.valid → CountsOn before now verdict end
+    → CountsOn first now verdict end
 counts_from first before now (Agrees rows valid) end same_rows same_valid counts =
     (counts.0, (counts.1.0 ∙ ap (λ n. n + rows) same_rows, counts.1.1 ∙ ap (λ n. n + valid) same_valid))
-counts_from first before now (Differs row difference) end same_rows same_valid counts = counts ∙ ap (λ n. Some (Differs (n + row) difference)) same_rows
-counts_from first before now (Refused row fault) end same_rows same_valid counts = counts ∙ ap (λ n. Some (Refused (n + row) fault)) same_rows
+counts_from first before now (Differs row difference) end same_rows same_valid counts =
+    counts ∙ ap (λ n. Some (Differs (n + row) difference)) same_rows
+counts_from first before now (Refused row fault) end same_rows same_valid counts =
+    counts ∙ ap (λ n. Some (Refused (n + row) fault)) same_rows
 
-pub passes_by : {M : Type 0} (bytes_of : M → Bytes) (first before now : Walk M) (rows : List RowReading) (verdict : Verdict) (state : Option HartState) (end : Option Verdict) → verdict ≡ (conclusion_from by_hart (state_of bytes_of first.hart) rows).verdict → (conclusion_from by_hart (state_of bytes_of first.hart) rows).end ≡ state → before.rows ≡ first.rows → before.valid ≡ first.valid → CountsOn before now verdict end → now.hart ≡ before.hart → IsReached state (state_of bytes_of before.hart) → Passes bytes_of first now rows end
+pub passes_by : {M : Type 0} (bytes_of : M → Bytes) (first before now : Walk M) (rows : List RowReading)
+    (verdict : Verdict) (state : Option HartState) (end : Option Verdict)
+    → verdict ≡ (conclusion_from by_hart (state_of bytes_of first.hart) rows).verdict
+    → (conclusion_from by_hart (state_of bytes_of first.hart) rows).end ≡ state → before.rows ≡ first.rows
+    → before.valid ≡ first.valid → CountsOn before now verdict end → now.hart ≡ before.hart
+    → IsReached state (state_of bytes_of before.hart) → PassesRows bytes_of first now rows end
 passes_by bytes_of first before now rows verdict state end is ends same_rows same_valid counts same_hart reached =
     let conclusion = conclusion_from by_hart (state_of bytes_of first.hart) rows in
-    let counted = subst (λ verdict. CountsOn first now verdict end) is (counts_from first before now verdict end same_rows same_valid counts) in
-    let here : IsReached state (state_of bytes_of now.hart) = subst (λ hart. IsReached state (state_of bytes_of hart)) (sym same_hart) reached in
-    let there : IsReached conclusion.end (state_of bytes_of now.hart) = subst (λ state. IsReached state (state_of bytes_of now.hart)) (sym ends) here in
+    let counted =
+    subst (λ verdict. CountsOn first now verdict end) is
+    (counts_from first before now verdict end same_rows same_valid counts) in
+    let here : IsReached state (state_of bytes_of now.hart) =
+    subst (λ hart. IsReached state (state_of bytes_of hart)) (sym same_hart) reached in
+    let there : IsReached conclusion.end (state_of bytes_of now.hart) =
+    subst (λ state. IsReached state (state_of bytes_of now.hart)) (sym ends) here in
     record {
       counts = counted;
-      leads = leads_by bytes_of first now conclusion.verdict conclusion.end end (conclusion_ends by_hart (state_of bytes_of first.hart) rows) counted there;
+      leads =
+          leads_by bytes_of first now conclusion.verdict conclusion.end end
+          (conclusion_ends by_hart (state_of bytes_of first.hart) rows) counted there;
     }
 
--- a state behind rows, where there is none, and where there is one
+-- a state after rows, where there is none, and where there is one
 pub reached_none : (end : Option HartState) (now : HartState) → end ≡ None → IsReached end now
 reached_none None now is = tt
 reached_none (Some state) now is = cc
@@ -145,15 +192,19 @@ pub reached_some : (end : Option HartState) (state now : HartState) → end ≡ 
 reached_some None state now is same = cc
 reached_some (Some other) state now is same = let equal : other ≡ state = cc in same ∙ sym equal
 
-fewer_within : (count more : ℕ) (verdict : Verdict) → count ≤ more → IsWithinRows count verdict → IsWithinRows more verdict
+fewer_within : (count more : ℕ) (verdict : Verdict) → count ≤ more → IsWithinRows count verdict
+    → IsWithinRows more verdict
 fewer_within count more (Agrees rows valid) fewer within = (omega (arith, fewer, within.0), within.1)
 fewer_within count more (Differs row difference) fewer within = omega (arith, fewer, within)
 fewer_within count more (Refused row fault) fewer within = omega (arith, fewer, within)
 
 -- the verdict on lines counts no more rows than there are lines
-pub lines_within : (now : HartState) (columns : ColumnList) (lines : List (List ℕ)) (verdict : Verdict) → verdict ≡ (conclusion_from by_hart now (rows_of columns lines)).verdict → IsWithinRows (length lines) verdict
+pub lines_within : (now : HartState) (columns : ColumnList) (lines : List (List ℕ)) (verdict : Verdict)
+    → verdict ≡ (conclusion_from by_hart now (rows_of columns lines)).verdict → IsWithinRows (length lines) verdict
 lines_within now columns lines verdict is =
-    subst (λ n. IsWithinRows n verdict) (length-map lines (row_of_line columns)) (subst (IsWithinRows (length (rows_of columns lines))) (sym is) (conclusion_within now (rows_of columns lines)))
+    subst (λ n. IsWithinRows n verdict) (length-map lines (row_of_line columns))
+    (subst (IsWithinRows (length (rows_of columns lines))) (sym is) (conclusion_within now (rows_of columns lines)))
 
-pub few_within : (count more : ℕ) (verdict : Verdict) → IsWithinRows count verdict → count ≤ more → IsWithinRows more verdict
+pub few_within : (count more : ℕ) (verdict : Verdict) → IsWithinRows count verdict → count ≤ more
+    → IsWithinRows more verdict
 few_within count more verdict within fewer = fewer_within count more verdict fewer within

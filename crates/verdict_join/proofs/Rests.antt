@@ -1,4 +1,4 @@
--- The rest of a join or of a round behind one segment more.
+-- The rest of a join or of a round after one segment more.
 use Rattle.std.proofs.Common.{◌≡◌, ℕ, ◌+◌, Bool, List, [], ◌∷◌, Option, Some, None, refl, sym, ◌∙◌, subst, arith}
 use Rattle.hart_words.specs.Memory.{Bytes}
 use Rattle.rvfi_rows.specs.declared.verdict.Verdict.{Verdict}
@@ -6,37 +6,53 @@ use Rattle.rvfi_rows.specs.declared.verdict.Verdict.TheVariants.{Agrees, Differs
 use Rattle.hart_step.specs.declared.state.Core.{Core}
 use Rattle.hart_step.specs.Harts.{state_of}
 use Rattle.hart_step.specs.Rows.{HartState}
-use Rattle.segment_judge.specs.Judgements.{by_hart, counted_on}
-use Rattle.segment_judge.specs.Laws.{conclusion_from, verdict_behind}
+use Rattle.segment_judge.specs.Judgements.{by_hart, verdict_after_rows}
+use Rattle.segment_judge.specs.Laws.{conclusion_from, verdict_of_both}
 use Rattle.segment_judge.proofs.Parts.{counted_twice, uncounted}
 use Rattle.verdict_join.specs.declared.walk.Walk.{Walk}
 use Rattle.verdict_join.specs.Joining.{round_of}
-use Rattle.verdict_join.specs.Joins.{Candidate, Joined, Sameness, adopted, joined_by, nothing_from, walk}
-use Rattle.verdict_join.specs.Laws.{IsLawful, TellsApart, miss}
-use Rattle.verdict_join.specs.Walks.{CountsOn, IsRest, Passes}
+use Rattle.verdict_join.specs.Joins.{Candidate, Joined, Sameness, adopted_judgement, joined_by, nothing_from, walk}
+use Rattle.verdict_join.specs.Laws.{IsLawfulCandidate, TellsApart, miss}
+use Rattle.verdict_join.specs.Walks.{CountsOn, IsRest, PassesRows}
 use Rattle.verdict_join.proofs.Walks.{behind_segment, walked_segment_once}
 
--- what is left behind a segment
-abbrev pub left_behind : Sameness Core → Bool → Candidate Core → List (Candidate Core) → HartState → HartState → Joined Core
-left_behind same once candidate later now behind =
-    behind_segment once (adopted same candidate now) (λ behind. walk by_hart same once later behind) behind
+-- what is left after a segment
+abbrev pub left_behind : Sameness Core → Bool → Candidate Core → List (Candidate Core) → HartState → HartState
+    → Joined Core
+left_behind same once candidate later now following =
+    behind_segment once (adopted_judgement same candidate now) (λ following. walk by_hart same once later following)
+    following
 
--- the walk over a segment and those behind it
-one_and_rest : (same : Sameness Core) → TellsApart same → (once : Bool) (candidate : Candidate Core) (later : List (Candidate Core)) (now : HartState) → IsLawful by_hart candidate → walk by_hart same once (candidate ∷ later) now ≡ joined_by (conclusion_from by_hart now candidate.rows).end (conclusion_from by_hart now candidate.rows).verdict (miss (adopted same candidate now)) (left_behind same once candidate later now)
+-- the walk over a segment and those after it
+one_and_rest : (same : Sameness Core) → TellsApart same
+    → (once : Bool) (candidate : Candidate Core) (later : List (Candidate Core)) (now : HartState)
+    → IsLawfulCandidate by_hart candidate
+    → walk by_hart same once (candidate ∷ later) now
+    ≡ joined_by (conclusion_from by_hart now candidate.rows).end (conclusion_from by_hart now candidate.rows).verdict
+    (miss (adopted_judgement same candidate now)) (left_behind same once candidate later now)
 unfolding walk
-one_and_rest same tells once candidate later now lawful = walked_segment_once by_hart same once candidate now (λ behind. walk by_hart same once later behind) tells lawful
+one_and_rest same tells once candidate later now lawful =
+    walked_segment_once by_hart same once candidate now (λ following. walk by_hart same once later following) tells
+    lawful
 
-counts_rest : {M : Type 0} (before now : Walk M) (verdict rest : Verdict) → CountsOn before now verdict None → counted_on before.rows before.valid (verdict_behind verdict rest) ≡ counted_on now.rows now.valid rest
+counts_rest : {M : Type 0} (before now : Walk M) (verdict rest : Verdict) → CountsOn before now verdict None
+    → verdict_after_rows before.rows before.valid (verdict_of_both verdict rest)
+    ≡ verdict_after_rows now.rows now.valid rest
 counts_rest before now (Agrees rows valid) rest counts =
     counted_twice before.rows before.valid rows valid rest ∙ rw (counts.1.0, counts.1.1) refl
 counts_rest before now (Differs row difference) rest counts = cc
 counts_rest before now (Refused row fault) rest counts = cc
 
 -- the walk goes on
-goes_on : {M : Type 0} (bytes_of : M → Bytes) (before now : Walk M) (walked : ℕ) (verdict : Verdict) (end : Option HartState) (again : ℕ) (next : HartState → Joined Core) (whole : Joined Core) → CountsOn before now verdict None → end ≡ Some (state_of bytes_of now.hart) → now.rejudged ≡ before.rejudged + again → IsRest before walked (joined_by end verdict again next) whole → IsRest now (walked + 1) (next (state_of bytes_of now.hart)) whole
+goes_on : {M : Type 0} (bytes_of : M → Bytes) (before now : Walk M) (walked : ℕ) (verdict : Verdict)
+    (end : Option HartState) (again : ℕ) (next : HartState → Joined Core) (whole : Joined Core)
+    → CountsOn before now verdict None → end ≡ Some (state_of bytes_of now.hart)
+    → now.rejudged ≡ before.rejudged + again → IsRest before walked (joined_by end verdict again next) whole
+    → IsRest now (walked + 1) (next (state_of bytes_of now.hart)) whole
 goes_on bytes_of before now walked verdict end again next whole counts leads misses so_far =
     let state = state_of bytes_of now.hart in
-    let here : IsRest before walked (joined_by (Some state) verdict again next) whole = subst (λ end. IsRest before walked (joined_by end verdict again next) whole) leads so_far in
+    let here : IsRest before walked (joined_by (Some state) verdict again next) whole =
+    subst (λ end. IsRest before walked (joined_by end verdict again next) whole) leads so_far in
     let count : before.rejudged + (again + (next state).rejudged) ≡ whole.rejudged = here.rejudged in
     let settled : walked + (1 + (next state).settled) ≡ whole.settled = here.settled in
     record {
@@ -46,39 +62,65 @@ goes_on bytes_of before now walked verdict end again next whole counts leads mis
       rejudged = omega (arith, misses, count);
     }
 
-counts_end : {M : Type 0} (before now : Walk M) (verdict end : Verdict) → CountsOn before now verdict (Some end) → counted_on before.rows before.valid verdict ≡ end
+counts_end : {M : Type 0} (before now : Walk M) (verdict end : Verdict) → CountsOn before now verdict (Some end)
+    → verdict_after_rows before.rows before.valid verdict ≡ end
 counts_end before now (Agrees rows valid) end counts = cc
 counts_end before now (Differs row difference) end counts = cc
 counts_end before now (Refused row fault) end counts = cc
 
-same_join : (one other : Joined Core) → one.verdict ≡ other.verdict → one.end ≡ other.end → one.settled ≡ other.settled → one.rejudged ≡ other.rejudged → one ≡ other
+same_join : (one other : Joined Core) → one.verdict ≡ other.verdict → one.end ≡ other.end
+    → one.settled ≡ other.settled → one.rejudged ≡ other.rejudged → one ≡ other
 same_join one other verdict end settled rejudged =
-    let whole : record { verdict = one.verdict; end = one.end; settled = one.settled; rejudged = one.rejudged } ≡ record { verdict = other.verdict; end = other.end; settled = other.settled; rejudged = other.rejudged } = rw (verdict, end, settled, rejudged) refl in
+    let whole : record { verdict = one.verdict; end = one.end; settled = one.settled; rejudged = one.rejudged }
+    ≡ record { verdict = other.verdict; end = other.end; settled = other.settled; rejudged = other.rejudged } =
+    rw (verdict, end, settled, rejudged) refl in
     whole
 
 -- or ends
-ends_so : {M : Type 0} (bytes_of : M → Bytes) (before now : Walk M) (walked : ℕ) (verdict last : Verdict) (end : Option HartState) (again : ℕ) (next : HartState → Joined Core) (whole : Joined Core) → CountsOn before now verdict (Some last) → end ≡ None → now.rejudged ≡ before.rejudged + again → IsRest before walked (joined_by end verdict again next) whole → round_of bytes_of (record { verdict = last; end = None; settled = walked + 1; rejudged = now.rejudged }) ≡ whole
+ends_so : {M : Type 0} (bytes_of : M → Bytes) (before now : Walk M) (walked : ℕ) (verdict last : Verdict)
+    (end : Option HartState) (again : ℕ) (next : HartState → Joined Core) (whole : Joined Core)
+    → CountsOn before now verdict (Some last) → end ≡ None → now.rejudged ≡ before.rejudged + again
+    → IsRest before walked (joined_by end verdict again next) whole
+    → round_of bytes_of (record { verdict = last; end = None; settled = walked + 1; rejudged = now.rejudged }) ≡ whole
 ends_so bytes_of before now walked verdict last end again next whole counts leads misses so_far =
-    let here : IsRest before walked (joined_by None verdict again next) whole = subst (λ end. IsRest before walked (joined_by end verdict again next) whole) leads so_far in
-    same_join _ whole (sym (counts_end before now verdict last counts) ∙ here.verdict) here.end here.settled (misses ∙ here.rejudged)
+    let here : IsRest before walked (joined_by None verdict again next) whole =
+    subst (λ end. IsRest before walked (joined_by end verdict again next) whole) leads so_far in
+    same_join _ whole (sym (counts_end before now verdict last counts) ∙ here.verdict) here.end here.settled
+    (misses ∙ here.rejudged)
 
 -- one segment more
-pub turn_on : {M : Type 0} (bytes_of : M → Bytes) (same : Sameness Core) → TellsApart same → (once : Bool) (before now : Walk M) (walked : ℕ) (candidate : Candidate Core) (later : List (Candidate Core)) (whole : Joined Core) → IsLawful by_hart candidate → now.rejudged ≡ before.rejudged + miss (adopted same candidate (state_of bytes_of before.hart)) → Passes bytes_of before now candidate.rows None → IsRest before walked (walk by_hart same once (candidate ∷ later) (state_of bytes_of before.hart)) whole → IsRest now (walked + 1) (left_behind same once candidate later (state_of bytes_of before.hart) (state_of bytes_of now.hart)) whole
+pub turn_on : {M : Type 0} (bytes_of : M → Bytes) (same : Sameness Core) → TellsApart same
+    → (once : Bool) (before now : Walk M) (walked : ℕ) (candidate : Candidate Core) (later : List (Candidate Core))
+    (whole : Joined Core) → IsLawfulCandidate by_hart candidate
+    → now.rejudged ≡ before.rejudged + miss (adopted_judgement same candidate (state_of bytes_of before.hart))
+    → PassesRows bytes_of before now candidate.rows None
+    → IsRest before walked (walk by_hart same once (candidate ∷ later) (state_of bytes_of before.hart)) whole
+    → IsRest now (walked + 1)
+    (left_behind same once candidate later (state_of bytes_of before.hart) (state_of bytes_of now.hart)) whole
 turn_on bytes_of same tells once before now walked candidate later whole lawful misses passes so_far =
     let state = state_of bytes_of before.hart in
     let first = conclusion_from by_hart state candidate.rows in
-    goes_on bytes_of before now walked first.verdict first.end (miss (adopted same candidate state)) (left_behind same once candidate later state) whole passes.counts passes.leads misses
+    goes_on bytes_of before now walked first.verdict first.end (miss (adopted_judgement same candidate state))
+    (left_behind same once candidate later state) whole passes.counts passes.leads misses
     (subst (λ rest. IsRest before walked rest whole) (one_and_rest same tells once candidate later state lawful) so_far)
 
-pub turn_ends : {M : Type 0} (bytes_of : M → Bytes) (same : Sameness Core) → TellsApart same → (once : Bool) (before now : Walk M) (walked : ℕ) (candidate : Candidate Core) (later : List (Candidate Core)) (whole : Joined Core) (last : Verdict) → IsLawful by_hart candidate → now.rejudged ≡ before.rejudged + miss (adopted same candidate (state_of bytes_of before.hart)) → Passes bytes_of before now candidate.rows (Some last) → IsRest before walked (walk by_hart same once (candidate ∷ later) (state_of bytes_of before.hart)) whole → round_of bytes_of (record { verdict = last; end = None; settled = walked + 1; rejudged = now.rejudged }) ≡ whole
+pub turn_ends : {M : Type 0} (bytes_of : M → Bytes) (same : Sameness Core) → TellsApart same
+    → (once : Bool) (before now : Walk M) (walked : ℕ) (candidate : Candidate Core) (later : List (Candidate Core))
+    (whole : Joined Core) (last : Verdict) → IsLawfulCandidate by_hart candidate
+    → now.rejudged ≡ before.rejudged + miss (adopted_judgement same candidate (state_of bytes_of before.hart))
+    → PassesRows bytes_of before now candidate.rows (Some last)
+    → IsRest before walked (walk by_hart same once (candidate ∷ later) (state_of bytes_of before.hart)) whole
+    → round_of bytes_of (record { verdict = last; end = None; settled = walked + 1; rejudged = now.rejudged }) ≡ whole
 turn_ends bytes_of same tells once before now walked candidate later whole last lawful misses passes so_far =
     let state = state_of bytes_of before.hart in
     let first = conclusion_from by_hart state candidate.rows in
-    ends_so bytes_of before now walked first.verdict last first.end (miss (adopted same candidate state)) (left_behind same once candidate later state) whole passes.counts passes.leads misses
+    ends_so bytes_of before now walked first.verdict last first.end (miss (adopted_judgement same candidate state))
+    (left_behind same once candidate later state) whole passes.counts passes.leads misses
     (subst (λ rest. IsRest before walked rest whole) (one_and_rest same tells once candidate later state lawful) so_far)
 
 -- nothing was walked yet
-pub rest_begins : {M : Type 0} (begun : Walk M) (whole : Joined Core) → begun.rows ≡ 0 → begun.valid ≡ 0 → begun.rejudged ≡ 0 → IsRest begun 0 whole whole
+pub rest_begins : {M : Type 0} (begun : Walk M) (whole : Joined Core) → begun.rows ≡ 0 → begun.valid ≡ 0
+    → begun.rejudged ≡ 0 → IsRest begun 0 whole whole
 rest_begins begun whole rows valid again = record {
   verdict = rw (rows, valid) (uncounted whole.verdict);
   end = refl;
@@ -87,7 +129,11 @@ rest_begins begun whole rows valid again = record {
 }
 
 -- nothing is left
-pub nothing_left : {M : Type 0} (bytes_of : M → Bytes) (now : Walk M) (walked : ℕ) (whole : Joined Core) → IsRest now walked (nothing_from (state_of bytes_of now.hart)) whole → round_of bytes_of (record { verdict = Agrees now.rows now.valid; end = Some now.hart; settled = walked; rejudged = now.rejudged }) ≡ whole
+pub nothing_left : {M : Type 0} (bytes_of : M → Bytes) (now : Walk M) (walked : ℕ) (whole : Joined Core)
+    → IsRest now walked (nothing_from (state_of bytes_of now.hart)) whole
+    → round_of bytes_of
+    (record { verdict = Agrees now.rows now.valid; end = Some now.hart; settled = walked; rejudged = now.rejudged })
+    ≡ whole
 nothing_left bytes_of now walked whole here =
     let rows : now.rows + 0 ≡ now.rows = omega arith in
     let valid : now.valid + 0 ≡ now.valid = omega arith in
@@ -97,11 +143,37 @@ nothing_left bytes_of now walked whole here =
     same_join _ whole (rw (rows, valid) at verdict) here.end (omega (arith, settled)) (omega (arith, again))
 
 -- no segment is left
-pub rest_ends : {M : Type 0} (bytes_of : M → Bytes) (same : Sameness Core) (once : Bool) (walked : Walk M) (count : ℕ) (left : List (Candidate Core)) (whole : Joined Core) → left ≡ [] → IsRest walked count (walk by_hart same once left (state_of bytes_of walked.hart)) whole → round_of bytes_of (record { verdict = Agrees walked.rows walked.valid; end = Some walked.hart; settled = count; rejudged = walked.rejudged }) ≡ whole
+pub rest_ends : {M : Type 0} (bytes_of : M → Bytes) (same : Sameness Core) (once : Bool) (walked : Walk M) (count : ℕ)
+    (left : List (Candidate Core)) (whole : Joined Core) → left ≡ []
+    → IsRest walked count (walk by_hart same once left (state_of bytes_of walked.hart)) whole
+    → round_of bytes_of
+    (record {
+      verdict =
+          Agrees walked.rows walked.valid;
+      end = Some walked.hart;
+      settled = count;
+      rejudged = walked.rejudged;
+    }) ≡ whole
 unfolding walk
 rest_ends bytes_of same once walked count left whole none so_far =
-    nothing_left bytes_of walked count whole (subst (λ left. IsRest walked count (walk by_hart same once left (state_of bytes_of walked.hart)) whole) none so_far)
+    nothing_left bytes_of walked count whole
+    (subst (λ left. IsRest walked count (walk by_hart same once left (state_of bytes_of walked.hart)) whole) none
+    so_far)
 
-pub settled_is : {M : Type 0} (bytes_of : M → Bytes) (now : Walk M) (count other : ℕ) (whole : Joined Core) → count ≡ other → round_of bytes_of (record { verdict = Agrees now.rows now.valid; end = Some now.hart; settled = count; rejudged = now.rejudged }) ≡ whole → round_of bytes_of (record { verdict = Agrees now.rows now.valid; end = Some now.hart; settled = other; rejudged = now.rejudged }) ≡ whole
+pub settled_is : {M : Type 0} (bytes_of : M → Bytes) (now : Walk M) (count other : ℕ) (whole : Joined Core)
+    → count ≡ other
+    → round_of bytes_of
+    (record { verdict = Agrees now.rows now.valid; end = Some now.hart; settled = count; rejudged = now.rejudged })
+    ≡ whole → round_of bytes_of (record {
+      verdict = Agrees now.rows now.valid;
+      end = Some now.hart;
+      settled =
+          other;
+      rejudged = now.rejudged;
+    }) ≡ whole
 settled_is bytes_of now count other whole same is =
-    subst (λ settled. round_of bytes_of (record { verdict = Agrees now.rows now.valid; end = Some now.hart; settled = settled; rejudged = now.rejudged }) ≡ whole) same is
+    subst
+    (λ settled. round_of bytes_of
+    (record
+    { verdict = Agrees now.rows now.valid; end = Some now.hart; settled = settled; rejudged = now.rejudged })
+    ≡ whole) same is

@@ -25,8 +25,15 @@ abbrev Test : Type 0 → Type 0
 Test A = (one other : A) → Tested one other
 
 -- equal just where two parts are
-both : {A B C : Type 0} {a a' : A} {b b' : B} {c c' : C} → Tested a a' → Tested b b' → (a ≡ a' → b ≡ b' → c ≡ c') → (c ≡ c' → (a ≡ a') × (b ≡ b')) → Tested c c'
-both first second made parts = (first.0 && second.0, (λ is. made (first.1.0 (and_parts _ _ is).0) (second.1.0 (and_parts _ _ is).1), λ same. and_from _ _ (first.1.1 (parts same).0) (second.1.1 (parts same).1)))
+both : {A B C : Type 0} {a a' : A} {b b' : B} {c c' : C} → Tested a a' → Tested b b' → (a ≡ a' → b ≡ b' → c ≡ c')
+    → (c ≡ c' → (a ≡ a') × (b ≡ b')) → Tested c c'
+both first second made parts = (
+  first.0 && second.0,
+  (
+    λ is. made (first.1.0 (and_parts _ _ is).0) (second.1.0 (and_parts _ _ is).1),
+    λ same. and_from _ _ (first.1.1 (parts same).0) (second.1.1 (parts same).1),
+  ),
+)
 
 -- or where one part is
 only : {A C : Type 0} {a a' : A} {c c' : C} → Tested a a' → (a ≡ a' → c ≡ c') → (c ≡ c' → a ≡ a') → Tested c c'
@@ -51,13 +58,16 @@ list_test : {A : Type 0} → Test A → Test (List A)
 list_test test [] [] = (true, (λ is. refl, λ same. refl))
 list_test test [] (y ∷ ys) = (false, (λ is. cc, λ same. cc))
 list_test test (x ∷ xs) [] = (false, (λ is. cc, λ same. cc))
-list_test test (x ∷ xs) (y ∷ ys) = both (test x y) (list_test test xs ys) (λ first rest. rw (first, rest) refl) (λ same. (cc, cc))
+list_test test (x ∷ xs) (y ∷ ys) =
+    both (test x y) (list_test test xs ys) (λ first rest. rw (first, rest) refl) (λ same. (cc, cc))
 
 abbrev registers_with : List ℕ → Registers
 registers_with values = record { values = values }
 
 registers_test : Test Registers
-registers_test one other = only (list_test number_test one.values other.values) (ap registers_with) (ap (λ (registers : Registers). registers.values))
+registers_test one other =
+    only (list_test number_test one.values other.values) (ap registers_with)
+    (ap (λ (registers : Registers). registers.values))
 
 mode_test : Test Mode
 mode_test User User = (true, (λ is. refl, λ same. refl))
@@ -74,42 +84,66 @@ abbrev entry_with : ℕ → ℕ → PmpEntry
 entry_with cfg addr = record { cfg = cfg; addr = addr }
 
 same_entry : (one other : PmpEntry) → one.cfg ≡ other.cfg → one.addr ≡ other.addr → one ≡ other
-same_entry one other cfg addr = let equal : entry_with one.cfg one.addr ≡ entry_with other.cfg other.addr = rw (cfg, addr) refl in equal
+same_entry one other cfg addr =
+    let equal : entry_with one.cfg one.addr ≡ entry_with other.cfg other.addr = rw (cfg, addr) refl in equal
 
 entry_test : Test PmpEntry
-entry_test one other = both (number_test one.cfg other.cfg) (number_test one.addr other.addr) (same_entry one other) (λ same. (ap (λ (entry : PmpEntry). entry.cfg) same, ap (λ (entry : PmpEntry). entry.addr) same))
+entry_test one other =
+    both (number_test one.cfg other.cfg) (number_test one.addr other.addr) (same_entry one other)
+    (λ same. (ap (λ (entry : PmpEntry). entry.cfg) same, ap (λ (entry : PmpEntry). entry.addr) same))
 
 abbrev csrs_with : List ℕ → List PmpEntry → Csrs
 csrs_with values entries = record { values = values; entries = entries }
 
 same_csrs : (one other : Csrs) → one.values ≡ other.values → one.entries ≡ other.entries → one ≡ other
-same_csrs one other values entries = let equal : csrs_with one.values one.entries ≡ csrs_with other.values other.entries = rw (values, entries) refl in equal
+same_csrs one other values entries =
+    let equal : csrs_with one.values one.entries ≡ csrs_with other.values other.entries = rw (values, entries) refl in
+    equal
 
 csrs_test : Test Csrs
-csrs_test one other = both (list_test number_test one.values other.values) (list_test entry_test one.entries other.entries) (same_csrs one other) (λ same. (ap (λ (csrs : Csrs). csrs.values) same, ap (λ (csrs : Csrs). csrs.entries) same))
+csrs_test one other =
+    both (list_test number_test one.values other.values) (list_test entry_test one.entries other.entries)
+    (same_csrs one other) (λ same. (ap (λ (csrs : Csrs). csrs.values) same, ap (λ (csrs : Csrs). csrs.entries) same))
 
 abbrev reservation_with : Option ℕ → Reservation
 reservation_with block = record { block = block }
 
 reservation_test : Test Reservation
-reservation_test one other = only (option_test number_test one.block other.block) (ap reservation_with) (ap (λ (reservation : Reservation). reservation.block))
+reservation_test one other =
+    only (option_test number_test one.block other.block) (ap reservation_with)
+    (ap (λ (reservation : Reservation). reservation.block))
 
 span_test : Test Span
-span_test one other = both (number_test one.base other.base) (number_test one.size other.size) (same_span one other) (λ same. (ap (λ (span : Span). span.base) same, ap (λ (span : Span). span.size) same))
+span_test one other =
+    both (number_test one.base other.base) (number_test one.size other.size) (same_span one other)
+    (λ same. (ap (λ (span : Span). span.base) same, ap (λ (span : Span). span.size) same))
 
 map_test : Test Map
-map_test one other = both (span_test one.ram other.ram) (option_test span_test one.io other.io) (same_map one other) (λ same. (ap (λ (map : Map). map.ram) same, ap (λ (map : Map). map.io) same))
+map_test one other =
+    both (span_test one.ram other.ram) (option_test span_test one.io other.io) (same_map one other)
+    (λ same. (ap (λ (map : Map). map.ram) same, ap (λ (map : Map). map.io) same))
 
 -- the parts of a core, two by two
 abbrev FirstParts : Core → Core → Type 0
-FirstParts one other = (one.registers ≡ other.registers) × ((one.pc ≡ other.pc) × ((one.mode ≡ other.mode) × (one.csrs ≡ other.csrs)))
+FirstParts one other =
+    (one.registers ≡ other.registers) × ((one.pc ≡ other.pc) × ((one.mode ≡ other.mode) × (one.csrs ≡ other.csrs)))
 
 abbrev LastParts : Core → Core → Type 0
-LastParts one other = (one.reservation ≡ other.reservation) × ((one.next_order ≡ other.next_order) × ((one.trapped_last ≡ other.trapped_last) × ((one.halted ≡ other.halted) × (one.map ≡ other.map))))
+LastParts one other =
+    (one.reservation ≡ other.reservation)
+    × ((one.next_order ≡ other.next_order)
+    × ((one.trapped_last ≡ other.trapped_last) × ((one.halted ≡ other.halted) × (one.map ≡ other.map))))
 
 -- two statements are both true, by tests of each
-paired : {P Q : Type 0} → ((test : Bool) × Decides test P) → ((test : Bool) × Decides test Q) → (test : Bool) × Decides test (P × Q)
-paired first second = (first.0 && second.0, (λ is. (first.1.0 (and_parts _ _ is).0, second.1.0 (and_parts _ _ is).1), λ both. and_from _ _ (first.1.1 both.0) (second.1.1 both.1)))
+paired : {P Q : Type 0} → ((test : Bool) × Decides test P) → ((test : Bool) × Decides test Q)
+    → (test : Bool) × Decides test (P × Q)
+paired first second = (
+  first.0 && second.0,
+  (
+    λ is. (first.1.0 (and_parts _ _ is).0, second.1.0 (and_parts _ _ is).1),
+    λ both. and_from _ _ (first.1.1 both.0) (second.1.1 both.1),
+  ),
+)
 
 abbrev core_with : Core → Registers → ℕ → Mode → Csrs → Map → Core
 core_with core registers pc mode csrs map = record {
@@ -126,21 +160,44 @@ core_with core registers pc mode csrs map = record {
 
 same_core : (one other : Core) → FirstParts one other → LastParts one other → one ≡ other
 same_core one other first last =
-    let equal : core_with one one.registers one.pc one.mode one.csrs one.map ≡ core_with other other.registers other.pc other.mode other.csrs other.map =
+    let equal : core_with one one.registers one.pc one.mode one.csrs one.map
+    ≡ core_with other other.registers other.pc other.mode other.csrs other.map =
     rw (first.0, first.1.0, first.1.1.0, first.1.1.1, last.0, last.1.0, last.1.1.0, last.1.1.1.0, last.1.1.1.1) refl in
     equal
 
 core_test : Test Core
 core_test one other =
-    let first = paired (registers_test one.registers other.registers) (paired (number_test one.pc other.pc) (paired (mode_test one.mode other.mode) (csrs_test one.csrs other.csrs))) in
-    let last = paired (reservation_test one.reservation other.reservation) (paired (option_test number_test one.next_order other.next_order) (paired (bool_test one.trapped_last other.trapped_last) (paired (bool_test one.halted other.halted) (map_test one.map other.map)))) in
+    let first =
+    paired (registers_test one.registers other.registers)
+    (paired (number_test one.pc other.pc)
+    (paired (mode_test one.mode other.mode) (csrs_test one.csrs other.csrs))) in
+    let last =
+    paired (reservation_test one.reservation other.reservation)
+    (paired (option_test number_test one.next_order other.next_order)
+    (paired (bool_test one.trapped_last other.trapped_last)
+    (paired (bool_test one.halted other.halted) (map_test one.map other.map)))) in
     let all = paired first last in
     (all.0, (λ is. let parts = all.1.0 is in same_core one other parts.0 parts.1, λ same. all.1.1 (parts_of same)))
   where
     parts_of : one ≡ other → FirstParts one other × LastParts one other
     parts_of same = (
-      (ap (λ (core : Core). core.registers) same, (ap (λ (core : Core). core.pc) same, (ap (λ (core : Core). core.mode) same, ap (λ (core : Core). core.csrs) same))),
-      (ap (λ (core : Core). core.reservation) same, (ap (λ (core : Core). core.next_order) same, (ap (λ (core : Core). core.trapped_last) same, (ap (λ (core : Core). core.halted) same, ap (λ (core : Core). core.map) same)))),
+      (
+        ap (λ (core : Core). core.registers) same,
+        (
+          ap (λ (core : Core). core.pc) same,
+          (ap (λ (core : Core). core.mode) same, ap (λ (core : Core). core.csrs) same),
+        ),
+      ),
+      (
+        ap (λ (core : Core). core.reservation) same,
+        (
+          ap (λ (core : Core). core.next_order) same,
+          (
+            ap (λ (core : Core). core.trapped_last) same,
+            (ap (λ (core : Core). core.halted) same, ap (λ (core : Core). core.map) same),
+          ),
+        ),
+      ),
     )
 
 pub core_sameness : Sameness Core

@@ -5,16 +5,17 @@ use Rattle.rvfi_rows.specs.Rows.{rows_of}
 use Rattle.hart_step.specs.declared.state.Core.{Core}
 use Rattle.hart_step.specs.Cores.{IsSound}
 use Rattle.hart_step.specs.Rows.{HartState}
-use Rattle.boundary_guess.specs.Cuts.{lines_through}
+use Rattle.boundary_guess.specs.Cuts.{lines_of_pieces}
 use Rattle.boundary_guess.specs.Guesses.{guesses_of}
-use Rattle.boundary_guess.specs.Truth.{HoldsWords, ShowChanges}
+use Rattle.boundary_guess.specs.Truth.{Agree, HoldsWords, ShowChanges}
 use Rattle.segment_judge.specs.declared.found.Found.{Found}
 use Rattle.segment_judge.specs.Judgements.{Judgement}
 use Rattle.verdict_join.specs.Founds.{candidates}
 use Rattle.verdict_join.specs.Joins.{Candidate}
 
 -- pieces of lines as segments, each with the guess before it and what was found of it
-abbrev pub guessed_candidates : HartState → ColumnList → List (List (List ℕ)) → List (Found (Judgement Core)) → List (Candidate Core)
+abbrev pub guessed_candidates : HartState → ColumnList → List (List (List ℕ)) → List (Found (Judgement Core))
+    → List (Candidate Core)
 guessed_candidates start columns pieces founds =
     candidates (map (rows_of columns) pieces) (guesses_of start columns pieces) founds
 
@@ -22,4 +23,9 @@ guessed_candidates start columns pieces founds =
 pub record ShowsFrom (start : HartState) (columns : ColumnList) (pieces : List (List (List ℕ))) : Type 0 where
   pub sound : IsSound start.core
   pub words : HoldsWords start
-  pub shows : ShowChanges (rows_of columns (lines_through pieces))
+  pub shows : ShowChanges (rows_of columns (lines_of_pieces pieces))
+
+-- and all of whose rows agree
+pub record AgreesFrom (start : HartState) (columns : ColumnList) (pieces : List (List (List ℕ))) : Type 0 where
+  pub shows : ShowsFrom start columns pieces
+  pub agree : Agree start (rows_of columns (lines_of_pieces pieces))

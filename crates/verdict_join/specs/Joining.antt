@@ -21,29 +21,32 @@ use Rattle.verdict_join.specs.Laws.{TellsApart}
 use Rattle.verdict_join.specs.Founds.{candidates}
 
 -- what the lines of a segment read as
-abbrev pub rows_in : ColumnList → Segment → List RowReading
-rows_in columns segment = rows_of columns segment.lines
+abbrev pub rows_of_segment : ColumnList → Segment → List RowReading
+rows_of_segment columns segment = rows_of columns segment.lines
 
 -- what was found of a segment, as the definitions have it: its judgement from its guess, where there is such a segment
-abbrev pub finding : {M : Type 0} → Option (List RowReading) → Option HartState → What (JudgedSegment M) → What (Judgement Core)
+abbrev pub finding : {M : Type 0} → Option (List RowReading) → Option HartState → What (JudgedSegment M)
+    → What (Judgement Core)
 finding rows guess (Skipped least) = Skipped least
 finding (Some rows) (Some guess) (Judged judged) = Judged (judgement_from by_hart guess rows)
 finding rows guess (Judged judged) = Skipped 0
 
-abbrev pub found_of : {M : Type 0} → List (List RowReading) → List HartState → Found (JudgedSegment M) → Found (Judgement Core)
+abbrev pub found_of : {M : Type 0} → List (List RowReading) → List HartState → Found (JudgedSegment M)
+    → Found (Judgement Core)
 found_of segments guesses found = record {
   seg = found.seg;
   what = finding (slice_get segments found.seg) (slice_get guesses found.seg) found.what;
 }
 
 -- the segments, the guesses before them and what was found, as the definitions have them
-abbrev pub candidates_of : {M : Type 0} → (M → Bytes) → ColumnList → List Segment → List (Hart M) → List (Found (JudgedSegment M)) → List (Candidate Core)
+abbrev pub candidates_of : {M : Type 0} → (M → Bytes) → ColumnList → List Segment → List (Hart M)
+    → List (Found (JudgedSegment M)) → List (Candidate Core)
 candidates_of bytes_of columns segments guesses founds =
-    let rows : List (List RowReading) = map (rows_in columns) segments in
+    let rows : List (List RowReading) = map (rows_of_segment columns) segments in
     let states : List HartState = map (state_of bytes_of) guesses in
     candidates rows states (map (found_of rows states) founds)
 
--- the join of the definitions, by its verdict, the state behind it, and how many segments were judged again
+-- the join of the definitions, by its verdict, the state after it, and how many segments were judged again
 pub record IsJoin {M : Type 0} (bytes_of : M → Bytes) (joined : JoinedSegments M) (whole : Joined Core) : Type 0 where
   pub verdict : joined.verdict ≡ whole.verdict
   pub end : option_map (state_of bytes_of) joined.end ≡ whole.end

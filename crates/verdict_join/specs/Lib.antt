@@ -5,3 +5,5 @@ pub mod Joining
 pub mod Walks
 pub mod Guessed
 pub mod Rounds
+pub mod Agreement
+pub mod Elsewhere

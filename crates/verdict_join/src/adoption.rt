@@ -3,10 +3,10 @@
 ghost use Rattle.std.specs.Prelude.{◌≡◌, ◌&&◌, true, List, IfSome};
 ghost use Rattle.hart_step.specs.declared.state.Core.{Core};
 ghost use Rattle.hart_step.specs.Harts.{CanStep, state_of};
-ghost use Rattle.read_footprint.specs.Footprints.{Touched, agree, footprint_of};
-ghost use Rattle.read_footprint.specs.Sets.{IsOf};
+ghost use Rattle.read_footprint.specs.Footprints.{Accesses, agree, footprint_of};
+ghost use Rattle.read_footprint.specs.Sets.{IsFootprintOf};
 ghost use Rattle.rvfi_rows.specs.Rows.{RowReading};
-ghost use Rattle.segment_judge.specs.Judged.{IsJudgement, IsUsable, Stands};
+ghost use Rattle.segment_judge.specs.Judged.{IsJudgement, IsUsable, HoldsInOtherMemories};
 ghost use Rattle.verdict_join.specs.Joins.{Sameness};
 ghost use Rattle.verdict_join.specs.Laws.{TellsApart};
 ghost use Rattle.verdict_join.specs.Walks.{Concludes, IsMissedAs};
@@ -21,11 +21,11 @@ pub(crate) fn is_met<M: PhysMem + Drop>(now: &Hart<M>, guess: &Hart<M>, judged: 
     requires now { CanStep M.ram now.now }
     requires guess { CanStep M.ram guess.now }
     requires usable { IsUsable M.ram (M.ram guess.now.mem) judged.now }
-    ensures met { (same : Sameness Core) → TellsApart same → (touched : List Touched)
-        → IsOf judged.now.footprint touched → result ≡ (same guess.now.core now.now.core
-        && agree (M.bytes guess.now.mem) (M.bytes now.now.mem) (footprint_of touched)) }
+    ensures met { (same : Sameness Core) → TellsApart same → (accesses : List Accesses)
+        → IsFootprintOf judged.now.footprint accesses → result ≡ (same guess.now.core now.now.core
+        && agree (M.bytes guess.now.mem) (M.bytes now.now.mem) (footprint_of accesses)) }
     ensures concludes { result ≡ true → (rows : List RowReading)
-        → Stands M.bytes (state_of M.bytes guess.now) rows judged.now
+        → HoldsInOtherMemories M.bytes (state_of M.bytes guess.now) rows judged.now
         → Concludes M.bytes (state_of M.bytes now.now) rows judged.now }
     ensures usable { result ≡ true → IsUsable M.ram (M.ram now.now.mem) judged.now }
 {

@@ -3,7 +3,7 @@
 ghost use Rattle.std.specs.Prelude.{◌≡◌, ◌<◌, ◌^◌, ◌&&◌, IfOk, length};
 ghost use Rattle.std.specs.Option.{is_none};
 ghost use Rattle.std.specs.List.{All, flat_map};
-ghost use Rattle.rvfi_rows.specs.Segments.{lines_of};
+ghost use Rattle.rvfi_rows.specs.Segments.{segment_lines};
 ghost use Rattle.verdict_join.specs.Walks.{ArePlaced};
 
 use crate::adoption::adopted;
@@ -23,7 +23,7 @@ pub(crate) struct GuessedSegments<'a, M: PhysMem> {
     pub guesses: &'a [Hart<M>],
     ghost one_each: { length guesses.now ≡ length segments.now },
     ghost few: { length segments.now < 2 ^ 32 },
-    ghost lines: { length (flat_map lines_of segments.now) < 2 ^ 60 },
+    ghost lines: { length (flat_map segment_lines segments.now) < 2 ^ 60 },
 }
 
 impl<'a, M: PhysMem + Drop> GuessedSegments<'a, M> {
@@ -78,7 +78,7 @@ impl<'a, M: PhysMem + Drop> GuessedSegments<'a, M> {
     }
 }
 
-/// Whether a walk ends behind a segment of which this was adopted.
+/// Whether a walk ends after a segment of which this was adopted.
 fn is_last<M: PhysMem>(once: bool, adopted: Option<&Judged<M>>) -> bool
     ensures { result ≡ (once && is_none adopted.entry) }
 {

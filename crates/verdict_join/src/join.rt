@@ -4,7 +4,7 @@ ghost use Rattle.std.specs.Prelude.{◌≡◌, ◌≤◌, ◌<◌, ◌^◌, IfOk
 ghost use Rattle.std.specs.List.{All, flat_map};
 ghost use Rattle.hart_step.specs.Harts.{CanStep, state_of};
 ghost use Rattle.rvfi_rows.specs.Rows.{rows_of};
-ghost use Rattle.rvfi_rows.specs.Segments.{lines_of};
+ghost use Rattle.rvfi_rows.specs.Segments.{segment_lines};
 ghost use Rattle.segment_judge.specs.Founds.{IsLawfulFound};
 ghost use Rattle.segment_judge.specs.Judgements.{by_hart};
 ghost use Rattle.segment_judge.specs.Laws.{conclusion_from};
@@ -35,7 +35,7 @@ pub fn join_all<M: PhysMem + Drop>(
     requires lawful { All
         (IsLawfulFound M.bytes M.ram columns.now segments.now guesses.now) founds.items }
     requires segments { length segments.now < 2 ^ 32 }
-    requires lines { length (flat_map lines_of segments.now) < 2 ^ 60 }
+    requires lines { length (flat_map segment_lines segments.now) < 2 ^ 60 }
     ensures joined { IfOk result (λ joined. JoinsThem M.bytes
         (candidates_of M.bytes columns.now segments.now guesses.now founds.items)
         (state_of M.bytes start) joined) }
@@ -61,9 +61,9 @@ pub fn join_all<M: PhysMem + Drop>(
     })
 }
 
-/// The same of a round: the walk ends behind the first segment that has to be judged again, so that
-/// the guesses behind it can be made anew from the true state there. The verdict and the hart
-/// behind it are those of the segments that were settled, which are one at least where there is any.
+/// The same of a round: the walk ends after the first segment that has to be judged again, so that
+/// the guesses after it can be made anew from the true state there. The verdict and the hart
+/// after it are those of the segments that were settled, which are one at least where there is any.
 pub fn join_round<M: PhysMem + Drop>(
     alloc: Global,
     start: Hart<M>,
@@ -78,19 +78,19 @@ pub fn join_round<M: PhysMem + Drop>(
     requires lawful { All
         (IsLawfulFound M.bytes M.ram columns.now segments.now guesses.now) founds.items }
     requires segments { length segments.now < 2 ^ 32 }
-    requires lines { length (flat_map lines_of segments.now) < 2 ^ 60 }
+    requires lines { length (flat_map segment_lines segments.now) < 2 ^ 60 }
     ensures round { IfOk result (λ round. WalksThem M.bytes true
         (candidates_of M.bytes columns.now segments.now guesses.now founds.items)
         (state_of M.bytes start) round) }
     ensures settled { IfOk result (λ round. round.settled ≤ length segments.now) }
-    ensures some { IfOk result (λ round. 0 < length segments.now → 0 < round.settled) }
+    ensures settles_one { IfOk result (λ round. 0 < length segments.now → 0 < round.settled) }
     ensures again { IfOk result (λ round. round.rejudged ≤ 1) }
     ensures verdict { IfOk result (λ round. round.verdict
         ≡ (conclusion_from by_hart (state_of M.bytes start)
-        (rows_of columns.now (flat_map lines_of (take round.settled segments.now)))).verdict) }
+        (rows_of columns.now (flat_map segment_lines (take round.settled segments.now)))).verdict) }
     ensures end { IfOk result (λ round. option_map (state_of M.bytes) round.end
         ≡ (conclusion_from by_hart (state_of M.bytes start)
-        (rows_of columns.now (flat_map lines_of (take round.settled segments.now)))).end) }
+        (rows_of columns.now (flat_map segment_lines (take round.settled segments.now)))).end) }
     ensures can_step { IfOk result (λ round. IfSome round.end (CanStep M.ram)) }
     ensures ram { IfOk result (λ round.
         IfSome round.end (λ hart. M.ram hart.mem ≡ M.ram start.mem)) }

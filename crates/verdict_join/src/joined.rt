@@ -8,7 +8,7 @@ use rvfi_rows::Verdict;
 pub struct Joined<M> {
     /// The verdict on their rows, which are numbered from 1 through all segments.
     pub verdict: Verdict,
-    /// The hart behind them, where they agree.
+    /// The hart after them, where they agree.
     pub end: Option<Hart<M>>,
     /// How many of them were judged again, from the true state.
     pub rejudged: u32,
@@ -19,7 +19,7 @@ pub struct Joined<M> {
 pub struct Round<M> {
     /// The verdict on their rows, which are numbered from 1 through these segments.
     pub verdict: Verdict,
-    /// The hart behind them, where they agree.
+    /// The hart after them, where they agree.
     pub end: Option<Hart<M>>,
     /// How many segments they are.
     pub settled: usize,

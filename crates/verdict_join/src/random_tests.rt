@@ -8,10 +8,12 @@ use super::*;
 use crate::tests::{
     CODE, CutLines, Damage, Find, Number, Trial, hold_joined, number_at, put_line, start, write,
 };
-use hart_step::{Hart, Stepped};
+use hart_step::Hart;
 use line_text::Lines;
 use page_layers::MapMem;
-use rvfi_rows::{Columns, Effects, Expected, Retired, Segment, Verdict, read_header, read_row};
+use rvfi_rows::{
+    Columns, Effects, Expected, Retired, Segment, Stepped, Verdict, read_header, read_row,
+};
 use std::alloc::Global;
 use std::mem::replace;
 use std::test::Fail;

@@ -2,18 +2,17 @@
 
 ghost use Rattle.std.specs.Prelude.{◌≡◌, ◌<◌, ◌^◌, IfOk, IfSome, IsTrue, length};
 ghost use Rattle.std.specs.List.{All, flat_map};
-ghost use Rattle.hart_words.specs.Memory.{IsPlace};
 ghost use Rattle.hart_step.specs.Cores.{IsSound};
 ghost use Rattle.hart_step.specs.Harts.{CanStep};
 ghost use Rattle.line_text.specs.Lines.{IsLine};
 ghost use Rattle.page_layers.specs.Memories.{map_bytes};
-ghost use Rattle.rvfi_rows.specs.Segments.{lines_of};
+ghost use Rattle.rvfi_rows.specs.Segments.{segment_lines};
 ghost use Rattle.segment_judge.specs.Founds.{IsLawfulFound};
 
 use super::*;
 use boundary_guess::{cut, guesses};
 use hart_step::{Core, Hart};
-use hart_words::{Difference, Map, Mode, PAGE_SIZE, PhysMem, Signal, Span};
+use hart_words::{Difference, Map, Mode, PhysMem, Signal, Span};
 use line_text::Lines;
 use page_layers::MapMem;
 use rvfi_rows::{Columns, RowFault, Segment, Verdict, read_header};
@@ -49,18 +48,11 @@ fn lines_with(alloc: Global, rows: &[&[u8]]) -> Result<Lines, Fail> {
     Ok(lines)
 }
 
-/// Whether so many bytes lie in one page of RAM.
-fn is_place(ram: &Span, pa: u64, len: u8) -> bool
-    ensures { IsTrue result → IsPlace ram.now pa len }
-{
-    1 <= len && len <= 8 && ram.holds(pa, len) && pa % PAGE_SIZE + u64::from(len) <= PAGE_SIZE
-}
-
 /// The number of so many bytes at an address.
 pub(crate) fn number_at(hart: &Hart<MapMem>, pa: u64, len: u8) -> Result<u64, Fail>
     requires { CanStep (λ mem. mem.ram) hart.now }
 {
-    if !is_place(&hart.core.map.ram, pa, len) {
+    if !hart.core.map.ram.is_place(pa, len) {
         return Err(Fail::from("no place of RAM"));
     }
     Ok(hart.mem.read(pa, len))
@@ -71,7 +63,7 @@ fn put(mem: &mut MapMem, ram: &Span, pa: u64, len: u8, value: u64) -> Result<(),
     requires ram { mem.old.ram ≡ ram.now }
     ensures ram { mem.new.ram ≡ mem.old.ram }
 {
-    if !is_place(ram, pa, len) {
+    if !ram.is_place(pa, len) {
         return Err(Fail::from("no place of RAM"));
     }
     mem.write(pa, len, value)?;
@@ -208,7 +200,7 @@ fn are_short(segments: &[Segment]) -> bool
 /// Whether there are few segments, and few lines in them.
 fn are_few(segments: &[Segment]) -> bool
     ensures segments { IsTrue result → length segments.now < 2 ^ 32 }
-    ensures lines { IsTrue result → length (flat_map lines_of segments.now) < 2 ^ 60 }
+    ensures lines { IsTrue result → length (flat_map segment_lines segments.now) < 2 ^ 60 }
 {
     segments.len() < 1000 && are_short(segments)
 }
@@ -223,7 +215,7 @@ pub(crate) struct Trial {
     pub guesses: Vec<Hart<MapMem>>,
     ghost one_each: { length guesses.items ≡ length segments.items },
     ghost few: { length segments.items < 2 ^ 32 },
-    ghost few_lines: { length (flat_map lines_of segments.items) < 2 ^ 60 },
+    ghost few_lines: { length (flat_map segment_lines segments.items) < 2 ^ 60 },
 }
 
 /// A header and lines, and how many of these make a segment.
@@ -371,7 +363,7 @@ fn hold_same_end(
 }
 
 /// The join comes to the verdict, and so does the judging of all rows as one segment, with the same
-/// hart behind them. How many segments were judged again.
+/// hart after them. How many segments were judged again.
 pub(crate) fn hold_joined(
     rt: &impl Abort,
     alloc: Global,
@@ -518,7 +510,7 @@ fn hold_cases(rt: &impl Abort, alloc: Global, cases: &[Case]) -> Result<(), Fail
 }
 
 /// AUIPC x2, 1; ADDI x1, x0, 5; SD x1, 0(x2); ADDI x1, x0, 6; ADDI x3, x0, 1. The second row does
-/// not show x1, so the guesses before the third and the fourth lack it, and all behind the store
+/// not show x1, so the guesses before the third and the fourth lack it, and all after the store
 /// have 0 at `DATA`.
 const STORES: [u32; 5] = [
     0x0000_1117,
@@ -540,7 +532,7 @@ const STORED: Rows = (
     1,
 );
 
-/// ADDI x1, x0, 5; ADDI x1, x1, 1. The hart halts behind the first.
+/// ADDI x1, x0, 5; ADDI x1, x1, 1. The hart halts after the first.
 const HALTS: [u32; 2] = [0x0050_0093, 0x0010_8093];
 
 const HALTED: Rows = (

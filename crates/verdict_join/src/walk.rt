@@ -8,7 +8,7 @@ ghost use Rattle.rvfi_rows.specs.Rows.{rows_of};
 ghost use Rattle.segment_judge.specs.Judged.{IsUsable, moved_end};
 ghost use Rattle.segment_judge.specs.Judgements.{by_hart};
 ghost use Rattle.segment_judge.specs.Laws.{conclusion_from};
-ghost use Rattle.verdict_join.specs.Walks.{Concludes, CountsOn, IsCountedAlike, IsReached, IsWithinRows, Passes};
+ghost use Rattle.verdict_join.specs.Walks.{Concludes, CountsOn, IsCountedAlike, IsReached, IsWithinRows, PassesRows};
 
 use crate::joined::Round;
 use hart_step::Hart;
@@ -17,7 +17,7 @@ use rvfi_rows::{Columns, Segment, Verdict};
 use segment_judge::{Judged, judge};
 use std::alloc::Global;
 
-/// How far segments were walked: the true state of the hart behind them, how many rows and valid
+/// How far segments were walked: the true state of the hart after them, how many rows and valid
 /// rows they have, and how many of them were judged again.
 #[derive(Drop)]
 pub(crate) struct Walk<M> {
@@ -75,13 +75,13 @@ impl<M: PhysMem + Drop> Walk<M> {
         adopted: Option<&Judged<M>>,
     ) -> Result<Option<Verdict>, NoMemory>
         requires can_step { CanStep M.ram self.old.hart }
-        requires few { self.old.rows + length segment.now.lines < 2 ^ 60 }
+        requires below_2_to_60 { self.old.rows + length segment.now.lines < 2 ^ 60 }
         requires valid { self.old.valid ≤ self.old.rows }
         requires again { self.old.rejudged + 1 < 2 ^ 32 }
         requires adopted { IfSome adopted (λ judged. Concludes M.bytes
             (state_of M.bytes self.old.hart) (rows_of columns.now segment.now.lines) judged.now) }
         requires usable { IfSome adopted (λ judged. IsUsable M.ram (M.ram self.old.hart.mem) judged.now) }
-        ensures passes { IfOk result (λ end. Passes M.bytes self.old self.new
+        ensures passes { IfOk result (λ end. PassesRows M.bytes self.old self.new
             (rows_of columns.now segment.now.lines) end) }
         ensures again { IfOk result (λ end. self.new.rejudged
             ≡ self.old.rejudged + (if is_none adopted.entry then 1 else 0)) }
@@ -102,7 +102,7 @@ impl<M: PhysMem + Drop> Walk<M> {
         }
     }
 
-    /// Goes on behind a segment as it was judged, from a guess that is met.
+    /// Goes on after a segment as it was judged, from a guess that is met.
     fn adopt(&mut self, judged: &Judged<M>) -> Result<(), NoMemory>
         requires can_step { CanStep M.ram self.old.hart }
         requires usable { IsUsable M.ram (M.ram self.old.hart.mem) judged.now }
@@ -120,7 +120,7 @@ impl<M: PhysMem + Drop> Walk<M> {
         Ok(())
     }
 
-    /// Judges a segment from the true state, and goes on behind it: the verdict on it.
+    /// Judges a segment from the true state, and goes on after it: the verdict on it.
     fn judge_again(
         &mut self,
         alloc: Global,
@@ -152,7 +152,7 @@ impl<M: PhysMem + Drop> Walk<M> {
 
     /// Counts the rows of a verdict. `Some` where the walk ends with it.
     fn count(&mut self, verdict: Verdict) -> Option<Verdict>
-        requires few { self.old.rows < 2 ^ 62 }
+        requires below_2_to_62 { self.old.rows < 2 ^ 62 }
         requires valid { self.old.valid ≤ self.old.rows }
         requires within { IsWithinRows (2 ^ 62) verdict }
         ensures counts { CountsOn self.old self.new verdict result }

@@ -4,7 +4,9 @@ use Rattle.csv_line.specs.Fields.{is_space_or_tab}
 use Rattle.csv_line.proofs.trim_end.Given as goal
 
 abbrev pub invariant-loop-end : goal.invariant-loop-end
-invariant-loop-end l = (l.end ≤ length l.text) × (l.end + suffix_len is_space_or_tab l.text ≡ length l.text + suffix_len is_space_or_tab (take l.end l.text))
+invariant-loop-end l =
+    (l.end ≤ length l.text)
+    × (l.end + suffix_len is_space_or_tab l.text ≡ length l.text + suffix_len is_space_or_tab (take l.end l.text))
 
 abbrev pub decreases-loop-end : goal.decreases-loop-end
 decreases-loop-end l = l.end

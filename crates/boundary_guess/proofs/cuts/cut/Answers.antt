@@ -10,11 +10,15 @@ loop-start-preserved c =
     let lines = c.args.lines.now in
     let count = c.min.ensures ∙ ap (λ n. min k (n - start)) c.len-in-loop-start.ensures.count in
     let within : start < length lines = omega (arith, c.loop-start-test.true, c.len.ensures.count) in
-    let turn = segments_turn k start c.min.result lines c.loop-start.segments.items c.new.result _ c.requires.some within count (c.new.ensures.lines ∙ c.in_ok-part.ensures) c.loop-start.invariant.whole in
+    let turn =
+    segments_turn k start c.min.result lines c.loop-start.segments.items c.new.result _ c.requires.positive within
+    count (c.new.ensures.lines ∙ c.in_ok-part.ensures) c.loop-start.invariant.whole in
     record {
       whole = rw c.in_ok-push.ensures.items turn;
       within = omega (arith, count, min-le_right k (length lines - start), c.loop-start.invariant.within);
     }
 
 pub returns : goal.returns
-returns c = cut_end c.args.k c.loop-start.start c.args.lines.now _ _ (omega (arith, c.loop-start-test.false, c.len.ensures.count)) c.loop-start.invariant.whole
+returns c =
+    cut_end c.args.k c.loop-start.start c.args.lines.now _ _
+    (omega (arith, c.loop-start-test.false, c.len.ensures.count)) c.loop-start.invariant.whole

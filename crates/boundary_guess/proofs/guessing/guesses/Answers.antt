@@ -3,12 +3,15 @@ use Rattle.std.proofs.lemmas.Bool.{eqb-true}
 use Rattle.std.proofs.lemmas.Option.{slice_get_read}
 use Rattle.rvfi_rows.specs.Rows.{rows_of}
 use Rattle.boundary_guess.specs.Guesses.{CanStep, guess_after, state_of}
-use Rattle.boundary_guess.proofs.Passed.{all_push, can_copy, hart_end, hart_turn, is_some_length, no_segment, same_state}
+use Rattle.boundary_guess.proofs.Passed.{all_push, can_copy, hart_end, hart_turn, is_some_length, no_segment}
+use Rattle.boundary_guess.proofs.Passed.{same_state}
 use Rattle.boundary_guess.proofs.guessing.guesses.Goals as goal
 
 pub returns-then-is_empty-clause-guesses : goal.returns-then-is_empty-clause-guesses
 returns-then-is_empty-clause-guesses g c =
-    no_segment g.M.PhysMem.bytes c.args.columns.now c.args.segments.now (state_of g.M.PhysMem.bytes c.args.start.now) c.new-guesses.result.items c.new-guesses.ensures.items (eqb-true (length c.args.segments.now) 0 (sym c.if-is_empty.ensures))
+    no_segment g.M.PhysMem.bytes c.args.columns.now c.args.segments.now (state_of g.M.PhysMem.bytes c.args.start.now)
+    c.new-guesses.result.items c.new-guesses.ensures.items
+    (eqb-true (length c.args.segments.now) 0 (sym c.if-is_empty.ensures))
 
 pub loop-index-preserved : goal.loop-index-preserved
 loop-index-preserved g c =
@@ -22,15 +25,24 @@ loop-index-preserved g c =
     let within : index < length segments = omega (arith, c.loop-index-test.true) in
     let here = slice_get_read segments (length segments) index segment refl within c.index-segments-index.is in
     let is_kept = same_state g.M.PhysMem.bytes kept before c.in_ok-kept.ensures.core c.in_ok-kept.ensures.bytes in
-    let is_next = same_state g.M.PhysMem.bytes next kept c.in_ok-hart-2.ensures.core c.in_ok-hart-2.ensures.bytes ∙ is_kept in
-    let went : state_of g.M.PhysMem.bytes now ≡ guess_after (state_of g.M.PhysMem.bytes before) (rows_of c.args.columns.now segment.lines) =
-    c.in_ok-pass_segment.ensures.guess ∙ ap (λ state. guess_after state (rows_of c.args.columns.now segment.lines)) is_next in
-    let turn = hart_turn g.M.PhysMem.bytes c.args.columns.now segments index segment (state_of g.M.PhysMem.bytes before) kept now c.loop-index.guesses.items _ here is_kept went c.loop-index.invariant.whole in
-    let can_step = can_copy g.M.PhysMem.ram before kept c.in_ok-kept.ensures.core c.in_ok-kept.ensures.ram c.loop-index.invariant.can_step in
+    let is_next =
+    same_state g.M.PhysMem.bytes next kept c.in_ok-hart-2.ensures.core c.in_ok-hart-2.ensures.bytes ∙ is_kept in
+    let went : state_of g.M.PhysMem.bytes now
+    ≡ guess_after (state_of g.M.PhysMem.bytes before) (rows_of c.args.columns.now segment.lines) =
+    c.in_ok-pass_segment.ensures.guess
+    ∙ ap (λ state. guess_after state (rows_of c.args.columns.now segment.lines)) is_next in
+    let turn =
+    hart_turn g.M.PhysMem.bytes c.args.columns.now segments index segment (state_of g.M.PhysMem.bytes before) kept
+    now c.loop-index.guesses.items _ here is_kept went c.loop-index.invariant.whole in
+    let can_step =
+    can_copy g.M.PhysMem.ram before kept c.in_ok-kept.ensures.core c.in_ok-kept.ensures.ram
+    c.loop-index.invariant.can_step in
     record {
       whole = rw c.in_ok-push.ensures.items turn;
       can_step = c.in_ok-pass_segment.ensures.can_step;
-      all = rw c.in_ok-push.ensures.items (all_push (CanStep g.M.PhysMem.ram) c.loop-index.guesses.items kept c.loop-index.invariant.all can_step);
+      all =
+          rw c.in_ok-push.ensures.items
+          (all_push (CanStep g.M.PhysMem.ram) c.loop-index.guesses.items kept c.loop-index.invariant.all can_step);
     }
 
 pub returns-clause-guesses : goal.returns-clause-guesses
@@ -39,12 +51,18 @@ returns-clause-guesses g c =
     let before = c.loop-index.hart in
     let kept = c.in_ok-copy.field-0 in
     let some = is_some_length (length segments) (sym c.if-is_empty.ensures) in
-    let last : length segments ≡ c.loop-index.index + 1 = omega (arith, some, c.loop-index-test.false, c.loop-index.auto.index-end) in
+    let last : length segments ≡ c.loop-index.index + 1 =
+    omega (arith, some, c.loop-index-test.false, c.loop-index.auto.index-end) in
     let is_kept = same_state g.M.PhysMem.bytes kept before c.in_ok-copy.ensures.core c.in_ok-copy.ensures.bytes in
-    rw c.in_ok-push-2.ensures.items (hart_end g.M.PhysMem.bytes c.args.columns.now segments c.loop-index.index (state_of g.M.PhysMem.bytes before) kept c.loop-index.guesses.items _ last is_kept c.loop-index.invariant.whole)
+    rw c.in_ok-push-2.ensures.items
+    (hart_end g.M.PhysMem.bytes c.args.columns.now segments c.loop-index.index (state_of g.M.PhysMem.bytes before)
+    kept c.loop-index.guesses.items _ last is_kept c.loop-index.invariant.whole)
 
 pub returns-clause-can_step : goal.returns-clause-can_step
 returns-clause-can_step g c =
     let kept = c.in_ok-copy.field-0 in
-    let can_step = can_copy g.M.PhysMem.ram c.loop-index.hart kept c.in_ok-copy.ensures.core c.in_ok-copy.ensures.ram c.loop-index.invariant.can_step in
-    rw c.in_ok-push-2.ensures.items (all_push (CanStep g.M.PhysMem.ram) c.loop-index.guesses.items kept c.loop-index.invariant.all can_step)
+    let can_step =
+    can_copy g.M.PhysMem.ram c.loop-index.hart kept c.in_ok-copy.ensures.core c.in_ok-copy.ensures.ram
+    c.loop-index.invariant.can_step in
+    rw c.in_ok-push-2.ensures.items
+    (all_push (CanStep g.M.PhysMem.ram) c.loop-index.guesses.items kept c.loop-index.invariant.all can_step)

@@ -1,6 +1,6 @@
 use Rattle.std.proofs.Common.{◌≡◌, ◌++◌, drop, map}
 use Rattle.std.specs.List.{All}
-use Rattle.rvfi_rows.specs.Segments.{lines_of}
+use Rattle.rvfi_rows.specs.Segments.{segment_lines}
 use Rattle.boundary_guess.specs.Guesses.{CanStep, guesses_of, state_of}
 use Rattle.boundary_guess.proofs.guessing.guesses.Given as goal
 
@@ -8,8 +8,8 @@ use Rattle.boundary_guess.proofs.guessing.guesses.Given as goal
 abbrev pub invariant-loop-index : goal.invariant-loop-index
 invariant-loop-index g l = record {
   whole : map (state_of g.M.PhysMem.bytes) l.guesses.items
-      ++ guesses_of (state_of g.M.PhysMem.bytes l.hart) l.columns (drop l.index (map lines_of l.segments))
-      ≡ guesses_of (state_of g.M.PhysMem.bytes l.start) l.columns (map lines_of l.segments);
+      ++ guesses_of (state_of g.M.PhysMem.bytes l.hart) l.columns (drop l.index (map segment_lines l.segments))
+      ≡ guesses_of (state_of g.M.PhysMem.bytes l.start) l.columns (map segment_lines l.segments);
   can_step : CanStep g.M.PhysMem.ram l.hart;
   all : All (CanStep g.M.PhysMem.ram) l.guesses.items;
 }

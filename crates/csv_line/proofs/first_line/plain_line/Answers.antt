@@ -6,4 +6,5 @@ pub ended_line-requires-clause-returns : goal.ended_line-requires-clause-returns
 ended_line-requires-clause-returns c = plain_no_return (take c.args.end c.args.text.now) c.requires.plain
 
 pub ended_line-requires-clause-shareable : goal.ended_line-requires-clause-shareable
-ended_line-requires-clause-shareable c = λ yes. plain_is_shareable (take c.args.end c.args.text.now) c.requires.plain (c.is_unmarked-is_shared.ensures yes)
+ended_line-requires-clause-shareable c =
+    λ yes. plain_is_shareable (take c.args.end c.args.text.now) c.requires.plain (c.is_unmarked-is_shared.ensures yes)

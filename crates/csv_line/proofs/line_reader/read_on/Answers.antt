@@ -1,15 +1,18 @@
-use Rattle.std.proofs.lemmas.Result.{on_ok_weaker}
+use Rattle.std.proofs.Common.{Ok, ap, ◌∙◌}
+use Rattle.std.proofs.lemmas.Result.{IfOk-weaker}
 use Rattle.csv.specs.Records.{fields_of}
 use Rattle.csv_line.proofs.Readers.{stands_on}
 use Rattle.csv_line.proofs.line_reader.read_on.Goals as goal
 
 pub returns : goal.returns
 returns c =
-    on_ok_weaker c.taken.result
-    (λ is text line rest stands shared.
+    IfOk-weaker c.found_of.result _ _
+    (λ found same yes text line rest stands shared.
+    let is = same ∙ ap Ok yes in
     let read = c.read_byte_record.ensures in
-    stands_on text line rest (fields_of c.read_byte_record.new.row) c.args.reader.now c.read_byte_record.new.self stands shared
+    stands_on text line rest (fields_of c.read_byte_record.new.row) c.args.reader.now c.read_byte_record.new.self
+    stands shared
     (rw is at read.reads stands.trim stands.ready)
     (rw is at read.flexible)
     (rw is at read.ready stands.trim))
-    c.taken.ensures
+    c.found_of.ensures

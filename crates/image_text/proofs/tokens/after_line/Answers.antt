@@ -5,7 +5,11 @@ use Rattle.image_text.proofs.tokens.after_line.Goals as goal
 pub loop-first-preserved : goal.loop-first-preserved
 loop-first-preserved c =
     let split = c.in-Some.ensures.cases in
-    record { rest = c.loop-first.invariant.rest ∙ rw split.0 (line_more _ _ c.if-first-eq10.false); len = omega (arith, split.1) }
+    record {
+      rest =
+          c.loop-first.invariant.rest ∙ rw split.0 (line_more _ _ c.if-first-eq10.false);
+      len = omega (arith, split.1);
+    }
 
 pub returns-then-first-eq10-clause-rest : goal.returns-then-first-eq10-clause-rest
 returns-then-first-eq10-clause-rest c =

@@ -10,14 +10,21 @@ pub returns-then-rest-eq47 : goal.returns-then-rest-eq47
 returns-then-rest-eq47 c =
     let split = c.split_at.ensures in
     let front = opens_line_at c.args.rest.line c.args.rest.text.now c.requires.opens c.if-rest-eq47.true in
-    let behind = rw split.back at c.after_line.ensures.rest in
-    (front ∙ ap (runs c.args.rest.line) behind, (omega (arith, split.back_len, c.after_line.ensures.len), omega (arith, split.back_len, c.after_line.ensures.len)))
+    let following = rw split.back at c.after_line.ensures.rest in (
+      front ∙ ap (runs c.args.rest.line) following,
+      (
+        omega (arith, split.back_len, c.after_line.ensures.len),
+        omega (arith, split.back_len, c.after_line.ensures.len),
+      ),
+    )
 
 pub returns-in-Some : goal.returns-in-Some
 returns-in-Some c =
     let split = c.split_at.ensures in
     let block = c.in-Some.ensures in
-    let front = opens_block_at c.args.rest.line c.args.rest.text.now c.requires.opens c.if-rest-eq47.false (rw split.back at block.0) in
+    let front =
+    opens_block_at c.args.rest.line c.args.rest.text.now c.requires.opens c.if-rest-eq47.false
+    (rw split.back at block.0) in
     (front ∙ (rw split.back at block.1), (omega (arith, split.back_len, block.2), block.3))
 
 pub returns-in-None : goal.returns-in-None

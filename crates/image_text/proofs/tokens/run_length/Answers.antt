@@ -13,7 +13,9 @@ loop-first-preserved c =
 
 pub returns-then-is_blank_byte-clause-value : goal.returns-then-is_blank_byte-clause-value
 returns-then-is_blank_byte-clause-value c =
-    let ends = run_ends_blank c.in-Some.first.now c.in-Some.after.now (sym c.is_blank_byte.ensures ∙ c.if-is_blank_byte.true) in
+    let ends =
+    run_ends_blank c.in-Some.first.now c.in-Some.after.now
+    (sym c.is_blank_byte.ensures ∙ c.if-is_blank_byte.true) in
     let counted = rw (c.in-Some.ensures.cases.0, ends) at c.loop-first.invariant.counted in
     omega (arith, counted)
 

@@ -1,4 +1,4 @@
 use Rattle.judge_run.proofs.parts.settle_part.Given as goal
 
-abbrev pub ghosts-settle_uncounted : goal.ghosts-settle_uncounted
-ghosts-settle_uncounted g a = record { name = a.blank.name; parts = a.blank.parts }
+abbrev pub ghosts-settle_from_blank : goal.ghosts-settle_from_blank
+ghosts-settle_from_blank g a = record { name = a.blank.name; parts = a.blank.parts }

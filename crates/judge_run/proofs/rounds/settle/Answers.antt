@@ -5,24 +5,35 @@ use Rattle.judge_run.proofs.rounds.settle.Goals as goal
 
 pub returns-clause-verdict : goal.returns-clause-verdict
 returns-clause-verdict g c =
-    IfOk-weaker c.settle_by.result _ _ (λ joined settles. (come_to g.M.PhysMem.bytes c.args.columns.now c.args.segments.now (state_of g.M.PhysMem.bytes c.args.start) c.args.steps.now c.settle_by.new.steps joined settles).verdict) c.settle_by.ensures.rounds
+    IfOk-weaker c.settle_in_rounds.result _ _
+    (λ joined settles.
+    (come_to g.M.PhysMem.bytes c.args.columns.now c.args.segments.now (state_of g.M.PhysMem.bytes c.args.start)
+    c.args.steps.now c.settle_in_rounds.new.steps joined settles).verdict) c.settle_in_rounds.ensures.rounds
 
 pub returns-clause-end : goal.returns-clause-end
 returns-clause-end g c =
-    IfOk-weaker c.settle_by.result _ _ (λ joined settles. (come_to g.M.PhysMem.bytes c.args.columns.now c.args.segments.now (state_of g.M.PhysMem.bytes c.args.start) c.args.steps.now c.settle_by.new.steps joined settles).end) c.settle_by.ensures.rounds
+    IfOk-weaker c.settle_in_rounds.result _ _
+    (λ joined settles.
+    (come_to g.M.PhysMem.bytes c.args.columns.now c.args.segments.now (state_of g.M.PhysMem.bytes c.args.start)
+    c.args.steps.now c.settle_in_rounds.new.steps joined settles).end) c.settle_in_rounds.ensures.rounds
 
-pub returns-clause-few : goal.returns-clause-few
-returns-clause-few g c =
-    IfOk-weaker c.settle_by.result _ _ (λ joined settles. (come_to g.M.PhysMem.bytes c.args.columns.now c.args.segments.now (state_of g.M.PhysMem.bytes c.args.start) c.args.steps.now c.settle_by.new.steps joined settles).few) c.settle_by.ensures.rounds
-
-pub returns-clause-some : goal.returns-clause-some
-returns-clause-some g c = λ some.
-    IfOk-weaker c.settle_by.result _ _ (λ joined settles. (come_to g.M.PhysMem.bytes c.args.columns.now c.args.segments.now (state_of g.M.PhysMem.bytes c.args.start) c.args.steps.now c.settle_by.new.steps joined settles).some some) c.settle_by.ensures.rounds
+pub returns-clause-one_round : goal.returns-clause-one_round
+returns-clause-one_round g c = λ some.
+    IfOk-weaker c.settle_in_rounds.result _ _
+    (λ joined settles.
+    (come_to g.M.PhysMem.bytes c.args.columns.now c.args.segments.now (state_of g.M.PhysMem.bytes c.args.start)
+    c.args.steps.now c.settle_in_rounds.new.steps joined settles).some some) c.settle_in_rounds.ensures.rounds
 
 pub returns-clause-count : goal.returns-clause-count
 returns-clause-count g c =
-    IfOk-weaker c.settle_by.result _ _ (λ joined settles. (come_to g.M.PhysMem.bytes c.args.columns.now c.args.segments.now (state_of g.M.PhysMem.bytes c.args.start) c.args.steps.now c.settle_by.new.steps joined settles).count) c.settle_by.ensures.rounds
+    IfOk-weaker c.settle_in_rounds.result _ _
+    (λ joined settles.
+    (come_to g.M.PhysMem.bytes c.args.columns.now c.args.segments.now (state_of g.M.PhysMem.bytes c.args.start)
+    c.args.steps.now c.settle_in_rounds.new.steps joined settles).count) c.settle_in_rounds.ensures.rounds
 
 pub returns-clause-none : goal.returns-clause-none
-returns-clause-none g c = λ words shows.
-    IfOk-weaker c.settle_by.result _ _ (λ joined settles. none_rejudged g.M.PhysMem.bytes c.args.columns.now c.args.segments.now (state_of g.M.PhysMem.bytes c.args.start) c.args.steps.now c.settle_by.new.steps joined c.requires.can_step.sound words shows settles) c.settle_by.ensures.rounds
+returns-clause-none g c = λ shows.
+    IfOk-weaker c.settle_in_rounds.result _ _
+    (λ joined settles. none_rejudged g.M.PhysMem.bytes c.args.columns.now c.args.segments.now
+    (state_of g.M.PhysMem.bytes c.args.start) c.args.steps.now c.settle_in_rounds.new.steps joined
+    c.requires.can_step.sound c.settle_in_rounds.ensures.words shows settles) c.settle_in_rounds.ensures.rounds

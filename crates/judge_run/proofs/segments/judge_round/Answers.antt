@@ -15,24 +15,34 @@ use Rattle.judge_run.proofs.segments.judge_round.Goals as goal
 
 pub find_by_workers-requires-clause-one_each : goal.find_by_workers-requires-clause-one_each
 find_by_workers-requires-clause-one_each g c = λ κs lives.
-    ap length c.deref.ensures.value ∙ guesses_for_each g.M.PhysMem.bytes _ c.args.columns.now c.args.segments.now c.in_ok-guesses.guesses.items c.in_ok-guesses.ensures.guesses
+    ap length c.deref.ensures.value
+    ∙ guesses_for_each g.M.PhysMem.bytes _ c.args.columns.now c.args.segments.now c.in_ok-guesses.guesses.items
+    c.in_ok-guesses.ensures.guesses
 
 pub join_round-requires-clause-can_step : goal.join_round-requires-clause-can_step
 join_round-requires-clause-can_step g c = record {
   sound = subst IsSound (sym c.in_ok-start.ensures.core) c.requires.can_step.sound;
-  ram = c.in_ok-start.ensures.ram ∙ c.requires.can_step.ram ∙ sym (ap (λ core. core.map.ram) c.in_ok-start.ensures.core);
+  ram =
+      c.in_ok-start.ensures.ram ∙ c.requires.can_step.ram ∙ sym (ap (λ core. core.map.ram) c.in_ok-start.ensures.core);
 }
 
 pub join_round-requires-clause-one_each : goal.join_round-requires-clause-one_each
 join_round-requires-clause-one_each g c =
-    ap length c.deref-2.ensures.value ∙ guesses_for_each g.M.PhysMem.bytes _ c.args.columns.now c.args.segments.now c.in_ok-guesses.guesses.items c.in_ok-guesses.ensures.guesses
+    ap length c.deref-2.ensures.value
+    ∙ guesses_for_each g.M.PhysMem.bytes _ c.args.columns.now c.args.segments.now c.in_ok-guesses.guesses.items
+    c.in_ok-guesses.ensures.guesses
 
 pub join_round-requires-clause-guesses : goal.join_round-requires-clause-guesses
-join_round-requires-clause-guesses g c = subst (λ guesses. All (CanStep g.M.PhysMem.ram) guesses) (sym c.deref-2.ensures.value) c.in_ok-guesses.ensures.can_step
+join_round-requires-clause-guesses g c =
+    subst (λ guesses. All (CanStep g.M.PhysMem.ram) guesses) (sym c.deref-2.ensures.value)
+    c.in_ok-guesses.ensures.can_step
 
 pub join_round-requires-clause-lawful : goal.join_round-requires-clause-lawful
 join_round-requires-clause-lawful g c =
-    subst (λ guesses. All (IsLawfulFound g.M.PhysMem.bytes g.M.PhysMem.ram c.args.columns.now c.args.segments.now guesses) c.in_ok-founds.founds.items)
+    subst
+    (λ guesses. All
+    (IsLawfulFound g.M.PhysMem.bytes g.M.PhysMem.ram c.args.columns.now c.args.segments.now guesses)
+    c.in_ok-founds.founds.items)
     (c.deref.ensures.value ∙ sym c.deref-2.ensures.value) c.in_ok-founds.ensures.lawful
 
 pub returns-clause-over : goal.returns-clause-over
@@ -42,11 +52,17 @@ returns-clause-over g c =
     let segments = c.args.segments.now in
     let founds = c.in_ok-founds.founds.items in
     let start = state_of bytes_of c.in_ok-start.start in
-    let same = same_state bytes_of c.in_ok-start.start c.args.start c.in_ok-start.ensures.core c.in_ok-start.ensures.bytes in
+    let same =
+    same_state bytes_of c.in_ok-start.start c.args.start c.in_ok-start.ensures.core c.in_ok-start.ensures.bytes in
     let guessed = ap (map (state_of bytes_of)) c.deref-2.ensures.value ∙ c.in_ok-guesses.ensures.guesses in
     let alike = c.deref.ensures.value ∙ sym c.deref-2.ensures.value in
-    let left = subst (λ guesses. AreLeft bytes_of columns segments guesses founds) alike c.in_ok-founds.ensures.events in
-    let judged = subst (λ guesses. AreJudgedInTurn by_hart (candidates_of bytes_of columns segments guesses founds)) alike c.in_ok-founds.ensures.judged in
+    let left =
+    subst (λ guesses. AreLeft bytes_of g.M.PhysMem.ram columns segments guesses founds) alike
+    c.in_ok-founds.ensures.events in
+    let judged =
+    subst (λ guesses. AreJudgedInTurn by_hart (candidates_of bytes_of columns segments guesses founds)) alike
+    c.in_ok-founds.ensures.judged in
     let round = c.join_round.ensures in
     subst (λ start. IfOk c.join_round.result (IsRoundOver bytes_of g.M.PhysMem.ram columns segments start)) same
-    (round_over bytes_of g.M.PhysMem.ram columns segments c.deref-2.result.now founds start c.join_round.result guessed left judged round.round round.settled round.some round.again round.verdict round.end round.can_step)
+    (round_over bytes_of g.M.PhysMem.ram columns segments c.deref-2.result.now founds start c.join_round.result
+    guessed left judged round.round round.settled round.settles_one round.again round.verdict round.end round.can_step)

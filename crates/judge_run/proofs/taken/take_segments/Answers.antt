@@ -3,12 +3,13 @@ use Rattle.std.specs.List.{flat_map}
 use Rattle.std.proofs.lemmas.List.{length-append}
 use Rattle.judge_words.specs.Job.{job_view}
 use Rattle.outside_ports.specs.Ports.{file_of}
-use Rattle.rvfi_rows.specs.Segments.{lines_of}
+use Rattle.rvfi_rows.specs.Segments.{segment_lines}
 use Rattle.trace_lines.specs.declared.piece.Ending.TheVariants.{More}
 use Rattle.trace_lines.specs.Pieces.{FitsEnding}
-use Rattle.trace_lines.specs.Takers.{TakesTold}
-use Rattle.judge_run.specs.Taking.{TakesLinesTold, TakesSoFarTold, lines_asked}
-use Rattle.judge_run.proofs.Taking.{begins, fits_last, next_lines_are, next_within, no_lines, take_last_told, take_on_told, takes_on, takes_whole, there_behind}
+use Rattle.trace_lines.specs.Takers.{TakesWhereKnown}
+use Rattle.judge_run.specs.Taking.{TakesLinesWhereKnown, TakesSoFarWhereKnown, most_lines}
+use Rattle.judge_run.proofs.Taking.{begins, fits_last, next_lines_are, next_within, no_lines, take_last_told}
+use Rattle.judge_run.proofs.Taking.{take_on_told, takes_on, takes_whole, there_behind}
 use Rattle.judge_run.proofs.taken.take_segments.Goals as goal
 
 pub segments-init : goal.segments-init
@@ -17,11 +18,13 @@ segments-init g c =
     let count = no_lines c.args.job.now.sharing.segment c.new-segments.result.items none in
     let nothing : 0 * c.args.job.now.sharing.segment ≡ 0 = omega arith in
     record {
-      told = refl;
+      known_files = refl;
       faults = refl;
       misses = refl;
-      there = c.requires.there;
-      taken = begins (file_of (g.H.Shelf.told c.args.shelf.now) (string_bytes c.args.taker.name)) c.args.taker c.args.job.now.sharing.segment c.new-segments.result.items none;
+      there = c.requires.file_exists;
+      taken =
+          begins (file_of (g.H.Shelf.known_files c.args.shelf.now) (string_bytes c.args.taker.name)) c.args.taker
+          c.args.job.now.sharing.segment c.new-segments.result.items none;
       count = count;
       few = omega (arith, ap length none);
       full = omega (arith, ap length none);
@@ -30,69 +33,92 @@ segments-init g c =
 
 pub returns-then-not-is_more-clause-takes : goal.returns-then-not-is_more-clause-takes
 returns-then-not-is_more-clause-takes g c =
-    let told = g.H.Shelf.told c.args.shelf.now in
-    let file = file_of told (string_bytes c.args.taker.name) in
+    let known_files = g.H.Shelf.known_files c.args.shelf.now in
+    let file = file_of known_files (string_bytes c.args.taker.name) in
     let segment = c.args.job.now.sharing.segment in
     let first = c.segments.counter * segment in
     let middle = c.segments.taker in
     let piece = c.in-Ok.taken.0 in
     let after = c.in-Ok.taken.1 in
-    let lines = flat_map lines_of c.segments.segments.items in
+    let lines = flat_map segment_lines c.segments.segments.items in
     let inv = c.segments.invariant in
-    let here : TakesTold (file_of told (string_bytes middle.name)) segment middle piece after = subst (λ told. TakesTold (file_of told (string_bytes middle.name)) segment middle piece after) inv.told c.in-Ok.ensures.takes in
-    let takes = takes_on told c.args.taker middle after first segment lines piece c.requires.there inv.taken here in
+    let here : TakesWhereKnown (file_of known_files (string_bytes middle.name)) segment middle piece after =
+    subst
+    (λ known_files. TakesWhereKnown (file_of known_files (string_bytes middle.name)) segment middle piece after)
+    inv.known_files c.in-Ok.ensures.takes in
+    let takes =
+    takes_on known_files c.args.taker middle after first segment lines piece c.requires.file_exists inv.taken
+    here in
     let within = next_within c.segments.counter c.args.asked segment c.segments-test.true in
-    subst (λ text. TakesLinesTold file (lines_asked (job_view c.args.job.now) c.args.asked) c.args.taker text piece.ending after) (sym c.in-Ok-push_lines.ensures.lines)
-    (take_last_told file first segment (lines_asked (job_view c.args.job.now) c.args.asked) c.args.taker middle after lines piece inv.taken takes c.in-Ok.ensures.counts
-    (λ more. let never : c.is_more.result ≡ true = c.is_more.ensures.1 more in let other : false ≡ true = sym c.if-not-is_more.true ∙ never in cc) within)
+    subst
+    (λ text. TakesLinesWhereKnown file (most_lines (job_view c.args.job.now) c.args.asked) c.args.taker text
+    piece.ending after) (sym c.in-Ok-push_lines.ensures.lines)
+    (take_last_told file first segment (most_lines (job_view c.args.job.now) c.args.asked) c.args.taker middle after
+    lines piece inv.taken takes c.in-Ok.ensures.counts
+    (λ more. let never : c.is_more.result ≡ true =
+    c.is_more.ensures.1 more in let other : false ≡ true = sym c.if-not-is_more.true ∙ never in cc) within)
 
 pub returns-then-not-is_more-clause-counts : goal.returns-then-not-is_more-clause-counts
 returns-then-not-is_more-clause-counts g c =
     let segment = c.args.job.now.sharing.segment in
     let piece = c.in-Ok.taken.0 in
-    let lines = flat_map lines_of c.segments.segments.items in
+    let lines = flat_map segment_lines c.segments.segments.items in
     let within = next_within c.segments.counter c.args.asked segment c.segments-test.true in
     let many = ap length c.in-Ok-push_lines.ensures.lines ∙ length-append lines piece.lines in
-    subst (λ count. FitsEnding piece.ending (lines_asked (job_view c.args.job.now) c.args.asked) count) (sym many)
-    (fits_last (c.segments.counter * segment) segment (lines_asked (job_view c.args.job.now) c.args.asked) piece.ending (length lines) (length piece.lines) c.segments.invariant.count c.in-Ok.ensures.counts
-    (λ more. let never : c.is_more.result ≡ true = c.is_more.ensures.1 more in let other : false ≡ true = sym c.if-not-is_more.true ∙ never in cc) within)
+    subst (λ count. FitsEnding piece.ending (most_lines (job_view c.args.job.now) c.args.asked) count) (sym many)
+    (fits_last (c.segments.counter * segment) segment (most_lines (job_view c.args.job.now) c.args.asked) piece.ending
+    (length lines) (length piece.lines) c.segments.invariant.count c.in-Ok.ensures.counts
+    (λ more. let never : c.is_more.result ≡ true =
+    c.is_more.ensures.1 more in let other : false ≡ true = sym c.if-not-is_more.true ∙ never in cc) within)
 
 pub segments-preserved : goal.segments-preserved
 segments-preserved g c =
-    let told = g.H.Shelf.told c.args.shelf.now in
-    let file = file_of told (string_bytes c.args.taker.name) in
+    let known_files = g.H.Shelf.known_files c.args.shelf.now in
+    let file = file_of known_files (string_bytes c.args.taker.name) in
     let segment = c.args.job.now.sharing.segment in
     let first = c.segments.counter * segment in
     let middle = c.segments.taker in
     let piece = c.in-Ok.taken.0 in
     let after = c.in-Ok.taken.1 in
-    let lines = flat_map lines_of c.segments.segments.items in
+    let lines = flat_map segment_lines c.segments.segments.items in
     let inv = c.segments.invariant in
-    let here : TakesTold (file_of told (string_bytes middle.name)) segment middle piece after = subst (λ told. TakesTold (file_of told (string_bytes middle.name)) segment middle piece after) inv.told c.in-Ok.ensures.takes in
-    let takes = takes_on told c.args.taker middle after first segment lines piece c.requires.there inv.taken here in
+    let here : TakesWhereKnown (file_of known_files (string_bytes middle.name)) segment middle piece after =
+    subst
+    (λ known_files. TakesWhereKnown (file_of known_files (string_bytes middle.name)) segment middle piece after)
+    inv.known_files c.in-Ok.ensures.takes in
+    let takes =
+    takes_on known_files c.args.taker middle after first segment lines piece c.requires.file_exists inv.taken
+    here in
     let more : piece.ending ≡ More = c.is_more.ensures.0 c.if-not-is_more.false in
-    let whole : length piece.lines ≡ segment = subst (λ ending. FitsEnding ending segment (length piece.lines)) more c.in-Ok.ensures.counts in
-    let taken = take_on_told file first segment c.args.taker middle after lines piece inv.taken takes more c.in-Ok.ensures.counts in
+    let whole : length piece.lines ≡ segment =
+    subst (λ ending. FitsEnding ending segment (length piece.lines)) more c.in-Ok.ensures.counts in
+    let taken =
+    take_on_told file first segment c.args.taker middle after lines piece inv.taken takes more
+    c.in-Ok.ensures.counts in
     let next = next_lines_are c.segments.counter segment in
     let many = ap length c.in-Ok-push_lines.ensures.lines ∙ length-append lines piece.lines in
     record {
-      told = c.in-Ok.ensures.told ∙ inv.told;
+      known_files = c.in-Ok.ensures.known_files ∙ inv.known_files;
       faults = c.in-Ok.ensures.faults ∙ inv.faults;
       misses = c.in-Ok.ensures.misses ∙ inv.misses;
-      there = there_behind told c.args.taker after (first + segment) (lines ++ piece.lines) c.requires.there taken;
-      taken = subst (λ text. TakesSoFarTold file ((c.segments.counter + 1) * segment) c.args.taker text after) (sym c.in-Ok-push_lines.ensures.lines)
-          (subst (λ asked. TakesSoFarTold file asked c.args.taker (lines ++ piece.lines) after) (sym next) taken);
+      there =
+          there_behind known_files c.args.taker after (first + segment) (lines ++ piece.lines) c.requires.file_exists
+          taken;
+      taken =
+          subst (λ text. TakesSoFarWhereKnown file ((c.segments.counter + 1) * segment) c.args.taker text after)
+          (sym c.in-Ok-push_lines.ensures.lines)
+          (subst (λ asked. TakesSoFarWhereKnown file asked c.args.taker (lines ++ piece.lines) after) (sym next) taken);
       count = omega (arith, many, inv.count, whole, next);
-      few = omega (arith, c.in-Ok-push_lines.ensures.few, inv.few);
+      few = omega (arith, c.in-Ok-push_lines.ensures.at_most_one_more, inv.few);
       full = omega (arith, many, c.in-Ok-push_lines.ensures.full, inv.full);
       room = omega (arith, many, inv.room, c.in-Ok.ensures.room);
     }
 
 pub returns-clause-takes : goal.returns-clause-takes
 returns-clause-takes g c =
-    let file = file_of (g.H.Shelf.told c.args.shelf.now) (string_bytes c.args.taker.name) in
+    let file = file_of (g.H.Shelf.known_files c.args.shelf.now) (string_bytes c.args.taker.name) in
     let segment = c.args.job.now.sharing.segment in
-    let lines = flat_map lines_of c.segments.segments.items in
+    let lines = flat_map segment_lines c.segments.segments.items in
     let all : c.segments.counter ≡ c.args.asked = omega (arith, c.segments-test.false, c.segments.auto.counter-end) in
-    subst (λ count. TakesLinesTold file (count * segment) c.args.taker lines More c.segments.taker) all
+    subst (λ count. TakesLinesWhereKnown file (count * segment) c.args.taker lines More c.segments.taker) all
     (takes_whole file (c.segments.counter * segment) c.args.taker c.segments.taker lines c.segments.invariant.taken)

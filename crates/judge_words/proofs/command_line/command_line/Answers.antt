@@ -9,7 +9,9 @@ unfolding command_line
 returns c =
     let judge = c.in_ok-judge_command.ensures in
     let make = c.in_ok-make_command.ensures in
-    let first = c.in_ok-subcommand.ensures.shape judge.1 ∙ ap₂ with_subcommand c.new.ensures.app (ap (λ (app : App). app.top) judge.0) in
+    let first =
+    c.in_ok-subcommand.ensures.shape judge.1
+    ∙ ap₂ with_subcommand c.new.ensures.app (ap (λ (app : App). app.top) judge.0) in
     IfOk-weaker c.subcommand-2.result _ _
     (λ line h. h.shape make.1 ∙ ap₂ with_subcommand first (ap (λ (app : App). app.top) make.0))
     c.subcommand-2.ensures

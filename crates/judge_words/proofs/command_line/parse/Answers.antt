@@ -10,5 +10,6 @@ returns-in-Ok c =
 
 pub returns : goal.returns
 returns c = λ _.
-    entered_by-refused (app_of c.args.line) _ c.in-Err.error (λ memory. c.in_default.not-OutOfMemory (c.kind.ensures ∙ memory))
+    entered_by-refused (app_of c.args.line) _ c.in-Err.error
+    (λ memory. c.in_default.not-OutOfMemory (c.kind.ensures ∙ memory))
     (c.in-Err.ensures.kinds c.requires)

@@ -4,13 +4,18 @@ use Rattle.page_layers.proofs.layers.stacked.Goals as goal
 
 pub loop-layer-init : goal.loop-layer-init
 loop-layer-init c =
-    let items = c.in_ok-push.ensures.items ∙ ap (λ layers. layers ++ c.in_ok-of.field-0 ∷ []) c.new-layers.ensures.items in
+    let items =
+    c.in_ok-push.ensures.items ∙ ap (λ layers. layers ++ c.in_ok-of.field-0 ∷ []) c.new-layers.ensures.items in
     stacked_first c.push.new.self.items c.in_ok-of.field-0 c.args.newest c.args.older.now items c.in_ok-of.ensures
 
 pub loop-layer-preserved : goal.loop-layer-preserved
 loop-layer-preserved c = λ number.
-    stacked_next c.loop-layer.layers.items c.push-in-loop-layer.new.self.items c.in_ok-clone.field-0 c.args.older.now c.loop-layer.layer-index c.layer-item.result number _ c.loop-layer-test.true
-    c.in_ok-push-2.ensures.items (c.in_ok-clone.ensures.cases ∙ ap (λ layer. layer.blocks.value) c.layer-item.is) (c.loop-layer.invariant number)
+    stacked_next c.loop-layer.layers.items c.push-in-loop-layer.new.self.items c.in_ok-clone.field-0 c.args.older.now
+    c.loop-layer.layer-index c.layer-item.result number _ c.loop-layer-test.true
+    c.in_ok-push-2.ensures.items (c.in_ok-clone.ensures.cases ∙ ap (λ layer. layer.blocks.value) c.layer-item.is)
+    (c.loop-layer.invariant number)
 
 pub returns : goal.returns
-returns c = λ number. stacked_all c.loop-layer.layers.items c.args.older.now c.loop-layer.layer-index number _ c.loop-layer-test.false (c.loop-layer.invariant number)
+returns c =
+    λ number. stacked_all c.loop-layer.layers.items c.args.older.now c.loop-layer.layer-index number _
+    c.loop-layer-test.false (c.loop-layer.invariant number)

@@ -5,4 +5,7 @@ use Rattle.page_layers.proofs.layers.stacked.Given as goal
 
 -- the layers that are there, and those that are left
 abbrev pub invariant-loop-layer : goal.invariant-loop-layer
-invariant-loop-layer l = (number : ℕ) → option_or (block_among l.layers.items number) (block_among (drop l.layer-index l.older) number) ≡ newest_block l.fn.newest l.older number
+invariant-loop-layer l =
+    (number : ℕ)
+    → option_or (block_among l.layers.items number) (block_among (drop l.layer-index l.older) number)
+    ≡ newest_block l.fn.newest l.older number

@@ -4,4 +4,6 @@ use Rattle.pmp_check.proofs.check.allows.Given as goal
 
 -- the entries from here on decide as all of them do
 abbrev pub invariant-loop-entry : goal.invariant-loop-entry
-invariant-loop-entry l = is_allowed_after l.before (drop l.entry-index l.entries) l.mode l.pa l.len l.access ≡ is_allowed l.entries l.mode l.pa l.len l.access
+invariant-loop-entry l =
+    is_allowed_after l.before (drop l.entry-index l.entries) l.mode l.pa l.len l.access
+    ≡ is_allowed l.entries l.mode l.pa l.len l.access

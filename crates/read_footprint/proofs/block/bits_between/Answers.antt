@@ -4,4 +4,6 @@ use Rattle.read_footprint.proofs.Bits.{shifted}
 use Rattle.read_footprint.proofs.block.bits_between.Goals as goal
 
 pub overflow_sub-result : goal.overflow_sub-result
-overflow_sub-result c = rw (shifted c.args.from (omega arith), shifted c.args.to c.requires.within) (pow-le-pow_right (omega arith) c.requires.ordered)
+overflow_sub-result c =
+    rw (shifted c.args.from (omega arith), shifted c.args.to c.requires.within)
+    (pow-le-pow_right (omega arith) c.requires.ordered)

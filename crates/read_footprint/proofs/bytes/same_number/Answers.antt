@@ -2,10 +2,16 @@ use Rattle.read_footprint.proofs.Ranges.{numbers_decided, place_of}
 use Rattle.read_footprint.proofs.bytes.same_number.Goals as goal
 
 pub read-requires : goal.read-requires
-read-requires g c = rw c.len-len.ensures (place_of (g.N.PhysMem.ram c.args.other.now) c.args.range c.requires.few c.args.range.aligned c.requires.all c.requires.other)
+read-requires g c =
+    rw c.len-len.ensures
+    (place_of (g.N.PhysMem.ram c.args.other.now) c.args.range c.requires.at_most_3 c.args.range.aligned c.requires.all
+    c.requires.other)
 
 pub read-requires-2 : goal.read-requires-2
-read-requires-2 g c = rw c.len-len.ensures (place_of (g.M.PhysMem.ram c.args.one.now) c.args.range c.requires.few c.args.range.aligned c.requires.all c.requires.one)
+read-requires-2 g c =
+    rw c.len-len.ensures
+    (place_of (g.M.PhysMem.ram c.args.one.now) c.args.range c.requires.at_most_3 c.args.range.aligned c.requires.all
+    c.requires.one)
 
 pub returns : goal.returns
 returns g c =

@@ -6,6 +6,51 @@ use Rattle.row_compare.proofs.comparison.plain_difference.Goals as goal
 
 pub returns : goal.returns
 returns c =
-    rw (c.or-21.ensures, c.or-20.ensures, c.or-19.ensures, c.or-18.ensures, c.or-17.ensures, c.or-16.ensures, c.or-15.ensures, c.or-14.ensures, c.or-13.ensures, c.or-12.ensures, c.or-11.ensures, c.or-10.ensures, c.or-9.ensures, c.or-8.ensures, c.or-7.ensures, c.or-6.ensures, c.or-5.ensures, c.or-4.ensures, c.or-3.ensures, c.or-2.ensures, c.or.ensures)
-    (rw (c.signal_difference.ensures, c.signal_difference-2.ensures, c.signal_difference-3.ensures, c.signal_difference-4.ensures, c.signal_difference-5.ensures, c.signal_difference-6.ensures, c.signal_difference-7.ensures, c.signal_difference-8.ensures, c.signal_difference-9.ensures, c.signal_difference-10.ensures, c.signal_difference-11.ensures, c.signal_difference-12.ensures, c.signal_difference-13.ensures, c.signal_difference-14.ensures, c.signal_difference-15.ensures, c.signal_difference-16.ensures, c.signal_difference-17.ensures, c.signal_difference-18.ensures, c.signal_difference-19.ensures, c.signal_difference-20.ensures, c.signal_difference-21.ensures, c.signal_difference-22.ensures)
+    rw (
+      c.or-21.ensures,
+      c.or-20.ensures,
+      c.or-19.ensures,
+      c.or-18.ensures,
+      c.or-17.ensures,
+      c.or-16.ensures,
+      c.or-15.ensures,
+      c.or-14.ensures,
+      c.or-13.ensures,
+      c.or-12.ensures,
+      c.or-11.ensures,
+      c.or-10.ensures,
+      c.or-9.ensures,
+      c.or-8.ensures,
+      c.or-7.ensures,
+      c.or-6.ensures,
+      c.or-5.ensures,
+      c.or-4.ensures,
+      c.or-3.ensures,
+      c.or-2.ensures,
+      c.or.ensures,
+    )
+    (rw (
+      c.signal_difference.ensures,
+      c.signal_difference-2.ensures,
+      c.signal_difference-3.ensures,
+      c.signal_difference-4.ensures,
+      c.signal_difference-5.ensures,
+      c.signal_difference-6.ensures,
+      c.signal_difference-7.ensures,
+      c.signal_difference-8.ensures,
+      c.signal_difference-9.ensures,
+      c.signal_difference-10.ensures,
+      c.signal_difference-11.ensures,
+      c.signal_difference-12.ensures,
+      c.signal_difference-13.ensures,
+      c.signal_difference-14.ensures,
+      c.signal_difference-15.ensures,
+      c.signal_difference-16.ensures,
+      c.signal_difference-17.ensures,
+      c.signal_difference-18.ensures,
+      c.signal_difference-19.ensures,
+      c.signal_difference-20.ensures,
+      c.signal_difference-21.ensures,
+      c.signal_difference-22.ensures,
+    )
     (written_out c.args.retired.now (shown_in c.args.row.now) None (take 22 SIGNALS)))

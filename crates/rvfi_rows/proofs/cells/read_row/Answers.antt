@@ -5,9 +5,16 @@ use Rattle.rvfi_rows.proofs.cells.read_row.Goals as goal
 
 pub returns-in_err-row_of_fields : goal.returns-in_err-row_of_fields
 returns-in_err-row_of_fields c =
-    let p = err_from_is_err_and c.from_residual-in_err-row_of_fields.result c.from_residual-in_err-row_of_fields.ensures.1 in
-    rw (p.1, p.2) (sym (of_line c.args.columns.now c.args.line.now c.has_carriage_return.result c.in_ok-fields.fields c.has_carriage_return.ensures c.in_ok-fields.ensures) ∙ sym c.in_err-row_of_fields.ensures)
+    let p =
+    err_from_is_err_and c.from_residual-in_err-row_of_fields.result
+    c.from_residual-in_err-row_of_fields.ensures.1 in
+    rw (p.1, p.2)
+    (sym
+    (of_line c.args.columns.now c.args.line.now c.has_carriage_return.result c.in_ok-fields.fields
+    c.has_carriage_return.ensures c.in_ok-fields.ensures) ∙ sym c.in_err-row_of_fields.ensures)
 
 pub returns : goal.returns
 returns c =
-    sym (of_line c.args.columns.now c.args.line.now c.has_carriage_return.result c.in_ok-fields.fields c.has_carriage_return.ensures c.in_ok-fields.ensures) ∙ sym c.in_ok-row_of_fields.ensures
+    sym
+    (of_line c.args.columns.now c.args.line.now c.has_carriage_return.result c.in_ok-fields.fields
+    c.has_carriage_return.ensures c.in_ok-fields.ensures) ∙ sym c.in_ok-row_of_fields.ensures

@@ -8,6 +8,9 @@ pub loop-index-preserved : goal.loop-index-preserved
 loop-index-preserved c =
     let within : c.loop-index.index < length c.args.fields.now = omega arith in
     elim c.match-get.branch [
-      | in-Some+in_ok-push w ↦ rw (w.signals-is, w.in_ok-push.ensures.items, w.column_named.ensures) (named-next column_of c.args.fields.now c.loop-index.index w.in-Some.field.now c.loop-index.signals.items within w.in-Some.ensures c.loop-index.invariant)
+      | in-Some+in_ok-push w ↦
+          rw (w.signals-is, w.in_ok-push.ensures.items, w.column_named.ensures)
+          (named-next column_of c.args.fields.now c.loop-index.index w.in-Some.field.now c.loop-index.signals.items
+          within w.in-Some.ensures c.loop-index.invariant)
       | in_default w ↦ absurd (found_within c.args.fields.now c.loop-index.index within w.in_default.ensures)
     ]

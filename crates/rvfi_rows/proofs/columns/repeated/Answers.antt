@@ -3,10 +3,14 @@ use Rattle.rvfi_rows.proofs.Steps.{repeated-next, repeated-end}
 use Rattle.rvfi_rows.proofs.columns.repeated.Goals as goal
 
 pub returns-then-stands : goal.returns-then-stands
-returns-then-stands c = repeated-next c.args.columns.now c.loop-index.index true _ c.loop-index-test.true (rw c.if-stands.true at c.stands.ensures) c.loop-index.invariant
+returns-then-stands c =
+    repeated-next c.args.columns.now c.loop-index.index true _ c.loop-index-test.true
+    (rw c.if-stands.true at c.stands.ensures) c.loop-index.invariant
 
 pub loop-index-preserved : goal.loop-index-preserved
-loop-index-preserved c = repeated-next c.args.columns.now c.loop-index.index false _ c.loop-index-test.true (rw c.if-stands.false at c.stands.ensures) c.loop-index.invariant
+loop-index-preserved c =
+    repeated-next c.args.columns.now c.loop-index.index false _ c.loop-index-test.true
+    (rw c.if-stands.false at c.stands.ensures) c.loop-index.invariant
 
 pub returns : goal.returns
 returns c = repeated-end c.args.columns.now c.loop-index.index _ c.loop-index-test.false c.loop-index.invariant

@@ -5,5 +5,6 @@ use Rattle.rvfi_rows.proofs.lines.read_rows_in.Goals as goal
 pub lines-preserved : goal.lines-preserved
 lines-preserved c = (
   c.push.ensures.signals ∙ c.lines.invariant.0,
-  lines-next c.args.columns.now c.lines.reader c.lines.fields c.next.new.self c.next.new.fields c.in-Some.read _ _ _ (rw c.in-Some.is at c.in_ok-read.ensures.read) c.in_ok-push.ensures.pushed c.lines.invariant.1,
+  lines-next c.args.columns.now c.lines.reader c.lines.fields c.next.new.self c.next.new.fields c.in-Some.read _ _ _
+      (rw c.in-Some.is at c.in_ok-read.ensures.read) c.in_ok-push.ensures.pushed c.lines.invariant.1,
 )

@@ -1,11 +1,13 @@
 use Rattle.std.proofs.Common.{◌≡◌, ◌++◌, length}
-use Rattle.rvfi_rows.specs.Readings.{rows_in}
+use Rattle.rvfi_rows.specs.Readings.{readings_in}
 use Rattle.rvfi_rows.specs.Rows.{rows_of, signals_of}
 use Rattle.rvfi_rows.proofs.lines.read_rows_in.Given as goal
 
 -- the rows that are there, with those of the lines that are left, are those of all lines
 abbrev pub invariant-lines : goal.invariant-lines
-invariant-lines l = (l.rows.signals.items ≡ signals_of l.columns) × (rows_in l.rows ++ rows_of l.columns l.reader ≡ rows_of l.columns l.fn.lines)
+invariant-lines l =
+    (l.rows.signals.items ≡ signals_of l.columns)
+    × (readings_in l.rows ++ rows_of l.columns l.reader ≡ rows_of l.columns l.fn.lines)
 
 abbrev pub decreases-lines : goal.decreases-lines
 decreases-lines l = length l.reader

@@ -13,7 +13,13 @@ unfolding signals_of
 loop-column-preserved c =
     elim c.match-column.branch [
       | in-Some+in_ok-push w ↦
-          rw w.signals-is (signals-next c.args.columns.now c.loop-column.column-index None w.push.new.self.items c.loop-column.signals.items c.loop-column-test.true c.loop-column.invariant (rw w.in-Some.is w.in_ok-push.ensures.items))
+          rw w.signals-is
+          (signals-next c.args.columns.now c.loop-column.column-index None w.push.new.self.items
+          c.loop-column.signals.items c.loop-column-test.true c.loop-column.invariant
+          (rw w.in-Some.is w.in_ok-push.ensures.items))
       | in_default w ↦
-          rw w.signals-is (signals-next c.args.columns.now c.loop-column.column-index None c.loop-column.signals.items c.loop-column.signals.items c.loop-column-test.true c.loop-column.invariant (rw w.in_default.is (sym (append-nil c.loop-column.signals.items))))
+          rw w.signals-is
+          (signals-next c.args.columns.now c.loop-column.column-index None c.loop-column.signals.items
+          c.loop-column.signals.items c.loop-column-test.true c.loop-column.invariant
+          (rw w.in_default.is (sym (append-nil c.loop-column.signals.items))))
     ]

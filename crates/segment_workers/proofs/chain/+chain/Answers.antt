@@ -10,8 +10,10 @@ returns g t c =
     let front = c.split_off.new.self.items in
     let last = c.in_ok-last.last.items in
     let done = c.in_ok-results.results.items in
-    let behind = c.in_ok-behind.field-0.items in
-    both_parts g.F.Fn work c.args.jobs.items front last (c.len-2.result - 1) done behind c.append.new.self.items
+    let following = c.in_ok-following.field-0.items in
+    both_parts g.F.Fn work c.args.jobs.items front last (c.len-2.result - 1) done following c.append.new.self.items
     c.in_ok-last.ensures.items c.in_ok-last.ensures.tail c.in_ok-append.ensures.items
-    (IfOk-at_ok (λ results. GivesFor g.F.Fn work front results.items) c.in_ok-results.was c.join-behind.ensures.second)
-    (IfOk-at_ok (λ results. GivesFor g.F.Fn work last results.items) c.in_ok-behind.was c.join-behind.ensures.first)
+    (IfOk-at_ok (λ results. GivesFor g.F.Fn work front results.items) c.in_ok-results.was
+    c.join-following.ensures.second)
+    (IfOk-at_ok (λ results. GivesFor g.F.Fn work last results.items) c.in_ok-following.was
+    c.join-following.ensures.first)

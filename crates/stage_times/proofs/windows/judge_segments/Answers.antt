@@ -8,22 +8,32 @@ use Rattle.stage_times.proofs.windows.judge_segments.Goals as goal
 
 pub find-requires-clause-one_each : goal.find-requires-clause-one_each
 find-requires-clause-one_each g c = λ κs lives.
-    ap length c.deref.ensures.value ∙ guess_for_each_segment g.M.PhysMem.bytes _ c.args.columns.now c.args.segments.now c.in_ok-guesses.guesses.items c.in_ok-guesses.ensures.guesses
+    ap length c.deref.ensures.value
+    ∙ guess_for_each_segment g.M.PhysMem.bytes _ c.args.columns.now c.args.segments.now
+    c.in_ok-guesses.guesses.items c.in_ok-guesses.ensures.guesses
 
 pub join_round-requires-clause-can_step : goal.join_round-requires-clause-can_step
 join_round-requires-clause-can_step g c = record {
   sound = subst IsSound (sym c.in_ok-start.ensures.core) c.requires.can_step.sound;
-  ram = c.in_ok-start.ensures.ram ∙ c.requires.can_step.ram ∙ sym (ap (λ core. core.map.ram) c.in_ok-start.ensures.core);
+  ram =
+      c.in_ok-start.ensures.ram ∙ c.requires.can_step.ram ∙ sym (ap (λ core. core.map.ram) c.in_ok-start.ensures.core);
 }
 
 pub join_round-requires-clause-one_each : goal.join_round-requires-clause-one_each
 join_round-requires-clause-one_each g c =
-    ap length c.deref-2.ensures.value ∙ guess_for_each_segment g.M.PhysMem.bytes _ c.args.columns.now c.args.segments.now c.in_ok-guesses.guesses.items c.in_ok-guesses.ensures.guesses
+    ap length c.deref-2.ensures.value
+    ∙ guess_for_each_segment g.M.PhysMem.bytes _ c.args.columns.now c.args.segments.now
+    c.in_ok-guesses.guesses.items c.in_ok-guesses.ensures.guesses
 
 pub join_round-requires-clause-guesses : goal.join_round-requires-clause-guesses
-join_round-requires-clause-guesses g c = subst (λ guesses. All (CanStep g.M.PhysMem.ram) guesses) (sym c.deref-2.ensures.value) c.in_ok-guesses.ensures.can_step
+join_round-requires-clause-guesses g c =
+    subst (λ guesses. All (CanStep g.M.PhysMem.ram) guesses) (sym c.deref-2.ensures.value)
+    c.in_ok-guesses.ensures.can_step
 
 pub join_round-requires-clause-lawful : goal.join_round-requires-clause-lawful
 join_round-requires-clause-lawful g c =
-    subst (λ guesses. All (IsLawfulFound g.M.PhysMem.bytes g.M.PhysMem.ram c.args.columns.now c.args.segments.now guesses) c.in_ok-founds.founds.items)
+    subst
+    (λ guesses. All
+    (IsLawfulFound g.M.PhysMem.bytes g.M.PhysMem.ram c.args.columns.now c.args.segments.now guesses)
+    c.in_ok-founds.founds.items)
     (c.deref.ensures.value ∙ sym c.deref-2.ensures.value) c.in_ok-founds.ensures

@@ -14,5 +14,7 @@ returns c =
     record {
       whole = before.whole;
       values = before.values;
-      entries = All-set IsLegalEntry c.reset-csrs.result.entries 0 (record { cfg = 0x1f; addr = 0x3fffffffffffff }) all_rights before.entries;
+      entries =
+          All-set IsLegalEntry c.reset-csrs.result.entries 0 (record { cfg = 0x1f; addr = 0x3fffffffffffff })
+          all_rights before.entries;
     }

@@ -2,7 +2,7 @@ use Rattle.std.proofs.Common.{◌+◌, ◌∙◌, None, ap, arith, length, optio
 use Rattle.std.proofs.lemmas.List.{length-append, length-set}
 use Rattle.std.proofs.lemmas.List.{take_all}
 use Rattle.std.proofs.lemmas.Option.{slice_get_read}
-use Rattle.verdict_join.specs.Walks.{judged_in}
+use Rattle.verdict_join.specs.Walks.{judged_segment_in}
 use Rattle.verdict_join.proofs.Placed.{none_pushed, passed_turn, placed_turn}
 use Rattle.verdict_join.proofs.guessed_segments.judged_segments.Goals as goal
 use Rattle.verdict_join.proofs.guessed_segments.judged_segments.Goals.{in-Judged, in_default}
@@ -14,7 +14,7 @@ loop-preserved g c = record {
 }
 
 pub loop-found-init : goal.loop-found-init
-unfolding judged_in
+unfolding judged_segment_in
 loop-found-init g c = record {
   all = omega (arith, c.loop.invariant.all, c.loop-test.false, c.loop.auto.counter-end);
   each = λ number within. ap option_copied (c.loop.invariant.none number);
@@ -38,17 +38,21 @@ loop-found-preserved g c =
       | in-Judged w ↦ record {
         all = ap (λ places. length places.items) w.places-is ∙ length-set _ _ _ ∙ c.loop-found.invariant.all;
         each = λ number within. ap (λ places. option_copied (slice_index_or places.items number None)) w.places-is
-            ∙ placed_turn founds c.loop-found.places.items index number found _ here w.in-Judged.is (omega (arith, below, seg, c.loop-found.invariant.all)) (c.loop-found.invariant.each number within);
+            ∙ placed_turn founds c.loop-found.places.items index number found _ here w.in-Judged.is
+            (omega (arith, below, seg, c.loop-found.invariant.all)) (c.loop-found.invariant.each number within);
       }
       | in_default w ↦ record {
         all = ap (λ places. length places.items) w.places-is ∙ c.loop-found.invariant.all;
         each = λ number within. ap (λ places. option_copied (slice_index_or places.items number None)) w.places-is
-            ∙ c.loop-found.invariant.each number within ∙ sym (passed_turn founds index number w.in_default.field-0 found here w.in_default.is);
+            ∙ c.loop-found.invariant.each number within
+            ∙ sym (passed_turn founds index number w.in_default.field-0 found here w.in_default.is);
       }
     ]
 
 pub returns : goal.returns
 returns g c = record {
   all = c.loop-found.invariant.all;
-  each = λ number within. c.loop-found.invariant.each number within ∙ ap (λ looked. judged_in looked number) (take_all _ _ (omega (arith, c.loop-found-test.false)));
+  each =
+      λ number within. c.loop-found.invariant.each number within
+      ∙ ap (λ looked. judged_segment_in looked number) (take_all _ _ (omega (arith, c.loop-found-test.false)));
 }

@@ -5,20 +5,35 @@ use Rattle.verdict_join.proofs.join.join_round.Goals as goal
 
 pub returns-clause-settled : goal.returns-clause-settled
 returns-clause-settled g c =
-    IfOk-weaker c.walk.result _ _ (λ round walks. (round_in_code g.M.PhysMem.bytes c.args.columns.now c.args.segments.now c.args.guesses.now c.args.founds.items (state_of g.M.PhysMem.bytes c.args.start) round c.requires.one_each walks).within) c.walk.ensures.walks
+    IfOk-weaker c.walk.result _ _
+    (λ round walks.
+    (round_in_code g.M.PhysMem.bytes c.args.columns.now c.args.segments.now c.args.guesses.now c.args.founds.items
+    (state_of g.M.PhysMem.bytes c.args.start) round c.requires.one_each walks).within) c.walk.ensures.walks
 
-pub returns-clause-some : goal.returns-clause-some
-returns-clause-some g c =
-    IfOk-weaker c.walk.result _ _ (λ round walks. (round_in_code g.M.PhysMem.bytes c.args.columns.now c.args.segments.now c.args.guesses.now c.args.founds.items (state_of g.M.PhysMem.bytes c.args.start) round c.requires.one_each walks).some) c.walk.ensures.walks
+pub returns-clause-settles_one : goal.returns-clause-settles_one
+returns-clause-settles_one g c =
+    IfOk-weaker c.walk.result _ _
+    (λ round walks.
+    (round_in_code g.M.PhysMem.bytes c.args.columns.now c.args.segments.now c.args.guesses.now c.args.founds.items
+    (state_of g.M.PhysMem.bytes c.args.start) round c.requires.one_each walks).some) c.walk.ensures.walks
 
 pub returns-clause-again : goal.returns-clause-again
 returns-clause-again g c =
-    IfOk-weaker c.walk.result _ _ (λ round walks. (round_in_code g.M.PhysMem.bytes c.args.columns.now c.args.segments.now c.args.guesses.now c.args.founds.items (state_of g.M.PhysMem.bytes c.args.start) round c.requires.one_each walks).again) c.walk.ensures.walks
+    IfOk-weaker c.walk.result _ _
+    (λ round walks.
+    (round_in_code g.M.PhysMem.bytes c.args.columns.now c.args.segments.now c.args.guesses.now c.args.founds.items
+    (state_of g.M.PhysMem.bytes c.args.start) round c.requires.one_each walks).again) c.walk.ensures.walks
 
 pub returns-clause-verdict : goal.returns-clause-verdict
 returns-clause-verdict g c =
-    IfOk-weaker c.walk.result _ _ (λ round walks. (round_in_code g.M.PhysMem.bytes c.args.columns.now c.args.segments.now c.args.guesses.now c.args.founds.items (state_of g.M.PhysMem.bytes c.args.start) round c.requires.one_each walks).verdict) c.walk.ensures.walks
+    IfOk-weaker c.walk.result _ _
+    (λ round walks.
+    (round_in_code g.M.PhysMem.bytes c.args.columns.now c.args.segments.now c.args.guesses.now c.args.founds.items
+    (state_of g.M.PhysMem.bytes c.args.start) round c.requires.one_each walks).verdict) c.walk.ensures.walks
 
 pub returns-clause-end : goal.returns-clause-end
 returns-clause-end g c =
-    IfOk-weaker c.walk.result _ _ (λ round walks. (round_in_code g.M.PhysMem.bytes c.args.columns.now c.args.segments.now c.args.guesses.now c.args.founds.items (state_of g.M.PhysMem.bytes c.args.start) round c.requires.one_each walks).end) c.walk.ensures.walks
+    IfOk-weaker c.walk.result _ _
+    (λ round walks.
+    (round_in_code g.M.PhysMem.bytes c.args.columns.now c.args.segments.now c.args.guesses.now c.args.founds.items
+    (state_of g.M.PhysMem.bytes c.args.start) round c.requires.one_each walks).end) c.walk.ensures.walks

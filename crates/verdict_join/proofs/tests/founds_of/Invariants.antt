@@ -4,4 +4,7 @@ use Rattle.segment_judge.specs.Founds.{IsLawfulFound}
 use Rattle.verdict_join.proofs.tests.founds_of.Given as goal
 
 abbrev pub invariant-finds : goal.invariant-finds
-invariant-finds l = All (IsLawfulFound map_bytes (λ mem. mem.ram) l.fn.trial.columns l.fn.trial.segments.items l.fn.trial.guesses.items) l.founds.items
+invariant-finds l =
+    All
+    (IsLawfulFound map_bytes (λ mem. mem.ram) l.fn.trial.columns l.fn.trial.segments.items l.fn.trial.guesses.items)
+    l.founds.items

@@ -8,4 +8,6 @@ pub returns : goal.returns
 unfolding packed_pmpcfg_of
 returns c =
     c.from_le_bytes.ensures
-    ∙ ap (from_le_bytes w64) (filled_from (configuration_of c.args.self.now) c.args.first 8 _ c.loop-i.invariant.whole (λ k lt. c.loop-i.invariant.done k (omega arith)))
+    ∙ ap (from_le_bytes w64)
+    (filled_from (configuration_of c.args.self.now) c.args.first 8 _ c.loop-i.invariant.whole
+    (λ k lt. c.loop-i.invariant.done k (omega arith)))

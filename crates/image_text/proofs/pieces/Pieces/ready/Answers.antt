@@ -17,7 +17,8 @@ pub returns-clause-same : goal.returns-clause-same
 returns-clause-same c =
     let absent = none_from_test _ (sym c.contains_key.ensures ∙ c.if-contains_key.false) in
     let empty = c.in_ok-page.ensures.ok in
-    added_page _ _ c.args.number c.in_ok-page.page c.in_ok-insert.ensures.updates.0 absent (λ k. rw empty (none_at _ 4096 k))
+    added_page _ _ c.args.number c.in_ok-page.page c.in_ok-insert.ensures.updates.0 absent
+    (λ k. rw empty (none_at _ 4096 k))
 
 pub returns-clause-ready : goal.returns-clause-ready
 unfolding has_page

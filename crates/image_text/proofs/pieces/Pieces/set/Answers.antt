@@ -13,7 +13,9 @@ unreachable-requires c =
 
 pub returns : goal.returns
 returns c =
-    let below : c.args.address % 4096 < length c.in-Some.page.now.value.bytes = omega (arith, c.in-Some.page.now.value.full) in
+    let below : c.args.address % 4096 < length c.in-Some.page.now.value.bytes =
+    omega (arith, c.in-Some.page.now.value.full) in
     let was = sym c.get_mut.ensures.value ∙ ap option_copied_mut c.in-Some.is in
     let updates = (c.get_mut.follows.holds _).3 (rw was refl) in
-    written_page _ _ c.args.address c.args.value c.in-Some.page.now _ updates.0 was (λ k. rw c.deref_mut.ensures.value (set_at c.in-Some.page.now.value.bytes (c.args.address % 4096) k _ _ below))
+    written_page _ _ c.args.address c.args.value c.in-Some.page.now _ updates.0 was
+    (λ k. rw c.deref_mut.ensures.value (set_at c.in-Some.page.now.value.bytes (c.args.address % 4096) k _ _ below))

@@ -15,16 +15,25 @@ loop-number-preserved-in_ok-insert c =
     let start = same ∙ c.iter-number-items.ensures.rest in
     let ordered = c.iter-number-items.ensures.ordered in
     let first = rest_more deref_pair _ _ _ _ c.in-Some.is c.next.ensures.steps in
-    let turn = btree_map_turn deref_pair c.loop-number.yielded c.into_iter-number-iterator.result c.loop-number.number-iterator c.next.new.self c.next.result (c.in-Some.number, c.in-Some.page)
-    c.loop-number.yielded_by c.in-Some.is c.next.ensures.steps {R = nat_cmp} nat_cmp_total c.pages.result.now start ordered in
-    let found : tree.get nat_cmp c.args.pieces.now.pages c.in-Some.number.now ≡ Some c.in-Some.page.now = rw (← c.pages.ensures) turn.1 in
+    let turn =
+    btree_map_turn deref_pair c.loop-number.yielded c.into_iter-number-iterator.result
+    c.loop-number.number-iterator c.next.new.self c.next.result (c.in-Some.number, c.in-Some.page)
+    c.loop-number.yielded_by c.in-Some.is c.next.ensures.steps {R = nat_cmp} nat_cmp_total c.pages.result.now start
+    ordered in
+    let found : tree.get nat_cmp c.args.pieces.now.pages c.in-Some.number.now ≡ Some c.in-Some.page.now =
+    rw (← c.pages.ensures) turn.1 in
     record {
       ram = c.loop-number.invariant.ram;
       kept = λ q k below.
-          one_more page_byte piece_byte k (get nat_eq c.loop-number.image.pages) (get nat_eq c.insert.new.self) (λ q. lookup (tree.is_at (nat_cmp q)) c.loop-number.number-iterator) (λ q. lookup (tree.is_at (nat_cmp q)) c.next.new.self)
-          (tree.get nat_cmp c.args.pieces.now.pages) c.in-Some.number.now c.in_ok-new.field-0 c.in-Some.page.now c.in_ok-insert.ensures.updates.0 (λ q. rw first refl)
-          (rw (c.in_ok-new.ensures.ok, c.of-page.ensures) (rw c.deref.ensures at (c.plain.ensures.value k below))) found (λ q. c.loop-number.invariant.kept q k below) q;
+          one_more page_byte piece_byte k (get nat_eq c.loop-number.image.pages) (get nat_eq c.insert.new.self)
+          (λ q. lookup (tree.is_at (nat_cmp q)) c.loop-number.number-iterator)
+          (λ q. lookup (tree.is_at (nat_cmp q)) c.next.new.self)
+          (tree.get nat_cmp c.args.pieces.now.pages) c.in-Some.number.now c.in_ok-new.field-0 c.in-Some.page.now
+          c.in_ok-insert.ensures.updates.0 (λ q. rw first refl)
+          (rw (c.in_ok-new.ensures.ok, c.of-page.ensures) (rw c.deref.ensures at (c.plain.ensures.value k below)))
+          found (λ q. c.loop-number.invariant.kept q k below) q;
     }
 
 pub returns-clause-bytes : goal.returns-clause-bytes
-returns-clause-bytes c = all_made _ _ (λ q k below. rw c.in-None.ensures.steps.0 at (c.loop-number.invariant.kept q k below))
+returns-clause-bytes c =
+    all_made _ _ (λ q k below. rw c.in-None.ensures.steps.0 at (c.loop-number.invariant.kept q k below))

@@ -9,6 +9,7 @@ use Rattle.page_image.proofs.image.PageImage.build.Given as goal
 abbrev pub invariant-loop-number : goal.invariant-loop-number
 invariant-loop-number l = record {
   ram : l.image.ram ≡ l.fn.ram;
-  kept : (q k : ℕ) → k < 4096 → over page_byte piece_byte (get nat_eq l.image.pages q) (lookup (tree.is_at (nat_cmp q)) l.number-iterator) k
+  kept : (q k : ℕ) → k < 4096
+      → over page_byte piece_byte (get nat_eq l.image.pages q) (lookup (tree.is_at (nat_cmp q)) l.number-iterator) k
       ≡ over page_byte piece_byte None (tree.get nat_cmp l.pieces.pages q) k;
 }

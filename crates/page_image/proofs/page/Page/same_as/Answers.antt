@@ -4,4 +4,6 @@ use Rattle.page_image.proofs.PageBytes.{pages_decided}
 use Rattle.page_image.proofs.page.Page.same_as.Goals as goal
 
 pub returns : goal.returns
-returns c = pages_decided c.args.self.now c.args.other.now _ (slice_eq-Decides Decides-eqb c.args.self.now.bytes c.args.other.now.bytes _ c.eq.ensures)
+returns c =
+    pages_decided c.args.self.now c.args.other.now _
+    (slice_eq-Decides Decides-eqb c.args.self.now.bytes c.args.other.now.bytes _ c.eq.ensures)

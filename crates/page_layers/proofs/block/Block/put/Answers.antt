@@ -15,6 +15,9 @@ pub loop-k-preserved : goal.loop-k-preserved
 loop-k-preserved c =
     let byte = ap (λ v. v % 256) c.loop-k.invariant.rest in
     record {
-      bytes = λ at in_block. put_more (block_byte c.args.self.now) (block_byte c.loop-k.self) (block_byte c.set.new.self) c.args.pa c.args.len c.loop-k.k c.args.value (c.loop-k.rest % 256) at byte (mod-lt c.loop-k.rest (lit< tt)) c.requires.block (omega arith) in_block c.set.ensures (c.loop-k.invariant.bytes at in_block);
+      bytes =
+          λ at in_block. put_more (block_byte c.args.self.now) (block_byte c.loop-k.self) (block_byte c.set.new.self)
+          c.args.pa c.args.len c.loop-k.k c.args.value (c.loop-k.rest % 256) at byte (mod-lt c.loop-k.rest (lit< tt))
+          c.requires.block (omega arith) in_block c.set.ensures (c.loop-k.invariant.bytes at in_block);
       rest = rest_more c.args.value c.loop-k.k c.loop-k.rest c.loop-k.invariant.rest;
     }

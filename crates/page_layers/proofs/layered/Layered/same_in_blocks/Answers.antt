@@ -18,4 +18,5 @@ loop-number-init c = record {
 }
 
 pub returns-then-not-same_block-clause-same : goal.returns-then-not-same_block-clause-same
-returns-then-not-same_block-clause-same c = refuted c.args.self.now c.args.other.now _ c.same_block.result c.same_block.ensures c.if-not-same_block.true
+returns-then-not-same_block-clause-same c =
+    refuted c.args.self.now c.args.other.now _ c.same_block.result c.same_block.ensures c.if-not-same_block.true

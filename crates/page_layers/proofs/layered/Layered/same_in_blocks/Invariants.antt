@@ -10,5 +10,6 @@ abbrev pub invariant-loop-number : goal.invariant-loop-number
 invariant-loop-number l = record {
   can_go : (goal.iterator-loop-number).can_next l.number-iterator;
   ends : (goal.iterator-loop-number).is_finite l.number-iterator;
-  done : (q : ℕ) → is_some (block_at l.blocks q) ≡ true → (is_member nat_eq l.number-iterator q ≡ true) ⊎ IsSameBlock l.self l.other q;
+  done : (q : ℕ) → is_some (block_at l.blocks q) ≡ true
+      → (is_member nat_eq l.number-iterator q ≡ true) ⊎ IsSameBlock l.self l.other q;
 }

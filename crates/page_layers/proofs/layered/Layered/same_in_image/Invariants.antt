@@ -10,5 +10,7 @@ abbrev pub invariant-loop-page : goal.invariant-loop-page
 invariant-loop-page l = record {
   can_go : (goal.iterator-loop-page).can_next l.page-iterator;
   ends : (goal.iterator-loop-page).is_finite l.page-iterator;
-  done : (q : ℕ) → is_some (get nat_eq l.image.pages q) ≡ true → (is_member nat_eq l.page-iterator q ≡ true) ⊎ ((number : ℕ) → number / 64 ≡ q → IsSameBlock l.self l.other number);
+  done : (q : ℕ) → is_some (get nat_eq l.image.pages q) ≡ true
+      → (is_member nat_eq l.page-iterator q ≡ true)
+      ⊎ ((number : ℕ) → number / 64 ≡ q → IsSameBlock l.self l.other number);
 }

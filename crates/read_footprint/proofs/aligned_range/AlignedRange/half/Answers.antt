@@ -5,5 +5,7 @@ use Rattle.read_footprint.proofs.aligned_range.AlignedRange.half.Goals as goal
 pub returns-clause-is : goal.returns-clause-is
 returns-clause-is c = one_shifted (c.args.self.power - 1) (omega (arith, c.args.self.few))
 
-pub returns-clause-few : goal.returns-clause-few
-returns-clause-few c = rw (one_shifted (c.args.self.power - 1) (omega (arith, c.args.self.few))) (half_few (c.args.self.power - 1) (omega (arith, c.args.self.few)))
+pub returns-clause-at_most_32 : goal.returns-clause-at_most_32
+returns-clause-at_most_32 c =
+    rw (one_shifted (c.args.self.power - 1) (omega (arith, c.args.self.few)))
+    (half_few (c.args.self.power - 1) (omega (arith, c.args.self.few)))

@@ -5,13 +5,14 @@ use Rattle.read_footprint.proofs.Ranges.{halved, halves_of, one_shifted, twice}
 use Rattle.read_footprint.proofs.aligned_range.AlignedRange.halves.Goals as goal
 
 pub overflow_shl-front : goal.overflow_shl-front
-overflow_shl-front c = omega (arith, c.half-half.ensures.few)
+overflow_shl-front c = omega (arith, c.half-half.ensures.at_most_32)
 
 pub nonzero_rem-front : goal.nonzero_rem-front
-nonzero_rem-front c = rw (one_shifted c.half-half.result (omega (arith, c.half-half.ensures.few))) (pow_pos c.half-half.result)
+nonzero_rem-front c =
+    rw (one_shifted c.half-half.result (omega (arith, c.half-half.ensures.at_most_32))) (pow_pos c.half-half.result)
 
 pub overflow_shr-back : goal.overflow_shr-back
-overflow_shr-back c = omega (arith, c.half-half.ensures.few)
+overflow_shr-back c = omega (arith, c.half-half.ensures.at_most_32)
 
 pub overflow_add-back : goal.overflow_add-back
 overflow_add-back c =
@@ -24,7 +25,9 @@ invariant_of-front c =
     record {
       few = omega (arith, c.args.self.few);
       aligned = halves.front;
-      fits = rw (one_shifted c.half-half.result (omega (arith, c.half-half.ensures.few)), c.half-half.ensures.is) (mod-lt c.args.self.bits (pow_pos (2 ^ (c.args.self.power - 1))));
+      fits =
+          rw (one_shifted c.half-half.result (omega (arith, c.half-half.ensures.at_most_32)), c.half-half.ensures.is)
+          (mod-lt c.args.self.bits (pow_pos (2 ^ (c.args.self.power - 1))));
     }
 
 pub invariant_of-back : goal.invariant_of-back
@@ -39,4 +42,5 @@ invariant_of-back c =
 pub returns-clause-counts : goal.returns-clause-counts
 returns-clause-counts c = λ address.
     let twice = twice (c.args.self.power - 1) c.args.self.power (omega (arith, c.requires)) in
-    rw (one_shifted c.half-half.result (omega (arith, c.half-half.ensures.few)), c.half-half.ensures.is) (halved c.args.self.pa (2 ^ c.args.self.power) (2 ^ (c.args.self.power - 1)) c.args.self.bits address twice)
+    rw (one_shifted c.half-half.result (omega (arith, c.half-half.ensures.at_most_32)), c.half-half.ensures.is)
+    (halved c.args.self.pa (2 ^ c.args.self.power) (2 ^ (c.args.self.power - 1)) c.args.self.bits address twice)

@@ -13,5 +13,6 @@ invariant-loop-number g l = record {
   ends : (goal.iterator-loop-number g).is_finite l.number-iterator;
   found : AreFound l.self l.number-iterator;
   done : (q : ℕ) → is_some (get nat_eq l.self.blocks q) ≡ true → (is_some (lookup (nat_eq q) l.number-iterator) ≡ true)
-      ⊎ ((address : ℕ) → address / 64 ≡ q → has_read l.self address ≡ true → g.N.PhysMem.bytes l.other address ≡ g.M.PhysMem.bytes l.one address);
+      ⊎ ((address : ℕ) → address / 64 ≡ q → has_read l.self address ≡ true
+      → g.N.PhysMem.bytes l.other address ≡ g.M.PhysMem.bytes l.one address);
 }

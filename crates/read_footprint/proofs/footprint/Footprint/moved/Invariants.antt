@@ -13,7 +13,9 @@ invariant-loop-number g l = record {
   ends : (goal.iterator-loop-number g).is_finite l.number-iterator;
   found : AreFound l.self l.number-iterator;
   done : (q : ℕ) → is_some (get nat_eq l.self.blocks q) ≡ true → (is_some (lookup (nat_eq q) l.number-iterator) ≡ true)
-      ⊎ ((address : ℕ) → address / 64 ≡ q → has_written l.self address ≡ true → g.M.PhysMem.bytes l.memory address ≡ g.N.PhysMem.bytes l.judged address);
-  either : ArePartlyMoved (has_written l.self) (g.N.PhysMem.bytes l.judged) (g.M.PhysMem.bytes l.fn.memory) (g.M.PhysMem.bytes l.memory);
+      ⊎ ((address : ℕ) → address / 64 ≡ q → has_written l.self address ≡ true
+      → g.M.PhysMem.bytes l.memory address ≡ g.N.PhysMem.bytes l.judged address);
+  either : ArePartlyMoved (has_written l.self) (g.N.PhysMem.bytes l.judged) (g.M.PhysMem.bytes l.fn.memory)
+      (g.M.PhysMem.bytes l.memory);
   ram : g.M.PhysMem.ram l.memory ≡ g.M.PhysMem.ram l.fn.memory;
 }

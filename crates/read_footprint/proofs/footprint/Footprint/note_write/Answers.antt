@@ -6,6 +6,11 @@ pub loop-number-preserved : goal.loop-number-preserved
 loop-number-preserved c = record {
   from = omega (arith, c.loop-number.invariant.from);
   room = omega (arith, c.loop-number.invariant.room, c.note.ensures.room);
-  read = λ address. read_same c.loop-number.self c.note.new.self c.loop-number.number c.bits_of-wrote.result address c.note.ensures.noted ∙ c.loop-number.invariant.read address;
-  wrote = λ address. written_more c.args.self.now c.loop-number.self c.note.new.self c.loop-number.number c.args.pa c.args.len _ c.bits_of-wrote.result address c.note.ensures.noted (c.loop-number.invariant.wrote address) (ap (λ n. c.args.pa + n) c.from.ensures) c.bits_of-wrote.ensures;
+  read =
+      λ address. read_same c.loop-number.self c.note.new.self c.loop-number.number c.bits_of-wrote.result address
+      c.note.ensures.noted ∙ c.loop-number.invariant.read address;
+  wrote =
+      λ address. written_more c.args.self.now c.loop-number.self c.note.new.self c.loop-number.number c.args.pa
+      c.args.len _ c.bits_of-wrote.result address c.note.ensures.noted (c.loop-number.invariant.wrote address)
+      (ap (λ n. c.args.pa + n) c.from.ensures) c.bits_of-wrote.ensures;
 }

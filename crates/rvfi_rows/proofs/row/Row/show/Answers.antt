@@ -10,4 +10,6 @@ invariant_of-self c = record {
 }
 
 pub returns : goal.returns
-returns c = shows_more c.args.self.now _ c.args.signal c.index-index.result c.from.result c.args.value c.index-index.ensures.value c.from.ensures c.index-index.ensures.below refl refl
+returns c =
+    shows_more c.args.self.now _ c.args.signal c.index-index.result c.from.result c.args.value
+    c.index-index.ensures.value c.from.ensures c.index-index.ensures.below refl refl

@@ -8,31 +8,53 @@ use Rattle.segment_judge.proofs.progress.Progress.judge_valid.Goals as goal
 pub add-requires-clause-reads : goal.add-requires-clause-reads
 add-requires-clause-reads g c =
     let core = c.args.self.now.hart.core in
-    reads_narrow core.map.ram c.in-Ok.stepped.seen (performed_reads core _ _ _ _ _ _ _ (IfOk-at_ok _ c.in-Ok.is c.step-done.ensures.stepped))
+    reads_narrow core.map.ram c.in-Ok.stepped.seen
+    (performed_reads core _ _ _ _ _ _ _ (IfOk-at_ok _ c.in-Ok.is c.step-done.ensures.stepped))
 
 pub add-requires-clause-writes : goal.add-requires-clause-writes
 add-requires-clause-writes g c =
     let core = c.args.self.now.hart.core in
-    writes_narrow core.map.ram c.in-Ok.stepped.wrote (performed_writes core _ _ _ _ _ _ _ (IfOk-at_ok _ c.in-Ok.is c.step-done.ensures.stepped))
+    writes_narrow core.map.ram c.in-Ok.stepped.wrote
+    (performed_writes core _ _ _ _ _ _ _ (IfOk-at_ok _ c.in-Ok.is c.step-done.ensures.stepped))
 
 pub returns-in-Some-clause-judges : goal.returns-in-Some-clause-judges
-returns-in-Some-clause-judges g c = λ touched.
-    judges_differing g.M.PhysMem.bytes c.args.self.now _ (shown_in c.args.row.now) c.in-Ok.stepped.expected c.in-Ok.stepped.seen c.in-Ok.stepped.wrote touched c.in-Some.difference
-    (record { done = (IfOk-at_ok _ c.in-Ok.is c.step-done.ensures.stepped); added = c.in_ok-add.ensures.rows; rows = refl }) refl (sym c.in-Some.ensures)
+returns-in-Some-clause-judges g c = λ accesses.
+    judges_differing g.M.PhysMem.bytes c.args.self.now _ (shown_in c.args.row.now) c.in-Ok.stepped.expected
+    c.in-Ok.stepped.seen c.in-Ok.stepped.wrote accesses c.in-Some.difference
+    (record {
+      done =
+          (IfOk-at_ok _ c.in-Ok.is c.step-done.ensures.stepped);
+      added = c.in_ok-add.ensures.rows;
+      rows = refl;
+    }) refl
+    (sym c.in-Some.ensures)
 
 pub returns-in-None-clause-judges : goal.returns-in-None-clause-judges
-returns-in-None-clause-judges g c = λ touched.
-    judges_agreed g.M.PhysMem.bytes c.args.self.now _ (shown_in c.args.row.now) c.in-Ok.stepped.expected c.in-Ok.stepped.seen c.in-Ok.stepped.wrote touched
-    (record { done = (IfOk-at_ok _ c.in-Ok.is c.step-done.ensures.stepped); added = c.in_ok-add.ensures.rows; rows = refl }) refl (sym c.in-None.ensures)
+returns-in-None-clause-judges g c = λ accesses.
+    judges_agreed g.M.PhysMem.bytes c.args.self.now _ (shown_in c.args.row.now) c.in-Ok.stepped.expected
+    c.in-Ok.stepped.seen c.in-Ok.stepped.wrote accesses
+    (record {
+      done =
+          (IfOk-at_ok _ c.in-Ok.is c.step-done.ensures.stepped);
+      added = c.in_ok-add.ensures.rows;
+      rows = refl;
+    }) refl
+    (sym c.in-None.ensures)
 
 pub returns-in-Some-clause-can_judge : goal.returns-in-Some-clause-can_judge
 returns-in-Some-clause-can_judge g c =
     let core = c.args.self.now.hart.core in
-    still_judges g.M.PhysMem.ram c.args.self.now _ c.in-Ok.stepped.seen c.in-Ok.stepped.wrote c.requires.can_judge c.step-done.ensures.sound c.step-done.ensures.map c.step-done.ensures.ram
-    c.in_ok-add.ensures.read c.in_ok-add.ensures.wrote (performed_reads core _ _ _ _ _ _ _ (IfOk-at_ok _ c.in-Ok.is c.step-done.ensures.stepped)) (performed_writes core _ _ _ _ _ _ _ (IfOk-at_ok _ c.in-Ok.is c.step-done.ensures.stepped))
+    still_judges g.M.PhysMem.ram c.args.self.now _ c.in-Ok.stepped.seen c.in-Ok.stepped.wrote c.requires.can_judge
+    c.step-done.ensures.sound c.step-done.ensures.map c.step-done.ensures.ram
+    c.in_ok-add.ensures.read c.in_ok-add.ensures.wrote
+    (performed_reads core _ _ _ _ _ _ _ (IfOk-at_ok _ c.in-Ok.is c.step-done.ensures.stepped))
+    (performed_writes core _ _ _ _ _ _ _ (IfOk-at_ok _ c.in-Ok.is c.step-done.ensures.stepped))
 
 pub returns-in-None-clause-can_judge : goal.returns-in-None-clause-can_judge
 returns-in-None-clause-can_judge g c =
     let core = c.args.self.now.hart.core in
-    still_judges g.M.PhysMem.ram c.args.self.now _ c.in-Ok.stepped.seen c.in-Ok.stepped.wrote c.requires.can_judge c.step-done.ensures.sound c.step-done.ensures.map c.step-done.ensures.ram
-    c.in_ok-add.ensures.read c.in_ok-add.ensures.wrote (performed_reads core _ _ _ _ _ _ _ (IfOk-at_ok _ c.in-Ok.is c.step-done.ensures.stepped)) (performed_writes core _ _ _ _ _ _ _ (IfOk-at_ok _ c.in-Ok.is c.step-done.ensures.stepped))
+    still_judges g.M.PhysMem.ram c.args.self.now _ c.in-Ok.stepped.seen c.in-Ok.stepped.wrote c.requires.can_judge
+    c.step-done.ensures.sound c.step-done.ensures.map c.step-done.ensures.ram
+    c.in_ok-add.ensures.read c.in_ok-add.ensures.wrote
+    (performed_reads core _ _ _ _ _ _ _ (IfOk-at_ok _ c.in-Ok.is c.step-done.ensures.stepped))
+    (performed_writes core _ _ _ _ _ _ _ (IfOk-at_ok _ c.in-Ok.is c.step-done.ensures.stepped))

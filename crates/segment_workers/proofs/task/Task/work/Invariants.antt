@@ -11,7 +11,8 @@ invariant-loop-seg g l = record {
   at : IsAt l.self.board.now l.seat;
   one : length (view_of l.seat).numbers ≡ 1;
   seats : (view_of l.seat).seats ≡ (view_of l.fn.worker.seat).seats;
-  accounts : Accounts (IsLawfulFound g.M.PhysMem.bytes g.M.PhysMem.ram l.self.columns.now l.self.segments.now l.self.guesses.now)
+  accounts : Accounts
+      (IsLawfulFound g.M.PhysMem.bytes g.M.PhysMem.ram l.self.columns.now l.self.segments.now l.self.guesses.now)
       (length l.self.segments.now) (view_of l.seat) l.founds.items;
 }
 

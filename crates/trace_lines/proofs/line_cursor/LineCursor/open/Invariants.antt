@@ -5,11 +5,11 @@ use Rattle.trace_lines.proofs.line_cursor.LineCursor.open.Given as goal
 
 abbrev pub invariant-marking : goal.invariant-marking
 invariant-marking g l = record {
-  told : g.H.Shelf.told l.shelf ≡ g.H.Shelf.told l.fn.shelf;
+  known_files : g.H.Shelf.known_files l.shelf ≡ g.H.Shelf.known_files l.fn.shelf;
   faults : g.H.Shelf.faults l.shelf ≡ g.H.Shelf.faults l.fn.shelf;
   misses : g.H.Shelf.misses l.shelf ≡ g.H.Shelf.misses l.fn.shelf;
-  there : IsThere (g.H.Shelf.told l.fn.shelf) l.name;
-  holds : ForFile (file_of (g.H.Shelf.told l.fn.shelf) l.name) (Holds l.most l.cursor);
+  there : IsThere (g.H.Shelf.known_files l.fn.shelf) l.name;
+  holds : ForFile (file_of (g.H.Shelf.known_files l.fn.shelf) l.name) (Holds l.most l.cursor);
   at : l.cursor.at ≡ 0;
   number : l.cursor.number ≡ 1;
   most : l.cursor.most ≡ l.most;

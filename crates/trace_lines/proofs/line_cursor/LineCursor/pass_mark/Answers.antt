@@ -7,13 +7,20 @@ use Rattle.trace_lines.proofs.line_cursor.LineCursor.pass_mark.Goals as goal
 pub returns-then-begins_with_mark-clause-left : goal.returns-then-begins_with_mark-clause-left
 returns-then-begins_with_mark-clause-left c file holds =
     let self = c.args.self.now in
-    let text : self.bytes.items ++ unread_in file self ≡ take self.most file = ap (λ n. drop n self.bytes.items ++ unread_in file self) (sym c.requires.at) ∙ holds.text in
-    left_marked self.most self.number (more_in file self) file self.bytes.items (unread_in file self) c.requires.number holds.more text (c.if-begins_with_mark.ensures ∙ ap has_mark c.deref.ensures.value)
+    let text : self.bytes.items ++ unread_in file self ≡ take self.most file =
+    ap (λ n. drop n self.bytes.items ++ unread_in file self) (sym c.requires.at) ∙ holds.text in
+    left_marked self.most self.number (more_in file self) file self.bytes.items (unread_in file self)
+    c.requires.number holds.more text (c.if-begins_with_mark.ensures ∙ ap has_mark c.deref.ensures.value)
 
 pub returns-else-begins_with_mark-clause-left : goal.returns-else-begins_with_mark-clause-left
 returns-else-begins_with_mark-clause-left c file holds =
     let self = c.args.self.now in
-    let text : self.bytes.items ++ unread_in file self ≡ take self.most file = ap (λ n. drop n self.bytes.items ++ unread_in file self) (sym c.requires.at) ∙ holds.text in
-    let enough = enough_read self.behind self.place self.most file self.bytes.items (λ unread. omega (arith, c.requires.enough unread, self.bytes.ok.0)) in
-    ap (λ n. lines_from (more_in file self) self.number (parts_of (drop n self.bytes.items ++ unread_in file self))) c.requires.at
-    ∙ left_unmarked self.most self.number (more_in file self) file self.bytes.items (unread_in file self) c.requires.number holds.more text (c.if-begins_with_mark.ensures ∙ ap has_mark c.deref.ensures.value) enough
+    let text : self.bytes.items ++ unread_in file self ≡ take self.most file =
+    ap (λ n. drop n self.bytes.items ++ unread_in file self) (sym c.requires.at) ∙ holds.text in
+    let enough =
+    enough_read self.following self.place self.most file self.bytes.items
+    (λ unread. omega (arith, c.requires.enough unread, self.bytes.ok.0)) in
+    ap (λ n. lines_from (more_in file self) self.number (parts_of (drop n self.bytes.items ++ unread_in file self)))
+    c.requires.at
+    ∙ left_unmarked self.most self.number (more_in file self) file self.bytes.items (unread_in file self)
+    c.requires.number holds.more text (c.if-begins_with_mark.ensures ∙ ap has_mark c.deref.ensures.value) enough

@@ -11,4 +11,6 @@ returns-then-order-ne0-clause-before c =
 pub returns-clause-before : goal.returns-clause-before
 returns-clause-before c =
     let next : turns_before (c.args.order + 1) ≡ turns_before c.args.order + 1 = omega arith in
-    before_next c.args.self.now _ c.args.order next refl (ap (λ n. (c.args.self.now.x1 + n) % 2 ^ 64) (c.from.ensures ∙ c.immediate.ensures.value)) refl c.requires.before
+    before_next c.args.self.now _ c.args.order next refl
+    (ap (λ n. (c.args.self.now.x1 + n) % 2 ^ 64) (c.from.ensures ∙ c.immediate.ensures.value)) refl
+    c.requires.before

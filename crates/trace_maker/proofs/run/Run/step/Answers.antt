@@ -9,4 +9,5 @@ returns-then-order-eq0-clause-row c =
 pub returns-clause-row : goal.returns-clause-row
 returns-clause-row c =
     c.row.ensures
-    ∙ made_later c.go_on.new.self c.args.self.now.number c.args.order _ c.go_on.ensures.number c.if-order-eq0.false refl c.go_on.ensures.before
+    ∙ made_later c.go_on.new.self c.args.self.now.number c.args.order _ c.go_on.ensures.number c.if-order-eq0.false
+    refl c.go_on.ensures.before

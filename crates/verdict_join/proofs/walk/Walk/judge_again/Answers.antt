@@ -15,9 +15,11 @@ returns-in-Some-clause-verdict g c = c.in_ok-verdict.ensures.judged.verdict
 pub returns-in-None-clause-reached : goal.returns-in-None-clause-reached
 unfolding conclusion_from
 returns-in-None-clause-reached g c =
-    reached_none _ _ (sym c.in_ok-verdict.ensures.judged.end ∙ ap (option_map (state_of g.M.PhysMem.bytes)) c.in-None.is)
+    reached_none _ _
+    (sym c.in_ok-verdict.ensures.judged.end ∙ ap (option_map (state_of g.M.PhysMem.bytes)) c.in-None.is)
 
 pub returns-in-Some-clause-reached : goal.returns-in-Some-clause-reached
 unfolding conclusion_from
 returns-in-Some-clause-reached g c =
-    reached_some _ (state_of g.M.PhysMem.bytes c.in-Some.end) _ (sym c.in_ok-verdict.ensures.judged.end ∙ ap (option_map (state_of g.M.PhysMem.bytes)) c.in-Some.is) refl
+    reached_some _ (state_of g.M.PhysMem.bytes c.in-Some.end) _
+    (sym c.in_ok-verdict.ensures.judged.end ∙ ap (option_map (state_of g.M.PhysMem.bytes)) c.in-Some.is) refl

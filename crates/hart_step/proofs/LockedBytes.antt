@@ -1,0 +1,157 @@
+-- A byte that no mode may write, by locked entries, outlasts rows in every mode.
+use Rattle.std.proofs.Common.{◌≡◌, ℕ, zero, suc, ◌/◌, ◌%◌, ◌^◌, ◌<◌, ◌≤◌, Bool, true, false, ◌&&◌, List, [], ◌∷◌}
+use Rattle.std.proofs.Common.{length, nat_lt, inl, inr, refl, sym, ap, ◌∙◌, subst, arith, lit<, if◌then◌else◌}
+use Rattle.std.specs.Prelude.{◌==◌}
+use Rattle.std.proofs.Math.ListN.{get_or-eq_default}
+use Rattle.std.proofs.lemmas.Bool.{and_right, cases_Bool, cond-false, cond-true, false_from_ne_true}
+use Rattle.std.proofs.lemmas.Bool.Decides.{nat_tests}
+use Rattle.std.proofs.lemmas.List.Elements.{All-weaker}
+use Rattle.hart_words.specs.declared.privilege.Access.TheVariants as kind
+use Rattle.hart_words.specs.declared.privilege.Mode.{Mode}
+use Rattle.hart_words.specs.declared.privilege.Mode.TheVariants.{User, Supervisor, Machine}
+use Rattle.hart_words.specs.declared.privilege.PmpEntry.{PmpEntry}
+use Rattle.hart_words.specs.Signals.{Shown}
+use Rattle.pmp_check.specs.Covering.{Covers, IsRegister, SomeByte, entry_at}
+use Rattle.pmp_check.specs.Protection.{covers_all, covers_some, is_allowed, is_allowed_after, entry_permits, permits}
+use Rattle.pmp_check.specs.Protection.{region_of}
+use Rattle.pmp_check.proofs.Covering.{region_of-Covers, some_byte}
+use Rattle.pmp_check.proofs.Deciding.{SomeByte-map, Touches, shift, accesses, unshift}
+use Rattle.csr_file.specs.declared.csrs.Csrs.{Csrs}
+use Rattle.csr_file.specs.declared.fields.TheConstants.{PMP_LOCK}
+use Rattle.csr_file.specs.Fields.{bit_is_set}
+use Rattle.csr_file.specs.Legal.{IsLegal}
+use Rattle.csr_file.specs.Registers.{no_entry, pmp_entries_of, pmp_entry_of}
+use Rattle.csr_file.specs.Values.{configuration_of}
+use Rattle.hart_step.specs.Cores.{IsSound}
+use Rattle.hart_step.specs.Rows.{HartState, after_row, after_rows}
+use Rattle.hart_step.specs.Steps.{before_instruction, step_of}
+use Rattle.hart_step.specs.ProtectionLaws.{IsLockedByte, IsStepWrite, LocksArePreserved}
+use Rattle.hart_step.proofs.Entries.{begun_entries}
+use Rattle.hart_step.proofs.Permitted.{step_granted}
+use Rattle.hart_step.proofs.Locks.{locks_outlast, still_locked}
+use Rattle.hart_step.proofs.Rows.{Misses, refused_misses, unreached}
+
+-- a locked entry without W refuses a store to every mode
+by_lock : (cfg : ℕ) (unlocked : Bool) → (cfg / 2 ^ 7 % 2 == 0) ≡ unlocked → bit_is_set cfg PMP_LOCK ≡ true
+    → permits cfg kind.Store ≡ false → (if unlocked then true else permits cfg kind.Store) ≡ false
+by_lock cfg true is locked forbids = absurd (grind (arith, nat_tests, is, locked))
+by_lock cfg false is locked forbids = forbids
+
+permits_none : (cfg : ℕ) (mode : Mode) → bit_is_set cfg PMP_LOCK ≡ true → permits cfg kind.Store ≡ false
+    → entry_permits cfg mode kind.Store ≡ false
+unfolding entry_permits
+permits_none cfg Machine locked forbids = by_lock cfg (cfg / 2 ^ 7 % 2 == 0) refl locked forbids
+permits_none cfg Supervisor locked forbids = forbids
+permits_none cfg User locked forbids = forbids
+
+-- the first entry that covers a byte refuses it, whatever the entries after that one are
+missed : (before : ℕ) (entry : PmpEntry) (byte : ℕ) → IsRegister entry → (SomeByte byte 1 (Covers before entry) → ⊥)
+    → covers_some (region_of before entry) byte 1 ≡ false
+missed before entry byte register none =
+    let region = region_of before entry in
+    false_from_ne_true (covers_some region byte 1)
+    (λ e. none (SomeByte-map byte 1 (λ a. (region_of-Covers before entry a register).0)
+    ((some_byte region byte 1).0 e)))
+
+refused_from : (first : ℕ) (entries : List PmpEntry) (number : ℕ) (mode : Mode) (byte : ℕ)
+    → ((lower : ℕ) → lower ≤ number → IsRegister (entry_at entries lower))
+    → Touches first entries number byte 1 → ((lower : ℕ) → lower < number → Touches first entries lower byte 1 → ⊥)
+    → entry_permits (entry_at entries number).cfg mode kind.Store ≡ false
+    → is_allowed_after first entries mode byte 1 kind.Store ≡ false
+unfolding is_allowed_after
+refused_from first [] zero mode byte registers some least refuses = absurd some.holds
+refused_from first [] (suc number) mode byte registers some least refuses = absurd some.holds
+refused_from first (entry ∷ entries) zero mode byte registers some least refuses =
+    let region = region_of first entry in
+    let permitted = entry_permits entry.cfg mode kind.Store in
+    cond-true (covers_some region byte 1) (covers_all region byte 1 && permitted)
+    (is_allowed_after entry.addr entries mode byte 1 kind.Store)
+    (accesses first entry byte 1 (registers 0 (omega arith)) some)
+    ∙ and_right (covers_all region byte 1) permitted refuses
+refused_from first (entry ∷ entries) (suc number) mode byte registers some least refuses =
+    let region = region_of first entry in
+    let permitted = entry_permits entry.cfg mode kind.Store in
+    cond-false (covers_some region byte 1) (covers_all region byte 1 && permitted)
+    (is_allowed_after entry.addr entries mode byte 1 kind.Store)
+    (missed first entry byte (registers 0 (omega arith)) (least 0 (omega arith)))
+    ∙ refused_from entry.addr entries number mode byte (λ lower below. registers (suc lower) (omega (arith, below)))
+    (unshift first entry entries number byte 1 some)
+    (λ lower below there. least (suc lower) (omega (arith, below)) (shift first entry entries lower byte 1 there))
+    refuses
+
+-- what stays of a locked byte
+record IsShut (csrs : Csrs) (byte : ℕ) : Type 0 where
+  pub lock : IsLockedByte csrs byte
+  pub registers : (lower : ℕ) → lower ≤ lock.number → IsRegister (pmp_entry_of csrs lower)
+
+shut_refuses : (csrs : Csrs) (byte : ℕ) (mode : Mode) → IsShut csrs byte
+    → is_allowed (pmp_entries_of csrs) mode byte 1 kind.Store ≡ false
+unfolding is_allowed
+shut_refuses csrs byte mode shut =
+    let lock = shut.lock in
+    let cfg = configuration_of csrs lock.number in
+    refused_from 0 (pmp_entries_of csrs) lock.number mode byte shut.registers lock.decides.some lock.decides.least
+    (permits_none cfg mode (lock.locked lock.number (omega arith)) lock.forbids)
+
+shut_after : (before after : Csrs) (byte : ℕ) → LocksArePreserved before after → IsShut before byte → IsShut after byte
+shut_after before after byte outlasts shut =
+    let lock = shut.lock in
+    let number = lock.number in
+    let here = outlasts number lock.there (lock.locked number (omega arith)) in
+    let below = λ (lower : ℕ) (low : lower ≤ number). outlasts lower (omega (arith, low, lock.there))
+    (lock.locked lower low) in
+    record {
+      lock = record {
+        number = number;
+        there = lock.there;
+        decides = record {
+          some = SomeByte-map byte 1 (λ a. (here.covers a).1) lock.decides.some;
+          least = λ lower low there. lock.decides.least lower low
+              (SomeByte-map byte 1 (λ a. ((below lower (omega (arith, low))).covers a).0) there);
+        };
+        forbids = ap (λ (entry : PmpEntry). permits entry.cfg kind.Store) here.keeps.entry ∙ lock.forbids;
+        locked = λ lower low. still_locked before after lower (below lower low).keeps (lock.locked lower low);
+      };
+      registers = λ lower low. subst IsRegister (sym (below lower low).keeps.entry) (shut.registers lower low);
+    }
+
+-- one row, and rows
+kept_by_row : (state : HartState) (shown : Shown) (byte : ℕ) → IsShut state.core.csrs byte
+    → (after_row state shown).bytes byte ≡ state.bytes byte
+kept_by_row state shown byte shut =
+    let begins = before_instruction state.core shown in
+    let wrote = ((step_of state.core shown).run state.bytes).wrote in
+    let refused =
+    λ (mode : Mode). ap (λ entries. is_allowed entries mode byte 1 kind.Store) (begun_entries state.core shown)
+    ∙ shut_refuses state.core.csrs byte mode shut in
+    unreached wrote state.bytes byte
+    (All-weaker (IsStepWrite begins) (Misses byte) (λ write granted. refused_misses begins byte write refused granted)
+    wrote (step_granted state.core shown state.bytes).writes)
+
+kept_by_rows : (state : HartState) (rows : List Shown) (byte : ℕ) → IsShut state.core.csrs byte
+    → (after_rows state rows).bytes byte ≡ state.bytes byte
+unfolding after_rows
+kept_by_rows state [] byte shut = refl
+kept_by_rows state (shown ∷ rows) byte shut =
+    let next = after_row state shown in
+    kept_by_rows next rows byte
+    (shut_after state.core.csrs next.core.csrs byte (locks_outlast state.core shown state.bytes) shut)
+    ∙ kept_by_row state shown byte shut
+
+-- an address register of a legal hart
+register_of : (csrs : Csrs) (number : ℕ) → IsLegal csrs → IsRegister (pmp_entry_of csrs number)
+register_of csrs number legal = elim (cases_Bool (nat_lt number (length csrs.entries))) [
+  | inl inside ↦
+      let entry = legal.entries number no_entry (grind (arith, nat_tests, inside)) in
+      omega (arith, entry.address)
+  | inr outside ↦
+      let past : length csrs.entries ≤ number = grind (arith, nat_tests, outside) in
+      let off : IsRegister no_entry = lit< tt in
+      subst IsRegister (sym (get_or-eq_default csrs.entries no_entry past)) off
+]
+
+pub locked_outlasts : (state : HartState) (rows : List Shown) (byte : ℕ) → IsSound state.core
+    → IsLockedByte state.core.csrs byte → (after_rows state rows).bytes byte ≡ state.bytes byte
+locked_outlasts state rows byte sound lock =
+    kept_by_rows state rows byte
+    (record { lock = lock; registers = λ lower low. register_of state.core.csrs lower sound.legal })

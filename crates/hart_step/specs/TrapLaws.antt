@@ -1,0 +1,98 @@
+-- Where a synchronous trap leads, from the Privileged Architecture's chapters "Machine-Level ISA" (medeleg, mtvec,
+-- mepc,
+-- mcause, mtval) and "Supervisor-Level ISA" (stvec, sepc, scause, stval).
+use Rattle.std.specs.Prelude.{◌≡◌, ◌≢◌, ◌⊎◌, ℕ, ◌+◌, ◌*◌, ◌/◌, ◌%◌, ◌^◌, true, Option, Some, None, Result, Ok, Err}
+use Rattle.hart_words.specs.declared.privilege.Mode.TheVariants.{Supervisor, Machine}
+use Rattle.hart_words.specs.declared.privilege.Cause.{Cause}
+use Rattle.hart_words.specs.declared.privilege.Cause.TheVariants.{IllegalInstruction, Breakpoint}
+use Rattle.hart_words.specs.Privilege.{cause_code}
+use Rattle.hart_words.specs.Memory.{Bytes}
+use Rattle.hart_words.specs.Signals.{Shown}
+use Rattle.rv_integer.specs.declared.int_result.IntResult.{IntResult}
+use Rattle.rv_integer.specs.declared.int_result.IntResult.TheVariants.{Access, System}
+use Rattle.rv_integer.specs.declared.int_result.SystemRequest.TheVariants as system
+use Rattle.csr_file.specs.declared.stored_csr.StoredCsr.TheVariants.{Mstatus, Medeleg, Mtvec, Mepc, Mcause, Mtval}
+use Rattle.csr_file.specs.declared.stored_csr.StoredCsr.TheVariants.{Stvec, Sepc, Scause, Stval}
+use Rattle.csr_file.specs.Registers.{at}
+use Rattle.csr_file.specs.Fields.{bit_is_set}
+use Rattle.trap_entry.specs.Laws.{ChangesOnly, IsStackedForMachine, IsStackedForSupervisor, is_of_machine}
+use Rattle.trap_entry.specs.Laws.{is_of_supervisor}
+use Rattle.rvfi_rows.specs.declared.expected.Expected.{Expected}
+use Rattle.rvfi_rows.specs.declared.expected.Expected.TheVariants as expected
+use Rattle.mem_access.specs.Accesses.{Exception, fetch_result}
+use Rattle.hart_step.specs.declared.state.Core.{Core}
+use Rattle.hart_step.specs.declared.instruction.InstructionOutcome.{InstructionOutcome}
+use Rattle.hart_step.specs.declared.instruction.InstructionOutcome.TheVariants.{Trapped, Retired}
+use Rattle.hart_step.specs.Instructions.{call_from, op_of, instruction_run}
+use Rattle.hart_step.specs.Steps.{before_instruction}
+use Rattle.hart_step.specs.Laws.{request_by}
+
+-- what became of the instruction of a step
+abbrev pub executed_at : Core → Shown → Bytes → InstructionOutcome
+executed_at core shown bytes = ((instruction_run (before_instruction core shown) shown).run bytes).value.executed
+
+-- it raised an exception, which has a cause and a trap value
+abbrev pub Raises : InstructionOutcome → Exception → Type 0
+Raises (Trapped insn raised) exception = raised ≡ exception
+Raises (Retired instruction access) exception = ⊥
+
+-- the exception by what the instruction asks for: the trap value is the address of an access that is refused, 0 of a
+-- call, pc of a breakpoint, and the bits of an instruction that is illegal
+abbrev pub IsRaisedAs : Core → ℕ → Option IntResult → Exception → Type 0
+IsRaisedAs before bits None exception = exception ≡ (IllegalInstruction, bits)
+IsRaisedAs before bits (Some (Access request)) exception = exception.1 ≡ request.address
+IsRaisedAs before bits (Some (System system.EnvironmentCall)) exception = exception ≡ (call_from before.mode, 0)
+IsRaisedAs before bits (Some (System system.Breakpoint)) exception = exception ≡ (Breakpoint, before.pc)
+IsRaisedAs before bits (Some (System request)) exception = exception ≡ (IllegalInstruction, bits)
+IsRaisedAs before bits (Some result) exception = ⊥
+
+-- and where it cannot be fetched, the address of the half that is refused
+abbrev pub IsRaisedFrom : Core → Result (ℕ × ℕ) Exception → Exception → Type 0
+IsRaisedFrom before (Err refused) exception =
+    (exception ≡ refused) × ((exception.1 ≡ before.pc) ⊎ (exception.1 ≡ (before.pc + 2) % 2 ^ 64))
+IsRaisedFrom before (Ok word) exception =
+    IsRaisedAs before word.0 (request_by before word.1 (op_of word.0 word.1)) exception
+
+abbrev pub IsRaisedIn : Core → Bytes → Exception → Type 0
+IsRaisedIn before bytes exception =
+    IsRaisedFrom before ((fetch_result before.csrs before.map before.mode before.pc).run bytes).value exception
+
+-- an exception is delegated to S where it is raised in S or U and medeleg has the bit of its code
+pub record IsDelegatedToSupervisor (before : Core) (cause : Cause) : Type 0 where
+  pub below_machine : before.mode ≢ Machine
+  pub by_medeleg : bit_is_set (at before.csrs Medeleg) (cause_code cause) ≡ true
+
+-- the base of a trap vector: all but its two lowest bits, which are its mode
+abbrev pub vector_base : ℕ → ℕ
+vector_base tvec = tvec / 4 * 4
+
+-- a trap in M, from the hart that the instruction found to the hart after the step
+pub record LeadsToMachine (before after : Core) (exception : Exception) : Type 0 where
+  pub mode : after.mode ≡ Machine
+  pub pc : after.pc ≡ vector_base (at before.csrs Mtvec)
+  pub mepc : at after.csrs Mepc ≡ before.pc
+  pub mcause : at after.csrs Mcause ≡ cause_code exception.0
+  pub mtval : at after.csrs Mtval ≡ exception.1
+  pub mstatus : IsStackedForMachine (at before.csrs Mstatus) before.mode (at after.csrs Mstatus)
+  pub others : ChangesOnly is_of_machine before.csrs after.csrs
+
+-- a trap in S
+pub record LeadsToSupervisor (before after : Core) (exception : Exception) : Type 0 where
+  pub mode : after.mode ≡ Supervisor
+  pub pc : after.pc ≡ vector_base (at before.csrs Stvec)
+  pub sepc : at after.csrs Sepc ≡ before.pc
+  pub scause : at after.csrs Scause ≡ cause_code exception.0
+  pub stval : at after.csrs Stval ≡ exception.1
+  pub mstatus : IsStackedForSupervisor (at before.csrs Mstatus) before.mode (at after.csrs Mstatus)
+  pub others : ChangesOnly is_of_supervisor before.csrs after.csrs
+
+-- to the handler of S where it is delegated, else to that of M
+pub record LeadsToHandler (before after : Core) (exception : Exception) : Type 0 where
+  pub delegated : IsDelegatedToSupervisor before exception.0 → LeadsToSupervisor before after exception
+  pub not_delegated : (IsDelegatedToSupervisor before exception.0 → ⊥) → LeadsToMachine before after exception
+  pub trapped_last : after.trapped_last ≡ true
+
+-- what the hart did has the cause
+abbrev pub HasCause : Expected → Cause → Type 0
+HasCause expected.Halted cause = ⊥
+HasCause (expected.Retired retired) cause = retired.effects ≡ Err cause

@@ -1,0 +1,18 @@
+use Rattle.std.proofs.Common.{◌+◌, ◌-◌, ◌≤◌, length}
+use Rattle.hart_step.specs.Harts.{CanStep, state_of}
+use Rattle.judge_run.specs.Settling.{IsTallied}
+use Rattle.judge_run.proofs.Settled.{SoFar}
+use Rattle.judge_run.proofs.rounds.settle_in_rounds.Given as goal
+
+-- whatever rounds settle what is left, some settle all
+abbrev pub invariant-rounds : goal.invariant-rounds
+invariant-rounds g l = record {
+  can_step : CanStep g.M.PhysMem.ram l.settling.hart;
+  tallied : IsTallied l.segments l.settling.tally;
+  few : l.steps ≤ l.initial.steps + l.settling.tally.settled;
+  so_far : SoFar g.M.PhysMem.bytes l.columns l.segments (state_of g.M.PhysMem.bytes l.initial.settling.hart)
+      l.initial.steps l.steps l.settling;
+}
+
+abbrev pub decreases-rounds : goal.decreases-rounds
+decreases-rounds g l = length l.segments - l.settling.tally.settled

@@ -1,0 +1,83 @@
+//! How far the rows of a trace were judged, what of them is held, and how they end.
+
+ghost use Rattle.std.specs.Prelude.{Decides};
+ghost use Rattle.judge_run.specs.Parts.{HoldsNone, IsOver};
+
+use crate::taken::is_more;
+use hart_step::Hart;
+use rvfi_rows::{Segment, Verdict};
+use std::alloc::Global;
+use trace_lines::{Ending, LineTaker};
+
+/// What is known after the rows of a trace that were judged, and where lines are taken from next.
+#[derive(Drop)]
+pub(crate) struct Rest<M> {
+    pub taker: LineTaker,
+    /// The hart after the rows that were judged.
+    pub hart: Hart<M>,
+    /// How many rows were judged.
+    pub rows: u64,
+    /// How many of these are valid.
+    pub valid: u64,
+}
+
+/// The rows that are held, in segments: those after the rows that were judged.
+#[derive(Drop)]
+pub(crate) struct Held {
+    /// The part that is settled next; its rows were read.
+    pub part: Vec<Segment>,
+    /// The part after it.
+    pub next: Vec<Segment>,
+    /// What follows these.
+    pub ending: Ending,
+    /// Whether guesses may be wrong: a segment of the part before was judged again, or none was
+    /// judged yet.
+    pub is_unsure: bool,
+}
+
+/// What is left after the rows of a trace that were judged.
+#[derive(Drop)]
+pub(crate) struct Left<M> {
+    pub rest: Rest<M>,
+    pub held: Held,
+}
+
+/// What all rows of a trace come to.
+#[derive(Drop)]
+pub(crate) struct TraceEnd<M> {
+    pub verdict: Verdict,
+    /// How the lines end, or `More` where a row before their end does not agree.
+    pub ending: Ending,
+    /// The hart after all rows, where they agree.
+    pub hart: Option<Hart<M>>,
+}
+
+/// Where a part leads.
+#[derive(Drop)]
+pub(crate) enum Passed<M> {
+    /// Its rows agree, and this is left.
+    On(Left<M>),
+    /// All rows come to this.
+    Ends(TraceEnd<M>),
+}
+
+impl Held {
+    /// No row, and more may follow.
+    pub fn none(alloc: Global) -> Held
+        ensures { HoldsNone result }
+    {
+        Held {
+            part: Vec::new(alloc),
+            next: Vec::new(alloc),
+            ending: Ending::More,
+            is_unsure: true,
+        }
+    }
+
+    /// Whether no row is held, and none follows.
+    pub fn is_over(&self) -> bool
+        ensures { Decides result (IsOver self.now) }
+    {
+        self.part.is_empty() && self.next.is_empty() && !is_more(self.ending)
+    }
+}
