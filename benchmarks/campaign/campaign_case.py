@@ -164,8 +164,10 @@ def option(chance, name, text):
 def pick_words(chance, setting, reached):
     """The words of a command with this setting, in any order that is allowed."""
     pieces = [["IMAGE"], ["TRACE"]]
-    for name, most in (("workers", 3), ("segment", 7), ("window", 3)):
-        value = 1 + chance.below(most)
+    # A part has a third of the window at most: in the widest one it has more than 64 segments of a row.
+    is_wide = chance.one_in(8)
+    for name, most, widest in (("workers", 3, None), ("segment", 7, 1), ("window", 3, 1024)):
+        value = widest if is_wide and widest else 1 + chance.below(most)
         pieces.append(option(chance, name, spelled(chance, value)))
         reached["option", f"{name} {value}"] += 1
     for name, given, default in (("ram", setting.ram, RAM), ("io", setting.devices, range(0))):

@@ -6,6 +6,6 @@ here=$(cd "$(dirname "$0")" && pwd)
 folder=$(mktemp -d)
 trap 'rm -rf "$folder"' EXIT
 python3 "$here/make_rows.py" "$folder/image" "$folder/trace" "$rows"
-"$here/../bin/rvjudge" >/dev/null || true
+"$here/../../bin/rvjudge" >/dev/null || true
 python3 "$here/measure.py" --expect "agrees $rows" --rows "$rows" \
-    "$here/../bin/rvjudge" judge "$folder/image" "$folder/trace"
+    "$here/../../bin/rvjudge" judge "$folder/image" "$folder/trace"

@@ -14,7 +14,7 @@ python3 "$here/make_rows.py" "$folder/image" "$folder/trace" "$rows"
 echo "a loop, with 1 and $workers workers"
 "$program" "$folder/image" "$folder/trace" "$workers" "$passes"
 for image in loop spread; do
-    python3 "$here/run_compiled.py" "$here/compiled/$image.hex" "$folder/trace" "$rows"
+    python3 "$here/../interpreter/run_compiled.py" "$here/../interpreter/compiled/$image.hex" "$folder/trace" "$rows"
     echo "compiled/$image.hex, with 1 and $workers workers"
-    "$program" "$here/compiled/$image.hex" "$folder/trace" "$workers" "$passes"
+    "$program" "$here/../interpreter/compiled/$image.hex" "$folder/trace" "$workers" "$passes"
 done

@@ -6,7 +6,7 @@ rows=${1:-1000000}
 here=$(cd "$(dirname "$0")" && pwd)
 folder=$(mktemp -d)
 trap 'rm -rf "$folder"' EXIT
-python3 "$here/run_compiled.py" "$here/compiled/spread.hex" "$folder/trace" "$rows"
-"$here/../bin/rvjudge" >/dev/null || true
+python3 "$here/../interpreter/run_compiled.py" "$here/../interpreter/compiled/spread.hex" "$folder/trace" "$rows"
+"$here/../../bin/rvjudge" >/dev/null || true
 python3 "$here/measure.py" --expect "agrees $rows" --rows "$rows" \
-    "$here/../bin/rvjudge" judge "$here/compiled/spread.hex" "$folder/trace"
+    "$here/../../bin/rvjudge" judge "$here/../interpreter/compiled/spread.hex" "$folder/trace"

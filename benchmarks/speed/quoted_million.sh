@@ -9,9 +9,9 @@ folder=$(mktemp -d)
 trap 'rm -rf "$folder"' EXIT
 python3 "$here/make_rows.py" "$folder/image" "$folder/plain" "$rows"
 python3 "$here/make_rows.py" "$folder/image" "$folder/quoted" "$rows" --quoted
-"$here/../bin/rvjudge" >/dev/null || true
+"$here/../../bin/rvjudge" >/dev/null || true
 for trace in plain quoted; do
     echo "$trace fields:"
     python3 "$here/measure.py" --expect "agrees $rows" --rows "$rows" \
-        "$here/../bin/rvjudge" judge "$folder/image" "$folder/$trace"
+        "$here/../../bin/rvjudge" judge "$folder/image" "$folder/$trace"
 done

@@ -101,6 +101,7 @@ def forms():
     for name, most in (("workers", 3), ("segment", 7), ("window", 3)):
         for value in range(1, most + 1):
             yield "option", f"{name} {value}"
+    yield "option", "window 1024"
     for name in ("ram", "io", "pc", "max-image", "max-trace"):
         yield "option", name
     for column in WIDTHS:

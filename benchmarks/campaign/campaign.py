@@ -23,6 +23,9 @@ from collections import Counter
 from multiprocessing import Pool
 from pathlib import Path
 
+# The hart and its judge are those of the folder beside this one.
+sys.path.insert(0, str(Path(__file__).resolve().parents[1] / "interpreter"))
+
 from campaign_case import make_case
 from campaign_reach import all_to_reach
 from judge import foretell, number

@@ -11,9 +11,9 @@ trap 'rm -rf "$folder"' EXIT
 mkdir -p "$folder/crates/lines_10gb/src"
 for crate in outside_ports line_text trace_lines; do
     mkdir "$folder/crates/$crate"
-    cp -r "$here/../crates/$crate/src" "$here/../crates/$crate/specs" "$here/../crates/$crate/proofs" \
+    cp -r "$here/../../crates/$crate/src" "$here/../../crates/$crate/specs" "$here/../../crates/$crate/proofs" \
         "$folder/crates/$crate/"
-    grep "^$crate:" "$here/../crates.txt" >>"$folder/crates.txt"
+    grep "^$crate:" "$here/../../crates.txt" >>"$folder/crates.txt"
 done
 echo 'lines_10gb: outside_ports trace_lines' >>"$folder/crates.txt"
 cat >"$folder/crates/lines_10gb/src/made_shelf.rt" <<'EOS'

@@ -1,7 +1,7 @@
 #!/bin/sh
 # Prints the path of the program of crates/stage_times, which is built where it has to be.
 set -eu
-crate=$(cd "$(dirname "$0")/../crates/stage_times" && pwd)
+crate=$(cd "$(dirname "$0")/../../crates/stage_times" && pwd)
 program=$crate/out/stage_times
 if [ ! -f "$program" ]; then
     log=$(mktemp)

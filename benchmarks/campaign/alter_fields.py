@@ -22,6 +22,9 @@ from pathlib import Path
 from random import Random
 from typing import NamedTuple
 
+# The hart and its judge are those of the folder beside this one.
+sys.path.insert(0, str(Path(__file__).resolve().parents[1] / "interpreter"))
+
 from hart_instructions import LOADS, STORES, decode, expand
 from hart_memory import Memory, read_image
 from hart_registers import ADDRESSES, DECIDED, SATP_MODE_AT, SV39, M

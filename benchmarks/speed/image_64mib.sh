@@ -16,6 +16,6 @@ with open(sys.argv[1], "wb") as image:
     image.write(head + line * (body // len(line)) + b"\n" * (body % len(line)))
 END
 : >"$folder/trace"
-"$here/../bin/rvjudge" >/dev/null || true
+"$here/../../bin/rvjudge" >/dev/null || true
 python3 "$here/measure.py" --expect "refused trace: no header" \
-    "$here/../bin/rvjudge" judge "$folder/image" "$folder/trace"
+    "$here/../../bin/rvjudge" judge "$folder/image" "$folder/trace"

@@ -11,7 +11,7 @@ program=$(sh "$here/stage_times_program.sh")
 folder=$(mktemp -d)
 trap 'rm -rf "$folder"' EXIT
 for image in loop spread; do
-    python3 "$here/run_compiled.py" "$here/compiled/$image.hex" "$folder/$image" "$rows"
+    python3 "$here/../interpreter/run_compiled.py" "$here/../interpreter/compiled/$image.hex" "$folder/$image" "$rows"
 done
 python3 "$here/workers_ratio.py" --trials "$trials" --workers "$workers" "$program" \
-    "$here/compiled/loop.hex=$folder/loop" "$here/compiled/spread.hex=$folder/spread"
+    "$here/../interpreter/compiled/loop.hex=$folder/loop" "$here/../interpreter/compiled/spread.hex=$folder/spread"
