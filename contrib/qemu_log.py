@@ -7,18 +7,21 @@
         -serial null -singlestep -d in_asm,cpu,exec,int,nochain -D run.log
     qemu_log.py run.log -o run.csv
 
-The log must have in_asm, cpu and nochain, and one instruction in each block (-singlestep; later
-versions: -accel tcg,one-insn-per-tb=on). int tells traps and interrupts: without it a program that
-takes interrupts differs, and so does one that cannot be fetched somewhere. exec tells apart what
-stands at one address in several address spaces. Without LOG, or with - for it, standard input is
-read. A row is written for each instruction that was carried out or trapped, from the first at --pc
-on; what the log does not show stays an empty field. Memory use grows with the program's code, and
-not with the log.
+The log must have in_asm (or --image), cpu and nochain, and one instruction in each block
+(-singlestep; later versions: -accel tcg,one-insn-per-tb=on). int tells traps and interrupts: without
+it a program that takes interrupts differs, and so does one that cannot be fetched somewhere. exec
+tells apart what stands at one address in several address spaces. qemu 7.2 lists the word 0xffffffff
+without end: the trace ends there; the whole run needs exec without in_asm, and --image. Without LOG,
+or with - for it, standard input is read. A row is written for each instruction that was carried out
+or trapped, from the first at --pc on; what the log does not show stays an empty field. Memory use
+grows with the program's code, and not with the log.
 
-What is not said on a row: the address and the data of an access to memory. trap is shown from the
-log's first trap or interrupt on.
+The address, the masks and the data of an access follow from the instruction, the registers before
+it and those after it. What a load or an AMO to x0 found is not known, nor whether an SC to x0
+stored. trap is shown from the log's first trap or interrupt on.
 """
 import argparse
+import functools
 import re
 import sys
 from typing import NamedTuple
@@ -28,10 +31,14 @@ CSRS = (
     "satp", "stvec", "sscratch", "sepc", "scause", "stval",
 )
 KNOWN = {"pc", "mhartid", *CSRS, *(f"x{number}" for number in range(32))}
+MEMORY = ("mem_addr", "mem_rmask", "mem_rdata", "mem_wmask", "mem_wdata")
 COLUMNS = (
     "intr", "pc_rdata", "mode", "trap", "insn", "rs1_addr", "rs1_rdata", "rs2_addr", "rs2_rdata",
     "rd_addr", "rd_wdata", "pc_wdata", "csr_mip_rmask", *(f"csr_{name}_rdata" for name in CSRS),
+    *MEMORY,
 )
+CHUNK = 1 << 20  # bytes that are read at once
+MOST_BLOCKS = 1 << 16  # lines of exec that are remembered
 FETCHES = (1, 12)  # the causes of an instruction that could not be fetched
 READS_OF_MIP = (0x344, 0x144)
 # Bits 6:2 of the 32-bit instructions that write a register, and that read rs1, or rs1 and rs2; of
@@ -49,6 +56,10 @@ PASSED_OVER = ("----", "IN:", "Disassembler disagrees", "Please report this")
 
 class Refused(Exception):
     """The log cannot be turned into a trace."""
+
+
+class Endless(Exception):
+    """qemu lists one instruction without end, and goes no further."""
 
 
 class Code(NamedTuple):
@@ -89,20 +100,251 @@ def written_register(bits):
     return 0
 
 
+def image_bytes(path):
+    """The bytes of an image text as objcopy writes it, by address."""
+    found, at = {}, 0
+    with open(path, encoding="ascii") as text:
+        for token in text.read().split():
+            if token.startswith("@"):
+                at = int(token[1:], 16)
+            else:
+                found[at] = int(token, 16)
+                at += 1
+    return found
+
+
+class Decoded(NamedTuple):
+    """What is needed of an instruction: registers that are read, shown, and written; its access."""
+
+    insn: str
+    rs1: int | None
+    rs2: int | None
+    rd: int
+    reads_mip: bool
+    access: "Access | None"
+
+
+class Access(NamedTuple):
+    """An access to memory. data is the register that is stored, operation the AMO's funct5."""
+
+    size: int
+    base: int
+    offset: int
+    data: int | None
+    operation: int | None
+
+
+def signed(value, bits):
+    return value - (1 << bits) if value >> bits - 1 & 1 else value
+
+
+def gathered(bits, *places):
+    """Bits of an instruction put together: each place is (high, low, shift)."""
+    return sum((bits >> low & (1 << high - low + 1) - 1) << to for high, low, to in places)
+
+
+def access_of(bits):
+    """The access of an instruction of RV64IMAC, or None."""
+    size, base, second = 1 << (bits >> 12 & 3), bits >> 15 & 31, bits >> 20 & 31
+    if bits & 3 != 3:
+        return compressed_access(bits)
+    match bits >> 2 & 31:
+        case 0:
+            return Access(size, base, signed(bits >> 20, 12), None, None)
+        case 8:
+            offset = signed(gathered(bits, (31, 25, 5), (11, 7, 0)), 12)
+            return Access(size, base, offset, second, None)
+        case 11:
+            return Access(size, base, 0, None if bits >> 27 == 2 else second, bits >> 27)
+    return None
+
+
+def compressed_access(bits):
+    low, high, second = 8 + (bits >> 2 & 7), 8 + (bits >> 7 & 7), bits >> 2 & 31
+    word = gathered(bits, (12, 10, 3), (6, 6, 2), (5, 5, 6))
+    double = gathered(bits, (12, 10, 3), (6, 5, 6))
+    match bits & 3, bits >> 13 & 7:
+        case 0, 2 | 3 as kind:
+            return Access(4 << kind - 2, high, word if kind == 2 else double, None, None)
+        case 0, 6 | 7 as kind:
+            return Access(4 << kind - 6, high, word if kind == 6 else double, low, None)
+        case 2, 2:
+            return Access(4, 2, gathered(bits, (12, 12, 5), (6, 4, 2), (3, 2, 6)), None, None)
+        case 2, 3:
+            return Access(8, 2, gathered(bits, (12, 12, 5), (6, 5, 3), (4, 2, 6)), None, None)
+        case 2, 6:
+            return Access(4, 2, gathered(bits, (12, 9, 2), (8, 7, 6)), second, None)
+        case 2, 7:
+            return Access(8, 2, gathered(bits, (12, 10, 3), (9, 7, 6)), second, None)
+    return None
+
+
+@functools.lru_cache(1 << 16)
+def decoded(bits):
+    operation = bits >> 2 & 31 if bits & 3 == 3 else None
+    is_csr = operation == 28 and 1 <= bits >> 12 & 7 <= 3
+    reads_one, reads_two = operation in READERS_OF_ONE or is_csr, operation in READERS_OF_TWO
+    return Decoded(
+        f"0x{bits:x}", bits >> 15 & 31 if reads_one or reads_two else None,
+        bits >> 20 & 31 if reads_two else None, written_register(bits),
+        bits & 0x7F == 0x73 and bits >> 20 in READS_OF_MIP, access_of(bits))
+
+
+def amo_result(operation, old, operand, bits):
+    """What an AMO stores, of the old value and the operand, both below 2^bits."""
+    signs = signed(old, bits), signed(operand, bits)
+    return {
+        0: old + operand, 1: operand, 4: old ^ operand, 8: old | operand, 12: old & operand,
+        16: min(signs), 20: max(signs), 24: min(old, operand), 28: max(old, operand),
+    }.get(operation)
+
+
+NO_ACCESS = ",0x0,,0x0,"
+
+
+def memory_fields(access, registers, value):
+    """The fields of MEMORY: registers are those before, value is what rd got, or None (x0)."""
+    address = int(registers[access.base], 16) + access.offset & (1 << 64) - 1
+    mask, most = (1 << access.size) - 1, (1 << 8 * access.size) - 1
+    read = None if value is None else value & most
+    if access.data is None:
+        return f"0x{address:x},0x{mask:x},{shown(read)},0x0,"
+    data = int(registers[access.data], 16) & most
+    if access.operation is None:
+        return f"0x{address:x},0x0,,0x{mask:x},0x{data:x}"
+    if access.operation == 3:
+        if value is None:
+            return ",,,,"
+        return NO_ACCESS if value else f"0x{address:x},0x0,,0x{mask:x},0x{data:x}"
+    stored = None if read is None else amo_result(access.operation, read, data, 8 * access.size)
+    stored = None if stored is None else stored & most
+    return f"0x{address:x},0x{mask:x},{shown(read)},0x{mask:x},{shown(stored)}"
+
+
+def shown(value):
+    return "" if value is None else f"0x{value:x}"
+
+
+def as_hex(digits):
+    """The digits of a state as a number of the trace."""
+    return "0x" + (digits.lstrip("0") or "0")
+
+
+class State(NamedTuple):
+    """The registers before an instruction, as digits. rest and lines are the text they were read
+    from: most states differ from the one before in pc and one register."""
+
+    pc: str
+    registers: list
+    csrs: tuple
+    mip: str | None
+    hart: str
+    rest: str = ""
+    lines: tuple = ()
+
+    def is_as(self, other):
+        """Whether all but mip is the same."""
+        return (self.pc == other.pc and self.registers == other.registers
+                and self.csrs == other.csrs)
+
+
+def state_of(names, values):
+    by_name = dict(zip(names, values))
+    return State(by_name["pc"], [by_name[f"x{it}"] for it in range(32)],
+                 tuple(by_name.get(it) for it in CSRS if it != "mip"), by_name.get("mip"),
+                 by_name.get("mhartid", "0"))
+
+
+class Layout:
+    """The form of a state, taken from the lines of one: later ones are read by comparison with the
+    one before, and what differs by patterns."""
+
+    def __init__(self, lines):
+        texts = [f"{it}\n" for it in lines]
+        first = next(at for at, it in enumerate(texts) if it.startswith(" x0/"))
+        head = "".join(texts[:first])
+        self.lead = head[: head.index(" pc ") + len(re.search(r" pc +", head)[0])]
+        self.head, self.count = len(head), len(texts)
+        self.digits = len(re.match(r"[0-9a-f]+", head[len(self.lead):])[0])
+        rest, self.names = self.pattern(head[len(self.lead) + self.digits:])
+        self.rest = re.compile(rest)
+        self.registers, at = [], 0
+        for text in texts[first:]:
+            pattern, names = self.pattern(text)
+            self.registers.append((len(text), re.compile(pattern), at))
+            at += len(names)
+        self.length = self.head + sum(it[0] for it in self.registers)
+        self.is_whole = at == 32 and {*self.names} >= {*CSRS, "mhartid"} and " x31" in texts[-1]
+
+    @staticmethod
+    def pattern(text):
+        """What matches lines of this form, and the known names that it has groups for."""
+        pattern, names = "", []
+        for gap, name, space, digits, end in re.findall(
+                r"(\s*)(?:(\S+)( +)([0-9a-f]+)(?=\s)|(.+))", text):
+            name_alone = name.partition("/")[0]
+            value = f"[0-9a-f]{{{len(digits)}}}"
+            if name_alone in KNOWN:
+                names.append(name_alone)
+                value = f"({value})"
+            pattern += gap + (re.escape(end) if end else re.escape(name) + space + value)
+        return pattern + r"\s*", names
+
+    def state(self, text, at, before):
+        """The state in the text, given the one before; None where it is of another form."""
+        if not text.startswith(self.lead, at):
+            return None
+        pc_at = at + len(self.lead)
+        rest_at, at = pc_at + self.digits, at + self.head
+        rest = text[rest_at:at]
+        _, registers, csrs, mip, hart, before_rest, before_lines = before
+        if rest != before_rest:
+            if (found := self.rest.fullmatch(rest)) is None:
+                return None
+            values = dict(zip(self.names, found.groups()))
+            csrs, mip, hart = tuple(values[it] for it in CSRS if it != "mip"), values["mip"], \
+                values["mhartid"]
+        lines = []
+        for number, (length, pattern, first) in enumerate(self.registers):
+            line = text[at:at + length]
+            at += length
+            lines.append(line)
+            if not before_lines or line != before_lines[number]:
+                if (found := pattern.fullmatch(line)) is None:
+                    return None
+                values = found.groups()
+                registers = registers[:first] + [*values] + registers[first + len(values):]
+        return State(text[pc_at:rest_at], registers, csrs, mip, hart, rest, lines)
+
+
+class Row:
+    """A row that is held until what it has written is known."""
+
+    __slots__ = ("pc", "code", "mode", "intr", "trap", "state", "mip", "mask", "pc_wdata")
+
 class Translations:
     """What stands where: by the block that exec names, or else by address."""
 
-    def __init__(self):
+    def __init__(self, image):
+        self.image = image  # bytes by address, for what is not listed
         self.by_block = {}
         self.by_address = {}
         self.latest = None  # until the state behind it says which block it is
         self.mode = None
 
     def take(self, text, shown):
+        if self.latest and self.latest.pc == int(text, 16):
+            raise Endless(f"qemu lists the word at {text} without end: "
+                          "run it without in_asm, and give --image")
         if self.latest:
             raise Refused("several instructions in one block: qemu was run without -singlestep")
         bits = None if shown == "Address" else int(shown, 16)
         self.latest = Code(int(text, 16), bits, self.mode)
+
+    def word(self, pc):
+        """The instruction that the image has at an address."""
+        bits = sum(self.image.get(pc + it, 0) << 8 * it for it in range(4))
+        return bits if bits & 3 == 3 else bits & 0xFFFF
 
     def find(self, pc, block):
         """The instruction that a state at pc, in a block, begins to carry out."""
@@ -121,6 +363,8 @@ class Translations:
                 raise Refused(f"several instructions at 0x{pc:x}: add exec to -d")
             if found and not latest and len(known) > 1:
                 found = found._replace(mode=None)
+        if (found is None or found.pc != pc) and pc in self.image:
+            found = Code(pc, self.word(pc), None)
         if found is None or found.pc != pc:
             raise Refused(f"no instruction at 0x{pc:x} is listed: add in_asm to -d")
         if found.bits is None:
@@ -131,31 +375,35 @@ class Translations:
 class Converter:
     """Rows from lines. A row is held until the state behind it says what it has written."""
 
-    def __init__(self, start, write):
+    def __init__(self, start, image, write):
         self.start = start
         self.write = write
-        self.code = Translations()
+        self.code = Translations(image)
         self.block = self.block_mode = None
-        self.values = {}  # of the state that is being read
-        self.held = None  # a row, and the state before it
-        self.state = None
+        self.lines, self.names, self.values = [], [], []  # of the state that is being read
+        self.layout = self.latest = None  # the form of states, and the last one
+        self.blocks = {}  # lines of exec, with what they say
+        self.held = None  # a row
         self.unfetched = None  # a row behind it that could not be fetched
         self.interrupt = None  # the code of one that was entered, until its handler's first row
         self.entered = None  # the code of the last one
         self.tells_traps = False
+        self.csrs, self.csr_text = None, ("", "")
         self.rows = self.before = self.again = 0
 
     def take(self, line):
         if line.startswith(" "):
             self.take_values(line)
-        elif self.values:
+        elif self.lines:
             raise Refused("a state is cut off")
+        elif found := ENTERED.match(line):
+            self.block, self.block_mode = found[1], int(found[2], 16) & 3
+            if len(self.blocks) < MOST_BLOCKS:
+                self.blocks[line] = self.block, self.block_mode
         elif found := INSTRUCTION.match(line):
             self.code.take(*found.groups())
         elif found := PRIVILEGE.match(line):
             self.code.mode = int(found[1])
-        elif found := ENTERED.match(line):
-            self.block, self.block_mode = found[1], int(found[2], 16) & 3
         elif found := RAISED.match(line):
             self.raised(found)
         elif line.startswith(NOT_CARRIED_OUT):
@@ -165,73 +413,69 @@ class Converter:
 
     def take_values(self, line):
         """Takes a line of a state: names and values in turn, x31 the last."""
+        self.lines.append(line)
         words = line.split()
         if words[1:2] == ["="]:
             return
         for name, value in zip(words[::2], words[1::2]):
             if (name := name.partition("/")[0]) in KNOWN:
-                self.values[name] = int(value, 16)
-        if "x31" in self.values:
-            values, self.values = self.values, {}
-            self.begin(values)
+                self.names.append(name)
+                self.values.append(value)
+        if self.names[-1:] == ["x31"]:
+            lines, names, values = self.lines, self.names, self.values
+            self.lines, self.names, self.values = [], [], []
+            self.latest = state_of(names, values)
+            self.begin(self.latest)
+            if self.layout is None and names[-32:] == [f"x{it}" for it in range(32)]:
+                layout = Layout(lines)
+                self.layout = layout if layout.is_whole else None
 
     def begin(self, state):
         """A state: before an instruction is carried out."""
-        if state.get("mhartid", 0) != 0:
-            raise Refused(f"a state of hart {state['mhartid']}: qemu must have one hart, number 0")
-        pc, block, mode = state["pc"], self.block, self.block_mode
+        if state.hart.strip("0"):
+            hart = int(state.hart, 16)
+            raise Refused(f"a state of hart {hart}: qemu must have one hart, number 0")
+        pc, block, mode = int(state.pc, 16), self.block, self.block_mode
         self.block = self.block_mode = None
         code = self.code.find(pc, block)
-        if not self.is_begun() and pc != self.start:
+        if self.held is None and self.rows == 0 and pc != self.start:
             self.before += 1
             self.interrupt = None
             return
-        if self.is_same(state):
+        if self.held is not None and self.is_same(state):
             self.drop()
         self.finish(state)
-        self.state = state
-        self.held = {
-            "pc_rdata": pc, "insn": code.bits, "mode": code.mode if mode is None else mode,
-            "intr": int(self.interrupt is not None), "trap": 0 if self.tells_traps else None,
-            **self.sources(code.bits), **self.registers(code.bits),
-        }
+        row, now = Row(), decoded(code.bits)
+        row.pc, row.code, row.state, row.pc_wdata = pc, now, state, None
+        row.mode = code.mode if mode is None else mode
+        row.intr, row.trap = int(self.interrupt is not None), 0 if self.tells_traps else None
+        row.mip, row.mask = self.lines_of(now, state)
+        self.held = row
         self.interrupt = None
 
-    def sources(self, bits):
-        """The registers that a 32-bit instruction reads, and what they hold."""
-        operation, shown = bits >> 2 & 31 if bits & 3 == 3 else None, {}
-        is_csr = operation == 28 and 1 <= bits >> 12 & 7 <= 3
-        if operation in READERS_OF_ONE or operation in READERS_OF_TWO or is_csr:
-            shown = {"rs1_addr": bits >> 15 & 31, "rs1_rdata": self.state[f"x{bits >> 15 & 31}"]}
-        if operation in READERS_OF_TWO:
-            shown |= {"rs2_addr": bits >> 20 & 31, "rs2_rdata": self.state[f"x{bits >> 20 & 31}"]}
-        return shown
-
-    def registers(self, bits):
-        """The control and status registers before the row, an interrupt's entry included."""
-        shown = {f"csr_{name}_rdata": self.state.get(name) for name in CSRS}
-        reads_mip = bits & 0x7F == 0x73 and bits >> 20 in READS_OF_MIP
+    def lines_of(self, code, state):
+        """What is shown of mip before the row, an interrupt's entry included, and its mask."""
         line = 0 if self.interrupt is None else 1 << self.interrupt
-        if reads_mip:  # a line may rise behind the state, so the lines are those of the value read
-            shown |= {"csr_mip_rdata": line, "csr_mip_rmask": line}
-        elif shown["csr_mip_rdata"] is not None:
-            shown["csr_mip_rdata"] |= line
-        return shown
+        if code.reads_mip:  # a line may rise behind the state: the lines are those of the value
+            return f"0x{line:x}", f"0x{line:x}"
+        if state.mip is None:
+            return "", ""
+        return (f"0x{int(state.mip, 16) | line:x}" if line else as_hex(state.mip)), ""
 
     def is_begun(self):
         return self.held is not None or self.rows > 0
 
     def is_same(self, state):
         """Whether all is as before the held row: it was not carried out, or leaps to itself."""
-        if not self.held or self.unfetched or self.held["trap"] or self.interrupt is not None:
+        if self.unfetched or self.held.trap or self.interrupt is not None:
             return False
-        return all(value == self.state[name] for name, value in state.items() if name != "mip")
+        return state.is_as(self.held.state)
 
     def drop(self):
         """The held row was not carried out, and is begun anew."""
-        if self.held and not self.held["trap"]:
+        if self.held and not self.held.trap:
             self.again += 1
-            if self.held["intr"]:
+            if self.held.intr:
                 self.interrupt = self.entered
             self.held = None
 
@@ -241,47 +485,71 @@ class Converter:
         self.tells_traps = True
         if found[2] == "1":
             self.enter(pc, cause & 63)
-        elif self.held and self.held["pc_rdata"] == pc and not self.unfetched:
-            self.held["trap"] = 1
+        elif self.held and self.held.pc == pc and not self.unfetched:
+            self.held.trap = 1
         elif cause not in FETCHES:
             raise Refused(f"a trap at 0x{pc:x}, where no instruction was begun")
         elif self.is_begun() or pc == self.start:
             self.add_unfetched(pc)
 
     def enter(self, pc, code):
-        if self.held and self.held["pc_rdata"] == pc and not self.held["trap"]:
+        if self.held and self.held.pc == pc and not self.held.trap:
             self.drop()
         if self.interrupt is not None:
             raise Refused("two interrupts without an instruction between them have no form as rows")
-        if self.held and not self.held["trap"]:
-            self.held["pc_wdata"] = pc
+        if self.held and not self.held.trap:
+            self.held.pc_wdata = f"0x{pc:x}"
         self.interrupt = self.entered = code
 
     def add_unfetched(self, pc):
         if self.unfetched:
             self.finish(None)
-        if self.held and not self.held["trap"]:
-            self.held.setdefault("pc_wdata", pc)
-        self.unfetched = {"pc_rdata": pc, "insn": 0, "trap": 1,
-                          "intr": int(self.interrupt is not None)}
-        if self.interrupt is not None:
-            self.unfetched |= {"csr_mip_rdata": 1 << self.interrupt,
-                               "csr_mip_rmask": 1 << self.interrupt}
-            self.interrupt = None
+        if self.held and not self.held.trap and self.held.pc_wdata is None:
+            self.held.pc_wdata = f"0x{pc:x}"
+        line = "" if self.interrupt is None else f"0x{1 << self.interrupt:x}"
+        csrs = ",".join(line if it == "mip" else "" for it in CSRS)
+        self.unfetched = f"{'0x1' if line else '0x0'},0x{pc:x},,0x1,0x0,,,,,,,,{line},{csrs},,,,,\n"
+        self.interrupt = None
 
     def finish(self, state):
         """Writes what is held, behind which the hart has a state."""
-        if self.held:
-            if state and not self.held["trap"]:
-                rd = written_register(self.held["insn"])
-                self.held |= {"rd_addr": rd, "rd_wdata": state[f"x{rd}"]}
-                self.held.setdefault("pc_wdata", state["pc"])
-            self.write(self.held)
+        if self.held is not None:
+            self.write(self.row_text(self.held, state))
             self.rows += 1
-        if self.unfetched:
+        if self.unfetched is not None:
             self.write(self.unfetched)
             self.rows += 1
         self.held = self.unfetched = None
+
+    def row_text(self, row, after):
+        """The fields of a row, in the order of COLUMNS."""
+        code, registers = row.code, row.state.registers
+        rs1 = rs2 = written = ","
+        memory, pc_wdata = ",,,,", row.pc_wdata or ""
+        if code.rs1 is not None:
+            rs1 = f"0x{code.rs1:x},{as_hex(registers[code.rs1])}"
+        if code.rs2 is not None:
+            rs2 = f"0x{code.rs2:x},{as_hex(registers[code.rs2])}"
+        if after is not None and not row.trap:
+            written = f"0x{code.rd:x},{as_hex(after.registers[code.rd])}"
+            pc_wdata = pc_wdata or as_hex(after.pc)
+            memory = NO_ACCESS
+            if code.access is not None:
+                value = int(after.registers[code.rd], 16) if code.rd else None
+                memory = memory_fields(code.access, registers, value)
+        before_mip, behind_mip = self.csr_fields(row.state.csrs)
+        mode = "" if row.mode is None else f"0x{row.mode:x}"
+        trap = "" if row.trap is None else f"0x{row.trap:x}"
+        return (f"0x{row.intr:x},0x{row.pc:x},{mode},{trap},{code.insn},{rs1},{rs2},{written},"
+                f"{pc_wdata},{row.mask},{before_mip},{row.mip},{behind_mip},{memory}\n")
+
+    def csr_fields(self, csrs):
+        """The control and status registers before and behind mip; most rows change none."""
+        if csrs != self.csrs:
+            texts = ["" if it is None else as_hex(it) for it in csrs]
+            at = CSRS.index("mip")
+            self.csrs, self.csr_text = csrs, (",".join(texts[:at]), ",".join(texts[at:]))
+        return self.csr_text
 
     def tell(self):
         """What standard error gets of a log that was read."""
@@ -290,8 +558,44 @@ class Converter:
             yield f"{self.before} rows before 0x{self.start:x} are left out"
         if self.again:
             yield f"{self.again} states are left out that were begun anew, or led to themselves"
-        if self.values:
+        if self.lines:
             yield "the log ends in the middle of a state, which is left out"
+
+
+class Reader:
+    """Takes a log to a converter: states by their layout, all else by lines."""
+
+    def __init__(self, converter):
+        self.converter = converter
+        self.at = 0  # the line that is taken
+        self.rest = ""
+
+    def take(self, text, is_end=False):
+        """Takes the whole lines of some more text; a state waits until all of it is there."""
+        text, position = self.rest + text, 0
+        converter, blocks = self.converter, self.converter.blocks
+        while True:
+            layout = converter.layout
+            if layout and not converter.lines and text.startswith(" ", position):
+                if len(text) - position < layout.length and not is_end:
+                    break
+                if state := layout.state(text, position, converter.latest):
+                    self.at += layout.count
+                    converter.latest = state
+                    converter.begin(state)
+                    position += layout.length
+                    continue
+            end = text.find("\n", position)
+            if end < 0:  # a line that is cut off ends a log that was
+                break
+            self.at += 1
+            line = text[position:end].rstrip()
+            position = end + 1
+            if line in blocks and not converter.lines:
+                converter.block, converter.block_mode = blocks[line]
+            else:
+                converter.take(line)
+        self.rest = text[position:]
 
 
 def arguments():
@@ -303,6 +607,8 @@ def arguments():
     parser.add_argument("-o", metavar="FILE", help="the trace (default: standard output)")
     parser.add_argument("--pc", type=number, default=0x80000000, metavar="A",
                         help="address of the first row, as the judge's --pc (default 0x80000000)")
+    parser.add_argument("--image", metavar="FILE",
+                        help="the judge's image, for instructions that the log does not list")
     parser.add_argument("--without", default="", metavar="COLUMN,..",
                         help="columns to leave out, as csr_medeleg_rdata")
     words = parser.parse_args()
@@ -313,25 +619,32 @@ def arguments():
     return words
 
 
-def convert(lines, words, out):
-    """Writes the trace of a log's lines, and says on standard error what was left out."""
-    columns = [name for name in COLUMNS if name not in words.without]
+def convert(log, words, out):
+    """Writes the trace of a log, and says on standard error what was left out."""
+    kept = [at for at, name in enumerate(COLUMNS) if name not in words.without]
 
-    def write(row):
-        shown = ("" if row.get(name) is None else f"0x{row[name]:x}" for name in columns)
-        out.write(",".join(shown) + "\n")
+    def write(text):
+        fields = text[:-1].split(",")
+        out.write(",".join([fields[at] for at in kept]) + "\n")
 
-    out.write(",".join(columns) + "\n")
-    converter, at = Converter(words.pc, write), 0
+    out.write(",".join(COLUMNS[at] for at in kept) + "\n")
+    image = image_bytes(words.image) if words.image else {}
+    converter = Converter(words.pc, image, write if words.without else out.write)
+    reader = Reader(converter)
     try:
-        for at, line in enumerate(lines, 1):
-            if line.endswith("\n"):  # a line that is cut off ends a log that was
-                converter.take(line.rstrip())
+        while chunk := log.read1(CHUNK):
+            reader.take(chunk.decode("latin-1"))
+        reader.take("", is_end=True)
+    except Endless as fault:
+        print(f"qemu_log.py: {fault}", file=sys.stderr)
+    except Refused as fault:
+        raise Refused(f"{words.log}: line {reader.at}: {fault}") from None
+    try:
         converter.finish(None)
         if not converter.rows:
             raise Refused(f"no instruction at 0x{words.pc:x}")
     except Refused as fault:
-        raise Refused(f"{words.log}: line {at}: {fault}") from None
+        raise Refused(f"{words.log}: line {reader.at}: {fault}") from None
     for text in converter.tell():
         print(f"qemu_log.py: {text}", file=sys.stderr)
 
@@ -341,10 +654,10 @@ def main():
     source, target = words.log, words.o
     try:
         with (
-            open(0 if source == "-" else source, encoding="utf-8", errors="replace") as lines,
+            open(0 if source == "-" else source, "rb") as log,
             open(1 if target is None else target, "w", encoding="ascii") as out,
         ):
-            convert(lines, words, out)
+            convert(log, words, out)
     except (Refused, OSError) as fault:
         print(f"qemu_log.py: {fault}", file=sys.stderr)
         return 1

@@ -37,7 +37,20 @@ LISTED = re.compile(r"0x([0-9a-f]+) \(0x([0-9a-f]+)\) ?(.*)")
 COMMITTED = re.compile(r"([0-3]) 0x([0-9a-f]+) \(0x([0-9a-f]+)\)(.*)")
 RAISED = re.compile(r"exception (.+), epc 0x([0-9a-f]+)")
 INTERRUPT = re.compile(r"interrupt #(\d+)")
+# An instruction as it is listed, and behind it as it retired, where it wrote no more than a
+# register and made no more than one access: most of a log.
+PLAIN = re.compile(
+    r"core +(\d+): 0x([0-9a-f]{16}) \(0x([0-9a-f]+)\)[^\n]*\n"
+    r"core +(\d+): ([0-3]) 0x([0-9a-f]{16}) \(0x0*([0-9a-f]+)\)(?: x(\d+) +0x0*([0-9a-f]+))?"
+    r"(?: mem 0x([0-9a-f]{16})(?: 0x([0-9a-f]+))?)?\n")
+CHUNK = 1 << 20  # bytes that are read at once
 PASSED_OVER = re.compile(r">>>> |Executed \d+ times|tval 0x|$")
+
+
+BEFORE, AFTER = COLUMNS[: COLUMNS.index("pc_wdata")], COLUMNS[COLUMNS.index("pc_wdata") + 1 :]
+REST = "," * len(AFTER[3:]) + "\n"  # the fields of registers, all empty
+NO_REGISTER, NO_ACCESS = "0x0,0x0,", ",,0x0," + REST
+REGISTERS = {str(it): f"0x{it:x}," for it in range(32)}
 
 
 class Refused(Exception):
@@ -64,7 +77,8 @@ class Converter:
         self.start = start
         self.hart = hart
         self.write = write
-        self.held = None
+        self.held = None  # a row's text before pc_wdata and after it, and whether it has one
+        self.hart_text = str(hart)
         self.listed = None  # address and bits of the last instruction that -l listed
         self.interrupt = None  # the code of one that was entered, until its handler's first row
         self.rows = self.before = 0
@@ -148,6 +162,30 @@ class Converter:
     def is_begun(self):
         return self.held is not None or self.rows > 0
 
+    def take_plain(self, found):
+        """Takes what PLAIN matched; whether it did, or the lines are to be taken one by one."""
+        hart, listed, bits, again, mode, pc, insn, rd, value, at, stored = found.groups()
+        if hart != self.hart_text or again != hart or not self.held or self.interrupt is not None:
+            return False
+        self.listed = int(listed, 16), int(bits, 16)
+        shown = pc.lstrip("0") or "0"
+        before, after, goes_on = self.held
+        self.write(f"{before}0x{shown}{after}" if goes_on else before + after)
+        self.rows += 1
+        if rd is None or rd == "0":
+            register = NO_REGISTER if rd is None else f"0x0,0x{value},"
+        else:
+            register = f"{REGISTERS[rd]}0x{value},"
+        if at is None:
+            access = NO_ACCESS
+        elif stored is None:
+            access = f",0x{at.lstrip('0') or '0'},0x0,{REST}"
+        else:
+            mask = (1 << max(1, len(stored) // 2)) - 1
+            access = f",0x{at.lstrip('0') or '0'},0x{mask:x},0x{stored.lstrip('0') or '0'}{REST}"
+        self.held = f"0x0,0x{shown},0x{mode},0x0,0x{insn},{register}", access, True
+        return True
+
     def hold(self, row):
         if not self.is_begun() and row["pc_rdata"] != self.start:
             self.before += 1
@@ -158,14 +196,16 @@ class Converter:
         if self.interrupt is not None:
             row["csr_mip_rmask"] = row["csr_mip_rdata"] = 1 << self.interrupt
         self.interrupt = None
-        self.held = row
+        before, after = (
+            ["" if row.get(name) is None else f"0x{row[name]:x}" for name in names]
+            for names in (BEFORE, AFTER))
+        self.held = ",".join(before) + ",", "," + ",".join(after) + "\n", not row["trap"]
 
     def go_on(self, pc):
         """Writes the row that is held, behind which the program goes on at pc."""
         if self.held:
-            if not self.held["trap"] and pc is not None:
-                self.held.setdefault("pc_wdata", pc)
-            self.write(self.held)
+            before, after, goes_on = self.held
+            self.write(before + (f"0x{pc:x}" if goes_on and pc is not None else "") + after)
             self.held = None
             self.rows += 1
 
@@ -201,24 +241,57 @@ def arguments():
     return words
 
 
-def convert(lines, words, out):
-    """Writes the trace of a log's lines, and says on standard error what was left out."""
-    columns = [name for name in COLUMNS if name not in words.without]
+class Reader:
+    """Takes a log to a converter: what is plain at once, all else by lines."""
 
-    def write(row):
-        shown = ("" if row.get(name) is None else f"0x{row[name]:x}" for name in columns)
-        out.write(",".join(shown) + "\n")
+    def __init__(self, converter):
+        self.converter = converter
+        self.at = 0  # the line that is taken
+        self.rest = ""
 
-    out.write(",".join(columns) + "\n")
-    converter, at = Converter(words.pc, words.hart, write), 0
+    def take(self, text):
+        """Takes the whole lines of some more text."""
+        text, position = self.rest + text, 0
+        match, take_plain, find = PLAIN.match, self.converter.take_plain, text.find
+        while True:
+            if (found := match(text, position)) and take_plain(found):
+                self.at += 2
+                position = found.end()
+                continue
+            if (end := find("\n", position)) < 0:
+                break
+            self.at += 1
+            self.converter.take(text[position:end].rstrip())
+            position = end + 1
+        self.rest = text[position:]
+
+    def finish(self):
+        """Takes a last line without an end."""
+        if self.rest:
+            self.at += 1
+            self.converter.take(self.rest.rstrip())
+        self.converter.go_on(None)
+
+
+def convert(log, words, out):
+    """Writes the trace of a log, and says on standard error what was left out."""
+    kept = [at for at, name in enumerate(COLUMNS) if name not in words.without]
+
+    def write(text):
+        fields = text[:-1].split(",")
+        out.write(",".join([fields[at] for at in kept]) + "\n")
+
+    out.write(",".join(COLUMNS[at] for at in kept) + "\n")
+    converter = Converter(words.pc, words.hart, write if words.without else out.write)
+    reader = Reader(converter)
     try:
-        for at, line in enumerate(lines, 1):
-            converter.take(line.rstrip())
-        converter.go_on(None)
+        while chunk := log.read1(CHUNK):
+            reader.take(chunk.decode("latin-1"))
+        reader.finish()
         if not converter.rows:
             raise Refused(f"no instruction at 0x{words.pc:x}")
     except Refused as fault:
-        raise Refused(f"{words.log}: line {at}: {fault}") from None
+        raise Refused(f"{words.log}: line {reader.at}: {fault}") from None
     for text in converter.tell():
         print(f"spike_log.py: {text}", file=sys.stderr)
 
@@ -228,10 +301,10 @@ def main():
     source, target = words.log, words.o
     try:
         with (
-            open(0 if source == "-" else source, encoding="utf-8", errors="replace") as lines,
+            open(0 if source == "-" else source, "rb") as log,
             open(1 if target is None else target, "w", encoding="ascii") as out,
         ):
-            convert(lines, words, out)
+            convert(log, words, out)
     except (Refused, OSError) as fault:
         print(f"spike_log.py: {fault}", file=sys.stderr)
         return 1

@@ -8,7 +8,7 @@ contrib=$(dirname "$tests")
 program=$(readlink -f "${1:-$contrib/../bin/rvjudge}")
 folder=$(mktemp -d) || exit 1
 trap 'rm -rf "$folder"' EXIT
-failed=0
+failed=0 left_out=
 
 fail() {
     echo "contrib: FAILED: $*" >&2
@@ -22,14 +22,28 @@ can_run() {
     for tool; do
         command -v "$tool" >/dev/null || missing="$missing $tool"
     done
-    [ -z "$missing" ] || echo "contrib: not run: $name, as there is no$missing"
+    [ -z "$missing" ] || leave_out "$name, as there is no$missing"
     [ -z "$missing" ]
+}
+
+# Says what is left out, and keeps it for the last lines.
+leave_out() {
+    echo "contrib: not run: $*"
+    left_out="$left_out
+    $*"
 }
 
 # Whether a tool has the version that its test is written for, which begins with the last word.
 has_version() {
     "$2" --version 2>/dev/null | grep -q "$3" && return
-    echo "contrib: not run: $1, as $2 is of another version than $3"
+    leave_out "$1, as $2 is of another version than $3"
+    return 1
+}
+
+# Whether Debian's python3-pyelftools is there.
+has_elftools() {
+    PYTHONPATH=/usr/lib/python3/dist-packages python3 -c 'import elftools' 2>/dev/null && return
+    leave_out "$1, as there is no python3-pyelftools"
     return 1
 }
 
@@ -105,7 +119,15 @@ test_qemu_log() {
     gzip -dc "$tests/qemu/run.log.gz" >"$folder/log"
     python3 "$contrib/qemu_log.py" "$folder/log" -o "$out" 2>/dev/null || fail "qemu_log.py"
     expect qemu 'agrees 274' "$image" "$out" --io $io
-    expect_columns qemu "$out" 29
+    expect_columns qemu "$out" 34
+    python3 "$tests/memory_columns.py" "$out" || fail 'qemu_log.py: the columns of memory'
+    sed '/^0x0000000080000010/{p;p;p;}' "$folder/log" >"$folder/endless"
+    python3 "$contrib/qemu_log.py" "$folder/endless" -o "$folder/endless.csv" 2>"$folder/said"
+    grep -q 'lists the word at 0x0000000080000010 without end' "$folder/said" ||
+        fail "qemu_log.py, a word that is listed without end: $(cat "$folder/said")"
+    sed '/^IN:/,/^0x/d' "$folder/log" >"$folder/less"
+    python3 "$contrib/qemu_log.py" "$folder/less" --image "$image" -o "$folder/less.csv" 2>/dev/null
+    expect 'qemu without in_asm, with --image' 'agrees 274' "$image" "$folder/less.csv" --io $io
     sed '/^Trace /d' "$folder/log" | python3 "$contrib/qemu_log.py" 2>/dev/null | cmp -s - "$out" ||
         fail "qemu_log.py: without exec the trace is another"
     head -c 200000 "$folder/log" | python3 "$contrib/qemu_log.py" -o "$out" 2>"$folder/said"
@@ -147,16 +169,42 @@ test_iverilog() {
     iverilog -g2012 -s all -o "$folder/all" "$tests/rvfi/all.sv" "$contrib/rvfi_csv.sv" 2>/dev/null
     vvp -n "$folder/all" "+rvfi_csv=$folder/all.csv" 2>/dev/null
     expect_columns 'rvfi_csv.sv with every column' "$folder/all.csv" 109
-    iverilog -g2012 -Pbench.UNKNOWN=1 -s bench -o "$folder/bench" \
-        "$tests/rvfi/bench.sv" "$contrib/rvfi_csv.sv" 2>/dev/null
-    vvp -n "$folder/bench" "+rvfi_csv=$folder/bench.csv" 2>"$folder/said"
-    judge_bench 'iverilog, unknown bits'
-    [ "$(grep -c ': 1 fields left empty for unknown bits$' "$folder/said")" -eq 2 ] ||
-        fail "rvfi_csv.sv did not count unknown bits: $(cat "$folder/said")"
+    test_unknown
+    for case in 'OPEN rvfi_valid is left open' 'UNKNOWN_VALID rvfi_valid is unknown'; do
+        iverilog -g2012 -D"${case%% *}" -s bench -o "$folder/bench" \
+            "$tests/rvfi/bench.sv" "$contrib/rvfi_csv.sv" 2>/dev/null
+        expect_fault "rvfi_csv.sv: ${case#* }" "${case#* }" \
+            vvp -n "$folder/bench" "+rvfi_csv=$folder/bench.csv"
+        "$program" judge "$tests/rvfi/image.hex" "$folder/bench.csv" >/dev/null 2>&1
+        [ $? -eq 4 ] || fail "rvfi_csv.sv: ${case#* }: the judge takes what was written"
+    done
+    expect_fault 'rvfi_csv.sv with an XLEN of 32' 'XLEN_must_be_64' \
+        iverilog -g2012 -Pall.XLEN=32 -s all -o "$folder/all" "$tests/rvfi/all.sv" \
+        "$contrib/rvfi_csv.sv"
+}
+
+# Unknown bits: those that nothing is to be known of are 0, others are refused, or left empty.
+test_unknown() {
+    for case in '1 0 agrees 10' '2 0 refused trace: row 8: rs2_rdata not a number' \
+        '2 1 agrees 10' '3 0 refused trace: row 7: mem_rdata not a number'; do
+        # shellcheck disable=SC2086  # the case's words
+        set -- $case
+        iverilog -g2012 -Pbench.UNKNOWN="$1" -Pbench.EMPTY="$2" -s bench -o "$folder/bench" \
+            "$tests/rvfi/bench.sv" "$contrib/rvfi_csv.sv" 2>/dev/null
+        vvp -n "$folder/bench" "+rvfi_csv=$folder/bench.csv" 2>"$folder/said"
+        expect "iverilog, unknown bits $1 $2" "${case#? ? }" \
+            "$tests/rvfi/image.hex" "$folder/bench.csv"
+        wanted='written as x' number=1
+        [ "$2" -eq 0 ] || wanted='left empty' number=4
+        [ "$1" -ne 1 ] || number=0
+        [ "$(grep -c ": 1 fields $wanted for unknown bits$" "$folder/said")" -eq $number ] ||
+            fail "rvfi_csv.sv did not count unknown bits: $(cat "$folder/said")"
+    done
 }
 
 test_verilator() {
-    for bind in -DINSTANCE -DBIND; do
+    for bind in -DINSTANCE -DBIND '-DBIND -DRVFI_CSV_ONLY_STANDARD'; do
+        # shellcheck disable=SC2086  # words
         (cd "$folder" &&
             verilator --binary --top-module bench -GNRET=2 $bind -Wno-PINMISSING -Wno-WIDTH \
                 "$tests/rvfi/bench.sv" "$contrib/rvfi_csv.sv" >said 2>&1 &&
@@ -165,37 +213,114 @@ test_verilator() {
         judge_bench "verilator $bind"
         rm -rf "$folder/obj_dir" "$folder/bench.csv"
     done
+    expect_fault 'rvfi_csv.sv with an XLEN of 32' 'XLEN is' verilator --lint-only --top-module all \
+        -GXLEN=32 -Wno-PINMISSING -Wno-WIDTH "$tests/rvfi/all.sv" "$contrib/rvfi_csv.sv"
 }
 
-test_regress() {
-    mkdir "$folder/traces"
-    cp "$tests/examples/"lanes*.csv "$tests/examples/"interrupt.* "$folder/traces"
-    cp "$tests/examples/lanes.hex" "$folder/traces/image.hex"
-    sh "$contrib/regress.sh" "$folder/traces" -p "$program" -j 2 >"$folder/said"
-    code=$?
-    [ $code -eq 1 ] || fail "regress.sh: status $code, wanted 1"
-    for line in 'interrupt: agrees 9' '1 agree, 2 differ, 0 could not be judged'; do
-        grep -qx "$line" "$folder/said" || fail "regress.sh: $(cat "$folder/said")"
+# Rows that are shuffled within a window, and put back.
+test_sort() {
+    trace=$tests/explain/run.csv sorted=$folder/sorted.csv
+    { head -n 1 "$trace"; sed 1d "$trace" | awk '{ held[NR % 5] = $0 } NR % 5 == 0 {
+        for (i = 4; i >= 0; i--) print held[i] } END { for (i = NR % 5; i > 0; i--) print held[i] }'
+    } >"$folder/shuffled.csv"
+    cmp -s "$trace" "$folder/shuffled.csv" && fail 'sort_rows.py: the rows were not shuffled'
+    python3 "$contrib/sort_rows.py" "$folder/shuffled.csv" -o "$sorted" --window 6 2>/dev/null
+    cmp "$trace" "$sorted" || fail 'sort_rows.py'
+    python3 "$contrib/sort_rows.py" --first 0 <"$folder/shuffled.csv" 2>/dev/null | cmp - "$trace" ||
+        fail 'sort_rows.py on standard input'
+    expect_fault 'sort_rows.py, a window that is too small' 'give a larger --window than 2' \
+        python3 "$contrib/sort_rows.py" --window 2 "$folder/shuffled.csv"
+    sed '5p' "$trace" >"$folder/twice.csv"
+    expect_fault 'sort_rows.py, a row that comes twice' 'comes twice' \
+        python3 "$contrib/sort_rows.py" "$folder/twice.csv"
+    expect_fault 'sort_rows.py without order' 'there is no column order' \
+        python3 "$contrib/sort_rows.py" "$tests/examples/lanes.csv"
+}
+
+# From C to a verdict.
+test_c() {
+    cp "$tests/c/program.c" "$folder/program.c"
+    make -s -C "$folder" -f "$contrib/Makefile" program.hex program.csv >"$folder/said" 2>&1 ||
+        fail "the Makefile: $(cat "$folder/said")"
+    rows=$(($(wc -l <"$folder/program.csv") - 1))
+    [ "$rows" -gt 500 ] || fail "the program in C carried out $rows rows"
+    expect 'a program in C' "agrees $rows" "$folder/program.hex" "$folder/program.csv" \
+        --io 0x100000:0x1000
+    # main gave 0, so that tohost is stored as 1
+    python3 "$contrib/cover.py" --lint "$folder/program.csv" >"$folder/said" ||
+        fail "cover.py: $(cat "$folder/said")"
+    [ "$(tail -n 6 "$folder/program.csv" | grep -c ',0xa,0x1,')" -eq 1 ] ||
+        fail 'the program in C: main did not give 0'
+}
+
+# A difference ends a simulation that writes into a pipe.
+test_live() {
+    iverilog -g2012 -s endless -o "$folder/endless" "$tests/rvfi/endless.sv" "$contrib/rvfi_csv.sv" \
+        2>/dev/null
+    printf '@80000000\n6f 00 00 00\n' >"$folder/endless.hex"
+    mkfifo "$folder/pipe"
+    vvp -n "$folder/endless" "+rvfi_csv=$folder/pipe" 2>/dev/null &
+    simulation=$!
+    expect live 'differs row 1001: pc_wdata expected 0x0000000080000000 found 0x0000000080000004' \
+        "$folder/endless.hex" "$folder/pipe" --segment 64
+    wait "$simulation"
+    [ $? -eq 141 ] || fail 'live: the simulation did not end'
+}
+
+# What make install puts into a folder.
+test_install() {
+    make -s -C "$contrib/.." install PREFIX="$folder/installed" PROGRAM="$program" >"$folder/said" 2>&1 ||
+        fail "make install: $(cat "$folder/said")"
+    found=$("$folder/installed/bin/rvjudge" judge "$tests/examples/interrupt.hex" \
+        "$tests/examples/interrupt.csv")
+    [ "$found" = 'agrees 9' ] || fail "the installed program: $found"
+    "$folder/installed/bin/rvjudge" --version >/dev/null 2>"$folder/said"
+    grep -q '^sha256 [0-9a-f]*$' "$folder/said" || fail "the version: $(cat "$folder/said")"
+    for word in --pc --window 'refused words'; do
+        sed 's/\\-/-/g' "$folder/installed/share/man/man1/rvjudge.1" | grep -qe "$word" ||
+            fail "the manual page has no $word"
     done
-    rm "$folder/traces/"lanes*
-    echo --workers=65 >"$folder/traces/interrupt.options"
-    sh "$contrib/regress.sh" "$folder/traces" -p "$program" >"$folder/said"
-    [ $? -eq 2 ] || fail "regress.sh: a trace that is not judged: $(cat "$folder/said")"
-    rm "$folder/traces/interrupt.options"
-    sh "$contrib/regress.sh" "$folder/traces" -p "$program" >"$folder/said" ||
-        fail "regress.sh: $(cat "$folder/said")"
+    bash -c '. "$1"; COMP_WORDS=(rvjudge judge --w) COMP_CWORD=2; _rvjudge; echo "${COMPREPLY[*]}"' \
+        '' "$folder/installed/share/bash-completion/completions/rvjudge" >"$folder/said" 2>&1
+    [ "$(cat "$folder/said")" = '--workers --window' ] ||
+        fail "completion for bash: $(cat "$folder/said")"
+    make -s -C "$contrib/.." uninstall PREFIX="$folder/installed"
+    [ -z "$(find "$folder/installed" -type f)" ] || fail 'make uninstall left files'
 }
 
-test_regress
 if can_run 'the documents' python3; then
     python3 "$tests/documents.py" "$program" || fail "the documents"
+fi
+if can_run 'regress.py' python3 gzip; then
+    python3 "$tests/regress_test.py" "$program" || fail "regress.py"
+fi
+if can_run 'explain.py' python3 riscv64-unknown-elf-objdump gzip && has_elftools 'explain.py'; then
+    python3 "$tests/explain_test.py" "$program" || fail "explain.py"
+fi
+if can_run 'cover.py' python3; then
+    python3 "$tests/cover_test.py" || fail "cover.py"
 fi
 can_run 'logs of Spike' python3 && test_spike
 can_run 'the stored log of qemu' python3 gzip && test_qemu_log
 can_run 'a run in qemu' python3 riscv64-unknown-elf-gcc riscv64-unknown-elf-objcopy \
     qemu-system-riscv64 && has_version 'a run in qemu' qemu-system-riscv64 'version 7\.' && test_qemu
 can_run 'rvfi_csv.sv in Icarus Verilog' iverilog vvp && test_iverilog
+can_run 'a trace that is judged live' iverilog vvp mkfifo && test_live
+can_run 'sort_rows.py' python3 && test_sort
+can_run 'a program in C' python3 make riscv64-unknown-elf-gcc riscv64-unknown-elf-objcopy \
+    qemu-system-riscv64 && has_version 'a program in C' qemu-system-riscv64 'version 7\.' && test_c
 can_run 'rvfi_csv.sv in Verilator' verilator make g++ &&
     has_version 'rvfi_csv.sv in Verilator' verilator 'Verilator [5-9]' && test_verilator
+can_run 'regress.py with GNU parallel' parallel
+can_run 'regress.py with .csv.zst' zstd
+if can_run 'what bin/ tells' pgrep; then
+    sh "$tests/words_test.sh" "$program" || fail "what bin/ tells"
+fi
+can_run 'the installed files' make python3 git && test_install
 [ "$failed" -eq 0 ] && echo "contrib: ok"
+if [ -n "$left_out" ]; then
+    echo "contrib: left out, sh contrib/tests/setup.sh installs what they need:$left_out"
+else
+    echo "contrib: no test was left out"
+fi
 exit "$failed"

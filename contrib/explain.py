@@ -1,0 +1,733 @@
+#!/usr/bin/env python3
+"""Explains a difference: what the core did at the row, and where its operands came from.
+
+    explain.py IMAGE TRACE [--elf FILE] [--html FILE] [--gtkw WAVE] [-- OPTION..]
+
+Runs the judge, prints its line, and where that is a difference: the last rows with address,
+disassembly, function and source line; the signal with both values and the bits that differ; the
+operands with the rows that last wrote them; the access to memory, why the hart traps there, and
+the row that last stored there; the registers. TRACE may be packed (.gz, .zst). Functions and lines
+need --elf and python3-pyelftools, disassembly a riscv objdump (binutils-riscv64-unknown-elf).
+
+What is not shown in the trace is not known here: it is said so. The trace is read once for the
+rows, and once more for each doubleword of memory that is looked for; no more than the last rows
+are held. The status is the judge's, or 70 where it gave no verdict.
+"""
+import argparse
+import csv
+import html
+import re
+import shutil
+import subprocess
+import sys
+import tempfile
+from collections import deque
+from contextlib import contextmanager
+from pathlib import Path
+from typing import NamedTuple
+
+HERE = Path(__file__).resolve().parent
+UNPACK = {".gz": ["gzip", "-dc"], ".zst": ["zstd", "-dcq"]}
+ABI = ("zero ra sp gp tp t0 t1 t2 s0 s1 a0 a1 a2 a3 a4 a5 a6 a7 s2 s3 s4 s5 s6 s7 s8 s9 s10 s11 "
+       "t3 t4 t5 t6").split()
+DIFFERS = re.compile(r"differs row (\d+): (\w+) expected (\S+) found (\S+)")
+DEBIAN = "/usr/lib/python3/dist-packages"
+MASK = (1 << 64) - 1
+SATP = 0x180
+# The columns that are read; the others are the judge's matter.
+READ = {
+    "valid", "insn", "pc_rdata", "trap", "mode", "rs1_addr", "rs1_rdata", "rs2_addr", "rs2_rdata",
+    "rd_wdata", "mem_addr", "mem_wdata", "mem_paddr", "csr_satp_wdata", "csr_mstatus_rdata", "time",
+    "cycle",
+}
+MEANING = {
+    "valid": "a valid row behind one that showed halt", "order": "the row's number",
+    "intr": "an interrupt was entered before this row", "pc_rdata": "the instruction's address",
+    "mode": "the mode of the instruction: 0 U, 1 S, 3 M", "ixl": "the register width's code",
+    "trap": "the instruction took a synchronous trap", "insn": "the instruction's bits",
+    "rs1_addr": "the first register that is read", "rs1_rdata": "the value of rs1",
+    "rs2_addr": "the second register that is read", "rs2_rdata": "the value of rs2",
+    "rd_addr": "the register that is written", "rd_wdata": "the value written to rd",
+    "pc_wdata": "the next address", "mem_addr": "the address of the access",
+    "mem_rmask": "the bytes that are read", "mem_rdata": "what memory held",
+    "mem_wmask": "the bytes that are written", "mem_wdata": "what is stored",
+    "mem_paddr": "the physical address of the access",
+}
+
+
+class Refused(Exception):
+    """There is nothing to explain from."""
+
+
+def number(text):
+    return int(text, 16) if text[:2] in ("0x", "0X") else int(text)
+
+
+def signed(value, bits):
+    return value - (1 << bits) if value >> bits - 1 & 1 else value
+
+
+def field(bits, *places):
+    """Bits of an instruction put together: each place is (high, low, shift)."""
+    return sum((bits >> low & (1 << high - low + 1) - 1) << to for high, low, to in places)
+
+
+# ---- instructions
+
+
+class Access(NamedTuple):
+    """An access to memory: base register and offset, or for atomics the address in base."""
+
+    kind: str  # load, store, atomic, load-reserved, store-conditional
+    size: int
+    base: int
+    offset: int
+    data: int | None
+
+
+def access_of(bits):
+    """The access that an instruction makes, or None."""
+    if bits & 3 != 3:
+        return compressed_access(bits)
+    width, base = 1 << (bits >> 12 & 3), bits >> 15 & 31
+    match bits >> 2 & 31:
+        case 0 if bits >> 12 & 7 != 7:
+            return Access("load", width, base, signed(bits >> 20, 12), None)
+        case 8 if bits >> 12 & 7 <= 3:
+            return Access("store", width, base, signed(field(bits, (31, 25, 5), (11, 7, 0)), 12),
+                          bits >> 20 & 31)
+        case 11 if bits >> 12 & 7 in (2, 3):
+            kind = {2: "load-reserved", 3: "store-conditional"}.get(bits >> 27, "atomic")
+            return Access(kind, width, base, 0, None if bits >> 27 == 2 else bits >> 20 & 31)
+    return None
+
+
+def compressed_access(bits):
+    low, base = 8 + (bits >> 2 & 7), 8 + (bits >> 7 & 7)
+    word = field(bits, (12, 10, 3), (6, 6, 2), (5, 5, 6))
+    double = field(bits, (12, 10, 3), (6, 5, 6))
+    match bits & 3, bits >> 13 & 7:
+        case 0, 2:
+            return Access("load", 4, base, word, None)
+        case 0, 3:
+            return Access("load", 8, base, double, None)
+        case 0, 6:
+            return Access("store", 4, base, word, low)
+        case 0, 7:
+            return Access("store", 8, base, double, low)
+        case 2, 2:
+            return Access("load", 4, 2, field(bits, (12, 12, 5), (6, 4, 2), (3, 2, 6)), None)
+        case 2, 3:
+            return Access("load", 8, 2, field(bits, (12, 12, 5), (6, 5, 3), (4, 2, 6)), None)
+        case 2, 6:
+            return Access("store", 4, 2, field(bits, (12, 9, 2), (8, 7, 6)), bits >> 2 & 31)
+        case 2, 7:
+            return Access("store", 8, 2, field(bits, (12, 10, 3), (9, 7, 6)), bits >> 2 & 31)
+    return None
+
+
+def registers_of(bits):
+    """The registers that are read as rs1 and rs2 (None: none is), and rd (0: none)."""
+    rd, rs1, rs2 = bits >> 7 & 31, bits >> 15 & 31, bits >> 20 & 31
+    if bits & 3 != 3:
+        return compressed_registers(bits)
+    match bits >> 2 & 31:
+        case 13 | 5 | 27:
+            return None, None, rd
+        case 0 | 4 | 6 | 25:
+            return rs1, None, rd
+        case 8 | 24:
+            return rs1, rs2, 0
+        case 11 | 12 | 14:
+            return rs1, None if bits >> 27 == 2 and bits >> 2 & 31 == 11 else rs2, rd
+        case 28 if bits >> 12 & 7:
+            return (rs1 if bits >> 12 & 7 < 4 else None), None, rd
+    return None, None, 0
+
+
+def compressed_registers(bits):
+    whole, second = bits >> 7 & 31, bits >> 2 & 31
+    low, high = 8 + (bits >> 2 & 7), 8 + (bits >> 7 & 7)
+    match bits & 3, bits >> 13 & 7:
+        case 0, 0:
+            return 2, None, low
+        case 0, 2 | 3:
+            return high, None, low
+        case 0, 6 | 7:
+            return high, low, 0
+        case 1, 0 | 1:
+            return whole, None, whole
+        case (1, 2) | (1, 3):
+            return (2 if bits >> 13 & 7 == 3 and whole == 2 else None), None, whole
+        case 1, 4:
+            return high, low if bits >> 10 & 3 == 3 else None, high
+        case 1, 6 | 7:
+            return high, None, 0
+        case 2, 0:
+            return whole, None, whole
+        case 2, 2 | 3:
+            return 2, None, whole
+        case 2, 6 | 7:
+            return 2, second, 0
+        case 2, 4:
+            if second:
+                return (whole if bits >> 12 & 1 else None), second, whole
+            return (whole or None), None, int(bits >> 12 & 1)
+    return None, None, 0
+
+
+# ---- the trace
+
+
+@contextmanager
+def opened(path):
+    """The bytes of a trace, unpacked."""
+    unpack = next((words for it, words in UNPACK.items() if path.endswith(it)), None)
+    with open(path, "rb") as file:
+        if unpack is None:
+            yield file
+            return
+        child = subprocess.Popen(unpack, stdin=file, stdout=subprocess.PIPE)
+        try:
+            yield child.stdout
+        finally:
+            child.kill()
+            child.wait()
+
+
+class Row(NamedTuple):
+    number: int
+    line: int  # of the file
+    shown: dict  # from signal to number
+    state: dict  # of the registers before it, each (value or None, the row that wrote it)
+    satp: tuple  # (value or None, the row)
+
+    @property
+    def pc(self):
+        return self.shown["pc_rdata"]
+
+    @property
+    def bits(self):
+        return self.shown["insn"]
+
+
+def fields_of(line):
+    return next(csv.reader([line])) if '"' in line else line.split(",")
+
+
+def lines_of(file):
+    """The lines that are not blank, with their numbers."""
+    for at, line in enumerate(file, 1):
+        text = line.decode("latin-1").rstrip("\r\n")
+        if at == 1:
+            text = text.removeprefix("\xef\xbb\xbf")
+        if text:
+            yield at, text
+
+
+def rows_of(path, last):
+    """The rows from the first to number last, each with the registers before it."""
+    state = {it: (0, 0) for it in range(32)}
+    satp = (0, 0)
+    with opened(path) as file:
+        lines = lines_of(file)
+        names = [it.strip(" \t").removeprefix("rvfi_") for it in fields_of(next(lines)[1])]
+        columns = [(at, name) for at, name in enumerate(names) if name in READ]
+        for count, (at, text) in enumerate(lines, 1):
+            fields = fields_of(text)
+            shown = {name: number(it) for column, name in columns
+                     if (it := fields[column].strip(" \t"))}
+            if shown.get("valid", 1) == 1 and "insn" in shown and "pc_rdata" in shown:
+                row = Row(count, at, shown, state, satp)
+                yield row
+                state, satp = state_after(row), satp_after(row)
+            if count == last:
+                return
+
+
+def state_after(row):
+    """The registers after a row, as far as the trace shows them."""
+    if row.shown.get("trap"):
+        return row.state
+    rd = registers_of(row.bits)[2]
+    if not rd:
+        return row.state
+    return row.state | {rd: (row.shown.get("rd_wdata"), row.number)}
+
+
+def satp_after(row):
+    if "csr_satp_wdata" in row.shown:
+        value = row.shown["csr_satp_wdata"]
+        return row.satp if value == row.satp[0] else (value, row.number)
+    if row.bits & 0x7F == 0x73 and row.bits >> 20 == SATP and row.bits >> 12 & 3 == 1:
+        if not row.shown.get("trap"):
+            return operand(row, row.bits >> 15 & 31, "rs1"), row.number
+    return row.satp
+
+
+def operand(row, register, name=None):
+    """A register's value before a row: as the row shows it, or as it was last written."""
+    if name and row.shown.get(f"{name}_addr") == register and f"{name}_rdata" in row.shown:
+        return row.shown[f"{name}_rdata"]
+    return row.state[register][0]
+
+
+def address_of(row, access):
+    base = operand(row, access.base, "rs1")
+    return None if base is None else base + access.offset & MASK
+
+
+def is_translated(row):
+    """Whether the hart translates at a row; None where that is not known."""
+    mode = row.shown.get("mode")
+    if row.satp[0] is not None and row.satp[0] >> 60 == 0 or mode == 3:
+        return False
+    return None if mode is None or row.satp[0] is None else True
+
+
+def store_of(row):
+    """The physical address, the size and the data of what a row stores, or None."""
+    access = access_of(row.bits)
+    if access is None or access.data is None or row.shown.get("trap"):
+        return None
+    if access.kind == "store-conditional" and row.shown.get("rd_wdata"):
+        return None
+    address, shift = address_of(row, access), 0
+    if address is not None and "mem_addr" in row.shown:
+        shift = address - row.shown["mem_addr"]
+    if is_translated(row) is not False:
+        address = row.shown.get("mem_paddr", -shift) + shift if "mem_paddr" in row.shown else None
+    data = operand(row, access.data, "rs2") if access.kind != "atomic" else None
+    if data is None and "mem_wdata" in row.shown and 0 <= shift < 8:
+        data = row.shown["mem_wdata"] >> 8 * shift
+    return address, access.size, data
+
+
+class Stored(NamedTuple):
+    """Bytes of memory as the trace and the image have them."""
+
+    value: int | None
+    row: int  # that stored last there; 0: the image
+    bytes: int  # how many of them it stored
+    text: str
+
+
+def memory_at(words, address, size, before):
+    """What stands at a physical address before a row: the image, and the stores of the rows."""
+    memory = image_bytes(words.image, address, size)
+    known, last, count, hidden = list(memory), 0, size, 0
+    for row in rows_of(words.trace, before - 1):
+        stored = store_of(row)
+        if stored is None:
+            continue
+        start, length, data = stored
+        if start is None:
+            hidden += 1
+            continue
+        touched = [it for it in range(size) if 0 <= address + it - start < length]
+        for it in touched:
+            shift = 8 * (address + it - start)
+            known[it] = None if data is None else data >> shift & 255
+        if touched:
+            last, count = row.number, len(touched)
+    value = None if None in known else sum(it << 8 * at for at, it in enumerate(known))
+    text = f"{hidden} stores do not show where they went" if hidden else ""
+    return Stored(value, last, count, text)
+
+
+def image_bytes(path, address, size):
+    """Bytes of the image, 0 where it has none."""
+    found, at = [0] * size, 0
+    with open(path, "rb") as file:
+        text = file.read().decode("latin-1")
+    if not re.match(r"\s*[@0-9a-fA-F/]", text):
+        return [None] * size
+    text = re.sub(r"/\*.*?\*/|//[^\n]*", " ", text, flags=re.S)
+    for token in text.split():
+        if token[0] == "@":
+            at = int(token[1:], 16)
+        else:
+            if 0 <= at - address < size:
+                found[at - address] = int(token, 16)
+            at += 1
+    return found
+
+
+# ---- names of places
+
+
+class Places:
+    """Functions and source lines of an ELF file, and disassembly."""
+
+    def __init__(self, path):
+        self.functions, self.lines, self.said = [], [], []
+        names = ("riscv64-unknown-elf-objdump", "riscv64-linux-gnu-objdump", "llvm-objdump")
+        self.objdump = next(filter(shutil.which, names[:2]), None)
+        if not self.objdump:
+            self.said.append("no disassembly: apt install binutils-riscv64-unknown-elf")
+        if path:
+            self.read(path)
+
+    def read(self, path):
+        if DEBIAN not in sys.path:
+            sys.path.append(DEBIAN)  # where python3 is another one than Debian's
+        try:
+            from elftools.common.exceptions import ELFError
+            from elftools.elf.elffile import ELFFile
+        except ImportError:
+            self.said.append("no functions and lines: apt install python3-pyelftools")
+            return
+        try:
+            with open(path, "rb") as file:
+                elf = ELFFile(file)
+                table = elf.get_section_by_name(".symtab")
+                for it in table.iter_symbols() if table else ():
+                    if it["st_info"]["type"] in ("STT_FUNC", "STT_NOTYPE") and it.name[:1] != "$":
+                        self.functions.append((it["st_value"], it.name))
+                if elf.has_dwarf_info():
+                    self.read_lines(elf.get_dwarf_info())
+        except ELFError as fault:
+            raise Refused(f"{path}: {fault}") from None
+        self.functions.sort()
+        self.lines.sort()
+
+    def read_lines(self, info):
+        for unit in info.iter_CUs():
+            program = info.line_program_for_CU(unit)
+            if program is None:
+                continue
+            names, base = program["file_entry"], 0 if program["version"] >= 5 else 1
+            for entry in program.get_entries():
+                if (it := entry.state) is None:
+                    continue
+                at = it.file - base
+                name = names[at].name.decode() if 0 <= at < len(names) else "?"
+                self.lines.append((it.address, "" if it.end_sequence else f"{name}:{it.line}"))
+
+    def name(self, pc):
+        """The function and the line at an address."""
+        found = [f"{name}+0x{pc - at:x}" for at, name in self.below(self.functions, pc)]
+        found += [f"({text})" for _, text in self.below(self.lines, pc) if text]
+        return " ".join(found)
+
+    @staticmethod
+    def below(table, pc):
+        low, high = 0, len(table)
+        while low < high:
+            middle = (low + high) // 2
+            low, high = (middle + 1, high) if table[middle][0] <= pc else (low, middle)
+        return table[low - 1:low]
+
+    def disassembly(self, pc, bits):
+        if not self.objdump:
+            return ""
+        with tempfile.NamedTemporaryFile() as file:
+            file.write(bits.to_bytes(4, "little")[: 4 if bits & 3 == 3 else 2])
+            file.flush()
+            ran = subprocess.run([self.objdump, "-D", "-b", "binary", "-m", "riscv:rv64",
+                                  f"--adjust-vma=0x{pc:x}", file.name],
+                                 capture_output=True, text=True)
+        line = ran.stdout.rstrip().split("\n")[-1].split("\t")
+        return re.sub(r"\s*<.*?>|# .*", "", " ".join(line[2:])).strip() if len(line) > 2 else ""
+
+    def row(self, row, mark=" "):
+        bits = f"{row.bits:08x}" if row.bits & 3 == 3 else f"    {row.bits & 0xffff:04x}"
+        text = f"{mark} row {row.number:<6} 0x{row.pc:016x}  {bits}  "
+        return f"{text}{self.disassembly(row.pc, row.bits):<28} {self.name(row.pc)}".rstrip()
+
+
+# ---- what is said
+
+
+class Explanation:
+    """The parts of an explanation, in order: a title and lines each."""
+
+    def __init__(self, words, places, found, rows):
+        self.words, self.places, self.parts = words, places, []
+        self.signal, self.expected, self.found = found[2], number(found[3]), number(found[4])
+        self.row, self.rows = rows[-1], rows
+        self.by_number = {}
+        self.add("the last rows", [places.row(it, ">" if it is self.row else " ") for it in rows]
+                 + places.said)
+        self.tell_signal()
+        self.tell_operands()
+        self.tell_path()
+        self.tell_access(self.row)
+        self.tell_registers()
+
+    def add(self, title, lines):
+        if lines:
+            self.parts.append((title, lines))
+
+    def tell_signal(self):
+        differing = self.expected ^ self.found
+        bits = [it for it in range(64) if differing >> it & 1]
+        spans = []
+        for it in bits:
+            if spans and spans[-1][1] == it - 1:
+                spans[-1][1] = it
+            else:
+                spans.append([it, it])
+        shown = ", ".join(f"{high}:{low}" if high > low else f"{low}" for low, high in spans[::-1])
+        meaning = MEANING.get(self.signal, "")
+        if found := re.fullmatch(r"csr_(\w+)_([rw])data", self.signal):
+            meaning = f"{found[1]} {'before' if found[2] == 'r' else 'after'} the instruction"
+        lines = [f"expected 0x{self.expected:016x}", f"found    0x{self.found:016x}",
+                 f"differ   0x{differing:016x}  bit{'s' if len(bits) > 1 else ''} {shown}"]
+        if self.signal in ("pc_rdata", "pc_wdata"):
+            for name, value in (("expected", self.expected), ("found", self.found)):
+                if place := self.places.name(value):
+                    lines.append(f"{name} is {place}")
+        self.add(f"{self.signal}: {meaning}", lines)
+
+    def tell_operands(self):
+        lines = []
+        for name, register in zip(("rs1", "rs2"), registers_of(self.row.bits)):
+            if register:
+                lines.append(f"{name} {self.register(self.row, register, name)}")
+        self.add("operands", lines)
+
+    def register(self, row, register, name=None):
+        """A register's value and where it was written."""
+        value, writer = operand(row, register, name), row.state[register][1]
+        shown = "not shown" if value is None else f"0x{value:016x}"
+        text = f"{ABI[register]} (x{register}) = {shown}"
+        return f"{text}, {self.written_in(writer) if writer else 'never written before'}"
+
+    def written_in(self, count):
+        near = next((it for it in self.rows if it.number == count), None)
+        row = near or self.by_number.get(count)
+        if row is None:
+            row = self.by_number[count] = next(
+                it for it in rows_of(self.words.trace, count) if it.number == count)
+        return f"written in row {count} at 0x{row.pc:x}: " \
+               f"{self.places.disassembly(row.pc, row.bits) or hex(row.bits)}"
+
+    def tell_path(self):
+        """Where the row is at another address or in another mode, the row before is looked at."""
+        if self.signal in ("pc_rdata", "mode", "intr", "order") and len(self.rows) > 1:
+            before = self.rows[-2]
+            self.add("the row before decides where the hart goes on", [self.places.row(before)])
+            self.tell_access(before)
+
+    def tell_access(self, row):
+        access = access_of(row.bits)
+        if access is None:
+            return
+        address = address_of(row, access)
+        name = f"{access.kind} of {access.size} byte{'s' if access.size > 1 else ''}"
+        if address is None:
+            said = f"its address is not known: {ABI[access.base]} is not shown"
+            self.add(f"access: {name}", [said])
+            return
+        lines = [f"address  0x{address:016x} = {ABI[access.base]} + {access.offset}"]
+        physical = self.tell_place(row, access, address, lines)
+        if physical is not None and access.kind != "store":
+            stored = memory_at(self.words, physical, access.size, row.number)
+            value = "not known" if stored.value is None else f"0x{stored.value:0{2 * access.size}x}"
+            lines.append(f"memory   {value}, {self.stored_by(stored, access.size)}")
+        self.add(f"access: {name}", lines)
+
+    def stored_by(self, stored, size):
+        if not stored.row:
+            where = "as the image has it, no row stored there"
+        else:
+            part = "" if stored.bytes == size else f"{stored.bytes} of its {size} bytes "
+            where = part + self.written_in(stored.row)
+        return f"{where}; {stored.text}" if stored.text else where
+
+    def tell_place(self, row, access, address, lines):
+        """Why the access traps, or the physical address in RAM that it has."""
+        cause = 4 if access.data is None else 6
+        if address % access.size:
+            lines.append(f"traps    not aligned to {access.size} bytes (cause {cause})")
+            return None
+        translated = is_translated(row)
+        if translated is None:
+            lines.append("whether it is translated is not known: show mode and csr_satp_wdata")
+            return None
+        physical = self.walk(row, access, address, lines) if translated else address
+        if physical is None:
+            return None
+        if self.words.ram[0] <= physical < sum(self.words.ram):
+            return physical
+        io = self.words.io
+        if io and io[0] <= physical < sum(io):
+            lines.append(f"device   in --io 0x{io[0]:x}:0x{io[1]:x}, whose data are the trace's")
+            return None
+        given = f"--io 0x{io[0]:x}:0x{io[1]:x}" if io else "--io, which is not given"
+        lines.append(f"traps    outside --ram 0x{self.words.ram[0]:x}:0x{self.words.ram[1]:x} and "
+                     f"{given} (cause {cause + 1})")
+        lines.append(f"         where a device is there: give --io 0x{physical & ~0xfff:x}:0x1000")
+        return None
+
+    def walk(self, row, access, address, lines):
+        """The physical address by Sv39, or None, and what the entries are."""
+        satp, writer = row.satp
+        lines.append(f"satp     0x{satp:016x}" + (f", {self.written_in(writer)}" if writer else ""))
+        cause, table = 13 if access.data is None else 15, (satp & (1 << 44) - 1) << 12
+        if signed(address & (1 << 39) - 1, 39) & MASK != address:
+            lines.append(f"traps    bits 63:39 are not bit 38 (cause {cause})")
+            return None
+        for level in (2, 1, 0):
+            at = table + 8 * (address >> 12 + 9 * level & 511)
+            stored = memory_at(self.words, at, 8, row.number)
+            if stored.value is None:
+                lines.append(f"level {level}  0x{at:x}: the entry is not known; {stored.text}")
+                return None
+            entry = stored.value
+            flags = "".join(name if entry >> it & 1 else "-" for it, name in enumerate("VRWXUGAD"))
+            lines.append(f"level {level}  entry at 0x{at:x} is 0x{entry:016x} {flags}, "
+                         f"{self.stored_by(stored, 8)}")
+            if fault := entry_fault(entry, level, row, access):
+                lines.append(f"traps    {fault} (cause {cause})")
+                return None
+            table = (entry >> 10 & (1 << 44) - 1) << 12
+            if entry & 0xA:
+                low = (1 << 12 + 9 * level) - 1
+                return table & ~low | address & low
+        return None
+
+    def tell_registers(self):
+        lines = []
+        for first in range(0, 32, 4):
+            texts = []
+            for it in range(first, first + 4):
+                value = self.row.state[it][0]
+                texts.append(f"{ABI[it]:>4} " + ("?" * 16 if value is None else f"{value:016x}"))
+            lines.append("  ".join(texts))
+        self.add("registers before the row, as the trace shows them", lines)
+
+
+def entry_fault(entry, level, row, access):
+    """Why an entry of a page table refuses an access, or None."""
+    is_store = access.data is not None
+    if not entry & 1:
+        return "not mapped: V is 0"
+    if entry >> 54 or entry & 6 == 4:
+        return "bits 63:54 are set, or W without R"
+    if not entry & 0xA:
+        if entry & 0xD0 or level == 0:
+            return "a pointer with A, D or U, or at the last level"
+        return None
+    if is_store and not entry & 4:
+        return "not permitted: W is 0"
+    if not is_store and not entry & 2:
+        return "not permitted: R is 0 (unless MXR and X)"
+    if row.shown.get("mode") == 0 and not entry & 16:
+        return "not permitted in U: U is 0"
+    has_sum = row.shown.get("csr_mstatus_rdata", 0) >> 18 & 1
+    if row.shown.get("mode") == 1 and entry & 16 and not has_sum:
+        return "not permitted in S: U is 1, unless SUM is set"
+    if entry >> 10 & (1 << 9 * level) - 1:
+        return "a large page that is not aligned"
+    if not entry & 64:
+        return "A is 0, which the judge's hart does not set"
+    if is_store and not entry & 128:
+        return "D is 0, which the judge's hart does not set"
+    return None
+
+
+def as_text(line, parts):
+    blocks = [line] + ["\n".join([title, *(f"    {it}" for it in lines)]) for title, lines in parts]
+    return "\n\n".join(blocks) + "\n"
+
+
+def as_page(line, parts, words):
+    """One page that needs no other file."""
+    body = "".join(f"<h2>{html.escape(title)}</h2>\n<pre>" + "\n".join(
+        f"<b>{html.escape(it)}</b>" if it.startswith(">") else html.escape(it) for it in lines)
+        + "</pre>\n" for title, lines in parts)
+    return f"""<!DOCTYPE html>
+<html lang="en"><meta charset="utf-8"><title>{html.escape(line)}</title>
+<style>body {{ font-family: sans-serif; margin: 2em }} pre {{ background: #f4f4f4; padding: 1em;
+overflow-x: auto }} b {{ background: #fdd }} h2 {{ font-size: 1em }}</style>
+<h1>{html.escape(line)}</h1>
+<p>{html.escape(words.image)} {html.escape(words.trace)}</p>
+{body}</html>
+"""
+
+
+def write_marker(wave, row):
+    """A save file of GTKWave with its marker at the row's time."""
+    at = row.shown.get("time", row.shown.get("cycle"))
+    if at is None:
+        raise Refused("--gtkw: the trace has neither a column time nor a column cycle")
+    Path(f"{wave}.gtkw").write_text(
+        f'[dumpfile] "{Path(wave).resolve()}"\n[timestart] {max(0, at - 100)}\n'
+        f"*-5.000000 {at}{' -1' * 26}\n", encoding="utf-8")
+
+
+def judged(words):
+    """The judge's status and line."""
+    with opened(words.trace) as source:
+        is_packed = words.trace.endswith(tuple(UNPACK))
+        trace = "/dev/stdin" if is_packed else words.trace
+        ran = subprocess.run([words.program, "judge", words.image, trace, *words.options],
+                             stdin=source if is_packed else subprocess.DEVNULL,
+                             stdout=subprocess.PIPE, stderr=subprocess.PIPE, text=True)
+    if not 0 <= ran.returncode <= 6:
+        raise Refused(f"the judge ended with status {ran.returncode}: {ran.stderr.strip()}")
+    return ran.returncode, ran.stdout.strip() or ran.stderr.strip()
+
+
+def span(options, name, default):
+    """Base and size of an option, or None."""
+    for at, word in enumerate(options):
+        if word.startswith(f"--{name}"):
+            text = word.partition("=")[2] or options[at + 1]
+            return tuple(number(it) for it in text.split(":"))
+    return default
+
+
+def arguments(given):
+    first, _, rest = __doc__.partition("\n")
+    parser = argparse.ArgumentParser(
+        prog="explain.py", description=first, epilog=rest,
+        formatter_class=argparse.RawDescriptionHelpFormatter)
+    add = parser.add_argument
+    add("image", metavar="IMAGE")
+    add("trace", metavar="TRACE")
+    add("-p", "--program", default=str(HERE.parent / "bin/rvjudge"), metavar="PROGRAM",
+        help="the judge (default: bin/rvjudge of this repository)")
+    add("--elf", metavar="FILE", help="the program, for functions and source lines")
+    add("--rows", type=int, default=8, metavar="N", help="rows that are shown (default 8)")
+    add("--html", metavar="FILE", help="write the explanation as one page")
+    add("--gtkw", metavar="WAVE", help="write WAVE.gtkw, with a marker at the row")
+    cut = given.index("--") if "--" in given else len(given)
+    words = parser.parse_args(given[:cut])
+    words.options = given[cut + 1:]
+    words.ram = span(words.options, "ram", (0x80000000, 0x8000000))
+    words.io = span(words.options, "io", None)
+    return words
+
+
+def explain(words):
+    status, line = judged(words)
+    found = DIFFERS.fullmatch(line)
+    if found is None:
+        print(line)
+        return status
+    rows = deque(rows_of(words.trace, int(found[1])), max(1, words.rows))
+    if not rows or rows[-1].number != int(found[1]):
+        raise Refused(f"row {found[1]} was not found in {words.trace}")
+    parts = Explanation(words, Places(words.elf), found, list(rows)).parts
+    print(as_text(line, parts), end="")
+    if words.html:
+        Path(words.html).write_text(as_page(line, parts, words), encoding="utf-8")
+    if words.gtkw:
+        write_marker(words.gtkw, rows[-1])
+    return status
+
+
+def main():
+    words = arguments(sys.argv[1:])
+    try:
+        return explain(words)
+    except (Refused, OSError, ValueError) as fault:
+        print(f"explain.py: {fault}", file=sys.stderr)
+        return 70
+
+
+if __name__ == "__main__":
+    sys.exit(main())

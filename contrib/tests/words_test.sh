@@ -1,0 +1,149 @@
+#!/bin/sh
+# Tries what bin/ tells a person: words_test.sh PROGRAM, the judge itself. The reason for refused
+# words is held to the judge: there is one where it refuses, and none where it does not.
+set -u
+bin=$(cd "$(dirname "$(readlink -f "$0")")/../../bin" && pwd) || exit 1
+program=$(readlink -f "$1")
+folder=$(mktemp -d) || exit 1
+trap 'rm -rf "$folder"' EXIT
+failed=0
+. "$bin/run_judge.sh"
+
+fail() {
+    echo "contrib: FAILED: words: $*" >&2
+    failed=1
+}
+
+cd "$folder" || exit 1
+printf '@80000000 93 00 50 00' >i
+printf 'insn,pc_rdata,rd_addr,rd_wdata\n0x00500093,0x80000000,1,5\n' >t
+cp i ./-i
+# shellcheck disable=SC2034  # run_judge.sh reads it
+usage_file=$bin/usage.txt
+
+# A line is a list of words.
+while read -r line; do
+    # shellcheck disable=SC2086
+    set -- $line
+    "$program" "$@" >said 2>/dev/null
+    code=$?
+    read_words "$@"
+    if [ "$code" -eq 2 ]; then
+        [ -n "$reason" ] || fail "'$line' is refused, and no reason is known"
+    else
+        [ -z "$reason" ] || fail "'$line' is not refused, and there is a reason: $reason"
+    fi
+done <<'LISTS'
+
+judge
+judge i
+judge i t
+judge i t u
+judg i t
+--pc 0 judge i t
+-- judge i t
+judge -- i t
+judge -- -i t
+judge -i t
+judge - t
+judge i t --
+judge i t -- u
+judge i t --pc 0x80000000
+judge --pc=0x80000000 i t
+judge i t --pc 2147483648
+judge i t --pc 0x80000001
+judge i t --pc 2147483649
+judge i t --pc 0xfffffffffffffffe
+judge i t --pc 0x0000fffffffffffffffe
+judge i t --pc 0x10000000000000000
+judge i t --pc 18446744073709551614
+judge i t --pc 18446744073709551615
+judge i t --pc 18446744073709551616
+judge i t --pc 99446744073709551614
+judge i t --pc 0000018446744073709551614
+judge i t --pc 0x
+judge i t --pc x
+judge i t --pc=
+judge i t --pc
+judge i t --pc -2
+judge i t --pc 0 --pc 0
+judge i t --ram 0x80000000:0x1000
+judge i t --ram 0x80000000:0x1001
+judge i t --ram 0x80000800:0x1800
+judge i t --ram 0x80000000:0
+judge i t --ram 0x80000000
+judge i t --ram 0xfffffffffff000:0x1000
+judge i t --ram 0xfffffffffff000:0x2000
+judge i t --io 0x100000:0x1000
+judge i t --io 0x80000000:0x1000
+judge i t --io 0x7ffff000:0x1000
+judge i t --io 0x7ffff000:0x2000
+judge i t --io 0x88000000:0x1000
+judge i t --ram 0x80000000:0x2000 --io 0x80002000:0x1000
+judge i t --max-image 0
+judge i t --max-image 1
+judge i t --max-image 1073741824
+judge i t --max-image 1073741825
+judge i t --max-trace 0
+judge i t --max-trace 1099511627776
+judge i t --max-trace 1099511627777
+judge i t --workers 0
+judge i t --workers 64
+judge i t --workers 65
+judge i t --workers 0X1
+judge i t --workers 1.0
+judge i t --segment 1048576
+judge i t --segment 1048577
+judge i t --window 1024
+judge i t --window 1025
+judge i t --window 99999999999999999999
+judge i t --widow 4
+judge i t -w 4
+judge i t --
+make 7 10
+make 7
+make 7 10 11
+make 4294967295 1
+make 4294967296 1
+make 7 262145
+make 0x7 010
+make a 1
+make 7 10 --pc 0x80000000
+make 7 10 --workers 2
+make 7 10 --workers 2 --workers 2
+LISTS
+
+# What is told, and that the judge's line and status stay.
+tell_version() { echo 'version of the test'; }
+expect_told() {
+    wanted_status=$1 wanted_line=$2 wanted_told=$3
+    shift 3
+    (run_judge 1 "$program" "$@") >said 2>told
+    code=$?
+    [ "$code" -eq "$wanted_status" ] || fail "$*: status $code"
+    [ "$(cat said)" = "$wanted_line" ] || fail "$*: printed $(cat said)"
+    [ -z "$wanted_told" ] || grep -qF -e "$wanted_told" told || fail "$*: told $(cat told)"
+}
+expect_told 0 'agrees 1' '' judge i t
+expect_told 2 'refused words' "rvjudge: --workers: 65 is not in 1 to 64" judge i t --workers 65
+expect_told 2 'refused words' 'usage: rvjudge judge IMAGE TRACE' --help
+expect_told 2 'refused words' 'version of the test' --version
+expect_told 5 '' 'rvjudge: none: there is no such file' judge i none
+expect_told 5 '' 'rvjudge: .: it is a folder' judge . t
+(run_judge 1 "$program" judge i /dev/stdin <t) >said 2>/dev/null
+[ "$(cat said)" = 'agrees 1' ] || fail "standard input: $(cat said)"
+
+# Signals reach the judge, and this one ends by them.
+mkfifo pipe
+sh -c '. "$1/run_judge.sh"; tell_version() { :; }; run_judge 1 "$2" judge i pipe' '' "$bin" "$program" &
+runner=$!
+sleep 0.5
+judge=$(pgrep -f -x "$program judge i pipe" || ps -o pid= --ppid "$runner" | head -n 1)
+kill -TERM "$runner"
+wait "$runner" 2>/dev/null
+[ $? -eq 143 ] || fail 'a run that was ended has another status'
+for _ in 1 2 3 4 5; do kill -0 $judge 2>/dev/null && sleep 0.2; done
+# shellcheck disable=SC2086
+kill -0 $judge 2>/dev/null && fail 'the judge still runs'
+
+exit "$failed"
