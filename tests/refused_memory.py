@@ -50,6 +50,15 @@ FILES = {
     "registers.hex": "@80000000 93 00 f0 ff 73 91 00 34 f3 21 00 34 73 f2 0f 34 97 02 00 00"
     " 73 93 52 30 73 00 00 00",
     "registers.csv": REGISTER_ROWS,
+    # ADDI x1, x0, 5; ADDI x2, x1, 1; ADDI x3, x0, 3; ADDI x4, x0, 4; no row shows what was written,
+    # so that each guess after the first row lacks x1
+    "sums.hex": "@80000000 93 00 50 00 13 81 10 00 93 01 30 00 13 02 40 00",
+    "sums.csv": """insn,pc_rdata,rs1_rdata
+0x00500093,0x80000000,
+0x00108113,0x80000004,5
+0x00300193,0x80000008,
+0x00400213,0x8000000c,
+""",
     # the registers are not shown, so that each guess behind the first segment is wrong
     "hidden.csv": """insn,pc_rdata
 0xfff00093,0x80000000
@@ -63,7 +72,7 @@ FILES = {
 """,
 }
 
-WORKERS = ("--workers=1", "--workers=4")
+WORKERS = ("--workers=1", "--workers=2", "--workers=4")
 REGISTERS = ["judge", "registers.hex", "registers.csv"]
 # each: the words, the status and the line that are usual
 RUNS = [
@@ -71,7 +80,9 @@ RUNS = [
     (["judge", "one.hex", "other.csv"], 1,
      "differs row 1: rd_wdata expected 0x0000000000000005 found 0x0000000000000006"),
     (["judge", "one.hex", "broken.csv"], 4, "refused trace: row 2: insn not a number"),
+    (["judge", "sums.hex", "sums.csv", "--segment=1"], 0, "agrees 4"),
     (["make", "7", "50"], 0, "made 7 50: agrees 50"),
+    (["make", "7", "1000"], 0, "made 7 1000: agrees 1000"),
     (["make", "7", "50", "--segment=3", "--window=2"], 0, "made 7 50: agrees 50"),
     (REGISTERS, 0, "agrees 8"),
     ([*REGISTERS, "--segment=1", "--window=1"], 0, "agrees 8"),
