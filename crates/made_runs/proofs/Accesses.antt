@@ -1,5 +1,5 @@
 -- The access of the loop to memory.
-use Rattle.std.proofs.Common.{◌≡◌, ℕ, ◌^◌, ◌<◌, true, false, [], ◌∷◌, Option, Some, None, Ok, refl, sym, ◌∙◌, arith}
+use Rattle.std.proofs.Common.{◌≡◌, ℕ, ◌^◌, ◌<◌, true, false, [], ◌∷◌, Some, None, Ok, refl, sym, ◌∙◌, arith}
 use Rattle.hart_words.specs.declared.privilege.Mode.TheVariants.{Machine}
 use Rattle.hart_words.specs.declared.privilege.Access.TheVariants.{Load, Store}
 use Rattle.hart_words.specs.declared.access_size.AccessSize.TheVariants.{Doubleword}
@@ -18,8 +18,9 @@ use Rattle.mem_access.specs.Places.{data_mode_of}
 use Rattle.mem_access.specs.Translation.{virtual_place_of}
 use Rattle.mem_access.specs.Accesses.{load_from, load_result, store_place_of}
 use Rattle.hart_step.specs.declared.choices.RowChoices.{RowChoices}
+use Rattle.hart_step.specs.declared.state.Core.{Core}
 use Rattle.hart_step.specs.MemoryAccess.{memory_access, access_result_of, access_after_location, located_access, put}
-use Rattle.made_runs.specs.States.{IsMadeMap, core_with}
+use Rattle.made_runs.specs.States.{IsMadeMap}
 use Rattle.made_runs.proofs.Differences.{cell_access}
 use Rattle.made_runs.proofs.Fetches.{reached_at_reset}
 
@@ -63,10 +64,20 @@ store_request value = record { address = 0x80001000; size = Doubleword; op = mem
 abbrev pub load_request : MemoryRequest
 load_request = record { address = 0x80001000; size = Doubleword; op = memory.Load true }
 
+-- a hart at reset, but for its registers, its pc and its order index
+abbrev pub as_at_reset : Map → Core → Core
+as_at_reset map core = record core {
+  mode = Machine;
+  csrs = csrs_at_reset;
+  reservation = record { block = None };
+  trapped_last = false;
+  halted = false;
+  map = map;
+}
+
 -- the store
-pub store_accessed : (map : Map) (pc x1 x2 x3 x4 value : ℕ) (order : Option ℕ) (choices : RowChoices) (bytes : Bytes)
-    → IsMadeMap map
-    → (memory_access (core_with map pc x1 x2 x3 x4 order) choices (store_request value)).run bytes
+pub store_accessed : (map : Map) (core : Core) (value : ℕ) (choices : RowChoices) (bytes : Bytes) → IsMadeMap map
+    → (memory_access (as_at_reset map core) choices (store_request value)).run bytes
     ≡ record {
       value =
           Ok (record { value = 0; access = cell_access None (Some value); reservation = record { block = None } });
@@ -75,15 +86,14 @@ pub store_accessed : (map : Map) (pc x1 x2 x3 x4 value : ℕ) (order : Option �
       wrote = record { pa = 0x80001000; len = 8; value = value } ∷ [];
     }
 unfolding memory_access located_access access_result_of put write_memory mapped pure after_writes
-store_accessed map pc x1 x2 x3 x4 value order choices bytes made =
-    run_then-is (located_access (core_with map pc x1 x2 x3 x4 order) (store_request value))
-    (access_after_location (core_with map pc x1 x2 x3 x4 order) choices (store_request value)) bytes
+store_accessed map core value choices bytes made =
+    run_then-is (located_access (as_at_reset map core) (store_request value))
+    (access_after_location (as_at_reset map core) choices (store_request value)) bytes
     ∙ rw (stored_place map bytes made) refl
 
 -- the load
-pub load_accessed : (map : Map) (pc x1 x2 x3 x4 : ℕ) (order : Option ℕ) (choices : RowChoices) (bytes : Bytes)
-    → IsMadeMap map
-    → (memory_access (core_with map pc x1 x2 x3 x4 order) choices load_request).run bytes
+pub load_accessed : (map : Map) (core : Core) (choices : RowChoices) (bytes : Bytes) → IsMadeMap map
+    → (memory_access (as_at_reset map core) choices load_request).run bytes
     ≡ record {
       value =
           Ok
@@ -99,9 +109,9 @@ pub load_accessed : (map : Map) (pc x1 x2 x3 x4 : ℕ) (order : Option ℕ) (cho
       wrote = [];
     }
 unfolding memory_access located_access access_result_of put write_memory mapped pure after_writes
-load_accessed map pc x1 x2 x3 x4 order choices bytes made =
-    run_then-is (located_access (core_with map pc x1 x2 x3 x4 order) load_request)
-    (access_after_location (core_with map pc x1 x2 x3 x4 order) choices load_request) bytes
+load_accessed map core choices bytes made =
+    run_then-is (located_access (as_at_reset map core) load_request)
+    (access_after_location (as_at_reset map core) choices load_request) bytes
     ∙ rw (loaded_cell map bytes made) refl
 
 -- 64 bits are their own extension

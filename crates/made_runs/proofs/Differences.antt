@@ -117,29 +117,43 @@ same_data signal value small =
     let same : (bit_and value (byte_ones 0 8) == bit_and value (byte_ones 0 8)) ≡ true = eq-eqb _ _ refl in
     rw (whole_value value small, same) refl
 
-pub store_memory : (retired : Retired) (effects : Effects) (row : MadeRow) (value : ℕ) → retired.effects ≡ Ok effects
-    → effects.access ≡ cell_access None (Some value) → value < 2 ^ 64 → row.mem_addr ≡ 0x80001000
-    → row.mem_wmask ≡ 255 → row.mem_wdata ≡ value → row.mem_paddr ≡ 0x80001000 → AgreesInMemory retired row
-unfolding signal_difference expected_signal
-store_memory retired effects row value done access small addr wmask wdata paddr = record {
-  address = rw (done, access, addr) refl;
-  read_mask = rw (done, access, addr) refl;
-  read = rw (done, access, addr) refl;
-  write_mask = rw (done, access, addr, wmask) refl;
-  written = rw (done, access, addr, wdata) (same_data MemWdata value small);
-  physical = rw (done, access, addr, paddr) refl;
-}
+-- a row shows that the cell was written
+pub record ShowsStore (row : MadeRow) (value : ℕ) : Type 0 where
+  pub address : row.mem_addr ≡ 0x80001000
+  pub mask : row.mem_wmask ≡ 255
+  pub written : row.mem_wdata ≡ value
+  pub physical : row.mem_paddr ≡ 0x80001000
 
-pub load_memory : (retired : Retired) (effects : Effects) (row : MadeRow) (value : ℕ) → retired.effects ≡ Ok effects
-    → effects.access ≡ cell_access (Some value) None → value < 2 ^ 64 → row.mem_addr ≡ 0x80001000
-    → row.mem_rmask ≡ 255 → row.mem_wmask ≡ 0 → row.mem_rdata ≡ value → row.mem_paddr ≡ 0x80001000
+pub store_memory : (retired : Retired) (effects : Effects) (row : MadeRow) (value : ℕ) → retired.effects ≡ Ok effects
+    → effects.access ≡ cell_access None (Some value) → value < 2 ^ 64 → ShowsStore row value
     → AgreesInMemory retired row
 unfolding signal_difference expected_signal
-load_memory retired effects row value done access small addr rmask wmask rdata paddr = record {
-  address = rw (done, access, addr) refl;
-  read_mask = rw (done, access, addr, rmask) refl;
-  read = rw (done, access, addr, rdata) (same_data MemRdata value small);
-  write_mask = rw (done, access, wmask) refl;
-  written = rw (done, access, addr) refl;
-  physical = rw (done, access, addr, paddr) refl;
+store_memory retired effects row value done access small shows = record {
+  address = rw (done, access, shows.address) refl;
+  read_mask = rw (done, access, shows.address) refl;
+  read = rw (done, access, shows.address) refl;
+  write_mask = rw (done, access, shows.address, shows.mask) refl;
+  written = rw (done, access, shows.address, shows.written) (same_data MemWdata value small);
+  physical = rw (done, access, shows.address, shows.physical) refl;
+}
+
+-- a row shows that the cell was read
+pub record ShowsLoad (row : MadeRow) (value : ℕ) : Type 0 where
+  pub address : row.mem_addr ≡ 0x80001000
+  pub mask : row.mem_rmask ≡ 255
+  pub unwritten : row.mem_wmask ≡ 0
+  pub found : row.mem_rdata ≡ value
+  pub physical : row.mem_paddr ≡ 0x80001000
+
+pub load_memory : (retired : Retired) (effects : Effects) (row : MadeRow) (value : ℕ) → retired.effects ≡ Ok effects
+    → effects.access ≡ cell_access (Some value) None → value < 2 ^ 64 → ShowsLoad row value
+    → AgreesInMemory retired row
+unfolding signal_difference expected_signal
+load_memory retired effects row value done access small shows = record {
+  address = rw (done, access, shows.address) refl;
+  read_mask = rw (done, access, shows.address, shows.mask) refl;
+  read = rw (done, access, shows.address, shows.found) (same_data MemRdata value small);
+  write_mask = rw (done, access, shows.unwritten) refl;
+  written = rw (done, access, shows.address) refl;
+  physical = rw (done, access, shows.address, shows.physical) refl;
 }

@@ -123,8 +123,8 @@ abbrev byte_token : ℕ → TokenView
 byte_token byte = record { line = 2; bytes = high_of byte ∷ low_of byte ∷ [] }
 
 -- the texts of bytes, each after a blank, and the last line feed
-abbrev behind_blanks : List ℕ → List ℕ
-behind_blanks bytes = flat_map (λ byte. codes " " ++ encode_lower (byte ∷ [])) bytes ++ codes "\n"
+abbrev after_blanks : List ℕ → List ℕ
+after_blanks bytes = flat_map (λ byte. codes " " ++ encode_lower (byte ∷ [])) bytes ++ codes "\n"
 
 none_left : runs 2 (codes "\n") ≡ []
 unfolding runs
@@ -134,19 +134,19 @@ over_blank : (rest : List ℕ) → runs 2 (32 ∷ rest) ≡ runs 2 rest
 unfolding runs
 over_blank rest = refl
 
-tokens_behind : (byte : ℕ) (bytes : List ℕ) → AllAre (byte ∷ bytes)
-    → runs 2 (high_of byte ∷ low_of byte ∷ behind_blanks bytes) ≡ map byte_token (byte ∷ bytes)
+tokens_after : (byte : ℕ) (bytes : List ℕ) → AllAre (byte ∷ bytes)
+    → runs 2 (high_of byte ∷ low_of byte ∷ after_blanks bytes) ≡ map byte_token (byte ∷ bytes)
 unfolding encode_with
-tokens_behind byte [] small =
+tokens_after byte [] small =
     run_token 2 (high_of byte) (low_of byte ∷ []) 10 [] (omega (arith, (high_plain byte small.0).0))
     (All-cons IsTokenByte (low_of byte) [] (omega (arith, (low_plain byte small.0).0)) (All-nil IsTokenByte)) refl
     ∙ ap (λ (others : List TokenView). byte_token byte ∷ others) none_left
-tokens_behind byte (next ∷ bytes) small =
-    run_token 2 (high_of byte) (low_of byte ∷ []) 32 (high_of next ∷ low_of next ∷ behind_blanks bytes)
+tokens_after byte (next ∷ bytes) small =
+    run_token 2 (high_of byte) (low_of byte ∷ []) 32 (high_of next ∷ low_of next ∷ after_blanks bytes)
     (omega (arith, (high_plain byte small.0).0))
     (All-cons IsTokenByte (low_of byte) [] (omega (arith, (low_plain byte small.0).0)) (All-nil IsTokenByte)) refl
     ∙ ap (λ (others : List TokenView). byte_token byte ∷ others)
-    (over_blank (high_of next ∷ low_of next ∷ behind_blanks bytes) ∙ tokens_behind next bytes small.1)
+    (over_blank (high_of next ∷ low_of next ∷ after_blanks bytes) ∙ tokens_after next bytes small.1)
 
 -- the words of tokens
 word_is : (byte : ℕ) → byte < 256 → word_of_token (byte_token byte).bytes ≡ Ok (Byte byte)
@@ -171,16 +171,6 @@ is_in_ram ram address base size low high =
     let below : nat_lt address (ram.base + ram.size) ≡ true = lt-ltb address (ram.base + ram.size) (omega arith) in
     rw (above, below) refl
 
--- one byte is put
-byte_put : (ram : Span) (bytes : ℕ → Option ℕ) (address byte : ℕ) (tokens : List TokenView) → is_in ram address ≡ true
-    → bytes address ≡ None → byte < 256 → address + 1 < 2 ^ 64
-    → bytes_after ram bytes address (byte_token byte ∷ tokens)
-    ≡ bytes_after ram (with_byte bytes address byte) (address + 1) tokens
-unfolding bytes_after bytes_after_word
-byte_put ram bytes address byte tokens inside free small narrow =
-    let next : (address + 1) % 2 ^ 64 ≡ address + 1 = mod-eq_of_lt narrow in
-    rw (word_is byte small, inside, free, next) refl
-
 -- what bytes one after another make of a memory that has none there
 record IsLaid (ram : Span) (before : ℕ → Option ℕ) (address : ℕ) (bytes : List ℕ) : Type 0 where
   laid : ℕ → Option ℕ
@@ -188,9 +178,11 @@ record IsLaid (ram : Span) (before : ℕ → Option ℕ) (address : ℕ) (bytes 
   kept : (other : ℕ) → other < address → laid other ≡ before other
   put : (place : ℕ) → place < length bytes → laid (address + place) ≡ Some (slice_index bytes place)
 
--- there is nothing from an address on
-abbrev IsFreeFrom : ℕ → (ℕ → Option ℕ) → Type 0
-IsFreeFrom address bytes = (other : ℕ) → address ≤ other → bytes other ≡ None
+-- so many bytes have room from an address on: they lie in RAM, and nothing is there yet
+record HasRoom (ram : Span) (before : ℕ → Option ℕ) (address len : ℕ) : Type 0 where
+  inside : (other : ℕ) → address ≤ other → other < address + len → is_in ram other ≡ true
+  free : (other : ℕ) → address ≤ other → before other ≡ None
+  narrow : address + len < 2 ^ 64
 
 with_other : (bytes : ℕ → Option ℕ) (address byte other : ℕ) → other ≢ address
     → with_byte bytes address byte other ≡ bytes other
@@ -199,22 +191,10 @@ with_other bytes address byte other apart = rw (ne_eqb other address apart) refl
 with_same : (bytes : ℕ → Option ℕ) (address byte : ℕ) → with_byte bytes address byte address ≡ Some byte
 with_same bytes address byte = rw (eq-eqb address address refl) refl
 
-put_at : (laid before : ℕ → Option ℕ) (address byte : ℕ) (bytes : List ℕ)
-    → ((other : ℕ) → other < address + 1 → laid other ≡ with_byte before address byte other)
-    → ((place : ℕ) → place < length bytes → laid (address + 1 + place) ≡ Some (slice_index bytes place)) → (place : ℕ)
-    → place < length (byte ∷ bytes) → laid (address + place) ≡ Some (slice_index (byte ∷ bytes) place)
-put_at laid before address byte bytes kept put zero inside =
-    let here : address + 0 ≡ address = omega arith in
-    ap laid here ∙ kept address (omega arith) ∙ with_same before address byte
-put_at laid before address byte bytes kept put (suc place) inside =
-    let here : address + suc place ≡ address + 1 + place = omega arith in
-    ap laid here ∙ put place (omega arith)
-
-laid_from : (ram : Span) (before : ℕ → Option ℕ) (address : ℕ) (bytes : List ℕ) → ram.base ≡ 0x80000000
-    → ram.size ≡ 0x8000000 → 0x80000000 ≤ address → address + length bytes ≤ 0x88000000 → IsFreeFrom address before
-    → AllAre bytes → IsLaid ram before address bytes
-unfolding bytes_after
-laid_from ram before address [] base size low high free small =
+laid_from : (ram : Span) (before : ℕ → Option ℕ) (address : ℕ) (bytes : List ℕ)
+    → HasRoom ram before address (length bytes) → AllAre bytes → IsLaid ram before address bytes
+unfolding bytes_after bytes_after_word
+laid_from ram before address [] room small =
     record {
       laid =
           before;
@@ -222,21 +202,45 @@ laid_from ram before address [] base size low high free small =
       kept = λ other below. refl;
       put = λ place inside. absurd (omega (arith, inside));
     }
-laid_from ram before address (byte ∷ bytes) base size low high free small =
+laid_from ram before address (byte ∷ bytes) room small =
     let more =
-    laid_from ram (with_byte before address byte) (address + 1) bytes base size (omega arith) (omega arith)
-    (λ other above. with_other before address byte other (omega (arith, above))
-    ∙ free other (omega (arith, above))) small.1 in
+    laid_from ram (with_byte before address byte) (address + 1) bytes
+    (record {
+      inside = λ other from below. room.inside other (omega (arith, from)) (omega (arith, below));
+      free =
+          λ other from. with_other before address byte other (omega (arith, from))
+          ∙ room.free other (omega (arith, from));
+      narrow = omega (arith, room.narrow);
+    })
+    small.1 in
     record {
       laid = more.laid;
-      is =
-          byte_put ram before address byte (map byte_token bytes) (is_in_ram ram address base size low (omega arith))
-          (free address (omega arith)) small.0 (omega arith) ∙ more.is;
+      is = byte_put ∙ more.is;
       kept =
           λ other below. more.kept other (omega (arith, below))
           ∙ with_other before address byte other (omega (arith, below));
-      put = put_at more.laid before address byte bytes more.kept more.put;
+      put = put_at more.laid more.kept more.put;
     }
+  where
+    byte_put : bytes_after ram before address (map byte_token (byte ∷ bytes))
+        ≡ bytes_after ram (with_byte before address byte) (address + 1) (map byte_token bytes)
+    byte_put =
+        let next : (address + 1) % 2 ^ 64 ≡ address + 1 = mod-eq_of_lt (omega (arith, room.narrow)) in
+        let inside : is_in ram address ≡ true = room.inside address (omega arith) (omega arith) in
+        let free : before address ≡ None = room.free address (omega arith) in
+        rw (word_is byte small.0, inside, free, next) refl
+
+    put_at : (laid : ℕ → Option ℕ)
+        → ((other : ℕ) → other < address + 1 → laid other ≡ with_byte before address byte other)
+        → ((place : ℕ) → place < length bytes → laid (address + 1 + place) ≡ Some (slice_index bytes place))
+        → (place : ℕ) → place < length (byte ∷ bytes)
+        → laid (address + place) ≡ Some (slice_index (byte ∷ bytes) place)
+    put_at laid kept put zero inside =
+        let here : address + 0 ≡ address = omega arith in
+        ap laid here ∙ kept address (omega arith) ∙ with_same before address byte
+    put_at laid kept put (suc place) inside =
+        let here : address + suc place ≡ address + 1 + place = omega arith in
+        ap laid here ∙ put place (omega arith)
 
 -- the bytes of the image
 words_small : (words : List ℕ) → AllAre (flat_map (to_le_bytes w32) words)
@@ -261,12 +265,12 @@ two_no_slash byte rest small others =
     All-cons IsNoSlash (high_of byte) (low_of byte ∷ rest) (plain_no_slash (high_of byte) (high_plain byte small))
     (All-cons IsNoSlash (low_of byte) rest (plain_no_slash (low_of byte) (low_plain byte small)) others)
 
-blanks_no_slash : (bytes : List ℕ) → AllAre bytes → All IsNoSlash (behind_blanks bytes)
+blanks_no_slash : (bytes : List ℕ) → AllAre bytes → All IsNoSlash (after_blanks bytes)
 unfolding encode_with
 blanks_no_slash [] small = All-cons IsNoSlash 10 [] (omega arith) (All-nil IsNoSlash)
 blanks_no_slash (byte ∷ bytes) small =
-    All-cons IsNoSlash 32 (high_of byte ∷ low_of byte ∷ behind_blanks bytes) (omega arith)
-    (two_no_slash byte (behind_blanks bytes) small.0 (blanks_no_slash bytes small.1))
+    All-cons IsNoSlash 32 (high_of byte ∷ low_of byte ∷ after_blanks bytes) (omega arith)
+    (two_no_slash byte (after_blanks bytes) small.0 (blanks_no_slash bytes small.1))
 
 -- the token of the address
 abbrev address_token : TokenView
@@ -282,7 +286,7 @@ text_tokens : (byte : ℕ) (bytes : List ℕ) → AllAre (byte ∷ bytes)
     ∷ map byte_token (byte ∷ bytes)
 unfolding encode_with
 text_tokens byte bytes small =
-    let rest : List ℕ = high_of byte ∷ low_of byte ∷ behind_blanks bytes in
+    let rest : List ℕ = high_of byte ∷ low_of byte ∷ after_blanks bytes in
     let before : All IsNoSlash (codes "@80000000\n") =
     All-weaker (λ (b : ℕ). not (b == 47) ≡ true) IsNoSlash (λ b is. eqb-false b 47 (is_not (b == 47) is))
     (codes "@80000000\n")
@@ -290,12 +294,12 @@ text_tokens byte bytes small =
     let plain =
     no_comment (codes "@80000000\n" ++ rest)
     (All-append IsNoSlash (codes "@80000000\n") rest before
-    (two_no_slash byte (behind_blanks bytes) small.0 (blanks_no_slash bytes small.1))) in
+    (two_no_slash byte (after_blanks bytes) small.0 (blanks_no_slash bytes small.1))) in
     ap (λ (text : List ℕ). runs 1 text) plain
     ∙ run_token 1 64 (codes "80000000") 10 rest (omega arith)
     (All-weaker (λ (b : ℕ). nat_le 33 b ≡ true) IsTokenByte (λ b is. grind (arith, nat_tests)) (codes "80000000")
     (AllPass-from_list_all (λ (b : ℕ). nat_le 33 b) (codes "80000000") refl)) refl
-    ∙ ap (λ (others : List TokenView). address_token ∷ others) (feed_counts rest ∙ tokens_behind byte bytes small)
+    ∙ ap (λ (others : List TokenView). address_token ∷ others) (feed_counts rest ∙ tokens_after byte bytes small)
 
 image_tokens : (number : ℕ) → tokens_of (made_image number) ≡ address_token ∷ map byte_token (made_bytes number)
 unfolding made_image
@@ -310,8 +314,13 @@ address_first ram tokens = rw address_is refl
 pub image_read : (map : Map) (number : ℕ) → IsMadeMap map → IsMadeImage map number
 image_read map number is =
     let laid : IsLaid map.ram (λ _. None) 0x80000000 (made_bytes number) =
-    laid_from map.ram (λ _. None) 0x80000000 (made_bytes number) is.base is.size (omega arith) (omega arith)
-    (λ other above. refl) (words_small (made_words number)) in
+    laid_from map.ram (λ _. None) 0x80000000 (made_bytes number)
+    (record {
+      inside = λ other from below. is_in_ram map.ram other is.base is.size from (omega (arith, below));
+      free = λ other from. refl;
+      narrow = omega arith;
+    })
+    (words_small (made_words number)) in
     record {
       bytes = laid.laid;
       image =

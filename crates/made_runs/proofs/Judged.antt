@@ -1,5 +1,5 @@
 -- Rows judged one after another.
-use Rattle.std.proofs.Common.{◌≡◌, ◌≢◌, ℕ, zero, suc, ◌+◌, ◌*◌, ◌%◌, ◌^◌, ◌<◌, List, [], ◌∷◌, map, Some, Ok, refl, sym}
+use Rattle.std.proofs.Common.{◌≡◌, ◌≢◌, ℕ, zero, suc, ◌+◌, ◌*◌, ◌%◌, ◌^◌, ◌<◌, List, ◌∷◌, map, Some, Ok, refl, sym}
 use Rattle.std.proofs.Common.{◌∙◌, subst, inl, arith, ne_eqb}
 use Rattle.std.proofs.Math.Nat.{mod-eq_of_lt}
 use Rattle.std.proofs.lemmas.Nat.{mod_below, xor_lt}
@@ -17,17 +17,18 @@ use Rattle.trace_maker.specs.Rows.{immediate_of, made_row, turn_place, turn_of, 
 use Rattle.trace_maker.proofs.Runs.{x1_goes_on, x3_goes_on}
 use Rattle.hart_words.specs.Registers.{registers_at_reset}
 use Rattle.hart_step.specs.Cores.{core_at_reset}
+use Rattle.made_runs.specs.Laws.{MadeState}
 use Rattle.made_runs.specs.Shows.{made_readings, shown_of}
 use Rattle.made_runs.specs.States.{HasImage, IsMadeMap, core_with}
 use Rattle.made_runs.proofs.Steps.{AgreesTo, addi_agrees, first_agrees, jal_agrees, ld_agrees, sd_agrees, xor_agrees}
 
 -- a row that agrees, and the others after it
-goes_on : (core : Core) (row : MadeRow) (bytes : Bytes) (next : Core) (wrote : List Write) (rows : List RowReading)
-    (n : ℕ) → AgreesTo core row bytes next wrote
+goes_on : {core next : Core} {row : MadeRow} {bytes : Bytes} {wrote : List Write} (rows : List RowReading) (n : ℕ)
+    → AgreesTo core row bytes next wrote
     → (judgement_of by_hart next rows (after_writes wrote bytes)).verdict ≡ Agrees n n
     → (judgement_of by_hart core (Ok (Some (shown_of row)) ∷ rows) bytes).verdict ≡ Agrees (suc n) (suc n)
 unfolding judgement_of
-goes_on core row bytes next wrote rows n agrees rest =
+goes_on rows n agrees rest =
     let more : 1 + n ≡ suc n = omega arith in
     rw (agrees.difference, agrees.next_is, agrees.wrote_is, rest, more) refl
 
@@ -40,10 +41,10 @@ row_is : (number t k r : ℕ) → r ≡ 5 * t + 1 + k → k < 5
     → made_row number r ≡ turn_row number (x1_after number (t + 1)) (x3_after number (t + 1)) r k
 unfolding made_row
 row_is number t k r is small =
-    let some : r ≢ 0 = omega arith in
+    let later : r ≢ 0 = omega arith in
     let turn : turn_of r ≡ t + 1 = omega arith in
     let place : turn_place r ≡ k = omega arith in
-    rw (ne_eqb r 0 some, turn, place) refl
+    rw (ne_eqb r 0 later, turn, place) refl
 
 pub x1_small : (number t : ℕ) → x1_after number t < 2 ^ 64
 unfolding x1_after
@@ -82,72 +83,77 @@ in_turn map pc number t x4 r =
     core_with map pc (x1_after number (t + 1)) 0x80001000 (x3_after number (t + 1)) x4 (Some r)
 
 -- a made row that agrees as a row of its turn, and the others
-row_agrees : (number t k r n : ℕ) (core : Core) (bytes : Bytes) (next : Core) (wrote : List Write) → r ≡ 5 * t + 1 + k
+row_agrees : {core next : Core} {bytes : Bytes} {wrote : List Write} {n : ℕ} (number t k r : ℕ) → r ≡ 5 * t + 1 + k
     → k < 5 → AgreesTo core (turn_row number (x1_after number (t + 1)) (x3_after number (t + 1)) r k) bytes next wrote
     → AllAgree number next (after_writes wrote bytes) (r + 1) n → AllAgree number core bytes r (suc n)
-row_agrees number t k r n core bytes next wrote is small agrees rest =
+row_agrees {core} {next} {bytes} {wrote} {n} number t k r is small agrees rest =
     let P : MadeRow → Type 0 = λ (row : MadeRow). AgreesTo core row bytes next wrote in
-    goes_on core (made_row number r) bytes next wrote (readings_from number (r + 1) n) n
-    (subst P (sym (row_is number t k r is small)) agrees) rest
+    goes_on (readings_from number (r + 1) n) n (subst P (sym (row_is number t k r is small)) agrees) rest
 
-addi_row : (map : Map) (number t x4 r n : ℕ) (bytes : Bytes) → IsMadeMap map → HasImage number bytes → r ≡ 5 * t + 1
-    → r + 1 < 2 ^ 64 → AllAgree number (at_xor map number t x4 (r + 1)) bytes (r + 1) n
-    → AllAgree number (at_addi map number t x4 r) bytes r (suc n)
+addi_row : {number n : ℕ} (made : MadeState number) (t x4 r : ℕ) → r ≡ 5 * t + 1 → r + 1 < 2 ^ 64
+    → AllAgree number (at_xor made.map number t x4 (r + 1)) made.bytes (r + 1) n
+    → AllAgree number (at_addi made.map number t x4 r) made.bytes r (suc n)
 unfolding after_writes
-addi_row map number t x4 r n bytes made image is small rest =
+addi_row {number} made t x4 r is small rest =
     let count : (r + 1) % 2 ^ 64 ≡ r + 1 = mod-eq_of_lt small in
     let agrees =
     rw (count, ← x1_goes_on number t) at
-    (addi_agrees map number (x1_after number t) 0x80001000 (x3_after number t) x4 (x3_after number (t + 1)) r
-    bytes made image) in
-    row_agrees number t 0 r n _ bytes _ [] (omega arith) (omega arith) agrees rest
+    (addi_agrees made (x1_after number t) 0x80001000 (x3_after number t) x4 (x3_after number (t + 1)) r) in
+    row_agrees number t 0 r (omega arith) (omega arith) agrees rest
 
-xor_row : (map : Map) (number t x4 r n : ℕ) (bytes : Bytes) → IsMadeMap map → HasImage number bytes → r ≡ 5 * t + 2
-    → r + 1 < 2 ^ 64 → AllAgree number (in_turn map 0x8000000c number t x4 (r + 1)) bytes (r + 1) n
-    → AllAgree number (at_xor map number t x4 r) bytes r (suc n)
+xor_row : {number n : ℕ} (made : MadeState number) (t x4 r : ℕ) → r ≡ 5 * t + 2 → r + 1 < 2 ^ 64
+    → AllAgree number (in_turn made.map 0x8000000c number t x4 (r + 1)) made.bytes (r + 1) n
+    → AllAgree number (at_xor made.map number t x4 r) made.bytes r (suc n)
 unfolding after_writes
-xor_row map number t x4 r n bytes made image is small rest =
+xor_row {number} made t x4 r is small rest =
     let count : (r + 1) % 2 ^ 64 ≡ r + 1 = mod-eq_of_lt small in
     let agrees =
     rw (count, ← x3_goes_on number t) at
-    (xor_agrees map number (x1_after number (t + 1)) 0x80001000 (x3_after number t) x4 r bytes made image) in
-    row_agrees number t 1 r n _ bytes _ [] (omega arith) (omega arith) agrees rest
+    (xor_agrees made (x1_after number (t + 1)) 0x80001000 (x3_after number t) x4 r) in
+    row_agrees number t 1 r (omega arith) (omega arith) agrees rest
 
-sd_row : (map : Map) (number t x4 r n : ℕ) (bytes : Bytes) → IsMadeMap map → HasImage number bytes → r ≡ 5 * t + 3
-    → r + 1 < 2 ^ 64
-    → AllAgree number (in_turn map 0x80000010 number t x4 (r + 1))
-    (bytes_after_store 0x80001000 8 (x3_after number (t + 1)) bytes) (r + 1) n
-    → AllAgree number (in_turn map 0x8000000c number t x4 r) bytes r (suc n)
+-- the state after the store of a turn
+abbrev stored : (number t : ℕ) → MadeState number → MadeState number
+stored number t made = record {
+  map = made.map;
+  bytes = bytes_after_store 0x80001000 8 (x3_after number (t + 1)) made.bytes;
+  is_map = made.is_map;
+  has_image = image_kept number (x3_after number (t + 1)) made.bytes made.has_image;
+}
+
+sd_row : {number n : ℕ} (made : MadeState number) (t x4 r : ℕ) → r ≡ 5 * t + 3 → r + 1 < 2 ^ 64
+    → AllAgree number (in_turn made.map 0x80000010 number t x4 (r + 1)) (stored number t made).bytes (r + 1) n
+    → AllAgree number (in_turn made.map 0x8000000c number t x4 r) made.bytes r (suc n)
 unfolding after_writes
-sd_row map number t x4 r n bytes made image is small rest =
+sd_row {number} made t x4 r is small rest =
     let count : (r + 1) % 2 ^ 64 ≡ r + 1 = mod-eq_of_lt small in
     let agrees =
-    rw count at (sd_agrees map number (x1_after number (t + 1)) (x3_after number (t + 1)) x4
-    (x1_after number (t + 1)) r bytes made image (x3_small number (t + 1))) in
-    row_agrees number t 2 r n _ bytes _ _ (omega arith) (omega arith) agrees rest
+    rw count at (sd_agrees made (x1_after number (t + 1)) (x3_after number (t + 1)) x4
+    (x1_after number (t + 1)) r (x3_small number (t + 1))) in
+    row_agrees number t 2 r (omega arith) (omega arith) agrees rest
 
-ld_row : (map : Map) (number t x4 r n : ℕ) (bytes : Bytes) → IsMadeMap map → HasImage number bytes
-    → number_at bytes 0x80001000 8 ≡ x3_after number (t + 1) → r ≡ 5 * t + 4 → r + 1 < 2 ^ 64
-    → AllAgree number (in_turn map 0x80000014 number t (x3_after number (t + 1)) (r + 1)) bytes (r + 1) n
-    → AllAgree number (in_turn map 0x80000010 number t x4 r) bytes r (suc n)
+ld_row : {number n : ℕ} (made : MadeState number) (t x4 r : ℕ)
+    → number_at made.bytes 0x80001000 8 ≡ x3_after number (t + 1) → r ≡ 5 * t + 4 → r + 1 < 2 ^ 64
+    → AllAgree number (in_turn made.map 0x80000014 number t (x3_after number (t + 1)) (r + 1)) made.bytes (r + 1) n
+    → AllAgree number (in_turn made.map 0x80000010 number t x4 r) made.bytes r (suc n)
 unfolding after_writes
-ld_row map number t x4 r n bytes made image cell is small rest =
+ld_row {number} made t x4 r cell is small rest =
     let count : (r + 1) % 2 ^ 64 ≡ r + 1 = mod-eq_of_lt small in
     let agrees =
-    rw count at (ld_agrees map number (x1_after number (t + 1)) (x3_after number (t + 1)) x4
-    (x1_after number (t + 1)) r bytes made image (x3_small number (t + 1)) cell) in
-    row_agrees number t 3 r n _ bytes _ [] (omega arith) (omega arith) agrees rest
+    rw count at (ld_agrees made (x1_after number (t + 1)) (x3_after number (t + 1)) x4
+    (x1_after number (t + 1)) r (x3_small number (t + 1)) cell) in
+    row_agrees number t 3 r (omega arith) (omega arith) agrees rest
 
-jal_row : (map : Map) (number t x4 r n : ℕ) (bytes : Bytes) → IsMadeMap map → HasImage number bytes → r ≡ 5 * t + 5
-    → r + 1 < 2 ^ 64 → AllAgree number (at_addi map number (t + 1) x4 (r + 1)) bytes (r + 1) n
-    → AllAgree number (in_turn map 0x80000014 number t x4 r) bytes r (suc n)
+jal_row : {number n : ℕ} (made : MadeState number) (t x4 r : ℕ) → r ≡ 5 * t + 5 → r + 1 < 2 ^ 64
+    → AllAgree number (at_addi made.map number (t + 1) x4 (r + 1)) made.bytes (r + 1) n
+    → AllAgree number (in_turn made.map 0x80000014 number t x4 r) made.bytes r (suc n)
 unfolding after_writes
-jal_row map number t x4 r n bytes made image is small rest =
+jal_row {number} made t x4 r is small rest =
     let count : (r + 1) % 2 ^ 64 ≡ r + 1 = mod-eq_of_lt small in
     let agrees =
-    rw count at (jal_agrees map number (x1_after number (t + 1)) 0x80001000 (x3_after number (t + 1)) x4
-    (x1_after number (t + 1)) (x3_after number (t + 1)) r bytes made image) in
-    row_agrees number t 4 r n _ bytes _ [] (omega arith) (omega arith) agrees rest
+    rw count at (jal_agrees made (x1_after number (t + 1)) 0x80001000 (x3_after number (t + 1)) x4
+    (x1_after number (t + 1)) (x3_after number (t + 1)) r) in
+    row_agrees number t 4 r (omega arith) (omega arith) agrees rest
 
 -- the store's number is what the load finds
 cell_after : (number t : ℕ) (bytes : Bytes)
@@ -165,51 +171,46 @@ x3_none number = refl
 
 -- so many rows from a place of a turn on agree
 mutual
-  from_addi : (n : ℕ) (map : Map) (number t x4 r : ℕ) (bytes : Bytes) → IsMadeMap map → HasImage number bytes
-      → r ≡ 5 * t + 1 → r + n < 2 ^ 64 → AllAgree number (at_addi map number t x4 r) bytes r n
-  from_addi zero map number t x4 r bytes made image is small = none_left number _ bytes r
-  from_addi (suc n) map number t x4 r bytes made image is small =
-      addi_row map number t x4 r n bytes made image is (omega arith)
-      (from_xor n map number t x4 (r + 1) bytes made image (omega arith) (omega arith))
+  from_addi : {number : ℕ} (n : ℕ) (made : MadeState number) (t x4 r : ℕ) → r ≡ 5 * t + 1 → r + n < 2 ^ 64
+      → AllAgree number (at_addi made.map number t x4 r) made.bytes r n
+  from_addi {number} zero made t x4 r is small = none_left number _ made.bytes r
+  from_addi (suc n) made t x4 r is small =
+      addi_row made t x4 r is (omega arith) (from_xor n made t x4 (r + 1) (omega arith) (omega arith))
 
-  from_xor : (n : ℕ) (map : Map) (number t x4 r : ℕ) (bytes : Bytes) → IsMadeMap map → HasImage number bytes
-      → r ≡ 5 * t + 2 → r + n < 2 ^ 64 → AllAgree number (at_xor map number t x4 r) bytes r n
-  from_xor zero map number t x4 r bytes made image is small = none_left number _ bytes r
-  from_xor (suc n) map number t x4 r bytes made image is small =
-      xor_row map number t x4 r n bytes made image is (omega arith)
-      (from_sd n map number t x4 (r + 1) bytes made image (omega arith) (omega arith))
+  from_xor : {number : ℕ} (n : ℕ) (made : MadeState number) (t x4 r : ℕ) → r ≡ 5 * t + 2 → r + n < 2 ^ 64
+      → AllAgree number (at_xor made.map number t x4 r) made.bytes r n
+  from_xor {number} zero made t x4 r is small = none_left number _ made.bytes r
+  from_xor (suc n) made t x4 r is small =
+      xor_row made t x4 r is (omega arith) (from_sd n made t x4 (r + 1) (omega arith) (omega arith))
 
-  from_sd : (n : ℕ) (map : Map) (number t x4 r : ℕ) (bytes : Bytes) → IsMadeMap map → HasImage number bytes
-      → r ≡ 5 * t + 3 → r + n < 2 ^ 64 → AllAgree number (in_turn map 0x8000000c number t x4 r) bytes r n
-  from_sd zero map number t x4 r bytes made image is small = none_left number _ bytes r
-  from_sd (suc n) map number t x4 r bytes made image is small =
-      sd_row map number t x4 r n bytes made image is (omega arith)
-      (from_ld n map number t x4 (r + 1) (bytes_after_store 0x80001000 8 (x3_after number (t + 1)) bytes) made
-      (image_kept number _ bytes image) (cell_after number t bytes) (omega arith) (omega arith))
+  from_sd : {number : ℕ} (n : ℕ) (made : MadeState number) (t x4 r : ℕ) → r ≡ 5 * t + 3 → r + n < 2 ^ 64
+      → AllAgree number (in_turn made.map 0x8000000c number t x4 r) made.bytes r n
+  from_sd {number} zero made t x4 r is small = none_left number _ made.bytes r
+  from_sd {number} (suc n) made t x4 r is small =
+      sd_row made t x4 r is (omega arith)
+      (from_ld n (stored number t made) t x4 (r + 1) (cell_after number t made.bytes) (omega arith) (omega arith))
 
-  from_ld : (n : ℕ) (map : Map) (number t x4 r : ℕ) (bytes : Bytes) → IsMadeMap map → HasImage number bytes
-      → number_at bytes 0x80001000 8 ≡ x3_after number (t + 1) → r ≡ 5 * t + 4 → r + n < 2 ^ 64
-      → AllAgree number (in_turn map 0x80000010 number t x4 r) bytes r n
-  from_ld zero map number t x4 r bytes made image cell is small = none_left number _ bytes r
-  from_ld (suc n) map number t x4 r bytes made image cell is small =
-      ld_row map number t x4 r n bytes made image cell is (omega arith)
-      (from_jal n map number t (x3_after number (t + 1)) (r + 1) bytes made image (omega arith) (omega arith))
+  from_ld : {number : ℕ} (n : ℕ) (made : MadeState number) (t x4 r : ℕ)
+      → number_at made.bytes 0x80001000 8 ≡ x3_after number (t + 1) → r ≡ 5 * t + 4 → r + n < 2 ^ 64
+      → AllAgree number (in_turn made.map 0x80000010 number t x4 r) made.bytes r n
+  from_ld {number} zero made t x4 r cell is small = none_left number _ made.bytes r
+  from_ld {number} (suc n) made t x4 r cell is small =
+      ld_row made t x4 r cell is (omega arith)
+      (from_jal n made t (x3_after number (t + 1)) (r + 1) (omega arith) (omega arith))
 
-  from_jal : (n : ℕ) (map : Map) (number t x4 r : ℕ) (bytes : Bytes) → IsMadeMap map → HasImage number bytes
-      → r ≡ 5 * t + 5 → r + n < 2 ^ 64 → AllAgree number (in_turn map 0x80000014 number t x4 r) bytes r n
-  from_jal zero map number t x4 r bytes made image is small = none_left number _ bytes r
-  from_jal (suc n) map number t x4 r bytes made image is small =
-      jal_row map number t x4 r n bytes made image is (omega arith)
-      (from_addi n map number (t + 1) x4 (r + 1) bytes made image (omega arith) (omega arith))
+  from_jal : {number : ℕ} (n : ℕ) (made : MadeState number) (t x4 r : ℕ) → r ≡ 5 * t + 5 → r + n < 2 ^ 64
+      → AllAgree number (in_turn made.map 0x80000014 number t x4 r) made.bytes r n
+  from_jal {number} zero made t x4 r is small = none_left number _ made.bytes r
+  from_jal (suc n) made t x4 r is small =
+      jal_row made t x4 r is (omega arith) (from_addi n made (t + 1) x4 (r + 1) (omega arith) (omega arith))
 
 -- all rows agree, from reset on
 pub made_agree : (map : Map) (number rows : ℕ) (bytes : Bytes) → IsMadeMap map → HasImage number bytes → rows < 2 ^ 64
     → (judgement_of by_hart (core_at_reset 0x80000000 map) (made_readings number rows) bytes).verdict ≡ Agrees rows rows
 unfolding core_at_reset registers_at_reset after_writes made_row
-made_agree map number zero bytes made image small = none_left number _ bytes 0
-made_agree map number (suc n) bytes made image small =
+made_agree map number zero bytes is_map image small = none_left number _ bytes 0
+made_agree map number (suc n) bytes is_map image small =
+    let made : MadeState number = record { map = map; bytes = bytes; is_map = is_map; has_image = image } in
     let rest : AllAgree number (at_addi map number 0 0 1) bytes 1 n =
-    from_addi n map number 0 0 1 bytes made image (omega arith) (omega arith) in
-    goes_on _ (made_row number 0) bytes (core_with map 0x80000004 0 0x80001000 0 0 (Some 1)) []
-    (readings_from number 1 n) n (first_agrees map number bytes made image)
-    (rw (x1_none number, x3_none number) at rest)
+    from_addi n made 0 0 1 (omega arith) (omega arith) in
+    goes_on (readings_from number 1 n) n (first_agrees made) (rw (x1_none number, x3_none number) at rest)

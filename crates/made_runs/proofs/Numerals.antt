@@ -149,7 +149,7 @@ hexadecimal_is k n fits =
     let digits : List ℕ = encode_lower (bytes_high_first (suc k) n) in
     record {
       is_field = record {
-        some = omega arith;
+        nonempty = omega arith;
         plain =
             All-cons IsPlainByte 48 (120 ∷ digits) (omega arith, omega arith)
             (All-cons IsPlainByte 120 digits (omega arith, omega arith)
@@ -195,15 +195,15 @@ decimal_read : (text : List ℕ) (n : ℕ) → is_hexadecimal text ≡ false →
     → digits_value 10 text ≡ n → number_of text ≡ Some n
 unfolding number_of digits_number
 decimal_read text n other numeral is =
-    let some : (length text == 0) ≡ false = ne_eqb (length text) 0 (omega (arith, numeral.0)) in
-    rw (other, some, all_digits text numeral.1, is) refl
+    let nonempty : (length text == 0) ≡ false = ne_eqb (length text) 0 (omega (arith, numeral.0)) in
+    rw (other, nonempty, all_digits text numeral.1, is) refl
 
 pub decimal_is : (k n : ℕ) → 0 < k → n < 10 ^ k → n < 2 ^ 64 → IsNumeralOf (decimal n) n k
 decimal_is k n some short small =
     let numeral = decimal_is_IsNumeral n small in
     record {
       is_field = record {
-        some = numeral.0.0;
+        nonempty = numeral.0.0;
         plain =
             All-weaker IsDecimalByte IsPlainByte (λ byte here. (here.0, omega (arith, here.1))) (decimal n)
             (decimal_bytes n small);

@@ -23,7 +23,7 @@ IsLineByte byte = (44 ≤ byte) × (byte < 128)
 
 -- a field has some bytes, all of them plain
 pub record IsField (field : List ℕ) : Type 0 where
-  pub some : 0 < length field
+  pub nonempty : 0 < length field
   pub plain : All IsPlainByte field
 
 abbrev pub AreFields : List (List ℕ) → Type 0
@@ -44,7 +44,7 @@ no_blank byte plain =
 plain_trimmed : (field : List ℕ) → IsField field → trimmed_of field ≡ field
 unfolding trimmed_of
 plain_trimmed field is =
-    let some : 0 < length field = is.some in
+    let nonempty : 0 < length field = is.nonempty in
     let front : prefix_len is_space_or_tab field ≡ 0 =
     prefix_len_is is_space_or_tab field 0 0 (omega arith) (λ k low. absurd (omega (arith, low)))
     (λ within. no_blank _ (is.plain 0 0 within)) in
@@ -84,7 +84,7 @@ no_quote fields byte tail other = rw other refl
 
 field_run : (fields : List (List ℕ)) (x tail : List ℕ) → IsField x
     → next_record default_config StartField fields [] (x ++ tail) ≡ next_record default_config InField fields x tail
-field_run fields [] tail is = absurd (omega (arith, is.some))
+field_run fields [] tail is = absurd (omega (arith, is.nonempty))
 field_run fields (byte ∷ rest) tail is =
     let low : 48 ≤ byte = (All-head IsPlainByte byte rest is.plain).0 in
     no_quote fields byte (rest ++ tail) (ne_eqb byte 34 (omega arith)) ∙ plain_run fields [] (byte ∷ rest) tail is.plain
@@ -105,7 +105,7 @@ rest_run fields x (y ∷ others) are =
 pub fields_back : (first : List ℕ) (others : List (List ℕ)) → IsField first → AreFields others
     → fields_of_line (joined (first ∷ others)) ≡ first ∷ others
 unfolding fields_of_line
-fields_back [] others is are = absurd (omega (arith, is.some))
+fields_back [] others is are = absurd (omega (arith, is.nonempty))
 fields_back (byte ∷ rest) others is are =
     let low : 48 ≤ byte = (All-head IsPlainByte byte rest is.plain).0 in
     let high : byte < 128 = (All-head IsPlainByte byte rest is.plain).1 in
@@ -120,20 +120,20 @@ fields_back (byte ∷ rest) others is are =
     ∙ all_trimmed ((byte ∷ rest) ∷ others) (is, are)
 
 -- the bytes of a line
-behind_bytes : (fields : List (List ℕ)) → AreFields fields → All IsLineByte (following fields)
-behind_bytes [] are = All-nil IsLineByte
-behind_bytes (field ∷ fields) are =
+after_bytes : (fields : List (List ℕ)) → AreFields fields → All IsLineByte (following fields)
+after_bytes [] are = All-nil IsLineByte
+after_bytes (field ∷ fields) are =
     All-cons IsLineByte 44 (field ++ following fields) (omega arith, omega arith)
     (All-append IsLineByte field (following fields)
     (All-weaker IsPlainByte IsLineByte (λ byte plain. (omega (arith, plain.0), plain.1)) field are.0.plain)
-    (behind_bytes fields are.1))
+    (after_bytes fields are.1))
 
 pub line_bytes : (first : List ℕ) (others : List (List ℕ)) → IsField first → AreFields others
     → All IsLineByte (joined (first ∷ others))
 line_bytes first others is are =
     All-append IsLineByte first (following others)
     (All-weaker IsPlainByte IsLineByte (λ byte plain. (omega (arith, plain.0), plain.1)) first is.plain)
-    (behind_bytes others are)
+    (after_bytes others are)
 
 pub no_return : (line : List ℕ) → All IsLineByte line → has_return_in line ≡ false
 no_return line bytes =

@@ -24,7 +24,16 @@ use Rattle.made_runs.proofs.Judged.{x1_small, x3_small}
 use Rattle.made_runs.proofs.Numerals.{IsNumeralOf, decimal_is, hexadecimal_is}
 use Rattle.made_runs.proofs.PlainLines.{AreFields, fields_back, line_bytes, no_return}
 
--- the values of a row fit their columns
+-- what a row shows of memory fits its columns
+pub record MemoryFits (row : MadeRow) : Type 0 where
+  pub addr : row.mem_addr < 2 ^ 64
+  pub rmask : row.mem_rmask < 2 ^ 8
+  pub wmask : row.mem_wmask < 2 ^ 8
+  pub rdata : row.mem_rdata < 2 ^ 64
+  pub wdata : row.mem_wdata < 2 ^ 64
+  pub paddr : row.mem_paddr < 2 ^ 64
+
+-- all values of a row fit their columns
 pub record RowFits (row : MadeRow) : Type 0 where
   pub order : row.order < 2 ^ 64
   pub insn : row.insn < 2 ^ 32
@@ -33,41 +42,29 @@ pub record RowFits (row : MadeRow) : Type 0 where
   pub pc_wdata : row.pc_wdata < 2 ^ 64
   pub rd_addr : row.rd_addr < 10
   pub rd_wdata : row.rd_wdata < 2 ^ 64
-  pub mem_addr : row.mem_addr < 2 ^ 64
-  pub mem_rmask : row.mem_rmask < 2 ^ 8
-  pub mem_wmask : row.mem_wmask < 2 ^ 8
-  pub mem_rdata : row.mem_rdata < 2 ^ 64
-  pub mem_wdata : row.mem_wdata < 2 ^ 64
-  pub mem_paddr : row.mem_paddr < 2 ^ 64
+  pub memory : MemoryFits row
 
 fits_if : (test : Bool) (one other : MadeRow) → RowFits one → RowFits other → RowFits (if test then one else other)
 fits_if true one other first second = first
 fits_if false one other first second = second
 
+memory_fits : {row : MadeRow} → row.mem_addr < 2 ^ 64 → row.mem_rmask < 2 ^ 8 → row.mem_wmask < 2 ^ 8
+    → row.mem_rdata < 2 ^ 64 → row.mem_wdata < 2 ^ 64 → row.mem_paddr < 2 ^ 64 → MemoryFits row
+memory_fits addr rmask wmask rdata wdata paddr =
+    record { addr = addr; rmask = rmask; wmask = wmask; rdata = rdata; wdata = wdata; paddr = paddr }
+
 fits : {row : MadeRow} → row.order < 2 ^ 64 → row.insn < 2 ^ 32 → row.trap < 2 → row.pc_rdata < 2 ^ 64
-    → row.pc_wdata < 2 ^ 64 → row.rd_addr < 10 → row.rd_wdata < 2 ^ 64 → row.mem_addr < 2 ^ 64 → row.mem_rmask < 2 ^ 8
-    → row.mem_wmask < 2 ^ 8 → row.mem_rdata < 2 ^ 64 → row.mem_wdata < 2 ^ 64 → row.mem_paddr < 2 ^ 64 → RowFits row
-fits a b c d e f g h i j k l m =
+    → row.pc_wdata < 2 ^ 64 → row.rd_addr < 10 → row.rd_wdata < 2 ^ 64 → MemoryFits row → RowFits row
+fits order insn trap pc_rdata pc_wdata rd_addr rd_wdata memory =
     record {
-      order =
-          a;
-      insn =
-          b;
-      trap =
-          c;
-      pc_rdata =
-          d;
-      pc_wdata =
-          e;
-      rd_addr =
-          f;
-      rd_wdata = g;
-      mem_addr = h;
-      mem_rmask = i;
-      mem_wmask = j;
-      mem_rdata = k;
-      mem_wdata = l;
-      mem_paddr = m;
+      order = order;
+      insn = insn;
+      trap = trap;
+      pc_rdata = pc_rdata;
+      pc_wdata = pc_wdata;
+      rd_addr = rd_addr;
+      rd_wdata = rd_wdata;
+      memory = memory;
     }
 
 turn_fits : (number x1 x3 order place : ℕ) → x1 < 2 ^ 64 → x3 < 2 ^ 64 → order < 2 ^ 64
@@ -77,25 +74,25 @@ turn_fits number x1 x3 order place one three small =
     let addi : number % 2048 < 2048 = omega arith in
     fits_if (place == 0) _ _
     (fits (omega arith) (omega arith) (omega arith) (omega arith) (omega arith) (omega arith) (omega arith)
-    (omega arith) (omega arith) (omega arith) (omega arith) (omega arith) (omega arith))
+    (memory_fits (omega arith) (omega arith) (omega arith) (omega arith) (omega arith) (omega arith)))
     (fits_if (place == 1) _ _
     (fits (omega arith) (omega arith) (omega arith) (omega arith) (omega arith) (omega arith) (omega arith)
-    (omega arith) (omega arith) (omega arith) (omega arith) (omega arith) (omega arith))
+    (memory_fits (omega arith) (omega arith) (omega arith) (omega arith) (omega arith) (omega arith)))
     (fits_if (place == 2) _ _
     (fits (omega arith) (omega arith) (omega arith) (omega arith) (omega arith) (omega arith) (omega arith)
-    (omega arith) (omega arith) (omega arith) (omega arith) (omega arith) (omega arith))
+    (memory_fits (omega arith) (omega arith) (omega arith) (omega arith) (omega arith) (omega arith)))
     (fits_if (place == 3) _ _
     (fits (omega arith) (omega arith) (omega arith) (omega arith) (omega arith) (omega arith) (omega arith)
-    (omega arith) (omega arith) (omega arith) (omega arith) (omega arith) (omega arith))
+    (memory_fits (omega arith) (omega arith) (omega arith) (omega arith) (omega arith) (omega arith)))
     (fits (omega arith) (omega arith) (omega arith) (omega arith) (omega arith) (omega arith) (omega arith)
-    (omega arith) (omega arith) (omega arith) (omega arith) (omega arith) (omega arith)))))
+    (memory_fits (omega arith) (omega arith) (omega arith) (omega arith) (omega arith) (omega arith))))))
 
 pub row_fits : (number order : ℕ) → order < 2 ^ 64 → RowFits (made_row number order)
 unfolding made_row
 row_fits number order small =
     fits_if (order == 0) first_row _
     (fits (omega arith) (omega arith) (omega arith) (omega arith) (omega arith) (omega arith) (omega arith)
-    (omega arith) (omega arith) (omega arith) (omega arith) (omega arith) (omega arith))
+    (memory_fits (omega arith) (omega arith) (omega arith) (omega arith) (omega arith) (omega arith)))
     (turn_fits number (x1_after number (turn_of order)) (x3_after number (turn_of order)) order (turn_place order)
     (x1_small number (turn_of order)) (x3_small number (turn_of order)) small)
 
@@ -103,7 +100,7 @@ row_fits number order small =
 cell_shown : (signal : Signal) (field : List ℕ) (value most : ℕ) → IsNumeralOf field value most
     → value < 2 ^ width_of signal → field_shown (Some signal) field ≡ Ok (alone signal (Some value))
 unfolding field_shown cell_of number_within
-cell_shown signal [] value most is small = absurd (omega (arith, is.is_field.some))
+cell_shown signal [] value most is small = absurd (omega (arith, is.is_field.nonempty))
 cell_shown signal (byte ∷ field) value most is small =
     let low : nat_lt value (2 ^ width_of signal) ≡ true = lt-ltb value (2 ^ width_of signal) small in
     rw (is.reads, low) refl
@@ -147,12 +144,12 @@ row_fields row is = record {
   pc_wdata = hex64 row.pc_wdata is.pc_wdata;
   rd_addr = decimal_is 1 row.rd_addr (omega arith) (omega (arith, is.rd_addr)) (omega (arith, is.rd_addr));
   rd_wdata = hex64 row.rd_wdata is.rd_wdata;
-  mem_addr = hex64 row.mem_addr is.mem_addr;
-  mem_rmask = hexadecimal_is 0 row.mem_rmask is.mem_rmask;
-  mem_wmask = hexadecimal_is 0 row.mem_wmask is.mem_wmask;
-  mem_rdata = hex64 row.mem_rdata is.mem_rdata;
-  mem_wdata = hex64 row.mem_wdata is.mem_wdata;
-  mem_paddr = hex64 row.mem_paddr is.mem_paddr;
+  mem_addr = hex64 row.mem_addr is.memory.addr;
+  mem_rmask = hexadecimal_is 0 row.mem_rmask is.memory.rmask;
+  mem_wmask = hexadecimal_is 0 row.mem_wmask is.memory.wmask;
+  mem_rdata = hex64 row.mem_rdata is.memory.rdata;
+  mem_wdata = hex64 row.mem_wdata is.memory.wdata;
+  mem_paddr = hex64 row.mem_paddr is.memory.paddr;
 }
 
 -- all of them, as one list
@@ -246,17 +243,17 @@ row_cells row is are =
     (cells_more RdWdata _ _ _ row.rd_wdata _
     (cell_shown RdWdata (hexadecimal w64 row.rd_wdata) row.rd_wdata 18 are.rd_wdata is.rd_wdata)
     (cells_more MemAddr _ _ _ row.mem_addr _
-    (cell_shown MemAddr (hexadecimal w64 row.mem_addr) row.mem_addr 18 are.mem_addr is.mem_addr)
+    (cell_shown MemAddr (hexadecimal w64 row.mem_addr) row.mem_addr 18 are.mem_addr is.memory.addr)
     (cells_more MemRmask _ _ _ row.mem_rmask _
-    (cell_shown MemRmask (hexadecimal w8 row.mem_rmask) row.mem_rmask 4 are.mem_rmask is.mem_rmask)
+    (cell_shown MemRmask (hexadecimal w8 row.mem_rmask) row.mem_rmask 4 are.mem_rmask is.memory.rmask)
     (cells_more MemWmask _ _ _ row.mem_wmask _
-    (cell_shown MemWmask (hexadecimal w8 row.mem_wmask) row.mem_wmask 4 are.mem_wmask is.mem_wmask)
+    (cell_shown MemWmask (hexadecimal w8 row.mem_wmask) row.mem_wmask 4 are.mem_wmask is.memory.wmask)
     (cells_more MemRdata _ _ _ row.mem_rdata _
-    (cell_shown MemRdata (hexadecimal w64 row.mem_rdata) row.mem_rdata 18 are.mem_rdata is.mem_rdata)
+    (cell_shown MemRdata (hexadecimal w64 row.mem_rdata) row.mem_rdata 18 are.mem_rdata is.memory.rdata)
     (cells_more MemWdata _ _ _ row.mem_wdata _
-    (cell_shown MemWdata (hexadecimal w64 row.mem_wdata) row.mem_wdata 18 are.mem_wdata is.mem_wdata)
+    (cell_shown MemWdata (hexadecimal w64 row.mem_wdata) row.mem_wdata 18 are.mem_wdata is.memory.wdata)
     (cells_more MemPaddr _ _ _ row.mem_paddr _
-    (cell_shown MemPaddr (hexadecimal w64 row.mem_paddr) row.mem_paddr 18 are.mem_paddr is.mem_paddr)
+    (cell_shown MemPaddr (hexadecimal w64 row.mem_paddr) row.mem_paddr 18 are.mem_paddr is.memory.paddr)
     cells_none))))))))))))
 
 -- the row that the fields show

@@ -1,5 +1,5 @@
 -- A step of the hart that runs the image.
-use Rattle.std.proofs.Common.{◌≡◌, ℕ, ◌+◌, ◌%◌, ◌^◌, true, List, [], ◌∷◌, ◌++◌, Option, Some, None, Result, Ok, refl}
+use Rattle.std.proofs.Common.{◌≡◌, ℕ, ◌+◌, ◌%◌, ◌^◌, true, List, [], ◌∷◌, ◌++◌, Some, None, Result, Ok, refl}
 use Rattle.std.proofs.Common.{ap, ◌∙◌}
 use Rattle.hart_words.specs.declared.privilege.Mode.TheVariants.{Machine}
 use Rattle.hart_words.specs.declared.map.Map.{Map}
@@ -24,7 +24,6 @@ use Rattle.hart_step.specs.Steps.{lacks_interrupt, step_of}
 use Rattle.segment_judge.specs.Judgements.{RowJudgement, by_hart, row_judgement_of}
 use Rattle.hart_words.specs.Spans.{holds_all}
 use Rattle.hart_words.specs.declared.accesses.Write.{Write}
-use Rattle.rv_decode.specs.declared.operation.Op.TheVariants.{Auipc, Jal, Load, Store, Immediate, Register}
 use Rattle.rv_integer.specs.Results.{result_of, immediate_result, register_result}
 use Rattle.hart_step.specs.Instructions.{after_access, core_after_retirement}
 use Rattle.hart_step.specs.Steps.{core_after_run, expected_of}
@@ -34,13 +33,9 @@ use Rattle.std.proofs.lemmas.Bool.Decides.{nat_tests}
 use Rattle.std.proofs.Math.Nat.{mod-eq_of_lt}
 use Rattle.std.proofs.Common.{◌-◌, ◌<◌, bit_xor}
 use Rattle.trace_maker.specs.Rows.{addi_of, first_row, immediate_of, turn_row}
-use Rattle.rv_decode.specs.declared.operation.LoadOp.TheVariants.{Ld}
-use Rattle.rv_decode.specs.declared.operation.StoreOp.TheVariants.{Sd}
-use Rattle.rv_decode.specs.declared.operation.ImmediateOp.TheVariants.{Addi}
-use Rattle.rv_decode.specs.declared.operation.RegisterOp.TheVariants.{Xor}
-use Rattle.made_runs.specs.States.{HasImage, IsMadeMap}
+use Rattle.made_runs.specs.Laws.{MadeState}
 use Rattle.made_runs.proofs.Differences.{done_agrees, load_memory, none_among, plain_memory, store_memory}
-use Rattle.made_runs.proofs.Accesses.{load_accessed, same_extended, store_accessed}
+use Rattle.made_runs.proofs.Accesses.{as_at_reset, load_accessed, same_extended, store_accessed}
 use Rattle.made_runs.proofs.Fetches.{fetched_at_reset}
 use Rattle.made_runs.proofs.Images.{IsWordAt, auipc_at, addi_at, xor_at, sd_at, ld_at, jal_at}
 use Rattle.made_runs.proofs.Decodes.{auipc_means, addi_means, xor_means, sd_means, ld_means, jal_means}
@@ -66,19 +61,19 @@ judged_by core row instruction reads run = record {
 }
 
 -- a row is judged by what the instruction at pc does
-pub judged_as : (map : Map) (pc x1 x2 x3 x4 : ℕ) (order : Option ℕ) (row : MadeRow) (bytes : Bytes) (word : ℕ)
-    (op : Op) (reads : List Read) →
-    (fetch_result csrs_at_reset map Machine pc).run bytes ≡ record { value = Ok (word, 4); reads = reads; wrote = [] }
+pub judged_as : {word : ℕ} {op : Op} {reads : List Read} (map : Map) (core : Core) (row : MadeRow) (bytes : Bytes)
+    → (fetch_result csrs_at_reset map Machine core.pc).run bytes
+    ≡ record { value = Ok (word, 4); reads = reads; wrote = [] }
     → decoded_op_of word ≡ Some op →
-    let core = core_with map pc x1 x2 x3 x4 order in
+    let core = as_at_reset map core in
     let instruction : Instruction = record { op = op; bits = word; len = 4 } in
     (by_hart core (shown_of row)).run bytes
     ≡ judged_by core row instruction reads
     ((execution_of (core_after_count core (shown_of row)) (choices_of (shown_of row) (operands_of op).rd)
     instruction).run bytes)
 unfolding by_hart step_of mapped instruction_run core_after_count after_writes
-judged_as map pc x1 x2 x3 x4 order row bytes word op reads fetch means =
-    let core : Core = core_with map pc x1 x2 x3 x4 order in
+judged_as {word} {op} {reads} map core row bytes fetch means =
+    let core : Core = as_at_reset map core in
     let shown : Shown = shown_of row in
     let now : Core = core_after_count core shown in
     let instruction : Instruction = record { op = op; bits = word; len = 4 } in
@@ -86,7 +81,7 @@ judged_as map pc x1 x2 x3 x4 order row bytes word op reads fetch means =
     (execution_of now (choices_of shown (operands_of op).rd) instruction).run bytes in
     let all : (instruction_run now shown).run bytes
     ≡ record { value = run_of_result now instruction run.value; reads = reads ++ run.reads; wrote = run.wrote } =
-    run_then-is (fetch_result csrs_at_reset map Machine pc) (run_of_fetched now shown) bytes
+    run_then-is (fetch_result csrs_at_reset map Machine core.pc) (run_of_fetched now shown) bytes
     ∙ rw (fetch, means) refl in
     let judge : Run InstructionRun → Run (RowJudgement Core) =
     λ (t : Run InstructionRun).
@@ -105,32 +100,33 @@ pub record AgreesTo (core : Core) (row : MadeRow) (bytes : Bytes) (next : Core) 
   pub wrote_is : ((by_hart core (shown_of row)).run bytes).wrote ≡ wrote
 
 -- the word at pc is fetched
-fetch_word : (map : Map) (pc word : ℕ) (bytes : Bytes) → IsMadeMap map → 0x80000000 ≤ pc → pc ≤ 0x80001000
-    → IsWordAt bytes pc word
-    → (fetch_result csrs_at_reset map Machine pc).run bytes
+fetch_word : {number : ℕ} (made : MadeState number) (pc word : ℕ) → 0x80000000 ≤ pc → pc ≤ 0x80001000
+    → IsWordAt made.bytes pc word
+    → (fetch_result csrs_at_reset made.map Machine pc).run made.bytes
     ≡ record {
       value =
           Ok (word, 4);
       reads = record { pa = pc; len = 2 } ∷ record { pa = (pc + 2) % 2 ^ 64; len = 2 } ∷ [];
       wrote = [];
     }
-fetch_word map pc word bytes made low high at =
-    let first : holds_all map.ram pc 2 ≡ true = rw (made.base, made.size) (grind (arith, nat_tests)) in
+fetch_word made pc word low high at =
+    let first : holds_all made.map.ram pc 2 ≡ true =
+    rw (made.is_map.base, made.is_map.size) (grind (arith, nat_tests)) in
     let next : (pc + 2) % 2 ^ 64 ≡ pc + 2 = mod-eq_of_lt (omega arith) in
-    let second : holds_all map.ram ((pc + 2) % 2 ^ 64) 2 ≡ true =
-    rw (next, made.base, made.size) (grind (arith, nat_tests)) in
-    fetched_at_reset map pc word bytes first second at.long at.whole
+    let second : holds_all made.map.ram ((pc + 2) % 2 ^ 64) 2 ≡ true =
+    rw (next, made.is_map.base, made.is_map.size) (grind (arith, nat_tests)) in
+    fetched_at_reset made.map pc word made.bytes first second at.long at.whole
 
 -- AUIPC
-pub first_agrees : (map : Map) (number : ℕ) (bytes : Bytes) → IsMadeMap map → HasImage number bytes
-    → AgreesTo (core_with map 0x80000000 0 0 0 0 None) first_row bytes
-    (core_with map 0x80000004 0 0x80001000 0 0 (Some 1)) []
+pub first_agrees : {number : ℕ} (made : MadeState number)
+    → AgreesTo (core_with made.map 0x80000000 0 0 0 0 None) first_row made.bytes
+    (core_with made.map 0x80000004 0 0x80001000 0 0 (Some 1)) []
 unfolding execution_of result_of immediate_result register_result core_after_retirement core_after_count
     core_after_run step_result_of expected_of difference_of pure before_instruction core_after_interrupt
     asks_interrupt lacks_interrupt
-first_agrees map number bytes made image =
-    let fetch = fetch_word map 0x80000000 0x00001117 bytes made (lit≤ tt) (lit≤ tt) (auipc_at number bytes image) in
-    let all = judged_as map 0x80000000 0 0 0 0 None first_row bytes 0x00001117 (Auipc 2 4096) _ fetch auipc_means in
+first_agrees {number} made =
+    let fetch = fetch_word made 0x80000000 0x00001117 (lit≤ tt) (lit≤ tt) (auipc_at number made.bytes made.has_image) in
+    let all = judged_as made.map (core_with made.map 0x80000000 0 0 0 0 None) first_row made.bytes fetch auipc_means in
     record {
       next_is = rw all refl;
       difference =
@@ -153,20 +149,19 @@ first_agrees map number bytes made image =
     }
 
 -- ADDI
-pub addi_agrees : (map : Map) (number x1 x2 x3 x4 later r : ℕ) (bytes : Bytes) → IsMadeMap map → HasImage number bytes
-    → AgreesTo (core_with map 0x80000004 x1 x2 x3 x4 (Some r))
-    (turn_row number ((x1 + immediate_of number) % 2 ^ 64) later r 0) bytes
-    (core_with map 0x80000008 ((x1 + immediate_of number) % 2 ^ 64) x2 x3 x4 (Some ((r + 1) % 2 ^ 64))) []
+pub addi_agrees : {number : ℕ} (made : MadeState number) (x1 x2 x3 x4 later r : ℕ)
+    → AgreesTo (core_with made.map 0x80000004 x1 x2 x3 x4 (Some r))
+    (turn_row number ((x1 + immediate_of number) % 2 ^ 64) later r 0) made.bytes
+    (core_with made.map 0x80000008 ((x1 + immediate_of number) % 2 ^ 64) x2 x3 x4 (Some ((r + 1) % 2 ^ 64))) []
 unfolding execution_of result_of immediate_result register_result core_after_retirement core_after_count
     core_after_run step_result_of expected_of difference_of pure before_instruction core_after_interrupt
     asks_interrupt lacks_interrupt turn_row
-addi_agrees map number x1 x2 x3 x4 later r bytes made image =
+addi_agrees {number} made x1 x2 x3 x4 later r =
     let row : MadeRow = turn_row number ((x1 + immediate_of number) % 2 ^ 64) later r 0 in
     let fetch =
-    fetch_word map 0x80000004 (addi_of number) bytes made (lit≤ tt) (lit≤ tt) (addi_at number bytes image) in
+    fetch_word made 0x80000004 (addi_of number) (lit≤ tt) (lit≤ tt) (addi_at number made.bytes made.has_image) in
     let all =
-    judged_as map 0x80000004 x1 x2 x3 x4 (Some r) row bytes (addi_of number)
-    (Immediate Addi 1 1 (immediate_of number)) _ fetch (addi_means number) in
+    judged_as made.map (core_with made.map 0x80000004 x1 x2 x3 x4 (Some r)) row made.bytes fetch (addi_means number) in
     record {
       next_is = rw all refl;
       difference =
@@ -189,17 +184,18 @@ addi_agrees map number x1 x2 x3 x4 later r bytes made image =
     }
 
 -- XOR
-pub xor_agrees : (map : Map) (number x1 x2 x3 x4 r : ℕ) (bytes : Bytes) → IsMadeMap map → HasImage number bytes
-    → AgreesTo (core_with map 0x80000008 x1 x2 x3 x4 (Some r)) (turn_row number x1 (bit_xor x3 x1) r 1) bytes
-    (core_with map 0x8000000c x1 x2 (bit_xor x3 x1) x4 (Some ((r + 1) % 2 ^ 64))) []
+pub xor_agrees : {number : ℕ} (made : MadeState number) (x1 x2 x3 x4 r : ℕ)
+    → AgreesTo (core_with made.map 0x80000008 x1 x2 x3 x4 (Some r)) (turn_row number x1 (bit_xor x3 x1) r 1) made.bytes
+    (core_with made.map 0x8000000c x1 x2 (bit_xor x3 x1) x4 (Some ((r + 1) % 2 ^ 64))) []
 unfolding execution_of result_of immediate_result register_result core_after_retirement core_after_count
     core_after_run step_result_of expected_of difference_of pure before_instruction core_after_interrupt
     asks_interrupt lacks_interrupt turn_row
-xor_agrees map number x1 x2 x3 x4 r bytes made image =
+xor_agrees {number} made x1 x2 x3 x4 r =
     let row : MadeRow = turn_row number x1 (bit_xor x3 x1) r 1 in
-    let fetch = fetch_word map 0x80000008 0x0011c1b3 bytes made (lit≤ tt) (lit≤ tt) (xor_at number bytes image) in
+    let fetch =
+    fetch_word made 0x80000008 0x0011c1b3 (lit≤ tt) (lit≤ tt) (xor_at number made.bytes made.has_image) in
     let all =
-    judged_as map 0x80000008 x1 x2 x3 x4 (Some r) row bytes 0x0011c1b3 (Register Xor 3 3 1) _ fetch xor_means in
+    judged_as made.map (core_with made.map 0x80000008 x1 x2 x3 x4 (Some r)) row made.bytes fetch xor_means in
     record {
       next_is = rw all refl;
       difference =
@@ -222,18 +218,18 @@ xor_agrees map number x1 x2 x3 x4 r bytes made image =
     }
 
 -- JAL
-pub jal_agrees : (map : Map) (number x1 x2 x3 x4 one three r : ℕ) (bytes : Bytes) → IsMadeMap map
-    → HasImage number bytes
-    → AgreesTo (core_with map 0x80000014 x1 x2 x3 x4 (Some r)) (turn_row number one three r 4) bytes
-    (core_with map 0x80000004 x1 x2 x3 x4 (Some ((r + 1) % 2 ^ 64))) []
+pub jal_agrees : {number : ℕ} (made : MadeState number) (x1 x2 x3 x4 one three r : ℕ)
+    → AgreesTo (core_with made.map 0x80000014 x1 x2 x3 x4 (Some r)) (turn_row number one three r 4) made.bytes
+    (core_with made.map 0x80000004 x1 x2 x3 x4 (Some ((r + 1) % 2 ^ 64))) []
 unfolding execution_of result_of immediate_result register_result core_after_retirement core_after_count
     core_after_run step_result_of expected_of difference_of pure before_instruction core_after_interrupt
     asks_interrupt lacks_interrupt turn_row
-jal_agrees map number x1 x2 x3 x4 one three r bytes made image =
+jal_agrees {number} made x1 x2 x3 x4 one three r =
     let row : MadeRow = turn_row number one three r 4 in
-    let fetch = fetch_word map 0x80000014 0xff1ff06f bytes made (lit≤ tt) (lit≤ tt) (jal_at number bytes image) in
+    let fetch =
+    fetch_word made 0x80000014 0xff1ff06f (lit≤ tt) (lit≤ tt) (jal_at number made.bytes made.has_image) in
     let all =
-    judged_as map 0x80000014 x1 x2 x3 x4 (Some r) row bytes 0xff1ff06f (Jal 0 (2 ^ 64 - 16)) _ fetch jal_means in
+    judged_as made.map (core_with made.map 0x80000014 x1 x2 x3 x4 (Some r)) row made.bytes fetch jal_means in
     record {
       next_is = rw all refl;
       difference =
@@ -256,24 +252,23 @@ jal_agrees map number x1 x2 x3 x4 one three r bytes made image =
     }
 
 -- SD
-pub sd_agrees : (map : Map) (number x1 x3 x4 one r : ℕ) (bytes : Bytes) → IsMadeMap map → HasImage number bytes
-    → x3 < 2 ^ 64
-    → AgreesTo (core_with map 0x8000000c x1 0x80001000 x3 x4 (Some r)) (turn_row number one x3 r 2) bytes
-    (core_with map 0x80000010 x1 0x80001000 x3 x4 (Some ((r + 1) % 2 ^ 64)))
+pub sd_agrees : {number : ℕ} (made : MadeState number) (x1 x3 x4 one r : ℕ) → x3 < 2 ^ 64
+    → AgreesTo (core_with made.map 0x8000000c x1 0x80001000 x3 x4 (Some r)) (turn_row number one x3 r 2) made.bytes
+    (core_with made.map 0x80000010 x1 0x80001000 x3 x4 (Some ((r + 1) % 2 ^ 64)))
     (record { pa = 0x80001000; len = 8; value = x3 } ∷ [])
 unfolding execution_of result_of core_after_retirement core_after_count core_after_run step_result_of expected_of
     difference_of pure before_instruction core_after_interrupt asks_interrupt lacks_interrupt turn_row mapped
     after_access
-sd_agrees map number x1 x3 x4 one r bytes made image small =
+sd_agrees {number} made x1 x3 x4 one r small =
     let row : MadeRow = turn_row number one x3 r 2 in
-    let core : Core = core_with map 0x8000000c x1 0x80001000 x3 x4 (Some r) in
-    let fetch = fetch_word map 0x8000000c 0x00313023 bytes made (lit≤ tt) (lit≤ tt) (sd_at number bytes image) in
-    let all =
-    judged_as map 0x8000000c x1 0x80001000 x3 x4 (Some r) row bytes 0x00313023 (Store Sd 2 3 0) _ fetch sd_means in
+    let core : Core = core_with made.map 0x8000000c x1 0x80001000 x3 x4 (Some r) in
+    let fetch =
+    fetch_word made 0x8000000c 0x00313023 (lit≤ tt) (lit≤ tt) (sd_at number made.bytes made.has_image) in
+    let all = judged_as made.map core row made.bytes fetch sd_means in
     let low : x3 % 2 ^ 64 ≡ x3 = mod-eq_of_lt small in
     let access =
-    store_accessed map 0x8000000c x1 0x80001000 x3 x4 x3 (Some ((r + 1) % 2 ^ 64)) (choices_of (shown_of row) 0)
-    bytes made in
+    store_accessed made.map (core_with made.map 0x8000000c x1 0x80001000 x3 x4 (Some ((r + 1) % 2 ^ 64))) x3
+    (choices_of (shown_of row) 0) made.bytes made.is_map in
     record {
       next_is = rw (all, low, access) refl;
       difference =
@@ -293,27 +288,29 @@ sd_agrees map number x1 x3 x4 one r bytes made image small =
             next_pc = refl;
             trap = refl;
           })
-          (store_memory _ _ row x3 refl refl small refl refl refl refl)));
+          (store_memory _ _ row x3 refl refl small
+          (record { address = refl; mask = refl; written = refl; physical = refl }))));
       wrote_is = rw (all, low, access) refl;
     }
 
 -- LD
-pub ld_agrees : (map : Map) (number x1 x3 x4 one r : ℕ) (bytes : Bytes) → IsMadeMap map → HasImage number bytes
-    → x3 < 2 ^ 64 → number_at bytes 0x80001000 8 ≡ x3
-    → AgreesTo (core_with map 0x80000010 x1 0x80001000 x3 x4 (Some r)) (turn_row number one x3 r 3) bytes
-    (core_with map 0x80000014 x1 0x80001000 x3 x3 (Some ((r + 1) % 2 ^ 64))) []
+pub ld_agrees : {number : ℕ} (made : MadeState number) (x1 x3 x4 one r : ℕ) → x3 < 2 ^ 64
+    → number_at made.bytes 0x80001000 8 ≡ x3
+    → AgreesTo (core_with made.map 0x80000010 x1 0x80001000 x3 x4 (Some r)) (turn_row number one x3 r 3) made.bytes
+    (core_with made.map 0x80000014 x1 0x80001000 x3 x3 (Some ((r + 1) % 2 ^ 64))) []
 unfolding execution_of result_of core_after_retirement core_after_count core_after_run step_result_of expected_of
     difference_of pure before_instruction core_after_interrupt asks_interrupt lacks_interrupt turn_row mapped
     after_access
-ld_agrees map number x1 x3 x4 one r bytes made image small cell =
+ld_agrees {number} made x1 x3 x4 one r small cell =
     let row : MadeRow = turn_row number one x3 r 3 in
-    let fetch = fetch_word map 0x80000010 0x00013203 bytes made (lit≤ tt) (lit≤ tt) (ld_at number bytes image) in
+    let fetch =
+    fetch_word made 0x80000010 0x00013203 (lit≤ tt) (lit≤ tt) (ld_at number made.bytes made.has_image) in
     let all =
-    judged_as map 0x80000010 x1 0x80001000 x3 x4 (Some r) row bytes 0x00013203 (Load Ld 4 2 0) _ fetch ld_means in
+    judged_as made.map (core_with made.map 0x80000010 x1 0x80001000 x3 x4 (Some r)) row made.bytes fetch ld_means in
     let access =
     rw (cell, same_extended x3 small) at
-    (load_accessed map 0x80000010 x1 0x80001000 x3 x4 (Some ((r + 1) % 2 ^ 64)) (choices_of (shown_of row) 4)
-    bytes made) in
+    (load_accessed made.map (core_with made.map 0x80000010 x1 0x80001000 x3 x4 (Some ((r + 1) % 2 ^ 64)))
+    (choices_of (shown_of row) 4) made.bytes made.is_map) in
     record {
       next_is = rw (all, access) refl;
       difference =
@@ -333,6 +330,7 @@ ld_agrees map number x1 x3 x4 one r bytes made image small cell =
             next_pc = refl;
             trap = refl;
           })
-          (load_memory _ _ row x3 refl refl small refl refl refl refl refl)));
+          (load_memory _ _ row x3 refl refl small
+          (record { address = refl; mask = refl; unwritten = refl; found = refl; physical = refl }))));
       wrote_is = rw (all, access) refl;
     }

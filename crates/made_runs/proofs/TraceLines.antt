@@ -23,7 +23,7 @@ use Rattle.made_runs.proofs.RowLines.{AreRowFields, others_are, others_of, row_f
 
 -- a line that is taken as it stands
 record IsWhole (line : List ℕ) : Type 0 where
-  some : 0 < length line
+  nonempty : 0 < length line
   bytes : All IsLineByte line
   short : length line ≤ LONGEST
 
@@ -42,7 +42,7 @@ part_ended (byte ∷ line) rest bytes =
 
 no_return_dropped : (line : List ℕ) → IsWhole line → line_in line ≡ line
 no_return_dropped line is =
-    let some : 0 < length line = is.some in
+    let nonempty : 0 < length line = is.nonempty in
     let low : 44 ≤ slice_index line (length line - 1) = (is.bytes (length line - 1) 0 (omega arith)).0 in
     let last : (slice_index line (length line - 1) == 13) ≡ false =
     ne_eqb (slice_index line (length line - 1)) 13 (omega arith) in
@@ -55,10 +55,10 @@ line_taken : (number : ℕ) (line : List ℕ) (parts : List Part) (lines : List 
 unfolding lines_from
 line_taken number line parts lines is more =
     let short : nat_lt LONGEST (length line) ≡ false = le-ltb LONGEST (length line) is.short in
-    let some : (length line == 0) ≡ false = ne_eqb (length line) 0 (omega (arith, is.some)) in
+    let nonempty : (length line == 0) ≡ false = ne_eqb (length line) 0 (omega (arith, is.nonempty)) in
     rw short (ap (λ (bytes : List ℕ). with_line bytes (lines_from false (number + 1) parts)) (no_return_dropped line is)
     ∙ ap (λ (left : RemainingLines). with_line line left) more
-    ∙ rw some refl)
+    ∙ rw nonempty refl)
 
 lines_taken : (number : ℕ) (lines : List (List ℕ)) → AreWhole lines
     → lines_from false number (parts_of (text_of lines)) ≡ record { lines = lines; ending = End }
@@ -89,15 +89,15 @@ abbrev total : List (List ℕ) → ℕ
 total [] = 0
 total (field ∷ fields) = 1 + (length field + total fields)
 
-behind_len : (fields : List (List ℕ)) → length (following fields) ≡ total fields
-behind_len [] = refl
-behind_len (field ∷ fields) = omega (arith, length-append field (following fields), behind_len fields)
+after_len : (fields : List (List ℕ)) → length (following fields) ≡ total fields
+after_len [] = refl
+after_len (field ∷ fields) = omega (arith, length-append field (following fields), after_len fields)
 
 row_len : (row : MadeRow) → AreRowFields row → length (row_line row) ≤ 178
 row_len row are = omega (
   arith,
   length-append (decimal row.order) (following (others_of row)),
-  behind_len (others_of row),
+  after_len (others_of row),
   are.order.short,
   are.insn.short,
   are.trap.short,
@@ -113,12 +113,13 @@ row_len row are = omega (
   are.mem_paddr.short,
 )
 
-row_some : (row : MadeRow) → AreRowFields row → 0 < length (row_line row)
-row_some row are = omega (arith, length-append (decimal row.order) (following (others_of row)), are.order.is_field.some)
+row_nonempty : (row : MadeRow) → AreRowFields row → 0 < length (row_line row)
+row_nonempty row are =
+    omega (arith, length-append (decimal row.order) (following (others_of row)), are.order.is_field.nonempty)
 
 row_whole : (row : MadeRow) → AreRowFields row → IsWhole (row_line row)
 row_whole row are = record {
-  some = row_some row are;
+  nonempty = row_nonempty row are;
   bytes = line_bytes (decimal row.order) (others_of row) are.order.is_field (others_are row are);
   short = omega (arith, row_len row are);
 }
@@ -131,7 +132,7 @@ line_byte_by byte is = (grind (arith, nat_tests), grind (arith, nat_tests))
 
 header_whole : IsWhole header_line
 header_whole = record {
-  some = omega arith;
+  nonempty = omega arith;
   bytes =
       All-weaker (λ (byte : ℕ). (nat_le 44 byte && nat_lt byte 128) ≡ true) IsLineByte line_byte_by header_line
       (AllPass-from_list_all (λ (byte : ℕ). nat_le 44 byte && nat_lt byte 128) header_line header_bytes);
