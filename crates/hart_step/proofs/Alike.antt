@@ -59,7 +59,7 @@ bytes_granted core one other mode pa len access agree lower allowed =
     let entries = pmp_entries_of core.csrs in
     same_bytes len pa one other
     (λ byte low high. agree byte access
-    (as_supervisor mode entries byte access lower (byte_allowed entries mode pa len access byte allowed low high)))
+    (as_supervisor mode entries byte access lower (byte_allowed entries mode pa len access allowed byte low high)))
 
 -- those of a read
 SameAt : Bytes → Bytes → Read → Type 0

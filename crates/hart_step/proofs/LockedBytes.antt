@@ -90,7 +90,7 @@ unfolding is_allowed
 shut_refuses csrs byte mode shut =
     let lock = shut.lock in
     let cfg = configuration_of csrs lock.number in
-    refused_from 0 (pmp_entries_of csrs) lock.number mode byte shut.registers lock.decides.some lock.decides.least
+    refused_from 0 (pmp_entries_of csrs) lock.number mode byte shut.registers lock.decides.touches lock.decides.least
     (permits_none cfg mode (lock.locked lock.number (omega arith)) lock.forbids)
 
 shut_after : (before after : Csrs) (byte : ℕ) → LocksArePreserved before after → IsShut before byte → IsShut after byte
@@ -105,7 +105,7 @@ shut_after before after byte outlasts shut =
         number = number;
         there = lock.there;
         decides = record {
-          some = SomeByte-map byte 1 (λ a. (here.covers a).1) lock.decides.some;
+          touches = SomeByte-map byte 1 (λ a. (here.covers a).1) lock.decides.touches;
           least = λ lower low there. lock.decides.least lower low
               (SomeByte-map byte 1 (λ a. ((below lower (omega (arith, low))).covers a).0) there);
         };
