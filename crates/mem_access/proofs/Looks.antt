@@ -51,8 +51,8 @@ pub parcel_refused : (csrs : Csrs) (map : Map) (mode : Mode) (at : ℕ) (cause :
     → Observes (parcel_at csrs map mode at) (Err (cause, at)) seen seen' bytes
 unfolding parcel_at
 parcel_refused csrs map mode at cause seen seen' bytes look =
-    Observes-then (virtual_place_of csrs map (parcel_fetch mode) at) (parcel_from at) (Err cause) (Err (cause, at))
-    seen seen' seen' bytes look (Observes-pure (Err (cause, at)) seen' bytes)
+    Observes-then (virtual_place_of csrs map (parcel_fetch mode) at) (parcel_from at) look
+    (Observes-pure (Err (cause, at)) seen' bytes)
 
 pub parcel_read : (csrs : Csrs) (map : Map) (mode : Mode) (at : ℕ) (place : Place) (parcel : ℕ) (s0 s1 s2 : List Read)
     (bytes : Bytes) → Observes (virtual_place_of csrs map (parcel_fetch mode) at) (Ok place) s0 s1 bytes
@@ -60,8 +60,7 @@ pub parcel_read : (csrs : Csrs) (map : Map) (mode : Mode) (at : ℕ) (place : Pl
     → Observes (parcel_at csrs map mode at) (Ok parcel) s0 s2 bytes
 unfolding parcel_at
 parcel_read csrs map mode at place parcel s0 s1 s2 bytes look read noted =
-    Observes-then (virtual_place_of csrs map (parcel_fetch mode) at) (parcel_from at) (Ok place) (Ok parcel) s0 s1 s2
-    bytes look
+    Observes-then (virtual_place_of csrs map (parcel_fetch mode) at) (parcel_from at) look
     (rw noted (Observes-mapped (λ n. Ok n) (read_memory (record { pa = place.pa; len = 2 })) parcel s1 _ bytes
     (Observes-read_memory (record { pa = place.pa; len = 2 }) parcel s1 bytes read)))
 
@@ -70,8 +69,8 @@ pub fetch_refused : (csrs : Csrs) (map : Map) (mode : Mode) (pc : ℕ) (exceptio
     → Observes (fetch_result csrs map mode pc) (Err exception) seen seen' bytes
 unfolding fetch_result
 fetch_refused csrs map mode pc exception seen seen' bytes first =
-    Observes-then (parcel_at csrs map mode pc) (after_first csrs map mode pc) (Err exception) (Err exception) seen
-    seen' seen' bytes first (Observes-pure (Err exception) seen' bytes)
+    Observes-then (parcel_at csrs map mode pc) (after_first csrs map mode pc) first
+    (Observes-pure (Err exception) seen' bytes)
 
 short_word : (first : ℕ) → (first % 4 ≡ 3 → ⊥) → (first % 4 == 3) ≡ false
 short_word first short = grind (arith, nat_tests)
@@ -84,8 +83,7 @@ pub fetch_short : (csrs : Csrs) (map : Map) (mode : Mode) (pc first : ℕ) (seen
     → Observes (fetch_result csrs map mode pc) (Ok (first, 2)) seen seen' bytes
 unfolding fetch_result
 fetch_short csrs map mode pc first seen seen' bytes look short =
-    Observes-then (parcel_at csrs map mode pc) (after_first csrs map mode pc) (Ok first) (Ok (first, 2)) seen seen'
-    seen' bytes look (rw (short_word first short) (Observes-pure (Ok (first, 2)) seen' bytes))
+    Observes-then (parcel_at csrs map mode pc) (after_first csrs map mode pc) look (rw (short_word first short) (Observes-pure (Ok (first, 2)) seen' bytes))
 
 pub fetch_long : (csrs : Csrs) (map : Map) (mode : Mode) (pc first : ℕ) (second : Result ℕ Exception)
     (s0 s1 s2 : List Read) (bytes : Bytes) → Observes (parcel_at csrs map mode pc) (Ok first) s0 s1 bytes
@@ -93,8 +91,7 @@ pub fetch_long : (csrs : Csrs) (map : Map) (mode : Mode) (pc first : ℕ) (secon
     → Observes (fetch_result csrs map mode pc) (with_second first second) s0 s2 bytes
 unfolding fetch_result
 fetch_long csrs map mode pc first second s0 s1 s2 bytes look long more =
-    Observes-then (parcel_at csrs map mode pc) (after_first csrs map mode pc) (Ok first) (with_second first second) s0
-    s1 s2 bytes look
+    Observes-then (parcel_at csrs map mode pc) (after_first csrs map mode pc) look
     (rw (long_word first long)
     (Observes-mapped (with_second first) (parcel_at csrs map mode ((pc + 2) % 2 ^ 64)) second s1 s2 bytes more))
 
@@ -120,8 +117,7 @@ load_on : (csrs : Csrs) (map : Map) (mode : Mode) (va len : ℕ) (atomic : Bool)
 unfolding load_result
 load_on csrs map mode va len atomic placed found s0 s1 s2 bytes aligned look more =
     rw (multiple va len aligned)
-    (Observes-then (virtual_place_of csrs map (data_load csrs mode len atomic) va) (load_from va len) placed found
-    s0 s1 s2 bytes look more)
+    (Observes-then (virtual_place_of csrs map (data_load csrs mode len atomic) va) (load_from va len) look more)
 
 pub load_refused : (csrs : Csrs) (map : Map) (mode : Mode) (va len : ℕ) (atomic : Bool) (cause : Cause)
     (seen seen' : List Read) (bytes : Bytes) → va % len ≡ 0
