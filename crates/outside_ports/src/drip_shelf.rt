@@ -15,7 +15,7 @@ pub struct DripShelf {
     pub shelf: MemShelf,
     /// The most bytes that a call gives.
     pub most: usize,
-    ghost some: { 0 < most },
+    ghost positive: { 0 < most },
 }
 
 impl DripShelf {
