@@ -42,7 +42,8 @@ legal_with csrs stored value legal can = record {
 
 -- mstatus keeps what it is where MPP is left out, or takes no 2
 pub status_without_mpp : {old : ℕ} (mask value : ℕ) → mask < 2 ^ 64
-    → bit_and mask (all_bits - writable_bits Mstatus) ≡ 0 → bit_at mask 11 ≡ 0 → bit_at mask 12 ≡ 0 → IsLegalStatus old → IsLegalStatus (masked_update mask old value)
+    → bit_and mask (all_bits - writable_bits Mstatus) ≡ 0 → bit_at mask 11 ≡ 0 → bit_at mask 12 ≡ 0
+    → IsLegalStatus old → IsLegalStatus (masked_update mask old value)
 status_without_mpp {old} mask value small apart low high legal = record {
   constant = merged_keeps mask old value (all_bits - writable_bits Mstatus) small (lit< tt) apart ∙ legal.constant;
   previous = λ two. legal.previous (
