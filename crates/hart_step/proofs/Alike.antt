@@ -52,15 +52,6 @@ as_supervisor Machine entries byte access lower allowed = absurd (lower refl)
 as_supervisor Supervisor entries byte access lower allowed = allowed
 as_supervisor User entries byte access lower allowed = sym (both_alike entries byte 1 access) ∙ allowed
 
-bytes_granted : (core : Core) (one other : Bytes) (mode : Mode) (pa len : ℕ) (access : Access)
-    → AgreeWherePermitted core one other → mode ≢ Machine
-    → is_allowed (pmp_entries_of core.csrs) mode pa len access ≡ true → SameBytes pa len one other
-bytes_granted core one other mode pa len access agree lower allowed =
-    let entries = pmp_entries_of core.csrs in
-    same_bytes len pa one other
-    (λ byte low high. agree byte access
-    (as_supervisor mode entries byte access lower (byte_allowed entries mode pa len access allowed byte low high)))
-
 -- those of a read
 SameAt : Bytes → Bytes → Read → Type 0
 SameAt one other read = SameBytes read.pa read.len one other
@@ -70,7 +61,15 @@ permitted_same : (core : Core) (one other : Bytes) (check : CheckedRead) → Agr
     → check.mode ≢ Machine → IsPermittedRead core.csrs core.map check → SameAt one other check.read
 unfolding SameAt
 permitted_same core one other check agree lower permitted =
-    bytes_granted core one other check.mode check.read.pa check.read.len check.access agree lower permitted.1
+    let entries = pmp_entries_of core.csrs in
+    let mode = check.mode in
+    let access = check.access in
+    let pa = check.read.pa in
+    let len = check.read.len in
+    let allowed = permitted.1 in
+    same_bytes len pa one other
+    (λ byte low high. agree byte access
+    (as_supervisor mode entries byte access lower (byte_allowed entries mode pa len access byte allowed low high)))
 
 supervisor_lower : Supervisor ≢ Machine
 supervisor_lower is = cc

@@ -139,7 +139,7 @@ forbidden_refused : (core : Core) (byte : ℕ) → IsSound core → ForbidsStore
 unfolding entry_permits
 forbidden_refused core byte sound by =
     let entries = pmp_entries_of core.csrs in
-    whole_decides entries by.number Supervisor byte 1 kind.Store (legal_registers core.csrs sound.legal) by.there
+    whole_decides entries by.number Supervisor byte 1 kind.Store (legal_registers core.csrs sound.legal) by.below_length
     by.decides (each_of_one (CoversAt entries by.number) byte by.decides.touches)
     ∙ by.forbids
 
