@@ -387,7 +387,9 @@ def run_parallel(traces, settings, words):
         child = CHILDREN.start(
             ["parallel", "--will-cite", "--jobs", str(words.jobs), *hosts,
              part_command(Path(folder, "list"), "{}/" + str(len(traces)))],
-            stdin=subprocess.PIPE, stdout=subprocess.PIPE)
+            stdin=subprocess.PIPE, stdout=subprocess.PIPE,
+            # the command is quoted for sh; where no SHELL is set, parallel finds none by itself
+            env={"SHELL": "/bin/sh", **os.environ, "PARALLEL_SHELL": "/bin/sh"})
         try:
             child.stdin.write("".join(f"{it}\n" for it in range(len(traces))).encode())
             child.stdin.close()

@@ -272,12 +272,14 @@ def test_parallel(it):
     (it.path / "c.csv").symlink_to("nowhere.csv")
     ssh, used = it.path.parent / "ssh", it.path.parent / "hosts"
     ssh.write_text(f"#!/bin/sh\necho \"$1\" >>{used}\nshift\n[ \"$1\" != -- ] || shift\n"
-                   "exec sh -c \"$*\"\n")
+                   "SHELL=/bin/sh exec sh -c \"$*\"\n")  # a login has a shell
     ssh.chmod(0o755)
     os.environ["PARALLEL_SSH"] = str(ssh)
     it.run("--with", "parallel", "--sshlogin", "1/one,1/two", "-j", "1")
     it.wants(2, "a: agrees 9", counts(1, 1, 0, 1))
     assert {"one", "two"} <= set(used.read_text().split()), used.read_text()
+    it.run("--with", "parallel").wants(2, "a: agrees 9", counts(1, 1, 0, 1))
+    os.environ.pop("SHELL", None)  # as in a container
     it.run("--with", "parallel").wants(2, "a: agrees 9", counts(1, 1, 0, 1))
 
 

@@ -88,7 +88,8 @@ impl CoreState {
 
     #[tactic(auto, unfolding(crate::specs::Machine::machine_after_event))]
     fn post(&mut self, worker: u32, segment: u32) -> Result<Answer, NoMemory>
-        ensures state { OnOk result (self.new ≡ machine_after_event self.old (Post worker segment)) }
+        ensures state { OnOk result
+            (self.new ≡ machine_after_event self.old (Post worker segment)) }
         ensures answer { IfOk result (λ answer. answer ≡ Nothing) }
         ensures kept { OnErr result (self.new ≡ self.old) }
     {

@@ -10,7 +10,8 @@ ghost use Rattle.board_core.specs.Bags.{Has, Names, SameBag, times};
 /// posts, or n. Each post is of a segment that its worker drew. A worker draws one number of n or
 /// more at most.
 pub fn machines_are_sound()
-    ensures { (n : ℕ) (events : List Event) → IsSoundMachine n (machine_after_events (machine_at_start n) events) }
+    ensures { (n : ℕ) (events : List Event)
+        → IsSoundMachine n (machine_after_events (machine_at_start n) events) }
 {}
 
 /// `next` passes n by one at most for each worker that claims.

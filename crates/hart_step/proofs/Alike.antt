@@ -26,7 +26,7 @@ use Rattle.mem_access.specs.Accesses.{parcel_fetch}
 use Rattle.mem_access.specs.Places.{data_mode_of}
 use Rattle.mem_access.specs.Reads.{CheckedRead, IsPermittedRead, access_reads_of, fetch_reads_of, reads_in}
 use Rattle.mem_access.specs.Reads.{walk_reads_of}
-use Rattle.mem_access.proofs.Orders.{access_all, data_all, fetch_all, walk_all}
+use Rattle.mem_access.proofs.Orders.{HoldsOfReads, access_all, data_all, fetch_all, walk_all}
 use Rattle.hart_step.specs.declared.state.Core.{Core}
 use Rattle.hart_step.specs.Rows.{HartState, RunBelowMachine, after_row, after_rows}
 use Rattle.hart_step.specs.Steps.{before_instruction, step_of}
@@ -115,10 +115,12 @@ asked_lower : (core : Core) (asks : Option IntResult) (bytes : Bytes) → core.m
     → All IsLower (asked_reads_of core asks bytes)
 asked_lower core (Some (results.Access request)) bytes lower =
     let check = check_of core request in
-    data_all IsLower core.csrs core.map check (reads_its_bytes request.op) request.address bytes
-    (λ aligned. access_lower core.csrs core.map check request.address bytes
-    (check_lower core (bytes_of request.size) request.op lower))
-    (walk_lower core.csrs core.map check.mode request.address bytes)
+    let holds : HoldsOfReads IsLower core.csrs core.map check request.address bytes = record {
+      whole = λ aligned. access_lower core.csrs core.map check request.address bytes
+          (check_lower core (bytes_of request.size) request.op lower);
+      walk = walk_lower core.csrs core.map check.mode request.address bytes;
+    } in
+    data_all (reads_its_bytes request.op) holds
 asked_lower core _ bytes lower = All-nil IsLower
 
 instruction_lower : (core : Core) (bytes : Bytes) → core.mode ≢ Machine → All IsLower (instruction_reads_of core bytes)

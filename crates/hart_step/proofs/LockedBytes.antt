@@ -100,7 +100,7 @@ shut_refuses csrs byte mode shut =
     let cfg = configuration_of csrs lock.number in
     let is : IsLeast 0 (pmp_entries_of csrs) lock.number byte = record {
       registers = shut.registers;
-      touches = lock.decides.some;
+      touches = lock.decides.touches;
       none_before = lock.decides.least;
     } in
     refused_from 0 (pmp_entries_of csrs) lock.number mode byte is
@@ -118,7 +118,7 @@ shut_after before after byte outlasts shut =
         number = number;
         below_16 = lock.below_16;
         decides = record {
-          some = SomeByte-map byte 1 (λ a. (here.covers a).1) lock.decides.some;
+          touches = SomeByte-map byte 1 (λ a. (here.covers a).1) lock.decides.touches;
           least = λ lower low there. lock.decides.least lower low
               (SomeByte-map byte 1 (λ a. ((below lower (omega (arith, low))).covers a).0) there);
         };

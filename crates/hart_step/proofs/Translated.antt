@@ -31,7 +31,7 @@ use Rattle.mem_access.specs.Accesses.{parcel_fetch}
 use Rattle.mem_access.specs.Places.{data_mode_of}
 use Rattle.mem_access.specs.Reads.{AreMapped, access_reads_of, fetch_reads_of, place_found}
 use Rattle.mem_access.proofs.Mapped.{place_mapped}
-use Rattle.mem_access.proofs.Orders.{access_all, data_all, fetch_all, walk_all}
+use Rattle.mem_access.proofs.Orders.{HoldsOfReads, access_all, data_all, fetch_all, walk_all}
 use Rattle.hart_step.specs.declared.state.Core.{Core}
 use Rattle.hart_step.specs.Choices.{asks_interrupt}
 use Rattle.hart_step.specs.Cores.{IsSound}
@@ -123,9 +123,11 @@ asked_reads_mapped : (core : Core) (asks : Option IntResult) (bytes : Bytes)
     → All (IsMappedRead core bytes) (asked_reads_of core asks bytes)
 asked_reads_mapped core (Some (results.Access request)) bytes =
     let check = check_of core request in
-    data_all (IsMappedRead core bytes) core.csrs core.map check (reads_its_bytes request.op) request.address bytes
-    (λ aligned. own_mapped core check request.address bytes (check_length core request) aligned)
-    (walk_all (IsMappedRead core bytes) core.csrs core.map check.mode request.address bytes (λ pa can. tt))
+    let holds : HoldsOfReads (IsMappedRead core bytes) core.csrs core.map check request.address bytes = record {
+      whole = λ aligned. own_mapped core check request.address bytes (check_length core request) aligned;
+      walk = walk_all (IsMappedRead core bytes) core.csrs core.map check.mode request.address bytes (λ pa can. tt);
+    } in
+    data_all (reads_its_bytes request.op) holds
 asked_reads_mapped core _ bytes = All-nil (IsMappedRead core bytes)
 
 instruction_mapped : (core : Core) (bytes : Bytes) → core.pc % 2 ≡ 0 → All (IsMappedRead core bytes)

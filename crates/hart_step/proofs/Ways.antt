@@ -57,8 +57,8 @@ pub exchange_refused : (core : Core) (va len : ℕ) (exception : Exception) (s0 
     → Observes (store_place_of core.csrs core.map core.mode va len true >>= found_with_read len) (Err exception) s0 s1
     bytes
 exchange_refused core va len exception s0 s1 bytes look =
-    Observes-then (store_place_of core.csrs core.map core.mode va len true) (found_with_read len) (Err exception)
-    (Err exception) s0 s1 s1 bytes look (Observes-pure (Err exception) s1 bytes)
+    Observes-then (store_place_of core.csrs core.map core.mode va len true) (found_with_read len) look
+    (Observes-pure (Err exception) s1 bytes)
 
 pub exchange_placed : (core : Core) (va len : ℕ) {place : Place} {held : ℕ} {s0 s1 s2 : List Read} {bytes : Bytes}
     → Observes (store_place_of core.csrs core.map core.mode va len true) (Ok place) s0 s1 bytes
@@ -73,8 +73,7 @@ exchange_placed core va len {place} {held} {s0} {s1} {s2} {bytes} look read note
     subst P (sym noted)
     (Observes-mapped (λ n. Ok (place, n)) (read_memory asked) held s1 (s1 ++ asked ∷ []) bytes
     (Observes-read_memory asked held s1 bytes read)) in
-    Observes-then (store_place_of core.csrs core.map core.mode va len true) (found_with_read len) (Ok place)
-    (Ok (place, held)) s0 s1 s2 bytes look reads
+    Observes-then (store_place_of core.csrs core.map core.mode va len true) (found_with_read len) look reads
 
 -- what is written
 pub put_nothing : (place : Place) (len : ℕ) (seen : List Read) (wrote : List Write) (bytes : Bytes)
@@ -115,8 +114,7 @@ pub access_refused : (core : Core) (choices : RowChoices) (request : MemoryReque
     → Performs (memory_access core choices request) (Err exception) s0 s1 wrote wrote bytes bytes
 unfolding memory_access
 access_refused core choices request {exception} {s0} {s1} {wrote} {bytes} look =
-    Performs-then (located_access core request) (access_after_location core choices request) (Err exception)
-    (Err exception) s0 s1 s1 wrote wrote wrote bytes bytes bytes
+    Performs-then (located_access core request) (access_after_location core choices request)
     (Performs-observed (located_access core request) (Err exception) s0 s1 wrote bytes look)
     (Performs-pure (Err exception) s1 wrote bytes)
 
@@ -132,11 +130,9 @@ access_made core choices request {found} {answer} {s0} {s1} {wrote} {wrote'} {by
     let P : AccessResult → Type 0 =
     λ a. Performs (mapped (given a) (put found.0 (bytes_of request.size) (number_written a.access))) (Ok answer)
     s1 s1 wrote wrote' bytes bytes' in
-    Performs-then (located_access core request) (access_after_location core choices request) (Ok found) (Ok answer) s0
-    s1 s1 wrote wrote wrote' bytes bytes bytes'
+    Performs-then (located_access core request) (access_after_location core choices request)
     (Performs-observed (located_access core request) (Ok found) s0 s1 wrote bytes look)
-    (subst P is (Performs-mapped (given answer) (put found.0 (bytes_of request.size) (number_written answer.access))
-    tt s1 s1 wrote wrote' bytes bytes' made))
+    (subst P is (Performs-mapped (given answer) (put found.0 (bytes_of request.size) (number_written answer.access)) made))
 
 -- an instruction does what its result asks for
 pub executed_as : (core : Core) (choices : RowChoices) (i : Instruction) {result : IntResult} {operands : Operands}
@@ -169,7 +165,7 @@ pub executed_access : (core : Core) (choices : RowChoices) (i : Instruction) (re
     → Performs (mapped (after_access core i) (memory_access core choices request)) (after_access core i answer) s0
     s1 w0 w1 b0 b1
 executed_access core choices i request answer {s0} {s1} {w0} {w1} {b0} {b1} did =
-    Performs-mapped (after_access core i) (memory_access core choices request) answer s0 s1 w0 w1 b0 b1 did
+    Performs-mapped (after_access core i) (memory_access core choices request) did
 
 pub executed_answer : (core : Core) (choices : RowChoices) (i : Instruction) (request : MemoryRequest)
     (answer : AccessResult) {next : Core} {s0 s1 : List Read} {w0 w1 : List Write} {b0 b1 : Bytes}
@@ -191,8 +187,7 @@ pub ran_refused : (core : Core) (shown : Shown) (exception : Exception) (s0 s1 :
     → Performs (instruction_run core shown) (run_of_exception core None exception) s0 s1 wrote wrote bytes bytes
 unfolding instruction_run
 ran_refused core shown exception s0 s1 wrote bytes look =
-    Performs-then (fetch_result core.csrs core.map core.mode core.pc) (run_of_fetched core shown) (Err exception)
-    (run_of_exception core None exception) s0 s1 s1 wrote wrote wrote bytes bytes bytes
+    Performs-then (fetch_result core.csrs core.map core.mode core.pc) (run_of_fetched core shown)
     (Performs-observed (fetch_result core.csrs core.map core.mode core.pc) (Err exception) s0 s1 wrote bytes look)
     (Performs-pure (run_of_exception core None exception) s1 wrote bytes)
 
@@ -204,8 +199,7 @@ pub ran_decoded : (core : Core) (shown : Shown) (word len : ℕ) {op : Option Op
 unfolding instruction_run
 ran_decoded core shown word len {done} {s0} {s1} {s2} {w0} {w1} {b0} {b1} look is did =
     let P : Option Op → Type 0 = λ o. Performs (run_of_decoded core shown word len o) done s1 s2 w0 w1 b0 b1 in
-    Performs-then (fetch_result core.csrs core.map core.mode core.pc) (run_of_fetched core shown) (Ok (word, len))
-    done s0 s1 s2 w0 w0 w1 b0 b0 b1
+    Performs-then (fetch_result core.csrs core.map core.mode core.pc) (run_of_fetched core shown)
     (Performs-observed (fetch_result core.csrs core.map core.mode core.pc) (Ok (word, len)) s0 s1 w0 b0 look)
     (subst P is did)
 
@@ -218,8 +212,8 @@ pub ran_executed : (core : Core) (shown : Shown) (word len : ℕ) (op : Op) (don
 ran_executed core shown word len op done {s0} {s1} {w0} {w1} {b0} {b1} chosen did =
     let i : Instruction = record { op = op; bits = word; len = len } in
     let P : RowChoices → Type 0 = λ c. Performs (execution_of core c i) done s0 s1 w0 w1 b0 b1 in
-    Performs-mapped (run_of_result core i) (execution_of core (choices_of shown (operands_of op).rd) i) done s0 s1 w0
-    w1 b0 b1 (subst P chosen did)
+    Performs-mapped (run_of_result core i) (execution_of core (choices_of shown (operands_of op).rd) i)
+    (subst P chosen did)
 
 -- an exception leaves the hart
 pub ran_raised : (core : Core) (shown : Shown) (insn : Option ℕ) (exception : Exception) {next : Core}
@@ -260,8 +254,7 @@ step_done core shown done {gave} {s0} {s1} {w0} {w1} {b0} {b1} running is did =
     s0 s1 w0 w1 b0 b1 in
     subst P (sym running)
     (subst Q (sym is)
-    (Performs-mapped (step_result_of core shown) (instruction_run (before_instruction core shown) shown) done s0
-    s1 w0 w1 b0 b1 did))
+    (Performs-mapped (step_result_of core shown) (instruction_run (before_instruction core shown) shown) did))
 
 -- the hart as the row's instruction finds it
 pub began : (core counts before : Core) (shown : Shown) → counts ≡ core_after_count core shown

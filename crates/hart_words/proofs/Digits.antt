@@ -46,13 +46,13 @@ found true value digit h = (refl, cc)
 found false value digit h = cc
 
 -- one more digit keeps what is known of the digits so far
-pub digit_more : (radix : ℕ) (ds : List ℕ) (i value digit next : ℕ) → i < length ds → 1 ≤ radix
+pub digit_more : (radix : ℕ) (ds : List ℕ) (i : ℕ) {value digit next : ℕ} → i < length ds → 1 ≤ radix
     → (list_all (λ c. is_digit c radix) (take i ds) ≡ true) × (value ≡ min (digits_value radix (take i ds)) (2 ^ 64))
     → Some digit ≡ (if is_digit (get_or ds i 0) radix then Some (digit_value (get_or ds i 0)) else None)
     → next ≡ min (value * radix + digit) (2 ^ 64)
     → (list_all (λ c. is_digit c radix) (take (i + 1) ds) ≡ true)
     × (next ≡ min (digits_value radix (take (i + 1) ds)) (2 ^ 64))
-digit_more radix ds i value digit next h some before here is =
+digit_more radix ds i {value} {digit} {next} h some before here is =
     let both = found (is_digit (get_or ds i 0) radix) (digit_value (get_or ds i 0)) digit here in
     let same : next ≡ min (value * radix + digit_value (get_or ds i 0)) (2 ^ 64) = rw (← both.1) is in
     (all_digits_more radix ds i h before.0 both.0, same ∙ value_more radix ds i value h some before.1)
@@ -76,11 +76,11 @@ below_more radix ds i value digit below here =
     rw (next, pow-suc radix i, mul_comm (radix ^ i) radix) (mul-add-lt value radix digit (radix ^ i) below small)
 
 -- where the digits are few, one more has room
-pub room : (radix : ℕ) (ds : List ℕ) (i value digit : ℕ) → i < length ds → 1 ≤ radix → radix ^ length ds ≤ 2 ^ 64
+pub room : (radix : ℕ) (ds : List ℕ) (i : ℕ) {value digit : ℕ} → i < length ds → 1 ≤ radix → radix ^ length ds ≤ 2 ^ 64
     → value < radix ^ i
     → Some digit ≡ (if is_digit (get_or ds i 0) radix then Some (digit_value (get_or ds i 0)) else None)
     → value * radix + digit < 2 ^ 64
-room radix ds i value digit more some short below here =
+room radix ds i {value} {digit} more some short below here =
     let next : value * radix + digit < radix ^ (i + 1) = below_more radix ds i value digit below here in
     let most : radix ^ (i + 1) ≤ radix ^ length ds = pow-le-pow_right some (omega arith) in
     omega arith

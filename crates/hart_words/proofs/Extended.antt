@@ -12,14 +12,21 @@ use Rattle.std.proofs.Math.Nat.{mul-lt-mul_of_pos_right, mul-le-mul_right, mul-d
 use Rattle.std.proofs.Math.Nat.{le-mul_of_pos_right, pow-suc, mod-eq_of_lt, mod-mod}
 use Rattle.hart_words.specs.Words.{sign_extended, residue}
 
-below : (l p q h : ℕ) → 0 < p → p * q ≡ 2 ^ 64 → p * h ≡ 2 ^ 63 → l < h
+-- a word is p times q, and q is twice h: the sign of a number below q is whether it is at least h
+record IsSplit (p q h : ℕ) : Type 0 where
+  positive : 0 < p
+  whole : p * q ≡ 2 ^ 64
+  half : p * h ≡ 2 ^ 63
+  double : q ≡ h + h
+
+below : (l p q h : ℕ) → IsSplit p q h → l < h
     → cast_unsigned w64 (shr_z (cast_signed w64 (l * p)) p) ≡ residue w64 (pos l)
-below l p q h some whole half lt =
-    let less : l * p < h * p = mul-lt-mul_of_pos_right lt some in
-    let fits : l * p < 2 ^ 63 = omega arith in
-    let small : l ≤ l * p = le-mul_of_pos_right l some in
+below l p q h split lt =
+    let less : l * p < h * p = mul-lt-mul_of_pos_right lt split.positive in
+    let fits : l * p < 2 ^ 63 = omega (arith, less, split.half) in
+    let small : l ≤ l * p = le-mul_of_pos_right l split.positive in
     let is : cast_signed w64 (l * p) ≡ pos (l * p) = omega (arith, ints) in
-    let back : l * p / p ≡ l = mul-div_cancel l some in
+    let back : l * p / p ≡ l = mul-div_cancel l split.positive in
     rw (is, back) (omega arith)
 
 negative : (n : ℕ) → 2 ^ 63 ≤ n → cast_signed w64 n ≡ negsuc (2 ^ 64 - suc n)
@@ -28,9 +35,12 @@ negative n h = let test : nat_lt n (2 ^ 63) ≡ false = grind (arith, nat_tests)
 gap : (l p q d : ℕ) → 0 < p → p * q ≡ 2 ^ 64 → q ≡ d + suc l → 2 ^ 64 - suc (l * p) ≡ d * p + (p - 1)
 gap l p q d some whole is = let all : p * (d + suc l) ≡ 2 ^ 64 = rw (← is) whole in omega arith
 
-above : (l p q h : ℕ) → 0 < p → p * q ≡ 2 ^ 64 → p * h ≡ 2 ^ 63 → h ≤ l → l < q
+above : (l p q h : ℕ) → IsSplit p q h → h ≤ l → l < q
     → cast_unsigned w64 (shr_z (cast_signed w64 (l * p)) p) ≡ residue w64 (pos l -ℤ pos q)
-above l p q h some whole half le lt =
+above l p q h split le lt =
+    let some = split.positive in
+    let whole = split.whole in
+    let half = split.half in
     let least : h * p ≤ l * p = mul-le-mul_right p le in
     let less : l * p < q * p = mul-lt-mul_of_pos_right lt some in
     let is : cast_signed w64 (l * p) ≡ negsuc (2 ^ 64 - suc (l * p)) = negative (l * p) (omega arith) in
@@ -42,19 +52,27 @@ above l p q h some whole half le lt =
     int_rem_euclid_is _ _ (2 ^ 64) 1 _ (omega arith) refl (omega (arith, ints)) in
     rw (is, apart, back, euclid) (omega arith)
 
-by_sign : (l p q h : ℕ) → 0 < p → p * q ≡ 2 ^ 64 → p * h ≡ 2 ^ 63 → l < q
+by_sign : (l p q h : ℕ) → IsSplit p q h → l < q
     → cast_unsigned w64 (shr_z (cast_signed w64 (l * p)) p) ≡ residue w64 (if nat_lt l h then pos l else pos l -ℤ pos q)
-by_sign l p q h some whole half lt = elim (cases_lt l h) [
-  | inl under ↦ let test : nat_lt l h ≡ true = grind (arith, nat_tests) in rw test (below l p q h some whole half under)
+by_sign l p q h split lt = elim (cases_lt l h) [
+  | inl under ↦ let test : nat_lt l h ≡ true = grind (arith, nat_tests) in rw test (below l p q h split under)
   | inr over ↦
-      let test : nat_lt l h ≡ false = grind (arith, nat_tests) in rw test (above l p q h some whole half over lt)
+      let test : nat_lt l h ≡ false = grind (arith, nat_tests) in rw test (above l p q h split over lt)
 ]
 
-powers : (n k : ℕ) → 1 ≤ n → n + k ≡ 64 → (2 ^ k * 2 ^ n ≡ 2 ^ 64) × (2 ^ k * 2 ^ (n - 1) ≡ 2 ^ 63)
-powers n k some all =
+doubled : (n : ℕ) → 1 ≤ n → 2 ^ n ≡ 2 ^ (n - 1) + 2 ^ (n - 1)
+doubled n some = let e : suc (n - 1) ≡ n = omega arith in sym (ap (λ k. 2 ^ k) e) ∙ pow-suc 2 (n - 1) ∙ omega arith
+
+split_at : (n k : ℕ) → 1 ≤ n → n + k ≡ 64 → IsSplit (2 ^ k) (2 ^ n) (2 ^ (n - 1))
+split_at n k some all =
     let one : k + n ≡ 64 = omega arith in
     let other : k + (n - 1) ≡ 63 = omega arith in
-    (sym (pow-add 2 k n) ∙ ap (λ e. 2 ^ e) one, sym (pow-add 2 k (n - 1)) ∙ ap (λ e. 2 ^ e) other)
+    record {
+      positive = pow_pos k;
+      whole = sym (pow-add 2 k n) ∙ ap (λ e. 2 ^ e) one;
+      half = sym (pow-add 2 k (n - 1)) ∙ ap (λ e. 2 ^ e) other;
+      double = doubled n some;
+    }
 
 low_bits : (n k x : ℕ) → n + k ≡ 64 → x * 2 ^ k % 2 ^ 64 ≡ (x % 2 ^ n) * 2 ^ k
 low_bits n k x all =
@@ -68,9 +86,8 @@ at_width : (n k x : ℕ) → 1 ≤ n → n + k ≡ 64
     → cast_unsigned w64 (shr_z (cast_signed w64 (x * 2 ^ k % 2 ^ 64)) (2 ^ k)) ≡ sign_extended n x
 unfolding sign_extended
 at_width n k x some all =
-    let both = powers n k some all in
     rw (low_bits n k x all)
-    (by_sign (x % 2 ^ n) (2 ^ k) (2 ^ n) (2 ^ (n - 1)) (pow_pos k) both.0 both.1 (mod_below x (2 ^ n) (pow_pos n)))
+    (by_sign (x % 2 ^ n) (2 ^ k) (2 ^ n) (2 ^ (n - 1)) (split_at n k some all) (mod_below x (2 ^ n) (pow_pos n)))
 
 pub shifted_back : (bits x : ℕ) → 1 ≤ bits → bits ≤ 64
     → cast_unsigned w64 (shr_z (cast_signed w64 (x * 2 ^ (64 - bits) % 2 ^ 64)) (2 ^ (64 - bits)))
@@ -88,11 +105,14 @@ kept l q h double narrow lt =
 turned : (p q d : ℕ) → p ≡ d + 1 → p * q ≡ 2 ^ 64 → d * q + q ≡ 2 ^ 64
 turned p q d e whole = let all : (d + 1) * q ≡ 2 ^ 64 = rw (← e) whole in omega arith
 
-repeated : (l p q h : ℕ) → 0 < p → p * q ≡ 2 ^ 64 → q ≡ h + h → q ≤ 2 ^ 64 → h ≤ l → l < q
+repeated : (l p q h : ℕ) → IsSplit p q h → q ≤ 2 ^ 64 → h ≤ l → l < q
     → (residue w64 (pos l -ℤ pos q) % q ≡ l % q)
     × ((residue w64 (pos l -ℤ pos q) < h) ⊎ (2 ^ 64 - h ≤ residue w64 (pos l -ℤ pos q)))
     × (residue w64 (pos l -ℤ pos q) < 2 ^ 64)
-repeated l p q h some whole double narrow le lt =
+repeated l p q h split narrow le lt =
+    let some = split.positive in
+    let whole = split.whole in
+    let double = split.double in
     let euclid : int_rem_euclid (pos l -ℤ pos q) (pos (2 ^ 64)) ≡ pos ((l + (2 ^ 64 - q)) % 2 ^ 64) =
     int_rem_euclid_is _ _ (2 ^ 64) 1 _ (omega arith) refl (omega (arith, ints)) in
     let rest : (p - 1) * q + q ≡ 2 ^ 64 = turned p q (p - 1) (omega arith) whole in
@@ -101,23 +121,20 @@ repeated l p q h some whole double narrow le lt =
     let same : l % q ≡ l = mod-eq_of_lt lt in
     rw (euclid, is) (low ∙ sym same, inr (omega arith), omega arith)
 
-by_bits : (l p q h : ℕ) → 0 < p → p * q ≡ 2 ^ 64 → q ≡ h + h → l < q
+by_bits : (l p q h : ℕ) → IsSplit p q h → l < q
     → (residue w64 (if nat_lt l h then pos l else pos l -ℤ pos q) % q ≡ l % q)
     × ((residue w64 (if nat_lt l h then pos l else pos l -ℤ pos q) < h)
     ⊎ (2 ^ 64 - h ≤ residue w64 (if nat_lt l h then pos l else pos l -ℤ pos q)))
     × (residue w64 (if nat_lt l h then pos l else pos l -ℤ pos q) < 2 ^ 64)
-by_bits l p q h some whole double lt =
-    let small : q ≤ q * p = le-mul_of_pos_right q some in
-    let narrow : q ≤ 2 ^ 64 = omega arith in
+by_bits l p q h split lt =
+    let small : q ≤ q * p = le-mul_of_pos_right q split.positive in
+    let narrow : q ≤ 2 ^ 64 = omega (arith, small, split.whole) in
     elim (cases_lt l h) [
-      | inl under ↦ let test : nat_lt l h ≡ true = grind (arith, nat_tests) in rw test (kept l q h double narrow under)
+      | inl under ↦ let test : nat_lt l h ≡ true = grind (arith, nat_tests) in rw test (kept l q h split.double narrow under)
       | inr over ↦
           let test : nat_lt l h ≡ false = grind (arith, nat_tests) in
-          rw test (repeated l p q h some whole double narrow over lt)
+          rw test (repeated l p q h split narrow over lt)
     ]
-
-doubled : (n : ℕ) → 1 ≤ n → 2 ^ n ≡ 2 ^ (n - 1) + 2 ^ (n - 1)
-doubled n some = let e : suc (n - 1) ≡ n = omega arith in sym (ap (λ k. 2 ^ k) e) ∙ pow-suc 2 (n - 1) ∙ omega arith
 
 pub extends_signs : ExtendsSigns
 unfolding sign_extended
@@ -125,7 +142,5 @@ extends_signs n x some few =
     let k : n + (64 - n) ≡ 64 = omega arith in
     let below : x % 2 ^ n < 2 ^ n = mod_below x (2 ^ n) (pow_pos n) in
     let twice : x % 2 ^ n % 2 ^ n ≡ x % 2 ^ n = mod-mod x (2 ^ n) in
-    let facts =
-    by_bits (x % 2 ^ n) (2 ^ (64 - n)) (2 ^ n) (2 ^ (n - 1)) (pow_pos (64 - n)) (powers n (64 - n) some k).0
-    (doubled n some) below in
+    let facts = by_bits (x % 2 ^ n) (2 ^ (64 - n)) (2 ^ n) (2 ^ (n - 1)) (split_at n (64 - n) some k) below in
     record { same = facts.0 ∙ twice; equal = facts.1; fits = facts.2 }

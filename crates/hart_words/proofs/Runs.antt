@@ -29,11 +29,11 @@ both_at first next x bytes now value is =
     ∙ ap (λ y. followed_by (first.run bytes) ((next y).run (after_writes (first.run bytes).wrote bytes))) (sym value)
     ∙ ap (λ m. followed_by (first.run bytes) ((next x).run m)) (sym is)
 
-pub Performs-then : {A B : Type 0} (first : Action A) (next : A → Action B) (x : A) (y : B) (s0 s1 s2 : List Read)
-    (w0 w1 w2 : List Write) (b0 b1 b2 : Bytes)
+pub Performs-then : {A B : Type 0} (first : Action A) (next : A → Action B) {x : A} {y : B} {s0 s1 s2 : List Read}
+    {w0 w1 w2 : List Write} {b0 b1 b2 : Bytes}
     → Performs first x s0 s1 w0 w1 b0 b1 → Performs (next x) y s1 s2 w1 w2 b1 b2
     → Performs (first >>= next) y s0 s2 w0 w2 b0 b2
-Performs-then first next x y s0 s1 s2 w0 w1 w2 b0 b1 b2 one two =
+Performs-then first next {x} {s0} {w0} {b0} {b1} one two =
     let whole = both_at first next x b0 b1 one.value_is one.bytes_are in
     let before = first.run b0 in
     let after = (next x).run b1 in
@@ -51,11 +51,11 @@ Performs-then first next x y s0 s1 s2 w0 w1 w2 b0 b1 b2 one two =
           ∙ ap (λ r. after_writes r b0) (sym (ap (λ t. t.wrote) whole));
     }
 
-pub Observes-then : {A B : Type 0} (first : Action A) (next : A → Action B) (x : A) (y : B) (s0 s1 s2 : List Read)
-    (bytes : Bytes)
+pub Observes-then : {A B : Type 0} (first : Action A) (next : A → Action B) {x : A} {y : B} {s0 s1 s2 : List Read}
+    {bytes : Bytes}
     → Observes first x s0 s1 bytes → Observes (next x) y s1 s2 bytes → Observes (first >>= next) y s0 s2 bytes
 unfolding after_writes
-Observes-then first next x y s0 s1 s2 bytes one two =
+Observes-then first next {x} {s0} {bytes} one two =
     let same : bytes ≡ after_writes (first.run bytes).wrote bytes =
     ap (λ w. after_writes w bytes) (sym one.writes_none) in
     let whole = both_at first next x bytes bytes one.value_is same in
@@ -106,8 +106,8 @@ unfolding write_memory after_writes
 Performs-write_memory write seen wrote bytes =
     record { value_is = refl; seen_is = sym (append-nil seen); wrote_is = refl; bytes_are = refl }
 
-pub Performs-mapped : {A B : Type 0} (f : A → B) (action : Action A) (x : A) (s0 s1 : List Read) (w0 w1 : List Write)
-    (b0 b1 : Bytes) → Performs action x s0 s1 w0 w1 b0 b1 → Performs (mapped f action) (f x) s0 s1 w0 w1 b0 b1
+pub Performs-mapped : {A B : Type 0} (f : A → B) (action : Action A) {x : A} {s0 s1 : List Read} {w0 w1 : List Write}
+    {b0 b1 : Bytes} → Performs action x s0 s1 w0 w1 b0 b1 → Performs (mapped f action) (f x) s0 s1 w0 w1 b0 b1
 unfolding mapped
-Performs-mapped f action x s0 s1 w0 w1 b0 b1 ran =
+Performs-mapped f action ran =
     record { value_is = ap f ran.value_is; seen_is = ran.seen_is; wrote_is = ran.wrote_is; bytes_are = ran.bytes_are }

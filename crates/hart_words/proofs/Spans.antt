@@ -15,7 +15,12 @@ same_with base base' size size' b s one =
     subst P b (subst Q s (λ other. ap (span_with base size) (facts_prop base size one other)))
 
 facts : (span : Span) → IsSpan span.base span.size
-facts span = record { whole_base = span.whole_base; whole_size = span.whole_size; some = span.some; below = span.below }
+facts span = record {
+  whole_base = span.whole_base;
+  whole_size = span.whole_size;
+  at_least_a_page = span.at_least_a_page;
+  below = span.below;
+}
 
 pub same_span : (one other : Span) → one.base ≡ other.base → one.size ≡ other.size → one ≡ other
 unfolding facts

@@ -14,7 +14,7 @@ is_span base size =
 pub record IsSpan (base size : ℕ) : Type 0 where
   pub whole_base : base % PAGE_SIZE ≡ 0
   pub whole_size : size % PAGE_SIZE ≡ 0
-  pub some : PAGE_SIZE ≤ size
+  pub at_least_a_page : PAGE_SIZE ≤ size
   pub below : base + size ≤ 2 ^ 56
   deriving IsProp as IsSpan-prop
 
@@ -22,7 +22,7 @@ pub is_span-true : (base size : ℕ) → is_span base size ≡ true → IsSpan b
 is_span-true base size holds = record {
   whole_base = grind (arith, common_steps);
   whole_size = grind (arith, common_steps);
-  some = grind (arith, common_steps);
+  at_least_a_page = grind (arith, common_steps);
   below = grind (arith, common_steps);
 }
 
@@ -33,7 +33,7 @@ span_with base size facts = record {
   size = size;
   whole_base = facts.whole_base;
   whole_size = facts.whole_size;
-  some = facts.some;
+  at_least_a_page = facts.at_least_a_page;
   below = facts.below;
 }
 
@@ -63,8 +63,8 @@ pub record IsPlace (span : Span) (pa len : ℕ) : Type 0 where
   pub high : pa + len ≤ span.base + span.size
   pub narrow : pa + len ≤ 2 ^ 56
   pub page : pa % PAGE_SIZE + len ≤ PAGE_SIZE
-  pub some : 1 ≤ len
-  pub few : len ≤ 8
+  pub nonempty : 1 ≤ len
+  pub at_most_8 : len ≤ 8
 
 -- two ranges with no byte in common
 abbrev pub is_apart_from : Span → Span → Bool

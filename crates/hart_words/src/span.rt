@@ -16,7 +16,7 @@ pub struct Span {
     pub size: u64,
     ghost whole_base: { base % PAGE_SIZE ≡ 0 },
     ghost whole_size: { size % PAGE_SIZE ≡ 0 },
-    ghost some: { PAGE_SIZE ≤ size },
+    ghost at_least_a_page: { PAGE_SIZE ≤ size },
     ghost below: { base + size ≤ 2 ^ 56 },
 }
 

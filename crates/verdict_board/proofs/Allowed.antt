@@ -51,7 +51,7 @@ module _ (n seats slots place : ℕ) (me : Hand) where
       → IsViewAt (moment_of n seats words views kept) place me.0
   stands words views kept at live =
       let P : List ℕ → Type 0 = λ words. Shows n seats kept.events words views in
-      record { shows = subst P kept.shows.words_are kept.shows; there = at; live = live }
+      record { shows = subst P kept.shows.words_are kept.shows; exists = at; live = live }
 
   pub claim_allowed : 0 < length me.0.numbers → is_done me.0 ≡ false
       → Allows (KeptIn n seats) slots place me 0 (λ found. (found + 1) % 2 ^ 64) (Draws (step slots 0 1 0 none) me)
@@ -62,9 +62,9 @@ module _ (n seats slots place : ℕ) (me : Hand) where
       let next =
       claim_event (moment_of n seats state.words state.views kept) place me.0
       (stands state.words state.views kept at live) not_done in
-      let few = few_drawn n seats kept.events state.words state.views kept.shows in
+      let at_most = few_drawn n seats kept.events state.words state.views kept.shows in
       let sum : machine.next + 1 ≡ (machine.next + 1) % 2 ^ 64 =
-      omega (arith, few, kept.few_segments, kept.few_seats) in
+      omega (arith, at_most, kept.few_segments, kept.few_seats) in
       let now : Kept n seats ((machine.next + 1) ∷ machine.least ∷ []) views =
       record {
         few_segments =
@@ -86,8 +86,8 @@ module _ (n seats slots place : ℕ) (me : Hand) where
         subst Q sum now,
         (
           refl,
-          drawn_below n seats kept.events state.words state.views place me.0 kept.shows at,
-          λ whole. whole_exact n seats now.events ((machine.next + 1) ∷ machine.least ∷ []) views place new next.0
+          drawn_below kept.events place kept.shows at,
+          λ whole. whole_exact now.events place next.0
               (set_here state.views place new (there state.views place me.0 at)) live whole,
         ),
       )
@@ -126,8 +126,8 @@ module _ (n seats slots place : ℕ) (me : Hand) where
           omega (arith, low, kept.few_segments),
           omega (arith, low, knows.segments_is),
           knows.least_low,
-          posts_above n seats kept.events state.words state.views place me.0 kept.shows at,
-          λ whole. whole_exact n seats now.events (machine.next ∷ machine.least ∷ []) views place new next.0
+          posts_above kept.events place kept.shows at,
+          λ whole. whole_exact now.events place next.0
               (set_here state.views place new (there state.views place me.0 at)) live whole,
         ),
       )
@@ -164,7 +164,7 @@ module _ (n seats slots place : ℕ) (me : Hand) where
         (
           (number, drawn, refl),
           knows.least_low,
-          λ whole. whole_exact n seats now.events (machine.next ∷ min machine.least segment ∷ []) views place new next
+          λ whole. whole_exact now.events place next
               (set_here state.views place new (there state.views place me.0 at)) live whole,
         ),
       )
@@ -195,8 +195,7 @@ module _ (n seats slots place : ℕ) (me : Hand) where
         subst Q same now,
         (
           refl,
-          λ whole. whole_exact n seats kept.events (machine.next ∷ machine.least ∷ []) state.views place me.0
-              shows at live whole,
+          λ whole. whole_exact kept.events place shows at live whole,
         ),
       )
 

@@ -13,10 +13,10 @@ use Rattle.board_core.proofs.Machines.{range_push, sound}
 use Rattle.verdict_board.specs.declared.view.View.{View}
 use Rattle.verdict_board.specs.Views.{DrewBelow, IsFresh, IsWhole, cut_first, cut_rest, fresh_view, fresh_each}
 use Rattle.verdict_board.specs.Views.{numbers_below}
-use Rattle.verdict_board.specs.Rule.{Kept}
 use Rattle.verdict_board.specs.Points.{IsIdle}
 use Rattle.verdict_board.specs.Seats.{LeavesAll, view_of}
 use Rattle.verdict_board.specs.declared.seat.Seat.{Seat}
+use Rattle.verdict_board.proofs.Mirrors.{ShowsLive}
 use Rattle.verdict_board.proofs.Wholes.{all_drawn, has_all, least_in}
 use Rattle.verdict_board.proofs.Allowed.{KeptIn}
 
@@ -26,19 +26,22 @@ pub record Closes (n : ℕ) (view : View) (drawn least : ℕ) : Type 0 where
   pub leaves : LeavesAll n view drawn least
   pub small : least < 2 ^ 32
 
-kept_closes : (n seats place : ℕ) (view : View) (words : List ℕ) (views : List View) (drawn least : ℕ)
-    → Kept n seats words views → get_elem? views place ≡ some view → 0 < length view.numbers → IsWhole view
+pub closes : {n : ℕ} {view : View} {words : List ℕ} {drawn least : ℕ} (seats place : ℕ) (slots : List (Unit {0}))
+    → Final (Seen (KeptIn n seats) place view) words slots → 0 < length view.numbers → IsWhole view
     → get_elem? words 0 ≡ some drawn → get_elem? words 1 ≡ some least → Closes n view drawn least
-kept_closes n seats place view words views drawn least kept at live whole first second =
+closes {n} {view} {drawn = drawn} {least} seats place slots final live whole first second =
+    let state = final.0 in
+    let kept = final.1.0 in
+    let words_are = sym kept.shows.words_are ∙ final.2 in
     let machine = machine_after_events (machine_at_start n) kept.events in
     let is_sound = sound n kept.events in
-    let all =
-    has_all n seats machine (looks (machine_at_start n) kept.events) words views place view kept.shows at live
-    whole in
+    let shows : ShowsLive n seats machine (looks (machine_at_start n) kept.events) state.words state.views place view =
+    record { mirrors = kept.shows; exists = final.1.1; live = live } in
+    let all = has_all shows whole in
     let next_is : machine.next ≡ drawn =
-    some-injective machine.next drawn (sym (ap (λ words. get_elem? words 0) kept.shows.words_are) ∙ first) in
+    some-injective machine.next drawn (ap (λ words. get_elem? words 0) words_are ∙ first) in
     let least_is : machine.least ≡ least =
-    some-injective machine.least least (sym (ap (λ words. get_elem? words 1) kept.shows.words_are) ∙ second) in
+    some-injective machine.least least (ap (λ words. get_elem? words 1) words_are ∙ second) in
     record {
       draws =
           let P : ℕ → Type 0 = λ end. DrewBelow end view.draws in
@@ -60,14 +63,6 @@ kept_closes n seats place view words views drawn least kept at live whole first 
           };
       small = omega (arith, least_is, is_sound.least.within, kept.few_segments);
     }
-
-pub closes : (n seats place : ℕ) (view : View) (words : List ℕ) (slots : List (Unit {0})) (drawn least : ℕ)
-    → Final (Seen (KeptIn n seats) place view) words slots → 0 < length view.numbers → IsWhole view
-    → get_elem? words 0 ≡ some drawn → get_elem? words 1 ≡ some least → Closes n view drawn least
-closes n seats place view words slots drawn least final live whole first second =
-    let words_are = final.2 in
-    kept_closes n seats place view final.0.words final.0.views drawn least final.1.0 final.1.1 live whole
-    (ap (λ words. get_elem? words 0) words_are ∙ first) (ap (λ words. get_elem? words 1) words_are ∙ second)
 
 pub fresh_idle : (view : View) → IsFresh view → IsIdle view
 fresh_idle view is =
@@ -95,9 +90,6 @@ pub dealt_several : (n seats k : ℕ) (view : View) → k + 1 < seats
     → view ≡ fresh_view n seats (range_with_len k (seats - k)) → 1 < length view.numbers
 dealt_several n seats k view low is =
     omega (arith, low, ap (λ v. length v.numbers) is, length-range_with_len k (seats - k))
-
-pub dealt_fresh : (n seats : ℕ) (numbers : List ℕ) (view : View) → view ≡ fresh_view n seats numbers → IsFresh view
-dealt_fresh n seats numbers view is = let P : View → Type 0 = IsFresh in subst P (sym is) refl
 
 pub dealt_last : (n seats k : ℕ) (view : View) → k + 1 ≡ seats
     → view ≡ fresh_view n seats (range_with_len k (seats - k)) → view ≡ fresh_view n seats (k ∷ [])

@@ -18,10 +18,10 @@ use Rattle.verdict_board.specs.Views.{view_after_draw, fresh_view, joined_views,
 use Rattle.verdict_board.specs.Views.{view_after_post}
 use Rattle.verdict_board.specs.Rule.{Fits, Mirrors, Shows, draws_of}
 use Rattle.verdict_board.specs.Steps.{ClaimIsEvent, IsTrueTo, JoinIsNone, LookIsEvent, BoardMoment, OpeningShows}
-use Rattle.verdict_board.specs.Steps.{PostIsEvent, SplitIsNone}
+use Rattle.verdict_board.specs.Steps.{IsViewAt, PostIsEvent, SplitIsNone}
 use Rattle.verdict_board.proofs.Gathered.{gathered-one}
 use Rattle.verdict_board.proofs.Mirrors.{claim_mirrors, has_lead, join_mirrors, look_mirrors, none_past, not_passed}
-use Rattle.verdict_board.proofs.Mirrors.{post_mirrors, split_mirrors}
+use Rattle.verdict_board.proofs.Mirrors.{ShowsLive, post_mirrors, split_mirrors}
 
 pub opening_shows : OpeningShows
 opening_shows n seats = record {
@@ -75,13 +75,13 @@ least_is : (moment : BoardMoment) → IsTrueTo moment
 least_is moment shows = sym (ap (λ words. slice_index words 1) shows.words_are)
 
 -- what is shown with one event more
-shown_with : (n seats : ℕ) (events : List Event) (event : Event) (now : Machine) (words : List ℕ) (views : List View)
+shown_with : {n seats : ℕ} {now : Machine} {words : List ℕ} {views : List View} (events : List Event) (event : Event)
     → machine_after_event (machine_after_events (machine_at_start n) events) event ≡ now
     → Mirrors n seats now
     (looks (machine_at_start n) events ++ look_of (machine_after_events (machine_at_start n) events) event) words
     views
     → Shows n seats (events ++ event ∷ []) words views
-shown_with n seats events event now words views is mirrors =
+shown_with {n} {seats} {now} {words} {views} events event is mirrors =
     let machine_is : now ≡ machine_after_events (machine_at_start n) (events ++ event ∷ []) =
     sym is ∙ sym (run_push (machine_at_start n) events event) in
     let answers_are = sym (looks_push (machine_at_start n) events event) in
@@ -90,21 +90,24 @@ shown_with n seats events event now words views is mirrors =
     let Q : List (ℕ × ℕ) → Type 0 = λ answers. Mirrors n seats now answers words views in
     subst P machine_is (subst Q answers_are mirrors)
 
+-- the view stands among those that show the machine
+live_at : (moment : BoardMoment) (place : ℕ) (view : View) → IsViewAt moment place view
+    → ShowsLive moment.segments moment.seats (machine_after_events (machine_at_start moment.segments) moment.events)
+    (looks (machine_at_start moment.segments) moment.events) (moment.next ∷ moment.least ∷ []) moment.views place view
+live_at moment place view stands = record { mirrors = stands.shows; exists = stands.exists; live = stands.live }
+
 pub claim_event : ClaimIsEvent
 claim_event moment place view stands not_done =
     let n = moment.segments in
     let machine = machine_after_events (machine_at_start n) moment.events in
     let answers = looks (machine_at_start n) moment.events in
-    let words = moment.next ∷ moment.least ∷ [] in
     let views = set moment.views place (view_after_draw view moment.next) in
-    let knows = (stands.shows.fit place view stands.there).knows stands.live in
+    let knows = (stands.shows.fit place view stands.exists).knows stands.live in
     let not_yet : has_none_left machine (lead view) ≡ false =
-    not_passed n moment.seats machine answers words moment.views place view (lead view)
-    (sound n moment.events).segments stands.shows stands.there (has_lead view.numbers stands.live)
+    not_passed (lead view) (sound n moment.events).segments (live_at moment place view stands)
+    (has_lead view.numbers stands.live)
     (none_past view n knows.segments_is not_done) in
-    let made =
-    claim_mirrors n moment.seats machine answers words moment.views place view stands.shows stands.there
-    stands.live not_done in
+    let made = claim_mirrors (live_at moment place view stands) not_done in
     let P : ℕ → Type 0 =
     λ next. Mirrors n moment.seats (machine_after_claim machine (lead view)) answers
     ((next + 1) ∷ machine.least ∷ []) (set moment.views place (view_after_draw view next)) in
@@ -114,8 +117,7 @@ claim_event moment place view stands not_done =
     let R : List (ℕ × ℕ) → Type 0 =
     λ answers. Mirrors n moment.seats (machine_after_claim machine (lead view)) answers
     ((moment.next + 1) ∷ moment.least ∷ []) views in (
-      shown_with n moment.seats moment.events (Claim (lead view)) (machine_after_claim machine (lead view))
-          ((moment.next + 1) ∷ moment.least ∷ []) views (after-claimed machine (lead view) not_yet)
+      shown_with moment.events (Claim (lead view)) (after-claimed machine (lead view) not_yet)
           (subst R (sym (append-nil answers))
           (subst Q (least_is moment stands.shows) (subst P (next_is moment stands.shows) made))),
       rw not_yet (ap Drew (next_is moment stands.shows)),
@@ -127,24 +129,20 @@ look_event moment place view stands =
     let machine = machine_after_events (machine_at_start n) moment.events in
     let answers = looks (machine_at_start n) moment.events in
     let words = moment.next ∷ moment.least ∷ [] in
-    let made =
-    look_mirrors n moment.seats machine answers words moment.views place view (sound n moment.events) stands.shows
-    stands.there stands.live in
+    let made = look_mirrors (sound n moment.events) (live_at moment place view stands) in
     let is = least_is moment stands.shows in
     let P : ℕ → Type 0 =
     λ answer. Mirrors n moment.seats machine (answers ++ (lead view, machine.least) ∷ []) words
     (set moment.views place (view_after_look view answer)) in (
-      shown_with n moment.seats moment.events (Look (lead view)) machine words
-          (set moment.views place (view_after_look view moment.least)) (after-look machine (lead view))
-          (subst P is made),
+      shown_with moment.events (Look (lead view)) (after-look machine (lead view)) (subst P is made),
       ap Least is,
     )
 
-pub drawn_in_all : (n seats : ℕ) (machine : Machine) (answers : List (ℕ × ℕ)) (words : List ℕ) (views : List View)
-    (place : ℕ) (view : View) (draw : ℕ × ℕ)
+pub drawn_in_all : {n seats : ℕ} {machine : Machine} {answers : List (ℕ × ℕ)} {words : List ℕ} {views : List View}
+    {view : View} (place : ℕ) (draw : ℕ × ℕ)
     → Mirrors n seats machine answers words views → get_elem? views place ≡ some view → Has view.draws draw
     → Has machine.draws draw
-drawn_in_all n seats machine answers words views place view draw mirrors at has =
+drawn_in_all {views = views} {view} place draw mirrors at has =
     omega (
       arith,
       has,
@@ -169,16 +167,12 @@ post_event moment place view number segment stands drawn low =
     let n = moment.segments in
     let machine = machine_after_events (machine_at_start n) moment.events in
     let answers = looks (machine_at_start n) moment.events in
-    let words = moment.next ∷ moment.least ∷ [] in
     let views = set moment.views place (view_after_post view number segment (min moment.least segment)) in
     let now = machine_posted machine number segment in
     let within : segment < machine.segments = omega (arith, low, (sound n moment.events).segments) in
-    let has =
-    drawn_in_all n moment.seats machine answers words moment.views place view (number, segment) stands.shows
-    stands.there drawn in
+    let has = drawn_in_all place (number, segment) stands.shows stands.exists drawn in
     let made =
-    post_mirrors n moment.seats machine answers words moment.views place view number segment
-    (sound n moment.events) stands.shows stands.there drawn low in
+    post_mirrors number segment (sound n moment.events) (live_at moment place view stands) drawn low in
     let posted_at : ℕ → List View =
     λ least. set moment.views place (view_after_post view number segment (min least segment)) in
     let P : ℕ → Type 0 =
@@ -187,22 +181,16 @@ post_event moment place view number segment stands drawn low =
     λ least. Mirrors n moment.seats now answers (moment.next ∷ min least segment ∷ []) (posted_at least) in
     let R : List (ℕ × ℕ) → Type 0 =
     λ answers. Mirrors n moment.seats now answers (moment.next ∷ min moment.least segment ∷ []) views in
-    shown_with n moment.seats moment.events (Post number segment) now (moment.next ∷ min moment.least segment ∷ [])
-    views (after-posted machine number segment within (has_drawn_it machine number segment has))
+    shown_with moment.events (Post number segment)
+    (after-posted machine number segment within (has_drawn_it machine number segment has))
     (subst R (sym (append-nil answers))
     (subst Q (least_is moment stands.shows) (subst P (next_is moment stands.shows) made)))
 
 pub split_none : SplitIsNone
 split_none moment place view stands idle untouched =
-    let n = moment.segments in
-    split_mirrors n moment.seats (machine_after_events (machine_at_start n) moment.events)
-    (looks (machine_at_start n) moment.events) (moment.next ∷ moment.least ∷ []) moment.views place view
-    stands.shows stands.there stands.live idle.no_draws idle.no_posts idle.no_looks untouched
+    split_mirrors (live_at moment place view stands) idle untouched
 
 pub join_none : JoinIsNone
 join_none moment place elsewhere view other stands theirs apart =
-    let n = moment.segments in
-    join_mirrors n moment.seats (machine_after_events (machine_at_start n) moment.events)
-    (looks (machine_at_start n) moment.events) (moment.next ∷ moment.least ∷ []) moment.views place elsewhere view
-    other stands.shows stands.there stands.live
-    (set_else moment.views place elsewhere (joined_views view other) apart ∙ theirs.there) theirs.there theirs.live
+    join_mirrors (live_at moment place view stands) (live_at moment elsewhere other theirs)
+    (set_else moment.views place elsewhere (joined_views view other) apart ∙ theirs.exists)

@@ -19,6 +19,7 @@ use Rattle.verdict_board.specs.Views.{cut_first, cut_rest, view_after_draw, is_d
 use Rattle.verdict_board.specs.Views.{view_after_look, numbers_below, view_after_post, spent_view}
 use Rattle.verdict_board.specs.Rule.{AreOwn, Fits, HasNumber, Knows, Mirrors, all_of, draws_of, looks_of, numbers_of}
 use Rattle.verdict_board.specs.Rule.{posts_of}
+use Rattle.verdict_board.specs.Points.{IsIdle}
 use Rattle.verdict_board.proofs.Gathered.{gathered-alone, gathered-push, gathered-set, gathered-two, none_pass}
 
 -- a part of the changed view that only grew at its end, beside the same growth of the machine's
@@ -40,13 +41,13 @@ module _ {X : Type 0} (part : View → List X) (views : List View) (place : ℕ)
   bag_stays is h = omega (arith, bag h, gathered-set part h views place old new at, ap (weigh h) is)
 
 -- what every view fits, where one is another and the machine goes on
-pub all_fit : (n seats : ℕ) (before now : Machine) (views : List View) (place : ℕ) (new : View)
+pub all_fit : {n seats : ℕ} {before now : Machine} {new : View} (views : List View) (place : ℕ)
     → ((place : ℕ) (view : View) → get_elem? views place ≡ some view → Fits n seats before view)
     → ((view : View) → Fits n seats before view → Fits n seats now view)
     → Fits n seats now new
     → (elsewhere : ℕ) (view : View) → get_elem? (set views place new) elsewhere ≡ some view → Fits n seats now view
-all_fit n seats before now views place new fit on fits elsewhere view there =
-    elim (at_set views place elsewhere new view there) [
+all_fit {n} {seats} {now = now} {new} views place fit on fits elsewhere view exists =
+    elim (at_set views place elsewhere new view exists) [
       | inl here ↦ subst (Fits n seats now) here.1 fits
       | inr other ↦ on view (fit elsewhere view other.1)
     ]
@@ -81,13 +82,20 @@ over_parts n worker draw some_is = by (draw.0 == worker) (nat_le n draw.1) refl 
     by true false a b s = absurd (omega (arith, s))
     by false other a b s = absurd (omega (arith, s))
 
+-- words and views show a machine, and the view at a place stands for a number
+pub record ShowsLive (n seats : ℕ) (machine : Machine) (answers : List (ℕ × ℕ))
+    (words : List ℕ) (views : List View) (place : ℕ) (view : View) : Type 0 where
+  pub mirrors : Mirrors n seats machine answers words views
+  pub exists : get_elem? views place ≡ some view
+  pub live : 0 < length view.numbers
+
 -- a number of the view's own has not passed where the view is not done
-pub not_passed : (n seats : ℕ) (machine : Machine) (answers : List (ℕ × ℕ)) (words : List ℕ) (views : List View)
-    (place : ℕ) (view : View) (number : ℕ)
-    → machine.segments ≡ n → Mirrors n seats machine answers words views → get_elem? views place ≡ some view
+pub not_passed : {n seats : ℕ} {machine : Machine} {answers : List (ℕ × ℕ)} {words : List ℕ} {views : List View}
+    {place : ℕ} {view : View} (number : ℕ)
+    → machine.segments ≡ n → ShowsLive n seats machine answers words views place view
     → HasNumber view.numbers number → count (is_past n) view.draws ≡ 0
     → has_none_left machine number ≡ false
-not_passed n seats machine answers words views place view number for mirrors at own none =
+not_passed {n} {seats} {machine} {views = views} {place} {view} number for shows own none =
     any-none (is_over machine.segments number) machine.draws
     (let P : ℕ → Type 0 = λ m. count (is_over m number) machine.draws ≡ 0 in subst P (sym for) zero_in_all)
   where
@@ -103,7 +111,7 @@ not_passed n seats machine answers words views place view number for mirrors at 
     once : count (λ one. one == number) (all_of numbers_of views) ≤ 1
     once =
         let is : as_number (nat_lt number seats) ≡ count (λ one. one == number) (all_of numbers_of views) =
-        sym (range_count seats number) ∙ mirrors.numbers_are (λ one. as_number (one == number)) in
+        sym (range_count seats number) ∙ shows.mirrors.numbers_are (λ one. as_number (one == number)) in
         omega (arith, is, at_most_one (nat_lt number seats))
       where
         at_most_one : (test : Bool) → as_number test ≤ 1
@@ -115,29 +123,32 @@ not_passed n seats machine answers words views place view number for mirrors at 
     others elsewhere other there apart = none_pass (is_over n number) other.draws (λ draw has over.
         let same : draw.0 ≡ number = (over_parts n number draw over).0 in
         let theirs : HasNumber other.numbers number =
-        subst (HasNumber other.numbers) same ((mirrors.fit elsewhere other there).own_draws draw has) in
+        subst (HasNumber other.numbers) same ((shows.mirrors.fit elsewhere other there).own_draws draw has) in
         omega (
           arith,
           own,
           theirs,
           once,
-          gathered-two numbers_of (λ one. as_number (one == number)) views place elsewhere view other at there apart,
+          gathered-two numbers_of (λ one. as_number (one == number)) views place elsewhere view other shows.exists
+              there apart,
         ))
 
     zero_in_all : count (is_over n number) machine.draws ≡ 0
-    zero_in_all = mirrors.draws_are weight ∙ gathered-alone draws_of weight views place view at others ∙ here
+    zero_in_all =
+        shows.mirrors.draws_are weight ∙ gathered-alone draws_of weight views place view shows.exists others ∙ here
 
 -- a claim
-pub claim_mirrors : (n seats : ℕ) (machine : Machine) (answers : List (ℕ × ℕ)) (words : List ℕ) (views : List View)
-    (place : ℕ) (view : View)
-    → Mirrors n seats machine answers words views → get_elem? views place ≡ some view → 0 < length view.numbers
-    → is_done view ≡ false
+pub claim_mirrors : {n seats : ℕ} {machine : Machine} {answers : List (ℕ × ℕ)} {words : List ℕ} {views : List View}
+    {place : ℕ} {view : View}
+    → ShowsLive n seats machine answers words views place view → is_done view ≡ false
     → Mirrors n seats (machine_after_claim machine (lead view)) answers ((machine.next + 1) ∷ machine.least ∷ [])
     (set views place (view_after_draw view machine.next))
-claim_mirrors n seats machine answers words views place view mirrors at live not_done =
+claim_mirrors {n} {seats} {machine} {answers} {views = views} {place} {view} shows not_done =
+    let mirrors = shows.mirrors in
+    let at = shows.exists in
     let new = view_after_draw view machine.next in
     let old = mirrors.fit place view at in
-    let knows = old.knows live in
+    let knows = old.knows shows.live in
     let none : count (is_past n) view.draws ≡ 0 = none_past view n knows.segments_is not_done in
     record {
       words_are = refl;
@@ -147,7 +158,7 @@ claim_mirrors n seats machine answers words views place view mirrors at live not
       looks_are = bag_stays looks_of views place view new at answers mirrors.looks_are refl;
       numbers_are = bag_stays numbers_of views place view new at (numbers_below seats) mirrors.numbers_are refl;
       fit =
-          all_fit n seats machine (machine_after_claim machine (lead view)) views place new mirrors.fit
+          all_fit views place mirrors.fit
           (λ other fits. record {
             own_draws = fits.own_draws;
             own_posts = fits.own_posts;
@@ -170,7 +181,8 @@ claim_mirrors n seats machine answers words views place view mirrors at live not
                 };
           }) (record {
             own_draws =
-                own_push view.numbers view.draws (lead view) machine.next (has_lead view.numbers live) old.own_draws;
+                own_push view.numbers view.draws (lead view) machine.next (has_lead view.numbers shows.live)
+                old.own_draws;
             own_posts = old.own_posts;
             own_looks = old.own_looks;
             drawn =
@@ -179,7 +191,7 @@ claim_mirrors n seats machine answers words views place view mirrors at live not
             few_past =
                 omega (
                   arith,
-                  live,
+                  shows.live,
                   none,
                   count_push (is_past n) view.draws (lead view, machine.next),
                   at_most_one (is_past n (lead view, machine.next)),
@@ -205,27 +217,28 @@ claim_mirrors n seats machine answers words views place view mirrors at live not
     at_most_one false = omega arith
 
 -- a look
-pub look_mirrors : (n seats : ℕ) (machine : Machine) (answers : List (ℕ × ℕ)) (words : List ℕ) (views : List View)
-    (place : ℕ) (view : View)
-    → IsSoundMachine n machine → Mirrors n seats machine answers words views → get_elem? views place ≡ some view
-    → 0 < length view.numbers
+pub look_mirrors : {n seats : ℕ} {machine : Machine} {answers : List (ℕ × ℕ)} {words : List ℕ} {views : List View}
+    {place : ℕ} {view : View}
+    → IsSoundMachine n machine → ShowsLive n seats machine answers words views place view
     → Mirrors n seats machine (answers ++ (lead view, machine.least) ∷ []) words
     (set views place (view_after_look view machine.least))
-look_mirrors n seats machine answers words views place view sound mirrors at live =
+look_mirrors {n} {seats} {machine} {answers} {views = views} {place} {view} sound shows =
+    let mirrors = shows.mirrors in
+    let at = shows.exists in
     let new = view_after_look view machine.least in
     let old = mirrors.fit place view at in
-    let knows = old.knows live in
+    let knows = old.knows shows.live in
     record {
       words_are = mirrors.words_are;
       draws_are = bag_stays draws_of views place view new at machine.draws mirrors.draws_are refl;
       posts_are = bag_stays posts_of views place view new at machine.posts mirrors.posts_are refl;
       looks_are = bag_grows looks_of views place view new at answers mirrors.looks_are (lead view, machine.least) refl;
       numbers_are = bag_stays numbers_of views place view new at (numbers_below seats) mirrors.numbers_are refl;
-      fit = all_fit n seats machine machine views place new mirrors.fit (λ other fits. fits) (record {
+      fit = all_fit views place mirrors.fit (λ other fits. fits) (record {
         own_draws = old.own_draws;
         own_posts = old.own_posts;
         own_looks =
-            own_push view.numbers view.looks (lead view) machine.least (has_lead view.numbers live) old.own_looks;
+            own_push view.numbers view.looks (lead view) machine.least (has_lead view.numbers shows.live) old.own_looks;
         drawn = old.drawn;
         few_past = old.few_past;
         knows = λ some_live. record {
@@ -243,14 +256,16 @@ look_mirrors n seats machine answers words views place view sound mirrors at liv
     }
 
 -- a post
-pub post_mirrors : (n seats : ℕ) (machine : Machine) (answers : List (ℕ × ℕ)) (words : List ℕ) (views : List View)
-    (place : ℕ) (view : View) (number segment : ℕ)
-    → IsSoundMachine n machine → Mirrors n seats machine answers words views → get_elem? views place ≡ some view
+pub post_mirrors : {n seats : ℕ} {machine : Machine} {answers : List (ℕ × ℕ)} {words : List ℕ} {views : List View}
+    {place : ℕ} {view : View} (number segment : ℕ)
+    → IsSoundMachine n machine → ShowsLive n seats machine answers words views place view
     → Has view.draws (number, segment) → segment < n
     → let least : ℕ = min machine.least segment in
     Mirrors n seats (machine_posted machine number segment) answers (machine.next ∷ least ∷ [])
     (set views place (view_after_post view number segment least))
-post_mirrors n seats machine answers words views place view number segment sound mirrors at drawn low =
+post_mirrors {n} {seats} {machine} {answers} {views = views} {place} {view} number segment sound shows drawn low =
+    let mirrors = shows.mirrors in
+    let at = shows.exists in
     let new = view_after_post view number segment (min machine.least segment) in
     let now = machine_posted machine number segment in
     let old = mirrors.fit place view at in
@@ -268,7 +283,7 @@ post_mirrors n seats machine answers words views place view number segment sound
       posts_are = bag_grows posts_of views place view new at machine.posts mirrors.posts_are (number, segment) refl;
       looks_are = bag_stays looks_of views place view new at answers mirrors.looks_are refl;
       numbers_are = bag_stays numbers_of views place view new at (numbers_below seats) mirrors.numbers_are refl;
-      fit = all_fit n seats machine now views place new mirrors.fit on (record {
+      fit = all_fit views place mirrors.fit on (record {
         own_draws = old.own_draws;
         own_posts =
             own_push view.numbers view.posts number segment (old.own_draws (number, segment) drawn) old.own_posts;
@@ -319,16 +334,16 @@ pub has_in : (numbers : List ℕ) (number : ℕ) (others : List ℕ) → HasNumb
     → HasNumber (numbers ++ others) number
 has_in numbers number others has = omega (arith, count-append (λ one. one == number) numbers others, has)
 
-pub has_behind : (numbers : List ℕ) (number : ℕ) (others : List ℕ) → HasNumber others number
+pub has_after : (numbers : List ℕ) (number : ℕ) (others : List ℕ) → HasNumber others number
     → HasNumber (numbers ++ others) number
-has_behind numbers number others has = omega (arith, count-append (λ one. one == number) numbers others, has)
+has_after numbers number others has = omega (arith, count-append (λ one. one == number) numbers others, has)
 
 own_joined : (one other : List ℕ) (pairs more : List (ℕ × ℕ)) → AreOwn one pairs → AreOwn other more
     → AreOwn (one ++ other) (pairs ++ more)
 own_joined one other pairs more own theirs pair has =
     elim (Has-append_cases pairs more pair has) [
       | inl before ↦ has_in one pair.0 other (own pair before)
-      | inr following ↦ has_behind one pair.0 other (theirs pair following)
+      | inr following ↦ has_after one pair.0 other (theirs pair following)
     ]
 
 joined_knows : (n seats : ℕ) (machine : Machine) (one other : View) → Knows n seats machine one
@@ -354,9 +369,9 @@ joined_knows n seats machine one other knows theirs = record {
     by false is =
         let falls : min one.least other.least ≡ other.least = grind (arith, nat_tests) in rw falls theirs.least_is
 
-joined_fits : (n seats : ℕ) (machine : Machine) (one other : View) → 0 < length one.numbers → 0 < length other.numbers
+joined_fits : {n seats : ℕ} {machine : Machine} {one other : View} → 0 < length one.numbers → 0 < length other.numbers
     → Fits n seats machine one → Fits n seats machine other → Fits n seats machine (joined_views one other)
-joined_fits n seats machine one other live they_live fits theirs = record {
+joined_fits {n} {seats} {machine} {one} {other} live they_live fits theirs = record {
   own_draws = own_joined one.numbers other.numbers one.draws other.draws fits.own_draws theirs.own_draws;
   own_posts = own_joined one.numbers other.numbers one.posts other.posts fits.own_posts theirs.own_posts;
   own_looks = own_joined one.numbers other.numbers one.looks other.looks fits.own_looks theirs.own_looks;
@@ -404,25 +419,30 @@ module _ {X : Type 0} (part : View → List X) (views : List View) (place elsewh
         weigh-append h (part one) (part other),
       )
 
-pub join_mirrors : (n seats : ℕ) (machine : Machine) (answers : List (ℕ × ℕ)) (words : List ℕ) (views : List View)
-    (place elsewhere : ℕ) (view other : View)
-    → Mirrors n seats machine answers words views → get_elem? views place ≡ some view → 0 < length view.numbers
+pub join_mirrors : {n seats : ℕ} {machine : Machine} {answers : List (ℕ × ℕ)} {words : List ℕ} {views : List View}
+    {place elsewhere : ℕ} {view other : View}
+    → ShowsLive n seats machine answers words views place view
+    → ShowsLive n seats machine answers words views elsewhere other
     → get_elem? (set views place (joined_views view other)) elsewhere ≡ some other
-    → get_elem? views elsewhere ≡ some other → 0 < length other.numbers
     → Mirrors n seats machine answers words (set (set views place (joined_views view other)) elsewhere spent_view)
-join_mirrors n seats machine answers words views place elsewhere view other mirrors at live there was they_live =
+join_mirrors {n} {seats} {machine} {answers} {views = views} {place} {elsewhere} {view} {other} shows theirs there =
+    let mirrors = shows.mirrors in
+    let at = shows.exists in
+    let joined = set views place (joined_views view other) in
     record {
       words_are = mirrors.words_are;
-      draws_are = bag_joins draws_of views place elsewhere view other at there machine.draws mirrors.draws_are refl refl;
-      posts_are = bag_joins posts_of views place elsewhere view other at there machine.posts mirrors.posts_are refl refl;
+      draws_are =
+          bag_joins draws_of views place elsewhere view other at there machine.draws mirrors.draws_are refl refl;
+      posts_are =
+          bag_joins posts_of views place elsewhere view other at there machine.posts mirrors.posts_are refl refl;
       looks_are = bag_joins looks_of views place elsewhere view other at there answers mirrors.looks_are refl refl;
       numbers_are =
           bag_joins numbers_of views place elsewhere view other at there (numbers_below seats) mirrors.numbers_are refl
           refl;
-      fit = all_fit n seats machine machine (set views place (joined_views view other)) elsewhere spent_view
-          (all_fit n seats machine machine views place (joined_views view other) mirrors.fit (λ one fits. fits)
-          (joined_fits n seats machine view other live they_live (mirrors.fit place view at)
-          (mirrors.fit elsewhere other was)))
+      fit = all_fit joined elsewhere
+          (all_fit views place mirrors.fit (λ one fits. fits)
+          (joined_fits shows.live theirs.live (mirrors.fit place view at)
+          (mirrors.fit elsewhere other theirs.exists)))
           (λ one fits. fits) (spent_fits n seats machine);
     }
 
@@ -431,14 +451,14 @@ first_and_rest : (h : ℕ → ℕ) (numbers : List ℕ) → weigh h (take 1 numb
 first_and_rest h [] = omega arith
 first_and_rest h (number ∷ numbers) = omega arith
 
-idle_fits : (n seats : ℕ) (machine : Machine) (view : View) → Knows n seats machine view → view.draws ≡ []
-    → view.posts ≡ [] → view.looks ≡ [] → Fits n seats machine view
-idle_fits n seats machine view knows no_draws no_posts no_looks = record {
-  own_draws = λ pair has. absurd (omega (arith, has, ap (times pair) no_draws));
-  own_posts = λ pair has. absurd (omega (arith, has, ap (times pair) no_posts));
-  own_looks = λ pair has. absurd (omega (arith, has, ap (times pair) no_looks));
-  drawn = λ pair has. absurd (omega (arith, has, ap (times pair) no_posts));
-  few_past = omega (arith, ap (count (is_past n)) no_draws);
+idle_fits : {n seats : ℕ} {machine : Machine} {view : View} → Knows n seats machine view → IsIdle view
+    → Fits n seats machine view
+idle_fits {n} knows idle = record {
+  own_draws = λ pair has. absurd (omega (arith, has, ap (times pair) idle.no_draws));
+  own_posts = λ pair has. absurd (omega (arith, has, ap (times pair) idle.no_posts));
+  own_looks = λ pair has. absurd (omega (arith, has, ap (times pair) idle.no_looks));
+  drawn = λ pair has. absurd (omega (arith, has, ap (times pair) idle.no_posts));
+  few_past = omega (arith, ap (count (is_past n)) idle.no_draws);
   knows = λ live. knows;
 }
 
@@ -455,15 +475,16 @@ module _ {X : Type 0} (part : View → List X) (views : List View) (place : ℕ)
         is h,
       )
 
-pub split_mirrors : (n seats : ℕ) (machine : Machine) (answers : List (ℕ × ℕ)) (words : List ℕ) (views : List View)
-    (place : ℕ) (view : View)
-    → Mirrors n seats machine answers words views → get_elem? views place ≡ some view → 0 < length view.numbers
-    → view.draws ≡ [] → view.posts ≡ [] → view.looks ≡ [] → view.least ≡ n
+pub split_mirrors : {n seats : ℕ} {machine : Machine} {answers : List (ℕ × ℕ)} {words : List ℕ} {views : List View}
+    {place : ℕ} {view : View}
+    → ShowsLive n seats machine answers words views place view → IsIdle view → view.least ≡ n
     → Mirrors n seats machine answers words (set views place (cut_rest view) ++ cut_first view ∷ [])
-split_mirrors n seats machine answers words views place view mirrors at live no_draws no_posts no_looks untouched =
-    let knows = (mirrors.fit place view at).knows live in
+split_mirrors {n} {seats} {machine} {answers} {views = views} {place} {view} shows idle untouched =
+    let mirrors = shows.mirrors in
+    let at = shows.exists in
+    let knows = (mirrors.fit place view at).knows shows.live in
     let rest : Fits n seats machine (cut_rest view) =
-    idle_fits n seats machine (cut_rest view)
+    idle_fits
     (record {
       segments_is =
           knows.segments_is;
@@ -475,15 +496,15 @@ split_mirrors n seats machine answers words views place view mirrors at live no_
       looks_high = knows.looks_high;
       posts_high = knows.posts_high;
     })
-    no_draws no_posts no_looks in
-    let first : Fits n seats machine (cut_first view) = idle_fits n seats machine (cut_first view) (record {
+    (record { no_draws = idle.no_draws; no_posts = idle.no_posts; no_looks = idle.no_looks }) in
+    let first : Fits n seats machine (cut_first view) = idle_fits (record {
       segments_is = knows.segments_is;
       seats_is = knows.seats_is;
       least_low = omega (arith, knows.least_low, untouched, knows.segments_is);
       least_is = inl knows.segments_is;
       looks_high = λ look has. absurd (omega (arith, has));
       posts_high = λ post has. absurd (omega (arith, has));
-    }) refl refl refl in
+    }) (record { no_draws = refl; no_posts = refl; no_looks = refl }) in
     record {
       words_are = mirrors.words_are;
       draws_are = bag_splits draws_of views place view at machine.draws mirrors.draws_are (λ h. omega arith);
@@ -496,8 +517,7 @@ split_mirrors n seats machine answers words views place view mirrors at live no_
           λ elsewhere other there. elim
           (at_snoc (set views place (cut_rest view)) (cut_first view) other elsewhere there) [
             | inl before ↦
-                all_fit n seats machine machine views place (cut_rest view) mirrors.fit (λ one fits. fits) rest elsewhere
-                other before
+                all_fit views place mirrors.fit (λ one fits. fits) rest elsewhere other before
             | inr last ↦ subst (Fits n seats machine) last first
           ];
     }

@@ -14,24 +14,24 @@ use Rattle.board_core.proofs.Bags.{counted, equal_test, weigh-append}
 use Rattle.board_core.proofs.Machines.{drawn_once, overs_drawn, posted_looks, range_count, sound}
 use Rattle.verdict_board.specs.declared.view.View.{View}
 use Rattle.verdict_board.specs.Views.{AreBelow, DrewBelow, IsExact, IsWhole, is_past, numbers_below}
-use Rattle.verdict_board.specs.Rule.{Kept, Mirrors, Shows, all_of, draws_of, looks_of, numbers_of, posts_of}
+use Rattle.verdict_board.specs.Rule.{Kept, Shows, all_of, draws_of, looks_of, numbers_of, posts_of}
 use Rattle.verdict_board.specs.Points.{FollowsRule, IsOrderly, IsSeen}
 use Rattle.verdict_board.proofs.Gathered.{gathered-alone, gathered-one, gathered-two, no_pairs, weigh_each}
+use Rattle.verdict_board.proofs.Mirrors.{ShowsLive}
 use Rattle.verdict_board.proofs.Events.{drawn_in_all}
 
 -- a view that stands for all seats leaves no number to another
-others_spent : (n seats : ℕ) (machine : Machine) (answers : List (ℕ × ℕ)) (words : List ℕ) (views : List View)
-    (place : ℕ) (view : View)
-    → Mirrors n seats machine answers words views → get_elem? views place ≡ some view → 0 < length view.numbers
-    → IsWhole view
+others_spent : {n seats : ℕ} {machine : Machine} {answers : List (ℕ × ℕ)} {words : List ℕ} {views : List View}
+    {place : ℕ} {view : View}
+    → ShowsLive n seats machine answers words views place view → IsWhole view
     → (elsewhere : ℕ) (other : View) → get_elem? views elsewhere ≡ some other → elsewhere ≢ place
     → length other.numbers ≡ 0
-others_spent n seats machine answers words views place view mirrors at live whole elsewhere other there apart =
-    let knows = (mirrors.fit place view at).knows live in
+others_spent {seats = seats} {views = views} {place} {view} shows whole elsewhere other there apart =
+    let knows = (shows.mirrors.fit place view shows.exists).knows shows.live in
     let all : seats ≡ weigh (λ number. 1) (all_of numbers_of views) =
     sym (length-range_with_len 0 seats) ∙ sym (weigh_each (numbers_below seats))
-    ∙ mirrors.numbers_are (λ number. 1) in
-    let two = gathered-two numbers_of (λ number. 1) views place elsewhere view other at there apart in
+    ∙ shows.mirrors.numbers_are (λ number. 1) in
+    let two = gathered-two numbers_of (λ number. 1) views place elsewhere view other shows.exists there apart in
     omega (arith, all, two, whole, knows.seats_is, weigh_each view.numbers, weigh_each other.numbers)
 
 -- what it has is all that there is
@@ -49,12 +49,13 @@ pub record HasAll (machine : Machine) (answers : List (ℕ × ℕ)) (view : View
   pub posts_all : SameBag machine.posts view.posts
   pub looks_all : SameBag answers view.looks
 
-pub has_all : (n seats : ℕ) (machine : Machine) (answers : List (ℕ × ℕ)) (words : List ℕ) (views : List View)
-    (place : ℕ) (view : View)
-    → Mirrors n seats machine answers words views → get_elem? views place ≡ some view → 0 < length view.numbers
-    → IsWhole view → HasAll machine answers view
-has_all n seats machine answers words views place view mirrors at live whole =
-    let spent_ones = others_spent n seats machine answers words views place view mirrors at live whole in
+pub has_all : {n seats : ℕ} {machine : Machine} {answers : List (ℕ × ℕ)} {words : List ℕ} {views : List View}
+    {place : ℕ} {view : View}
+    → ShowsLive n seats machine answers words views place view → IsWhole view → HasAll machine answers view
+has_all {machine = machine} {answers} {views = views} {place} {view} shows whole =
+    let mirrors = shows.mirrors in
+    let at = shows.exists in
+    let spent_ones = others_spent shows whole in
     record {
       draws_all =
           whole_bag draws_of machine.draws views place view mirrors.draws_are at
@@ -94,13 +95,15 @@ least_in n one other least bag is = record {
 }
 
 -- it knows that all numbers were drawn once, and whose posts its looks were answered
-pub whole_exact : (n seats : ℕ) (events : List Event) (words : List ℕ) (views : List View) (place : ℕ) (view : View)
+pub whole_exact : {n seats : ℕ} {words : List ℕ} {views : List View} {view : View} (events : List Event) (place : ℕ)
     → Shows n seats events words views → get_elem? views place ≡ some view → 0 < length view.numbers → IsWhole view
     → IsExact view
-whole_exact n seats events words views place view shows at live whole =
+whole_exact {n} {seats} {words} {views} {view} events place shows at live whole =
     let machine = machine_after_events (machine_at_start n) events in
     let is_sound = sound n events in
-    let all = has_all n seats machine (looks (machine_at_start n) events) words views place view shows at live whole in
+    let stands : ShowsLive n seats machine (looks (machine_at_start n) events) words views place view =
+    record { mirrors = shows; exists = at; live = live } in
+    let all = has_all stands whole in
     let knows = (shows.fit place view at).knows live in
     let end : machine.next ≡ length view.draws =
     sym (draws_length n machine is_sound) ∙ sym (weigh_each machine.draws) ∙ all.draws_all (λ draw. 1)
@@ -115,15 +118,14 @@ whole_exact n seats events words views place view shows at live whole =
     )
 
 -- a draw in a view is below the first word
-pub drawn_below : (n seats : ℕ) (events : List Event) (words : List ℕ) (views : List View) (place : ℕ) (view : View)
+pub drawn_below : {n seats : ℕ} {words : List ℕ} {views : List View} {view : View} (events : List Event) (place : ℕ)
     → Shows n seats events words views → get_elem? views place ≡ some view
     → AreBelow (machine_after_events (machine_at_start n) events).next view.draws
-drawn_below n seats events words views place view shows at draw has =
+drawn_below {n} events place shows at draw has =
     let machine = machine_after_events (machine_at_start n) events in
-    let there =
-    drawn_in_all n seats machine (looks (machine_at_start n) events) words views place view draw shows at has in
+    let in_all = drawn_in_all place draw shows at has in
     let some_drawn : 0 < count (is_numbered draw.1) machine.draws =
-    counted (is_numbered draw.1) machine.draws draw there (equal_test draw.1 draw.1 refl) in
+    counted (is_numbered draw.1) machine.draws draw in_all (equal_test draw.1 draw.1 refl) in
     let is = drawn_once n machine draw.1 (sound n events) in
     below (nat_lt draw.1 machine.next) refl (omega (arith, some_drawn, is))
   where
@@ -133,19 +135,19 @@ drawn_below n seats events words views place view shows at draw has =
     below false is one = absurd (omega (arith, one))
 
 -- a post in a view is no less than the second word
-pub posts_above : (n seats : ℕ) (events : List Event) (words : List ℕ) (views : List View) (place : ℕ) (view : View)
+pub posts_above : {n seats : ℕ} {words : List ℕ} {views : List View} {view : View} (events : List Event) (place : ℕ)
     → Shows n seats events words views → get_elem? views place ≡ some view → (post : ℕ × ℕ) → Has view.posts post
     → (machine_after_events (machine_at_start n) events).least ≤ post.1
-posts_above n seats events words views place view shows at post has =
+posts_above {n} {views = views} {view} events place shows at post has =
     let machine = machine_after_events (machine_at_start n) events in
-    let there : Has machine.posts post =
+    let in_all : Has machine.posts post =
     omega (
       arith,
       has,
       shows.posts_are (λ pair. as_number (is_pair post pair)),
       gathered-one posts_of (λ pair. as_number (is_pair post pair)) views place view at,
     ) in
-    (sound n events).least.below_posts post there
+    (sound n events).least.below_posts post in_all
 
 -- where each view weighs no more in one way than in another, all do
 gathered_le : {X Y : Type 0} (part : View → List X) (other : View → List Y) (h : X → ℕ) (k : Y → ℕ) (views : List View)
@@ -168,19 +170,19 @@ few_drawn n seats events words views shows =
     let machine = machine_after_events (machine_at_start n) events in
     let overs : machine.next - n ≡ count (is_past n) (all_of draws_of views) =
     sym (overs_drawn n machine (sound n events)) ∙ shows.draws_are (λ draw. as_number (is_past n draw)) in
-    let few : count (is_past n) (all_of draws_of views) ≤ weigh (λ number. 1) (all_of numbers_of views) =
+    let at_most : count (is_past n) (all_of draws_of views) ≤ weigh (λ number. 1) (all_of numbers_of views) =
     gathered_le draws_of numbers_of (λ draw. as_number (is_past n draw)) (λ number. 1) views
     (λ place view at. omega (arith, (shows.fit place view at).few_past, weigh_each view.numbers)) in
     let all : seats ≡ weigh (λ number. 1) (all_of numbers_of views) =
     sym (length-range_with_len 0 seats) ∙ sym (weigh_each (numbers_below seats))
     ∙ shows.numbers_are (λ number. 1) in
-    omega (arith, overs, few, all)
+    omega (arith, overs, at_most, all)
 
 -- the rule on words and views alone
-orderly : (n seats : ℕ) (events : List Event) (words : List ℕ) (views : List View) → Shows n seats events words views
+orderly : {n seats : ℕ} {words : List ℕ} {views : List View} (events : List Event) → Shows n seats events words views
     → (place : ℕ) (view : View) → get_elem? views place ≡ some view
     → IsOrderly n (machine_after_events (machine_at_start n) events).least views view
-orderly n seats events words views shows place view at =
+orderly {n} {views = views} events shows place view at =
     let machine = machine_after_events (machine_at_start n) events in
     let fits = shows.fit place view at in
     let seen : (number : ℕ) → (number ≡ n) ⊎ Names machine.posts number → IsSeen n views number =
@@ -239,5 +241,5 @@ rule_followed n seats words views kept =
       each =
           λ place view at. let P : ℕ → Type 0 =
           λ least. IsOrderly n least views view in
-          subst P least_is (orderly n seats kept.events words views shows place view at);
+          subst P least_is (orderly kept.events shows place view at);
     }

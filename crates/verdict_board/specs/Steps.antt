@@ -31,7 +31,7 @@ IsTrueTo moment = Shows moment.segments moment.seats moment.events (moment.next 
 -- one view of such a moment, which stands for a number
 pub record IsViewAt (moment : BoardMoment) (place : ℕ) (view : View) : Type 0 where
   pub shows : IsTrueTo moment
-  pub there : get_elem? moment.views place ≡ some view
+  pub exists : get_elem? moment.views place ≡ some view
   pub live : 0 < length view.numbers
 
 -- what the machine answers an event then

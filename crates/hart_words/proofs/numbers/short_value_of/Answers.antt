@@ -5,14 +5,14 @@ use Rattle.hart_words.proofs.numbers.short_value_of.Goals as goal
 pub overflow_mul-value : goal.overflow_mul-value
 overflow_mul-value c =
     let fits : c.loop-digit.value * c.args.radix + c.in-Some.digit < 2 ^ 64 =
-    room _ c.args.digits.now c.loop-digit.digit-index c.loop-digit.value c.in-Some.digit c.loop-digit-test.true
+    room _ c.args.digits.now c.loop-digit.digit-index c.loop-digit-test.true
     (omega arith) c.requires.short c.loop-digit.invariant.below c.in-Some.ensures in
     rw c.from.ensures (omega arith)
 
 pub overflow_add-value : goal.overflow_add-value
 overflow_add-value c =
     let fits : c.loop-digit.value * c.args.radix + c.in-Some.digit < 2 ^ 64 =
-    room _ c.args.digits.now c.loop-digit.digit-index c.loop-digit.value c.in-Some.digit c.loop-digit-test.true
+    room _ c.args.digits.now c.loop-digit.digit-index c.loop-digit-test.true
     (omega arith) c.requires.short c.loop-digit.invariant.below c.in-Some.ensures in
     rw (c.from.ensures, c.from-in-Some.ensures) (omega arith)
 

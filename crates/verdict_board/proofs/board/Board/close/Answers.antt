@@ -10,9 +10,8 @@ known_files c =
     let place = c.args.seat.place in
     let P : ℕ → Type 0 = λ n. Closes n place.me.0 c.word-drawn.result c.word-least.result in
     subst P c.args.self.same
-    (closes key.segments key.seats place.id place.me.0 _ _ c.word-drawn.result c.word-least.result
-    c.close_with-closed.ensures.values.2 c.args.seat.live c.requires.whole c.word-drawn.ensures
-    c.word-least.ensures)
+    (closes key.seats place.id _ c.close_with-closed.ensures.values.2 c.args.seat.live c.requires.whole
+    c.word-drawn.ensures c.word-least.ensures)
 
 pub overflow_cast-result : goal.overflow_cast-result
 overflow_cast-result c = omega (arith, (known_files c).small)
