@@ -69,7 +69,7 @@ permitted_same core one other check agree lower permitted =
     let allowed = permitted.1 in
     same_bytes len pa one other
     (λ byte low high. agree byte access
-    (as_supervisor mode entries byte access lower (byte_allowed entries mode pa len access byte allowed low high)))
+    (as_supervisor mode entries byte access lower (byte_allowed entries mode pa len access allowed byte low high)))
 
 supervisor_lower : Supervisor ≢ Machine
 supervisor_lower is = cc
