@@ -132,7 +132,8 @@ access_made core choices request {found} {answer} {s0} {s1} {wrote} {wrote'} {by
     s1 s1 wrote wrote' bytes bytes' in
     Performs-then (located_access core request) (access_after_location core choices request)
     (Performs-observed (located_access core request) (Ok found) s0 s1 wrote bytes look)
-    (subst P is (Performs-mapped (given answer) (put found.0 (bytes_of request.size) (number_written answer.access)) made))
+    (subst P is
+    (Performs-mapped (given answer) (put found.0 (bytes_of request.size) (number_written answer.access)) made))
 
 -- an instruction does what its result asks for
 pub executed_as : (core : Core) (choices : RowChoices) (i : Instruction) {result : IntResult} {operands : Operands}
@@ -164,7 +165,7 @@ pub executed_access : (core : Core) (choices : RowChoices) (i : Instruction) (re
     → Performs (memory_access core choices request) answer s0 s1 w0 w1 b0 b1
     → Performs (mapped (after_access core i) (memory_access core choices request)) (after_access core i answer) s0
     s1 w0 w1 b0 b1
-executed_access core choices i request answer {s0} {s1} {w0} {w1} {b0} {b1} did =
+executed_access core choices i request answer did =
     Performs-mapped (after_access core i) (memory_access core choices request) did
 
 pub executed_answer : (core : Core) (choices : RowChoices) (i : Instruction) (request : MemoryRequest)
