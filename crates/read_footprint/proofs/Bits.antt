@@ -10,9 +10,9 @@ use Rattle.std.proofs.lemmas.Bool.{cases_lt, lt-ltb, le-ltb, le-leb, lt-leb}
 use Rattle.read_footprint.specs.Bits.{has_bit}
 
 two : (n : ℕ) → n < 2 → (n ≡ 0) ⊎ (n ≡ 1)
-two zero few = inl refl
-two (suc zero) few = inr refl
-two (suc (suc n)) few = absurd (omega arith)
+two zero below = inl refl
+two (suc zero) below = inr refl
+two (suc (suc n)) below = absurd (omega arith)
 
 either : (x y : ℕ) → x < 2 → y < 2 → (max x y == 1) ≡ ((x == 1) || (y == 1))
 either x y h k = elim (two x h) [
@@ -47,31 +47,36 @@ pub none_has : (place : ℕ) → has_bit 0 place ≡ false
 none_has place = ap (λ bit. bit == 1) (bit_at-zero place)
 
 pub shifted : (k : ℕ) → k ≤ 64 → 1 * 2 ^ k % 2 ^ 128 ≡ 2 ^ k
-shifted k few =
-    let below : 2 ^ k ≤ 2 ^ 64 = pow-le-pow_right {n = 2} (lit< tt) few in
+shifted k at_most_64 =
+    let below : 2 ^ k ≤ 2 ^ 64 = pow-le-pow_right {n = 2} (lit< tt) at_most_64 in
     let same : 1 * 2 ^ k ≡ 2 ^ k = omega arith in
     rw same (mod-eq_of_lt (omega (arith, below)))
 
+-- where the addresses from one up to another begin and end in a block
+pub record AreEnds (number pa end from to : ℕ) : Type 0 where
+  pub begins : from ≡ max pa (number * 64) - number * 64
+  pub ends : to ≡ min end (number * 64 + 64) - number * 64
+
 -- the bits of a block from one address up to another
-pub bits_are : (number pa end from to address bits : ℕ) → bits ≡ 2 ^ to - 2 ^ from
-    → from ≡ max pa (number * 64) - number * 64 → to ≡ min end (number * 64 + 64) - number * 64 → address / 64 ≡ number
+pub bits_are : {number pa end from to bits : ℕ} (address : ℕ) → AreEnds number pa end from to
+    → bits ≡ 2 ^ to - 2 ^ from → address / 64 ≡ number
     → has_bit bits (address % 64) ≡ (nat_le pa address && nat_lt address end)
-bits_are number pa end from to address bits are is_from is_to here = elim (cases_lt (address % 64) from) [
+bits_are {pa = pa} {end} {from} {to} address at are here = elim (cases_lt (address % 64) from) [
   | inl before ↦
       ap (λ b. has_bit b (address % 64)) are ∙ ap (λ b. b == 1) (bit_at_mask_below from to (address % 64) before)
-      ∙ sym (rw (lt-leb pa address (omega (arith, before, is_from, here))) refl)
+      ∙ sym (rw (lt-leb pa address (omega (arith, before, at.begins, here))) refl)
   | inr after ↦ elim (cases_lt (address % 64) to) [
     | inl inside ↦
         ap (λ b. has_bit b (address % 64)) are
         ∙ ap (λ b. b == 1) (bit_at_mask_inside from to (address % 64) after inside)
         ∙ sym
         (rw (
-          le-leb pa address (omega (arith, after, is_from, here)),
-          lt-ltb address end (omega (arith, inside, is_to, here)),
+          le-leb pa address (omega (arith, after, at.begins, here)),
+          lt-ltb address end (omega (arith, inside, at.ends, here)),
         ) refl)
     | inr beyond ↦
         ap (λ b. has_bit b (address % 64)) are ∙ ap (λ b. b == 1) (bit_at_mask_above from to (address % 64) beyond)
-        ∙ sym (rw (le-ltb address end (omega (arith, beyond, is_to, here))) (and_false (nat_le pa address)))
+        ∙ sym (rw (le-ltb address end (omega (arith, beyond, at.ends, here))) (and_false (nat_le pa address)))
   ]
 ]
   where

@@ -22,11 +22,11 @@ use Rattle.read_footprint.proofs.Noting.{nothing, block_found}
 use Rattle.read_footprint.proofs.Places.{both_hold}
 
 -- of the entries that are left, one is done
-pub entry_done : (P : ℕ → Type 0) (key : ℕ) (block : Block) (rest later : List (ℕ × Block))
+pub entry_done : {key : ℕ} {block : Block} {rest later : List (ℕ × Block)} (P : ℕ → Type 0)
     → rest ≡ (key, block) ∷ later → P key
     → (q : ℕ) → (is_some (lookup (nat_eq q) rest) ≡ true) ⊎ P q → (is_some (lookup (nat_eq q) later) ≡ true) ⊎ P q
-entry_done P key block rest later is done q (inr before) = inr before
-entry_done P key block rest later is done q (inl left) = elim (eqb_tells q key) [
+entry_done P is done q (inr before) = inr before
+entry_done {key} {block} {later = later} P is done q (inl left) = elim (eqb_tells q key) [
   | inl same ↦ inr (subst P (sym same.1) done)
   | inr apart ↦
       inl
@@ -44,13 +44,13 @@ entries_done P rest is q (inl left) =
 abbrev pub AreFound : Footprint → List (ℕ × Block) → Type 0
 AreFound footprint entries = All (λ (entry : ℕ × Block). get nat_eq footprint.blocks entry.0 ≡ Some entry.1) entries
 
-pub first_found : (footprint : Footprint) (key : ℕ) (block : Block) (rest later : List (ℕ × Block))
+pub first_found : {key : ℕ} {block : Block} {rest later : List (ℕ × Block)} (footprint : Footprint)
     → rest ≡ (key, block) ∷ later → AreFound footprint rest → get nat_eq footprint.blocks key ≡ Some block
-first_found footprint key block rest later is found = subst (AreFound footprint) is found 0 (key, block) (omega arith)
+first_found {key} {block} footprint is found = subst (AreFound footprint) is found 0 (key, block) (omega arith)
 
-pub later_found : (footprint : Footprint) (key : ℕ) (block : Block) (rest later : List (ℕ × Block))
+pub later_found : {key : ℕ} {block : Block} {rest later : List (ℕ × Block)} (footprint : Footprint)
     → rest ≡ (key, block) ∷ later → AreFound footprint rest → AreFound footprint later
-later_found footprint key block rest later is found =
+later_found footprint is found =
     λ k d below. subst (AreFound footprint) is found (suc k) d (omega (arith, below))
 
 -- what is found in a block
@@ -181,12 +181,12 @@ agreed footprint one other result decides rows is = same_tests result (agree one
     (λ address there. among_agree one other (footprint_of rows) all address (sym (is.read address) ∙ there)))
 
 -- a block that does not agree refutes all
-pub refuted : (footprint : Footprint) (one other : Bytes) (number : ℕ) (block : Block) (result : Bool)
+pub refuted : {one other : Bytes} {block : Block} {result : Bool} (footprint : Footprint) (number : ℕ)
     → get nat_eq footprint.blocks number ≡ Some block
     → Decides result ((address : ℕ) → block_has_byte number block.read address ≡ true → other address ≡ one address)
     → result ≡ false
     → Decides false ((address : ℕ) → has_read footprint address ≡ true → other address ≡ one address)
-refuted footprint one other number block result found decides isnt = (
+refuted {block = block} footprint number found decides isnt = (
   (λ known_files. cc),
   (λ same. sym isnt ∙ decides.1 (λ address is. same address (byte_read footprint number address block found is))),
 )
@@ -209,12 +209,12 @@ moved_rows footprint judged before after each rows is =
     fun_ext (λ address. each address ∙ ap (λ t. if t then judged address else before address) (is.wrote address))
 
 -- the bytes of one block more
-pub block_moved : (footprint : Footprint) (number : ℕ) (block : Block) (judged before now next : Bytes)
+pub block_moved : {block : Block} {judged before now next : Bytes} (footprint : Footprint) (number : ℕ)
     → get nat_eq footprint.blocks number ≡ Some block
     → ArePartlyMoved (has_written footprint) judged before now
     → ArePartlyMoved (block_has_byte number block.wrote) judged now next
     → ArePartlyMoved (has_written footprint) judged before next
-block_moved footprint number block judged before now next found was more = record {
+block_moved {block} footprint number found was more = record {
   either =
       λ address. elim (more.either address) [
         | inr moved ↦
@@ -244,23 +244,23 @@ abbrev pub AgreesAt : Footprint → Bytes → Bytes → ℕ → Type 0
 AgreesAt footprint one other number =
     (address : ℕ) → address / 64 ≡ number → has_read footprint address ≡ true → other address ≡ one address
 
-pub entry_agrees : (footprint : Footprint) (one other : Bytes) (key : ℕ) (block : Block)
-    (rest later : List (ℕ × Block)) (result : Bool) → rest ≡ (key, block) ∷ later
+pub entry_agrees : {one other : Bytes} {key : ℕ} {block : Block} {rest later : List (ℕ × Block)} {result : Bool}
+    (footprint : Footprint) → rest ≡ (key, block) ∷ later
     → get nat_eq footprint.blocks key ≡ Some block
     → Decides result ((address : ℕ) → block_has_byte key block.read address ≡ true → other address ≡ one address)
     → result ≡ true
     → (q : ℕ) → (is_some (lookup (nat_eq q) rest) ≡ true) ⊎ AgreesAt footprint one other q
     → (is_some (lookup (nat_eq q) later) ≡ true) ⊎ AgreesAt footprint one other q
-entry_agrees footprint one other key block rest later result is found decides known_files q before =
-    entry_done (AgreesAt footprint one other) key block rest later is
+entry_agrees {one} {other} {key} {block} footprint is found decides known_files q before =
+    entry_done (AgreesAt footprint one other) is
     (λ address here read. decides.0 known_files address (read_byte footprint key address block found here read)) q
     before
 
-pub all_decided : (footprint : Footprint) (one other : Bytes) (rest : List (ℕ × Block)) → rest ≡ []
+pub all_decided : {one other : Bytes} {rest : List (ℕ × Block)} (footprint : Footprint) → rest ≡ []
     → ((q : ℕ) → is_some (get nat_eq footprint.blocks q) ≡ true
     → (is_some (lookup (nat_eq q) rest) ≡ true) ⊎ AgreesAt footprint one other q)
     → Decides true ((address : ℕ) → has_read footprint address ≡ true → other address ≡ one address)
-all_decided footprint one other rest last done = (
+all_decided {one} {other} {rest} footprint last done = (
   (λ known_files. everywhere_read (λ address. other address ≡ one address) footprint
       (λ q there. entries_done (AgreesAt footprint one other) rest last q (done q there))),
   (λ same. refl),
@@ -271,14 +271,14 @@ abbrev pub MovedAt : Footprint → Bytes → Bytes → ℕ → Type 0
 MovedAt footprint judged now number =
     (address : ℕ) → address / 64 ≡ number → has_written footprint address ≡ true → now address ≡ judged address
 
-pub entry_moved : (footprint : Footprint) (judged now next : Bytes) (key : ℕ) (block : Block)
-    (rest later : List (ℕ × Block)) → rest ≡ (key, block) ∷ later → get nat_eq footprint.blocks key ≡ Some block
+pub entry_moved : {judged now next : Bytes} {key : ℕ} {block : Block} {rest later : List (ℕ × Block)}
+    (footprint : Footprint) → rest ≡ (key, block) ∷ later → get nat_eq footprint.blocks key ≡ Some block
     → ((address : ℕ) → block_has_byte key block.wrote address ≡ true → next address ≡ judged address)
     → ArePartlyMoved (block_has_byte key block.wrote) judged now next
     → (q : ℕ) → (is_some (lookup (nat_eq q) rest) ≡ true) ⊎ MovedAt footprint judged now q
     → (is_some (lookup (nat_eq q) later) ≡ true) ⊎ MovedAt footprint judged next q
-entry_moved footprint judged now next key block rest later is found all partly q before =
-    entry_done (MovedAt footprint judged next) key block rest later is
+entry_moved {judged} {now} {next} {key} {block} footprint is found all partly q before =
+    entry_done (MovedAt footprint judged next) is
     (λ address here wrote. all address (wrote_byte footprint key address block found here wrote)) q (elim before [
       | inl left ↦ inl left
       | inr done ↦
@@ -287,12 +287,12 @@ entry_moved footprint judged now next key block rest later is found all partly q
           (done address here wrote))
     ])
 
-pub all_moved : (footprint : Footprint) (judged before now : Bytes) (rest : List (ℕ × Block)) → rest ≡ []
+pub all_moved : {judged before now : Bytes} {rest : List (ℕ × Block)} (footprint : Footprint) → rest ≡ []
     → ((q : ℕ) → is_some (get nat_eq footprint.blocks q) ≡ true
     → (is_some (lookup (nat_eq q) rest) ≡ true) ⊎ MovedAt footprint judged now q)
     → ArePartlyMoved (has_written footprint) judged before now
     → (address : ℕ) → now address ≡ (if has_written footprint address then judged address else before address)
-all_moved footprint judged before now rest last done partly =
+all_moved {judged} {before} {now} {rest} footprint last done partly =
     moved_byte (has_written footprint) judged before now partly
     (everywhere_written (λ address. now address ≡ judged address) footprint
     (λ q there. entries_done (MovedAt footprint judged now) rest last q (done q there)))

@@ -54,7 +54,7 @@ lies : (ram : Span) (address : ℕ) → ram.base ≡ 0 → address < 4096 → is
 lies ram address start below =
     rw (
       le-leb ram.base address (omega (arith, start)),
-      lt-ltb address (ram.base + ram.size) (omega (arith, below, ram.some)),
+      lt-ltb address (ram.base + ram.size) (omega (arith, below, ram.at_least_a_page)),
     ) refl
 
 pub low_within : (ram : Span) (footprint : Footprint) → ram.base ≡ 0 → IsLow footprint → LiesInRam ram footprint

@@ -5,7 +5,6 @@ use Rattle.std.specs.Prelude.{not, nat_eq, nat_lt, nat_le, Result, Ok, Err, OnEr
 use Rattle.std.specs.HashMap.{get}
 use Rattle.std.proofs.lemmas.Bool.{eq-eqb, ne_eqb, lt-ltb, le-ltb, ltb-true, ltb-false}
 use Rattle.std.proofs.lemmas.Bool.Decides.{eqb_tells}
-use Rattle.std.proofs.lemmas.Grind.{common_steps}
 use Rattle.hart_words.specs.Memory.{is_within}
 use Rattle.read_footprint.specs.declared.block.Block.{Block}
 use Rattle.read_footprint.specs.declared.footprint.Footprint.{Footprint}
@@ -42,31 +41,35 @@ block_after : (test : Bool) (new : Block) (entry : Option Block) (other : Block)
 block_after true new entry other = refl
 block_after false new entry other = refl
 
--- what a footprint has of a block that has become another, and of any other block
-block_now : (before after : Footprint) (number q : ℕ) (new : Block)
-    → ((q : ℕ) → get nat_eq after.blocks q ≡ cond (nat_eq number q) (Some new) (get nat_eq before.blocks q))
-    → (test : Bool) → nat_eq number q ≡ test
+-- a footprint has a new block in place of an old one, and each other block as before
+pub record Replaces (number : ℕ) (old new : Block) (before after : Footprint) : Type 0 where
+  pub was : footprint_block_at before number ≡ old
+  pub sets : (q : ℕ) → get nat_eq after.blocks q ≡ cond (nat_eq number q) (Some new) (get nat_eq before.blocks q)
+
+-- what it has of that block, and of any other
+block_now : {number : ℕ} {old new : Block} {before after : Footprint} → Replaces number old new before after
+    → (q : ℕ) (test : Bool) → nat_eq number q ≡ test
     → footprint_block_at after q ≡ cond test new (footprint_block_at before q)
-block_now before after number q new sets test is =
-    ap (λ entry. unwrap_or entry nothing) (sets q)
+block_now {number} {new = new} {before} replaces q test is =
+    ap (λ entry. unwrap_or entry nothing) (replaces.sets q)
     ∙ block_after (nat_eq number q) new (get nat_eq before.blocks q) nothing
     ∙ ap (λ t. cond t new (footprint_block_at before q)) is
 
 inside : (address : ℕ) → address % 64 < 64
 inside address = omega arith
 
-read_noted : (before after : Footprint) (number address : ℕ) (old later new : Block)
-    → footprint_block_at before number ≡ old → Follows old later new
-    → ((q : ℕ) → get nat_eq after.blocks q ≡ cond (nat_eq number q) (Some new) (get nat_eq before.blocks q))
+read_noted : {number : ℕ} {old later new : Block} {before after : Footprint} (address : ℕ)
+    → Replaces number old new before after → Follows old later new
     → has_read after address
     ≡ (has_read before address
     || ((address / 64 == number) && has_bit later.read (address % 64) && not (has_written before address)))
 unfolding has_read has_written
-read_noted before after number address old later new was follows sets = elim (eqb_tells number (address / 64)) [
+read_noted {number} {old} {later} {before = before} address replaces follows = elim (eqb_tells number (address / 64)) [
   | inl same ↦
       let place = address % 64 in
-      let here : footprint_block_at before (address / 64) ≡ old = ap (footprint_block_at before) (sym same.1) ∙ was in
-      ap (λ block. has_bit block.read place) (block_now before after number (address / 64) new sets true same.0)
+      let here : footprint_block_at before (address / 64) ≡ old =
+      ap (footprint_block_at before) (sym same.1) ∙ replaces.was in
+      ap (λ block. has_bit block.read place) (block_now replaces (address / 64) true same.0)
       ∙ follows.read place (inside address)
       ∙ ap (λ block. has_bit block.read place || (has_bit later.read place && not (has_bit block.wrote place)))
       (sym here)
@@ -75,43 +78,41 @@ read_noted before after number address old later new was follows sets = elim (eq
       (sym (eq-eqb (address / 64) number (sym same.1)))
   | inr apart ↦
       let place = address % 64 in
-      ap (λ block. has_bit block.read place) (block_now before after number (address / 64) new sets false apart.0)
+      ap (λ block. has_bit block.read place) (block_now replaces (address / 64) false apart.0)
       ∙ sym (or_false (has_bit (footprint_block_at before (address / 64)).read place))
       ∙ ap (λ t. has_bit (footprint_block_at before (address / 64)).read place
       || (t && has_bit later.read place && not (has_bit (footprint_block_at before (address / 64)).wrote place)))
       (sym (ne_eqb (address / 64) number (λ e. apart.1 (sym e))))
 ]
 
-wrote_noted : (before after : Footprint) (number address : ℕ) (old later new : Block)
-    → footprint_block_at before number ≡ old → Follows old later new
-    → ((q : ℕ) → get nat_eq after.blocks q ≡ cond (nat_eq number q) (Some new) (get nat_eq before.blocks q))
+wrote_noted : {number : ℕ} {old later new : Block} {before after : Footprint} (address : ℕ)
+    → Replaces number old new before after → Follows old later new
     → has_written after address
     ≡ (has_written before address || ((address / 64 == number) && has_bit later.wrote (address % 64)))
 unfolding has_read has_written
-wrote_noted before after number address old later new was follows sets = elim (eqb_tells number (address / 64)) [
+wrote_noted {number} {old} {later} {before = before} address replaces follows = elim (eqb_tells number (address / 64)) [
   | inl same ↦
       let place = address % 64 in
-      let here : footprint_block_at before (address / 64) ≡ old = ap (footprint_block_at before) (sym same.1) ∙ was in
-      ap (λ block. has_bit block.wrote place) (block_now before after number (address / 64) new sets true same.0)
+      let here : footprint_block_at before (address / 64) ≡ old =
+      ap (footprint_block_at before) (sym same.1) ∙ replaces.was in
+      ap (λ block. has_bit block.wrote place) (block_now replaces (address / 64) true same.0)
       ∙ follows.wrote place
       ∙ ap (λ block. has_bit block.wrote place || has_bit later.wrote place) (sym here)
       ∙ ap (λ t. has_bit (footprint_block_at before (address / 64)).wrote place || (t && has_bit later.wrote place))
       (sym (eq-eqb (address / 64) number (sym same.1)))
   | inr apart ↦
       let place = address % 64 in
-      ap (λ block. has_bit block.wrote place) (block_now before after number (address / 64) new sets false apart.0)
+      ap (λ block. has_bit block.wrote place) (block_now replaces (address / 64) false apart.0)
       ∙ sym (or_false (has_bit (footprint_block_at before (address / 64)).wrote place))
       ∙ ap (λ t. has_bit (footprint_block_at before (address / 64)).wrote place || (t && has_bit later.wrote place))
       (sym (ne_eqb (address / 64) number (λ e. apart.1 (sym e))))
 ]
 
-pub noted : (before after : Footprint) (number : ℕ) (old later new : Block) → footprint_block_at before number ≡ old
-    → Follows old later new
-    → ((q : ℕ) → get nat_eq after.blocks q ≡ cond (nat_eq number q) (Some new) (get nat_eq before.blocks q))
-    → Notes number later before after
-noted before after number old later new was follows sets = record {
-  read = λ address. read_noted before after number address old later new was follows sets;
-  wrote = λ address. wrote_noted before after number address old later new was follows sets;
+pub noted : {number : ℕ} {old later new : Block} {before after : Footprint} → Replaces number old new before after
+    → Follows old later new → Notes number later before after
+noted replaces follows = record {
+  read = λ address. read_noted address replaces follows;
+  wrote = λ address. wrote_noted address replaces follows;
 }
 
 pub block_found : (footprint : Footprint) (number : ℕ) (old : Block) → get nat_eq footprint.blocks number ≡ Some old
@@ -129,7 +130,8 @@ pub noted_first : (before middle after : Footprint) (number : ℕ) (later : Bloc
     → ((q : ℕ) → get nat_eq after.blocks q ≡ cond (nat_eq number q) (Some later) (get nat_eq middle.blocks q))
     → Notes number later before after
 noted_first before middle after number later same absent sets =
-    let from = noted middle after number nothing later later (absent_is _ absent) (first_follows later) sets in
+    let replaces : Replaces number nothing later middle after = record { was = absent_is _ absent; sets = sets } in
+    let from = noted replaces (first_follows later) in
     record {
       read = λ address. rw (← same.read address, ← same.wrote address) (from.read address);
       wrote = λ address. rw (← same.wrote address) (from.wrote address);
@@ -162,16 +164,6 @@ pub none_written : (footprint : Footprint) → footprint.blocks.entries ≡ [] �
 unfolding has_written
 none_written footprint empty address = rw empty (none_has (address % 64))
 
-here_noted : (had within clear bit before after now : Bool) → bit ≡ within → before ≡ false → after ≡ true
-    → now ≡ true → ((had || (within && before && clear)) || (now && bit && clear)) ≡ (had || (within && after && clear))
-here_noted true within clear bit before after now e b a n = refl
-here_noted false true clear bit before after now e b a n = rw (e, b, a, n) refl
-here_noted false false clear bit before after now e b a n = rw (e, n) refl
-
-beside_noted : (had within clear bit before after now : Bool) → after ≡ before → now ≡ false
-    → ((had || (within && before && clear)) || (now && bit && clear)) ≡ (had || (within && after && clear))
-beside_noted had within clear bit before after now a n = rw (a, n) (or_false (had || (within && before && clear)))
-
 -- an address below the next number is below this one, unless it is at it
 pub still_below : (block number : ℕ) → block ≢ number → nat_lt block (number + 1) ≡ nat_lt block number
 still_below block number apart = by (nat_lt block number) refl
@@ -186,28 +178,21 @@ pub one_more : (number block : ℕ) (had within clear bit : Bool) → (block ≡
     ≡ (had || (within && nat_lt block (number + 1) && clear))
 one_more number block had within clear bit is = elim (eqb_tells block number) [
   | inl same ↦
-      here_noted had within clear bit (nat_lt block number) (nat_lt block (number + 1)) (block == number) (is same.1)
-      (le-ltb block number (omega (arith, same.1))) (lt-ltb block (number + 1) (omega (arith, same.1))) same.0
-  | inr apart ↦
-      beside_noted had within clear bit (nat_lt block number) (nat_lt block (number + 1)) (block == number)
-      (still_below block number apart.1) apart.0
+      rw (
+        is same.1,
+        le-ltb block number (omega (arith, same.1)),
+        lt-ltb block (number + 1) (omega (arith, same.1)),
+        same.0,
+      )
+      (here had within clear)
+  | inr apart ↦ rw (still_below block number apart.1, apart.0) (or_false _)
 ]
-
-within_end : (pa len address : ℕ) → is_within pa len address ≡ true → address < pa + len
-within_end pa len address within = grind (arith, common_steps, within)
-
--- all blocks of an access were noted
-pub all_blocks : (pa len end last address : ℕ) → end ≡ pa + len → last ≡ (end + 63) / 64 → (clear : Bool)
-    → (is_within pa len address && nat_lt (address / 64) last && clear) ≡ (is_within pa len address && clear)
-all_blocks pa len end last address is_end is_last clear = by (is_within pa len address) refl
   where
-    below : address < pa + len → address / 64 < last
-    below before = omega (arith, before, is_end, is_last)
-
-    by : (test : Bool) → is_within pa len address ≡ test
-        → (is_within pa len address && nat_lt (address / 64) last && clear) ≡ (is_within pa len address && clear)
-    by false out = rw out refl
-    by true within = rw (within, lt-ltb (address / 64) last (below (within_end pa len address within))) refl
+    here : (had within clear : Bool)
+        → ((had || (within && false && clear)) || (true && within && clear)) ≡ (had || (within && true && clear))
+    here true within clear = refl
+    here false true clear = refl
+    here false false clear = refl
 
 and_true : (x y : Bool) → (x && y && true) ≡ (x && y)
 and_true true true = refl
@@ -222,26 +207,34 @@ none_more_written : (had test bit : Bool) → bit ≡ false → (had || (test &&
 none_more_written had true bit none = rw none (or_false had)
 none_more_written had false bit none = or_false had
 
+-- the bits of a block are those of the bytes of an access
+pub record AreBitsOf (pa len number bits : ℕ) : Type 0 where
+  pub are : (address : ℕ) → address / 64 ≡ number → has_bit bits (address % 64) ≡ is_within pa len address
+
+pub bits_up_to : {pa len end number bits : ℕ} → end ≡ pa + len
+    → ((address : ℕ) → address / 64 ≡ number → has_bit bits (address % 64) ≡ (nat_le pa address && nat_lt address end))
+    → AreBitsOf pa len number bits
+bits_up_to {pa} is_end are = record {
+  are = λ address here. are address here ∙ ap (λ e. nat_le pa address && nat_lt address e) is_end;
+}
+
 -- a block of a read was noted
-pub read_more : (start now next : Footprint) (number pa len end bits address : ℕ)
-    → Notes number (record { read = bits; wrote = 0 }) now next
+pub read_more : {number bits pa len : ℕ} {now next : Footprint} (start : Footprint) (address : ℕ)
+    → Notes number (record { read = bits; wrote = 0 }) now next → AreBitsOf pa len number bits
     → has_read now address
     ≡ (has_read start address
     || (is_within pa len address && nat_lt (address / 64) number && not (has_written start address)))
     → has_written now address ≡ has_written start address
-    → end ≡ pa + len
-    → ((address : ℕ) → address / 64 ≡ number → has_bit bits (address % 64) ≡ (nat_le pa address && nat_lt address end))
     → has_read next address
     ≡ (has_read start address
     || (is_within pa len address && nat_lt (address / 64) (number + 1) && not (has_written start address)))
-read_more start now next number pa len end bits address notes had kept is_end are =
+read_more {number} {bits} {pa} {len} {now} start address notes bits_of had kept =
     notes.read address
     ∙ ap (λ h. h || ((address / 64 == number) && has_bit bits (address % 64) && not (has_written now address))) had
     ∙ ap (λ w. (has_read start address || (is_within pa len address && nat_lt (address / 64) number
     && not (has_written start address))) || ((address / 64 == number) && has_bit bits (address % 64) && not w)) kept
     ∙ one_more number (address / 64) (has_read start address) (is_within pa len address)
-    (not (has_written start address)) (has_bit bits (address % 64))
-    (λ here. are address here ∙ ap (λ e. nat_le pa address && nat_lt address e) is_end)
+    (not (has_written start address)) (has_bit bits (address % 64)) (bits_of.are address)
 
 pub written_same : (now next : Footprint) (number bits address : ℕ)
     → Notes number (record { read = bits; wrote = 0 }) now next → has_written next address ≡ has_written now address
@@ -253,15 +246,13 @@ pub read_same : (now next : Footprint) (number bits address : ℕ)
 read_same now next number bits address notes = notes.read address ∙ none_more_read _ _ _ _ (none_has (address % 64))
 
 -- a block of a write was noted
-pub written_more : (start now next : Footprint) (number pa len end bits address : ℕ)
-    → Notes number (record { read = 0; wrote = bits }) now next
+pub written_more : {number bits pa len : ℕ} {now next : Footprint} (start : Footprint) (address : ℕ)
+    → Notes number (record { read = 0; wrote = bits }) now next → AreBitsOf pa len number bits
     → has_written now address
     ≡ (has_written start address || (is_within pa len address && nat_lt (address / 64) number))
-    → end ≡ pa + len
-    → ((address : ℕ) → address / 64 ≡ number → has_bit bits (address % 64) ≡ (nat_le pa address && nat_lt address end))
     → has_written next address
     ≡ (has_written start address || (is_within pa len address && nat_lt (address / 64) (number + 1)))
-written_more start now next number pa len end bits address notes had is_end are =
+written_more {number} {bits} {pa} {len} start address notes bits_of had =
     let had_been = has_written start address in
     let within = is_within pa len address in
     notes.wrote address
@@ -270,27 +261,8 @@ written_more start now next number pa len end bits address notes had is_end are 
     (sym (and_true within (nat_lt (address / 64) number)))
     ∙ ap (λ b. (had_been || (within && nat_lt (address / 64) number && true)) || b)
     (sym (and_true (address / 64 == number) (has_bit bits (address % 64))))
-    ∙ one_more number (address / 64) had_been within true (has_bit bits (address % 64))
-    (λ here. are address here ∙ ap (λ e. nat_le pa address && nat_lt address e) is_end)
+    ∙ one_more number (address / 64) had_been within true (has_bit bits (address % 64)) (bits_of.are address)
     ∙ ap (λ b. had_been || b) (and_true within (nat_lt (address / 64) (number + 1)))
-
--- all blocks of an access were noted
-pub read_whole : (pa len end last address : ℕ) (had clear found : Bool) → end ≡ pa + len → last ≡ (end + 63) / 64
-    → found ≡ (had || (is_within pa len address && nat_lt (address / 64) last && clear))
-    → found ≡ (had || (is_within pa len address && clear))
-read_whole pa len end last address had clear found is_end is_last is =
-    is ∙ ap (λ b. had || b) (all_blocks pa len end last address is_end is_last clear)
-
-pub written_whole : (pa len end last address : ℕ) (had found : Bool) → end ≡ pa + len → last ≡ (end + 63) / 64
-    → found ≡ (had || (is_within pa len address && nat_lt (address / 64) last))
-    → found ≡ (had || is_within pa len address)
-written_whole pa len end last address had found is_end is_last is =
-    is ∙ ap (λ b. had || b) (sym (and_true (is_within pa len address) (nat_lt (address / 64) last))
-    ∙ all_blocks pa len end last address is_end is_last true ∙ one_true (is_within pa len address))
-  where
-    one_true : (b : Bool) → (b && true) ≡ b
-    one_true true = refl
-    one_true false = refl
 
 pub on_err : {T E P : Type 0} (result : Result T E) → P → OnErr result P
 on_err (Ok x) holds = tt

@@ -1,6 +1,6 @@
 -- Aligned ranges of bytes, of which some count: their halves, and numbers of bytes that all count.
-use Rattle.std.proofs.Common.{◌≡◌, inl, inr, ℕ, zero, suc, ◌+◌, ◌-◌, ◌*◌, ◌/◌, ◌%◌, ◌<◌, ◌≤◌, ◌^◌, Bool, true, false}
-use Rattle.std.proofs.Common.{◌==◌, ◌&&◌, ◌||◌, refl, ap, ◌∙◌, sym, subst, arith, lit<, Result, Ok, Err}
+use Rattle.std.proofs.Common.{◌≡◌, ◌⊎◌, inl, inr, ℕ, zero, suc, ◌+◌, ◌-◌, ◌*◌, ◌/◌, ◌%◌, ◌<◌, ◌≤◌, ◌^◌, Bool, true}
+use Rattle.std.proofs.Common.{false, ◌==◌, ◌&&◌, ◌||◌, refl, ap, ◌∙◌, sym, subst, arith, lit<, Result, Ok, Err}
 use Rattle.std.specs.Prelude.{nat_le, nat_lt, OnOk, OnErr}
 use Rattle.std.specs.Bool.{Decides}
 use Rattle.std.specs.Int.{bit_at}
@@ -14,7 +14,7 @@ use Rattle.hart_words.specs.Spans.{IsPlace}
 use Rattle.hart_words.proofs.Stores.{stored-inside, stored-outside}
 use Rattle.read_footprint.specs.Bits.{has_bit}
 use Rattle.read_footprint.specs.Ranges.{AreCounted, counts}
-use Rattle.read_footprint.specs.Sets.{ArePartlyMoved, block_has_byte}
+use Rattle.read_footprint.specs.Sets.{ArePartlyMoved}
 use Rattle.read_footprint.specs.declared.aligned_range.AlignedRange.{AlignedRange}
 use Rattle.read_footprint.proofs.Places.{both_hold}
 
@@ -101,7 +101,7 @@ pub record AreHalves (pa bits power : ℕ) : Type 0 where
 
 pub are_halves : (pa bits power : ℕ) → power ≤ 5 → pa < 2 ^ 64 → pa % 2 ^ (power + 1) ≡ 0 → bits < 2 ^ 2 ^ (power + 1)
     → AreHalves pa bits power
-are_halves pa bits zero few small aligned fits =
+are_halves pa bits zero at_most_5 small aligned fits =
     record {
       front =
           omega (arith, aligned);
@@ -110,7 +110,7 @@ are_halves pa bits zero few small aligned fits =
       inside = omega (arith, small, aligned);
       high = omega (arith, fits);
     }
-are_halves pa bits (suc zero) few small aligned fits =
+are_halves pa bits (suc zero) at_most_5 small aligned fits =
     record {
       front =
           omega (arith, aligned);
@@ -119,7 +119,7 @@ are_halves pa bits (suc zero) few small aligned fits =
       inside = omega (arith, small, aligned);
       high = omega (arith, fits);
     }
-are_halves pa bits (suc (suc zero)) few small aligned fits =
+are_halves pa bits (suc (suc zero)) at_most_5 small aligned fits =
     record {
       front =
           omega (arith, aligned);
@@ -128,7 +128,7 @@ are_halves pa bits (suc (suc zero)) few small aligned fits =
       inside = omega (arith, small, aligned);
       high = omega (arith, fits);
     }
-are_halves pa bits (suc (suc (suc zero))) few small aligned fits =
+are_halves pa bits (suc (suc (suc zero))) at_most_5 small aligned fits =
     record {
       front =
           omega (arith, aligned);
@@ -137,7 +137,7 @@ are_halves pa bits (suc (suc (suc zero))) few small aligned fits =
       inside = omega (arith, small, aligned);
       high = omega (arith, fits);
     }
-are_halves pa bits (suc (suc (suc (suc zero)))) few small aligned fits =
+are_halves pa bits (suc (suc (suc (suc zero)))) at_most_5 small aligned fits =
     record {
       front =
           omega (arith, aligned);
@@ -146,7 +146,7 @@ are_halves pa bits (suc (suc (suc (suc zero)))) few small aligned fits =
       inside = omega (arith, small, aligned);
       high = omega (arith, fits);
     }
-are_halves pa bits (suc (suc (suc (suc (suc zero))))) few small aligned fits =
+are_halves pa bits (suc (suc (suc (suc (suc zero))))) at_most_5 small aligned fits =
     record {
       front =
           omega (arith, aligned);
@@ -155,33 +155,8 @@ are_halves pa bits (suc (suc (suc (suc (suc zero))))) few small aligned fits =
       inside = omega (arith, small, aligned);
       high = omega (arith, fits);
     }
-are_halves pa bits (suc (suc (suc (suc (suc (suc power)))))) few small aligned fits = absurd (omega (arith, few))
-
--- both halves of a decision
-pub decided_by_halves : (front back whole : ℕ → Bool) (P : ℕ → Type 0) (a b : Bool)
-    → ((address : ℕ) → whole address ≡ (front address || back address))
-    → Decides a ((address : ℕ) → front address ≡ true → P address)
-    → Decides b ((address : ℕ) → back address ≡ true → P address)
-    → Decides (a && b) ((address : ℕ) → whole address ≡ true → P address)
-decided_by_halves front back whole P a b is first second = (
-  (λ both address counts.
-      let parts = both_hold a b both in
-      one_of (front address) (back address) (P address) (sym (is address) ∙ counts) (first.0 parts.0 address)
-      (second.0 parts.1 address)),
-  (λ all.
-      let here = first.1 (λ address counts. all address (is address ∙ rw counts refl)) in
-      let there =
-      second.1 (λ address counts. all address (is address ∙ or_true (front address) (back address) counts)) in
-      rw (here, there) refl),
-)
-  where
-    one_of : (x y : Bool) (Q : Type 0) → (x || y) ≡ true → (x ≡ true → Q) → (y ≡ true → Q) → Q
-    one_of true y Q either left right = left refl
-    one_of false y Q either left right = right either
-
-    or_true : (x y : Bool) → y ≡ true → (x || y) ≡ true
-    or_true true y is = refl
-    or_true false y is = is
+are_halves pa bits (suc (suc (suc (suc (suc (suc power)))))) at_most_5 small aligned fits =
+    absurd (omega (arith, at_most_5))
 
 -- ---- a number of bytes that all count
 
@@ -211,29 +186,30 @@ one_of_range range address is =
 -- how many bytes a number has
 record IsNumberLength (pa len : ℕ) : Type 0 where
   page : pa % 4096 + len ≤ 4096
-  some : 1 ≤ len
-  few : len ≤ 8
+  nonempty : 1 ≤ len
+  at_most_8 : len ≤ 8
 
 number_length : (pa power : ℕ) → power ≤ 3 → pa % 2 ^ power ≡ 0 → IsNumberLength pa (2 ^ power)
-number_length pa zero few aligned = record { page = omega arith; some = omega arith; few = omega arith }
-number_length pa (suc zero) few aligned =
-    record { page = omega (arith, aligned); some = omega arith; few = omega arith }
-number_length pa (suc (suc zero)) few aligned =
-    record { page = omega (arith, aligned); some = omega arith; few = omega arith }
-number_length pa (suc (suc (suc zero))) few aligned =
-    record { page = omega (arith, aligned); some = omega arith; few = omega arith }
-number_length pa (suc (suc (suc (suc power)))) few aligned = absurd (omega (arith, few))
+number_length pa zero at_most_3 aligned = record { page = omega arith; nonempty = omega arith; at_most_8 = omega arith }
+number_length pa (suc zero) at_most_3 aligned =
+    record { page = omega (arith, aligned); nonempty = omega arith; at_most_8 = omega arith }
+number_length pa (suc (suc zero)) at_most_3 aligned =
+    record { page = omega (arith, aligned); nonempty = omega arith; at_most_8 = omega arith }
+number_length pa (suc (suc (suc zero))) at_most_3 aligned =
+    record { page = omega (arith, aligned); nonempty = omega arith; at_most_8 = omega arith }
+number_length pa (suc (suc (suc (suc power)))) at_most_3 aligned = absurd (omega (arith, at_most_3))
 
 -- where each byte of it lies in RAM, it is a place there
 pub place_of : (ram : Span) (range : AlignedRange) → range.power ≤ 3 → range.pa % 2 ^ range.power ≡ 0
     → ((k : ℕ) → k < 2 ^ range.power → has_bit range.bits k ≡ true) → AreCounted ram range
     → IsPlace ram range.pa (2 ^ range.power)
-place_of ram range few aligned all counted =
+place_of ram range at_most_3 aligned all counted =
     let len = 2 ^ range.power in
-    let size = number_length range.pa range.power few aligned in
+    let size = number_length range.pa range.power at_most_3 aligned in
     let last = range.pa + len - 1 in
-    let first_in = counted range.pa (every_counts range all range.pa (omega arith) (omega (arith, size.some))) in
-    let last_in = counted last (every_counts range all last (omega (arith, size.some)) (omega (arith, size.some))) in
+    let first_in = counted range.pa (every_counts range all range.pa (omega arith) (omega (arith, size.nonempty))) in
+    let last_in =
+    counted last (every_counts range all last (omega (arith, size.nonempty)) (omega (arith, size.nonempty))) in
     let low =
     leb-true ram.base range.pa
     (both_hold (nat_le ram.base range.pa) (nat_lt range.pa (ram.base + ram.size)) first_in).0 in
@@ -242,37 +218,49 @@ place_of ram range few aligned all counted =
     (both_hold (nat_le ram.base last) (nat_lt last (ram.base + ram.size)) last_in).1 in
     record {
       low = low;
-      high = omega (arith, high, size.some);
-      narrow = omega (arith, high, size.some, ram.below);
+      high = omega (arith, high, size.nonempty);
+      narrow = omega (arith, high, size.nonempty, ram.below);
       page = size.page;
-      some = size.some;
-      few = size.few;
+      nonempty = size.nonempty;
+      at_most_8 = size.at_most_8;
     }
 
--- each byte from an address on is less than 256
-abbrev AreSmall : Bytes → ℕ → ℕ → Type 0
-AreSmall bytes pa len = (at : ℕ) → pa ≤ at → at < pa + len → bytes at < 256
+-- a number is the one that stands at so many bytes from an address on
+pub record IsNumberAt (bytes : Bytes) (pa len number : ℕ) : Type 0 where
+  pub is : number ≡ number_at bytes pa len
+  pub small : (at : ℕ) → pa ≤ at → at < pa + len → bytes at < 256
 
-following : (bytes : Bytes) (pa len : ℕ) → AreSmall bytes pa (suc len) → AreSmall bytes (pa + 1) len
-following bytes pa len small at from below = small at (omega (arith, from)) (omega (arith, below))
+-- without its lowest byte it stands at the next address
+next_number : {bytes : Bytes} {pa len number : ℕ} → IsNumberAt bytes pa (suc len) number
+    → IsNumberAt bytes (pa + 1) len (number / 256)
+unfolding number_at
+next_number {bytes} {pa} {len} {number} stands =
+    let first = stands.small pa (omega arith) (omega arith) in
+    let all : number ≡ bytes pa + 256 * number_at bytes (pa + 1) len = stands.is in
+    record {
+      is = omega (arith, first, all);
+      small = λ at from below. stands.small at (omega (arith, from)) (omega (arith, below));
+    }
+
+lowest_byte : {bytes : Bytes} {pa len number : ℕ} → IsNumberAt bytes pa (suc len) number → number % 256 ≡ bytes pa
+unfolding number_at
+lowest_byte {bytes} {pa} {len} {number} stands =
+    let first = stands.small pa (omega arith) (omega arith) in
+    let all : number ≡ bytes pa + 256 * number_at bytes (pa + 1) len = stands.is in
+    omega (arith, first, all)
 
 -- bytes with the same number are the same
-number_same : (len pa : ℕ) (one other : Bytes) → AreSmall one pa len → AreSmall other pa len
-    → number_at other pa len ≡ number_at one pa len → (at : ℕ) → pa ≤ at → at < pa + len → other at ≡ one at
-unfolding number_at
-number_same zero pa one other small too same at from below = absurd (omega (arith, from, below))
-number_same (suc len) pa one other small too same at from below =
-    let first = small pa (omega arith) (omega arith) in
-    let second = too pa (omega arith) (omega arith) in
-    elim (cases_lt pa at) [
-      | inl later ↦
-          let rest : number_at other (pa + 1) len ≡ number_at one (pa + 1) len = omega (arith, first, second, same) in
-          number_same len (pa + 1) one other (following one pa len small) (following other pa len too) rest at
-          (omega (arith, later)) (omega (arith, below))
-      | inr here ↦
-          let is : at ≡ pa = omega (arith, from, here) in
-          rw is (omega (arith, first, second, same))
-    ]
+number_same : (len pa : ℕ) {one other : Bytes} {number : ℕ} → IsNumberAt one pa len number
+    → IsNumberAt other pa len number → (at : ℕ) → IsOneOf pa len at → other at ≡ one at
+number_same zero pa first second at within = absurd (omega (arith, within.from, within.below))
+number_same (suc len) pa first second at within = elim (cases_lt pa at) [
+  | inl later ↦
+      number_same len (pa + 1) (next_number first) (next_number second) at
+      (record { from = omega (arith, later); below = omega (arith, within.below) })
+  | inr here ↦
+      let is : at ≡ pa = omega (arith, within.from, here) in
+      rw is (sym (lowest_byte second) ∙ lowest_byte first)
+]
 
 same_number : (len pa : ℕ) (one other : Bytes) → ((at : ℕ) → pa ≤ at → at < pa + len → other at ≡ one at)
     → number_at other pa len ≡ number_at one pa len
@@ -284,88 +272,76 @@ same_number (suc len) pa one other same =
     same_number len (pa + 1) one other (λ at from below. same at (omega (arith, from)) (omega (arith, below))) in
     rw (first, rest) refl
 
-pub numbers_decided : (range : AlignedRange) (one other : Bytes) (x y : ℕ)
+pub numbers_decided : {one other : Bytes} {x y : ℕ} (range : AlignedRange)
     → ((k : ℕ) → k < 2 ^ range.power → has_bit range.bits k ≡ true)
-    → x ≡ number_at other range.pa (2 ^ range.power) → y ≡ number_at one range.pa (2 ^ range.power)
-    → AreSmall other range.pa (2 ^ range.power) → AreSmall one range.pa (2 ^ range.power)
+    → IsNumberAt other range.pa (2 ^ range.power) x → IsNumberAt one range.pa (2 ^ range.power) y
     → Decides (x == y) ((address : ℕ) → counts range address ≡ true → other address ≡ one address)
-numbers_decided range one other x y all is_x is_y too small = (
-  (λ known_files address is.
-      let at = one_of_range range address is in
-      number_same (2 ^ range.power) range.pa one other small too (sym is_x ∙ eqb-true x y known_files ∙ is_y) address
-      at.from at.below),
+numbers_decided {one} {other} {x} {y} range all second first = (
+  (λ known_files address counts.
+      let same : IsNumberAt other range.pa (2 ^ range.power) y =
+      record { is = sym (eqb-true x y known_files) ∙ second.is; small = second.small } in
+      number_same (2 ^ range.power) range.pa first same address (one_of_range range address counts)),
   (λ same. eq-eqb x y
-      (is_x ∙ same_number (2 ^ range.power) range.pa one other
-      (λ at from below. same at (every_counts range all at from below)) ∙ sym is_y)),
+      (second.is ∙ same_number (2 ^ range.power) range.pa one other
+      (λ at from below. same at (every_counts range all at from below)) ∙ sym first.is)),
 )
 
 -- each byte of a number is a digit of it
-digit : (len pa : ℕ) (bytes : Bytes) (k : ℕ) → AreSmall bytes pa len → k < len
-    → number_at bytes pa len / 256 ^ k % 256 ≡ bytes (pa + k)
-unfolding number_at
-digit zero pa bytes k small below = absurd (omega (arith, below))
-digit (suc len) pa bytes zero small below =
-    let first = small pa (omega arith) (omega arith) in
+digit : (len pa : ℕ) {bytes : Bytes} {number : ℕ} (k : ℕ) → IsNumberAt bytes pa len number → k < len
+    → number / 256 ^ k % 256 ≡ bytes (pa + k)
+digit zero pa k stands below = absurd (omega (arith, below))
+digit (suc len) pa {number = number} zero stands below =
     let here : pa + 0 ≡ pa = omega arith in
-    let least : (bytes pa + 256 * number_at bytes (pa + 1) len) % 256 ≡ bytes pa = omega (arith, first) in
-    rw (div-one (bytes pa + 256 * number_at bytes (pa + 1) len), here) least
-digit (suc len) pa bytes (suc k) small below =
-    let first = small pa (omega arith) (omega arith) in
-    let rest = number_at bytes (pa + 1) len in
+    rw (div-one number, here) (lowest_byte stands)
+digit (suc len) pa {number = number} (suc k) stands below =
     let place : pa + suc k ≡ pa + 1 + k = omega arith in
     let power : 256 ^ suc k ≡ 256 * 256 ^ k = omega (arith, pow-suc 256 k) in
-    let shifted : (bytes pa + 256 * rest) / 256 ≡ rest = omega (arith, first) in
-    let less : (bytes pa + 256 * rest) / 256 ^ suc k ≡ rest / 256 ^ k =
-    ap (λ d. (bytes pa + 256 * rest) / d) power ∙ sym (div-div-eq-div-mul (bytes pa + 256 * rest) 256 (256 ^ k))
-    ∙ ap (λ n. n / 256 ^ k) shifted in
-    rw (less, place) (digit len (pa + 1) bytes k (following bytes pa len small) (omega (arith, below)))
+    let less : number / 256 ^ suc k ≡ number / 256 / 256 ^ k =
+    ap (λ d. number / d) power ∙ sym (div-div-eq-div-mul number 256 (256 ^ k)) in
+    rw (less, place) (digit len (pa + 1) k (next_number stands) (omega (arith, below)))
 
 -- a number that is put as it is in another memory
-pub number_moved : (range : AlignedRange) (judged before after : Bytes) (value : ℕ)
-    → value ≡ number_at judged range.pa (2 ^ range.power) → AreSmall judged range.pa (2 ^ range.power)
-    → after ≡ bytes_after_store range.pa (2 ^ range.power) value before
-    → (address : ℕ) → range.pa ≤ address → address < range.pa + 2 ^ range.power → after address ≡ judged address
-number_moved range judged before after value is small becomes address from below =
+pub number_moved : {judged after : Bytes} {number : ℕ} (range : AlignedRange) (before : Bytes)
+    → IsNumberAt judged range.pa (2 ^ range.power) number
+    → after ≡ bytes_after_store range.pa (2 ^ range.power) number before
+    → (address : ℕ) → IsOneOf range.pa (2 ^ range.power) address → after address ≡ judged address
+number_moved {judged} {after} {number} range before stands becomes address within =
     let len = 2 ^ range.power in
-    let place : range.pa + (address - range.pa) ≡ address = omega (arith, from) in
-    let inside : address - range.pa < len = omega (arith, from, below) in
+    let place : range.pa + (address - range.pa) ≡ address = omega (arith, within.from) in
+    let inside : address - range.pa < len = omega (arith, within.from, within.below) in
     let at : after (range.pa + (address - range.pa)) ≡ judged (range.pa + (address - range.pa)) =
     ap (λ bytes. bytes (range.pa + (address - range.pa))) becomes
-    ∙ stored-inside range.pa len value (address - range.pa) before inside
-    ∙ ap (λ value. value / 256 ^ (address - range.pa) % 256) is
-    ∙ digit len range.pa judged (address - range.pa) small inside in
+    ∙ stored-inside range.pa len number (address - range.pa) before inside
+    ∙ digit len range.pa (address - range.pa) stands inside in
     subst (λ at. after at ≡ judged at) place at
 
-pub number_partly_moved : (range : AlignedRange) (judged before after : Bytes) (value : ℕ)
+pub number_partly_moved : {judged before after : Bytes} {number : ℕ} (range : AlignedRange)
     → ((k : ℕ) → k < 2 ^ range.power → has_bit range.bits k ≡ true)
-    → value ≡ number_at judged range.pa (2 ^ range.power) → AreSmall judged range.pa (2 ^ range.power)
-    → after ≡ bytes_after_store range.pa (2 ^ range.power) value before
+    → IsNumberAt judged range.pa (2 ^ range.power) number
+    → after ≡ bytes_after_store range.pa (2 ^ range.power) number before
     → ArePartlyMoved (counts range) judged before after
-number_partly_moved range judged before after value all is small becomes = record {
+number_partly_moved {before = before} {after} {number} range all stands becomes = record {
   either = λ address. elim (cases_lt address range.pa) [
-    | inl below ↦
-        inl
-        (ap (λ bytes. bytes address) becomes
-        ∙ stored-outside range.pa (2 ^ range.power) value address before (inl below))
+    | inl below ↦ inl (stays address (inl below))
     | inr from ↦ elim (cases_lt address (range.pa + 2 ^ range.power)) [
-      | inl within ↦ inr (number_moved range judged before after value is small becomes address from within)
-      | inr past ↦
-          inl
-          (ap (λ bytes. bytes address) becomes
-          ∙ stored-outside range.pa (2 ^ range.power) value address before (inr past))
+      | inl below ↦ inr (number_moved range before stands becomes address (record { from = from; below = below }))
+      | inr past ↦ inl (stays address (inr past))
     ]
   ];
   others = λ address unwanted. elim (cases_lt address range.pa) [
-    | inl below ↦
-        ap (λ bytes. bytes address) becomes ∙ stored-outside range.pa (2 ^ range.power) value address before (inl below)
+    | inl below ↦ stays address (inl below)
     | inr from ↦ elim (cases_lt address (range.pa + 2 ^ range.power)) [
       | inl within ↦ let never : false ≡ true = sym unwanted ∙ every_counts range all address from within in cc
-      | inr past ↦
-          ap (λ bytes. bytes address) becomes
-          ∙ stored-outside range.pa (2 ^ range.power) value address before (inr past)
+      | inr past ↦ stays address (inr past)
     ]
   ];
 }
+  where
+    stays : (address : ℕ) → (address < range.pa) ⊎ (range.pa + 2 ^ range.power ≤ address)
+        → after address ≡ before address
+    stays address outside =
+        ap (λ bytes. bytes address) becomes
+        ∙ stored-outside range.pa (2 ^ range.power) number address before outside
 
 pub none_moved : (wanted : ℕ → Bool) (judged before after : Bytes) → after ≡ before
     → ArePartlyMoved wanted judged before after
@@ -376,107 +352,42 @@ none_moved wanted judged before after same =
       others = λ address unwanted. ap (λ bytes. bytes address) same;
     }
 
--- one half was moved, and then the other
-pub halves_moved : (front back whole : ℕ → Bool) (judged before between after : Bytes)
-    → ((address : ℕ) → whole address ≡ (front address || back address))
-    → ArePartlyMoved front judged before between → ArePartlyMoved back judged between after
-    → ArePartlyMoved whole judged before after
-halves_moved front back whole judged before between after is first second = record {
-  either = λ address. elim (second.either address) [
-    | inl kept ↦ elim (first.either address) [ inl was ↦ inl (kept ∙ was) | inr moved ↦ inr (kept ∙ moved) ]
-    | inr moved ↦ inr moved
-  ];
-  others = λ address unwanted.
-      let neither = neither_of (front address) (back address) (sym (is address) ∙ unwanted) in
-      second.others address neither.1 ∙ first.others address neither.0;
-}
-  where
-    neither_of : (x y : Bool) → (x || y) ≡ false → (x ≡ false) × (y ≡ false)
-    neither_of true y is = cc
-    neither_of false y is = (refl, is)
-
--- a byte that counts in either half was moved
-pub halves_done : (front back whole : ℕ → Bool) (judged before between after : Bytes)
-    → ((address : ℕ) → whole address ≡ (front address || back address))
-    → ((address : ℕ) → front address ≡ true → between address ≡ judged address)
-    → ArePartlyMoved back judged between after
-    → ((address : ℕ) → back address ≡ true → after address ≡ judged address)
-    → (address : ℕ) → whole address ≡ true → after address ≡ judged address
-halves_done front back whole judged before between after is first second later address wanted =
-    by (front address) (back address) refl refl (sym (is address) ∙ wanted)
-  where
-    by : (x y : Bool) → front address ≡ x → back address ≡ y → (x || y) ≡ true → after address ≡ judged address
-    by true y here there either =
-        elim (second.either address) [ inl kept ↦ kept ∙ first address here | inr moved ↦ moved ]
-    by false y here there either = later address (there ∙ either)
-
--- ---- blocks
-
--- the range of a block counts what its bits say
-pub block_counts : (number bits address : ℕ)
-    → counted (number * 64) 64 bits address ≡ block_has_byte number bits address
-block_counts number bits address = elim (cases_lt address (number * 64)) [
-  | inl before ↦
-      let apart : (address / 64 == number) ≡ false =
-      not_equal (address / 64) number (λ same. omega (arith, before, same)) in
-      rw (before_is (number * 64) 64 address before, apart) refl
-  | inr from ↦ elim (cases_lt address (number * 64 + 64)) [
-    | inl below ↦
-        let here : address / 64 ≡ number = omega (arith, from, below) in
-        let place : address - number * 64 ≡ address % 64 = omega (arith, from, below) in
-        rw (within_is (number * 64) 64 address from below, eq-eqb (address / 64) number here, place) refl
-    | inr past ↦
-        let apart : (address / 64 == number) ≡ false =
-        not_equal (address / 64) number (λ same. omega (arith, past, same)) in
-        rw (past_is (number * 64) 64 address past, apart) refl
-  ]
-]
-  where
-    not_equal : (x y : ℕ) → (x ≡ y → ⊥) → (x == y) ≡ false
-    not_equal x y apart = by (x == y) refl
-      where
-        by : (b : Bool) → (x == y) ≡ b → b ≡ false
-        by true is = absurd (apart (eqb-true x y is))
-        by false is = refl
-
 -- ---- powers of two
 
 pub one_shifted : (k : ℕ) → k < 64 → 1 * 2 ^ k % 2 ^ 64 ≡ 2 ^ k
-one_shifted k few =
-    let below : 2 ^ k ≤ 2 ^ 63 = pow-le-pow_right {n = 2} (lit< tt) {j = 63} (omega (arith, few)) in
+one_shifted k below_64 =
+    let below : 2 ^ k ≤ 2 ^ 63 = pow-le-pow_right {n = 2} (lit< tt) {j = 63} (omega (arith, below_64)) in
     let same : 1 * 2 ^ k ≡ 2 ^ k = omega arith in
     rw same (mod-eq_of_lt (omega (arith, below)))
 
-pub half_few : (power : ℕ) → power ≤ 5 → 2 ^ power ≤ 32
-half_few power few = pow-le-pow_right {n = 2} (lit< tt) few
+pub half_at_most_32 : (power : ℕ) → power ≤ 5 → 2 ^ power ≤ 32
+half_at_most_32 power at_most_5 = pow-le-pow_right {n = 2} (lit< tt) at_most_5
 
-pub number_few : (power : ℕ) → power ≤ 3 → 2 ^ power ≤ 8
-number_few power few = pow-le-pow_right {n = 2} (lit< tt) few
+pub number_at_most_8 : (power : ℕ) → power ≤ 3 → 2 ^ power ≤ 8
+number_at_most_8 power at_most_3 = pow-le-pow_right {n = 2} (lit< tt) at_most_3
 
 pub halves_of : (range : AlignedRange) → 1 ≤ range.power → range.pa < 2 ^ 64
     → AreHalves range.pa range.bits (range.power - 1)
-halves_of range some small =
-    let next : range.power - 1 + 1 ≡ range.power = omega (arith, some) in
-    are_halves range.pa range.bits (range.power - 1) (omega (arith, range.few)) small (rw next range.aligned)
+halves_of range nonempty small =
+    let next : range.power - 1 + 1 ≡ range.power = omega (arith, nonempty) in
+    are_halves range.pa range.bits (range.power - 1) (omega (arith, range.at_most_6)) small (rw next range.aligned)
     (rw next range.fits)
 
 -- ---- what a write did
 
-pub number_written : {E : Type 0} (range : AlignedRange) (judged before after : Bytes) (value : ℕ)
+pub number_written : {E : Type 0} {judged before after : Bytes} {number : ℕ} (range : AlignedRange)
     (result : Result (Unit {0}) E) → ((k : ℕ) → k < 2 ^ range.power → has_bit range.bits k ≡ true)
-    → value ≡ number_at judged range.pa (2 ^ range.power) → AreSmall judged range.pa (2 ^ range.power)
-    → OnOk result (after ≡ bytes_after_store range.pa (2 ^ range.power) value before)
+    → IsNumberAt judged range.pa (2 ^ range.power) number
+    → OnOk result (after ≡ bytes_after_store range.pa (2 ^ range.power) number before)
     → OnErr result (after ≡ before)
     → ArePartlyMoved (counts range) judged before after
-number_written range judged before after value (Ok done) all is small ok err =
-    number_partly_moved range judged before after value all is small ok
-number_written range judged before after value (Err error) all is small ok err =
+number_written range (Ok done) all stands ok err = number_partly_moved range all stands ok
+number_written {judged = judged} {before} {after} range (Err error) all stands ok err =
     none_moved (counts range) judged before after err
 
-pub number_done : (range : AlignedRange) (judged before after : Bytes) (value : ℕ)
-    → value ≡ number_at judged range.pa (2 ^ range.power) → AreSmall judged range.pa (2 ^ range.power)
-    → after ≡ bytes_after_store range.pa (2 ^ range.power) value before
+pub number_done : {judged after : Bytes} {number : ℕ} (range : AlignedRange) (before : Bytes)
+    → IsNumberAt judged range.pa (2 ^ range.power) number
+    → after ≡ bytes_after_store range.pa (2 ^ range.power) number before
     → (address : ℕ) → counts range address ≡ true → after address ≡ judged address
-number_done range judged before after value is small becomes address wanted =
-    let at = one_of_range range address wanted in
-    number_moved range judged before after value is small becomes address at.from at.below
+number_done range before stands becomes address wanted =
+    number_moved range before stands becomes address (one_of_range range address wanted)

@@ -127,22 +127,24 @@ row_added before after row read wrote rows is = record {
 }
 
 -- reads that were noted, and then writes
-pub added_read : (start kept mid end : Footprint) (reads all : List Read) → reads ≡ all → IsAsBefore start kept
+pub added_read : {start kept : Footprint} {reads all : List Read} (mid end : Footprint) → reads ≡ all
+    → IsAsBefore start kept
     → ((address : ℕ)
     → has_read mid address ≡ (has_read kept address || (is_read reads address && not (has_written kept address))))
     → ((address : ℕ) → has_read end address ≡ has_read mid address)
     → (address : ℕ)
     → has_read end address ≡ (has_read start address || (is_read all address && not (has_written start address)))
-added_read start kept mid end reads all are same noted stays address =
+added_read {start} {kept} {reads} mid end are same noted stays address =
     stays address ∙ noted address
     ∙ ap (λ b. b || (is_read reads address && not (has_written kept address))) (same.read address)
     ∙ ap (λ b. has_read start address || (is_read reads address && not b)) (same.wrote address)
     ∙ ap (λ r. has_read start address || (is_read r address && not (has_written start address))) are
 
-pub added_written : (start kept mid end : Footprint) (writes all : List Write) → writes ≡ all → IsAsBefore start kept
+pub added_written : {start kept : Footprint} {writes all : List Write} (mid end : Footprint) → writes ≡ all
+    → IsAsBefore start kept
     → ((address : ℕ) → has_written mid address ≡ has_written kept address)
     → ((address : ℕ) → has_written end address ≡ (has_written mid address || is_written writes address))
     → (address : ℕ) → has_written end address ≡ (has_written start address || is_written all address)
-added_written start kept mid end writes all are same stays noted address =
+added_written {start} {writes = writes} mid end are same stays noted address =
     noted address ∙ ap (λ b. b || is_written writes address) (stays address ∙ same.wrote address)
     ∙ ap (λ w. has_written start address || is_written w address) are

@@ -11,7 +11,7 @@ pub struct AlignedRange {
     pub power: u8,
     /// Which of its bytes count, the first one by the lowest bit.
     pub bits: u64,
-    ghost few: { power ≤ 6 },
+    ghost at_most_6: { power ≤ 6 },
     ghost aligned: { pa % 2 ^ power ≡ 0 },
     ghost fits: { bits < 2 ^ 2 ^ power },
 }

@@ -25,7 +25,8 @@ impl Block {
     /// Notes what came later.
     pub fn then(self, later: Block) -> Block
         ensures read { (place : ℕ) → place < BLOCK_SIZE → has_bit result.read place
-            ≡ (has_bit self.read place || (has_bit later.read place && not (has_bit self.wrote place))) }
+            ≡ (has_bit self.read place
+            || (has_bit later.read place && not (has_bit self.wrote place))) }
         ensures wrote { (place : ℕ) → has_bit result.wrote place
             ≡ (has_bit self.wrote place || has_bit later.wrote place) }
     {

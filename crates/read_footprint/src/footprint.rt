@@ -47,7 +47,8 @@ impl Footprint {
         ensures wrote { OnOk result ((address : ℕ) → has_written self.new address
             ≡ (has_written self.old address || is_written wrote.now address)) }
         ensures rows { OnOk result ((rows : List Accesses) → IsFootprintOf self.old rows
-            → IsFootprintOf self.new (rows ++ record { reads = seen.now; wrote = wrote.now } ∷ [])) }
+            → IsFootprintOf self.new
+            (rows ++ record { reads = seen.now; wrote = wrote.now } ∷ [])) }
         ensures err { OnErr result (IsAsBefore self.old self.new) }
     {
         let reads = seen.as_slice();
@@ -84,7 +85,8 @@ impl Footprint {
         ensures ok { OnOk result ((address : ℕ) → M.bytes memory.new address
             ≡ (if has_written self.now address then N.bytes judged.now address
             else M.bytes memory.old address)) }
-        ensures rows { OnOk result ((rows : List Accesses) → IsFootprintOf self.now rows → M.bytes memory.new
+        ensures rows { OnOk result ((rows : List Accesses) → IsFootprintOf self.now rows
+            → M.bytes memory.new
             ≡ moved (writes_of rows) (N.bytes judged.now) (M.bytes memory.old)) }
         ensures either { ArePartlyMoved (has_written self.now) (N.bytes judged.now)
             (M.bytes memory.old) (M.bytes memory.new) }

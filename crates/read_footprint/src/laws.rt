@@ -36,7 +36,8 @@ pub fn writes_go_row_by_row()
 /// The footprint of rows and more rows has that of the first, and what of the others' the first did
 /// not write.
 pub fn footprints_join()
-    ensures { (rows more : List Accesses) (address : ℕ) → has_address (footprint_of (rows ++ more)) address
+    ensures { (rows more : List Accesses) (address : ℕ)
+        → has_address (footprint_of (rows ++ more)) address
         ≡ (has_address (footprint_of rows) address || (has_address (footprint_of more) address
         && not (is_written (writes_of rows) address))) }
 {}

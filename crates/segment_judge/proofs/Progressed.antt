@@ -1,6 +1,5 @@
 -- Progress by one row.
-use Rattle.std.specs.Prelude.{◌||◌, ◌&&◌, not}
-use Rattle.std.proofs.Common.{◌≡◌, ℕ, ◌+◌, All, List, [], ◌∷◌, ◌++◌, Option, Some, None, Ok, Err, refl, sym, ap, ◌∙◌}
+use Rattle.std.proofs.Common.{◌≡◌, ◌+◌, All, List, [], ◌∷◌, ◌++◌, Option, Some, None, Ok, Err, refl, sym, ap, ◌∙◌}
 use Rattle.std.proofs.Common.{subst, append-nil}
 use Rattle.hart_words.specs.declared.accesses.Read.{Read}
 use Rattle.hart_words.specs.declared.accesses.Write.{Write}
@@ -18,14 +17,14 @@ use Rattle.hart_step.specs.Cores.{IsSound}
 use Rattle.hart_step.specs.Harts.{state_of}
 use Rattle.hart_step.specs.Steps.{step_of}
 use Rattle.row_compare.specs.Difference.{difference_of}
-use Rattle.read_footprint.specs.Footprints.{Accesses, is_written}
-use Rattle.read_footprint.specs.Sets.{IsFootprintOf, LiesInRam, has_read, has_written, is_read}
+use Rattle.read_footprint.specs.Footprints.{Accesses}
+use Rattle.read_footprint.specs.Sets.{IsFootprintOf, LiesInRam}
 use Rattle.segment_judge.specs.declared.progress.Progress.{Progress}
 use Rattle.segment_judge.specs.Standings.{RowGives, accesses_at}
 use Rattle.segment_judge.specs.Progress.{CanJudge, JudgesRow, standing}
 use Rattle.segment_judge.proofs.Turns.{agreed_gives, behind_valid, differing_gives, invalid_gives, performed_state}
 use Rattle.segment_judge.proofs.Turns.{performed_touched, refused_gives}
-use Rattle.segment_judge.proofs.Within.{ReadLies, WriteLies, within_added}
+use Rattle.segment_judge.proofs.Within.{IsAdded, ReadLies, WriteLies, within_added}
 
 pub judges_refused : {M : Type 0} (bytes_of : M → Bytes) (before : Progress M) (fault : RowFault)
     (accesses : List Accesses)
@@ -124,23 +123,17 @@ judges_differing bytes_of before now shown expected seen wrote accesses differen
     (differing_gives start shown difference some))
 
 -- the next row may be judged too
-pub still_judges : {M : Type 0} (ram_of : M → Span) (before now : Progress M) (seen : List Read) (wrote : List Write)
+pub still_judges : {M : Type 0} {before now : Progress M} {seen : List Read} {wrote : List Write} (ram_of : M → Span)
     → CanJudge ram_of before → IsSound now.hart.core → now.hart.core.map ≡ before.hart.core.map
-    → ram_of now.hart.mem ≡ ram_of before.hart.mem
-    → ((address : ℕ)
-    → has_read now.footprint address
-    ≡ (has_read before.footprint address || (is_read seen address && not (has_written before.footprint address))))
-    → ((address : ℕ)
-    → has_written now.footprint address ≡ (has_written before.footprint address || is_written wrote address))
+    → ram_of now.hart.mem ≡ ram_of before.hart.mem → IsAdded before.footprint now.footprint seen wrote
     → All (ReadLies before.hart.core.map.ram) seen → All (WriteLies before.hart.core.map.ram) wrote
     → CanJudge ram_of now
-still_judges ram_of before now seen wrote can sound map ram read written reads_in writes_in =
+still_judges {before = before} {now} ram_of can sound map ram added reads_in writes_in =
     let same : before.hart.core.map.ram ≡ ram_of now.hart.mem = sym (ram ∙ can.can_step.ram) in
     record {
       can_step = record { sound = sound; ram = ram ∙ can.can_step.ram ∙ sym (ap (λ (map : Map). map.ram) map) };
       within =
           subst (λ span. LiesInRam span now.footprint) same
-          (within_added before.hart.core.map.ram before.footprint now.footprint seen wrote read written reads_in
-          writes_in
+          (within_added before.hart.core.map.ram added reads_in writes_in
           (subst (λ span. LiesInRam span before.footprint) can.can_step.ram can.within));
     }

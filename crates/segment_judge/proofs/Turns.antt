@@ -105,10 +105,10 @@ drop_from (y ∷ xs) (suc i) x is = drop_from xs i x is
 drop_found : {A : Type 0} (xs : List A) (i : ℕ) (x : A) → Some x ≡ slice_get xs i → drop i xs ≡ x ∷ drop (i + 1) xs
 drop_found xs i x is = rw add-one (drop_from xs i x is)
 
-pub row_turn : (before now : Standing) (rows : List RowReading) (place : ℕ) (row : RowReading) (end : Option Verdict)
-    (whole : Judgement Core) → Some row ≡ slice_get rows place → RowGives before row end now
+pub row_turn : {row : RowReading} {whole : Judgement Core} (before now : Standing) (rows : List RowReading) (place : ℕ)
+    (end : Option Verdict) → Some row ≡ slice_get rows place → RowGives before row end now
     → judgement_after before (drop place rows) ≡ whole → judgement_or end now (drop (place + 1) rows) ≡ whole
-row_turn before now rows place row end whole here gives so_far =
+row_turn {row} before now rows place end here gives so_far =
     sym (gives (drop (place + 1) rows))
     ∙ sym (ap (λ rest. judgement_after before rest) (drop_found rows place row here)) ∙ so_far
 

@@ -103,31 +103,35 @@ written_in ram (write ∷ writes) address all is = elim (or_cases _ _ is) [
 ]
 
 -- what a step that was performed read and wrote
-pub performed_reads : (core next : Core) (shown : Shown) (expected : Expected) (seen : List Read) (wrote : List Write)
-    (bytes after : Bytes)
+pub performed_reads : {next : Core} {expected : Expected} {seen : List Read} {wrote : List Write} {bytes after : Bytes}
+    (core : Core) (shown : Shown)
     → Performs (step_of core shown) (record { next = next; expected = expected }) [] seen [] wrote bytes after
     → All (ReadLies core.map.ram) seen
-performed_reads core next shown expected seen wrote bytes after done = rw done.seen_is (reads_lie core shown bytes)
+performed_reads {bytes = bytes} core shown done = rw done.seen_is (reads_lie core shown bytes)
 
-pub performed_writes : (core next : Core) (shown : Shown) (expected : Expected) (seen : List Read)
-    (wrote : List Write) (bytes after : Bytes)
+pub performed_writes : {next : Core} {expected : Expected} {seen : List Read} {wrote : List Write} {bytes after : Bytes}
+    (core : Core) (shown : Shown)
     → Performs (step_of core shown) (record { next = next; expected = expected }) [] seen [] wrote bytes after
     → All (WriteLies core.map.ram) wrote
-performed_writes core next shown expected seen wrote bytes after done = rw done.wrote_is (writes_lie core shown bytes)
+performed_writes {bytes = bytes} core shown done = rw done.wrote_is (writes_lie core shown bytes)
 
--- what is added to a footprint within RAM
-pub within_added : (ram : Span) (before after : Footprint) (reads : List Read) (writes : List Write)
-    → ((address : ℕ)
-    → has_read after address
-    ≡ (has_read before address || (is_read reads address && not (has_written before address))))
-    → ((address : ℕ) → has_written after address ≡ (has_written before address || is_written writes address))
-    → All (ReadLies ram) reads → All (WriteLies ram) writes → LiesInRam ram before → LiesInRam ram after
-within_added ram before after reads writes read wrote reads_in writes_in within = record {
-  read = λ address is. elim (or_cases _ _ (sym (read address) ∙ is)) [
+-- a footprint after one row more
+pub record IsAdded (before after : Footprint) (reads : List Read) (writes : List Write) : Type 0 where
+  pub read : (address : ℕ)
+      → has_read after address
+      ≡ (has_read before address || (is_read reads address && not (has_written before address)))
+  pub wrote : (address : ℕ) → has_written after address ≡ (has_written before address || is_written writes address)
+
+-- what is added within RAM keeps it within RAM
+pub within_added : {before after : Footprint} {reads : List Read} {writes : List Write} (ram : Span)
+    → IsAdded before after reads writes → All (ReadLies ram) reads → All (WriteLies ram) writes
+    → LiesInRam ram before → LiesInRam ram after
+within_added {reads = reads} {writes} ram added reads_in writes_in within = record {
+  read = λ address is. elim (or_cases _ _ (sym (added.read address) ∙ is)) [
     | inl old ↦ within.read address old
     | inr new ↦ read_in ram reads address reads_in (and_parts _ _ new).0
   ];
-  wrote = λ address is. elim (or_cases _ _ (sym (wrote address) ∙ is)) [
+  wrote = λ address is. elim (or_cases _ _ (sym (added.wrote address) ∙ is)) [
     | inl old ↦ within.wrote address old
     | inr new ↦ written_in ram writes address writes_in new
   ];

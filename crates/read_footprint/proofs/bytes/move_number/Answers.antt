@@ -1,5 +1,6 @@
+use Rattle.std.proofs.Common.{◌^◌}
 use Rattle.std.proofs.lemmas.Result.{on_ok_weaker}
-use Rattle.read_footprint.proofs.Ranges.{number_done, number_written, place_of}
+use Rattle.read_footprint.proofs.Ranges.{IsNumberAt, number_done, number_written, place_of}
 use Rattle.read_footprint.proofs.bytes.move_number.Goals as goal
 
 pub read-requires : goal.read-requires
@@ -16,14 +17,22 @@ write-requires g c =
 
 pub returns-clause-ok : goal.returns-clause-ok
 returns-clause-ok g c =
-    on_ok_weaker c.write.result
-    (number_done c.args.range (g.N.PhysMem.bytes c.args.judged.now) (g.M.PhysMem.bytes c.args.memory.now) _
-    c.read.result (rw (← c.len-len.ensures) c.read.ensures.value) (rw (← c.len-len.ensures) c.read.ensures.small))
+    let range = c.args.range in
+    let stands : IsNumberAt (g.N.PhysMem.bytes c.args.judged.now) range.pa (2 ^ range.power) c.read.result =
+    record {
+      is = rw (← c.len-len.ensures) c.read.ensures.value;
+      small = rw (← c.len-len.ensures) c.read.ensures.small;
+    } in
+    on_ok_weaker c.write.result (number_done range (g.M.PhysMem.bytes c.args.memory.now) stands)
     (rw (← c.len-len.ensures) c.write.ensures.ok)
 
 pub returns-clause-either : goal.returns-clause-either
 returns-clause-either g c =
-    number_written c.args.range (g.N.PhysMem.bytes c.args.judged.now) (g.M.PhysMem.bytes c.args.memory.now) _
-    c.read.result c.write.result c.requires.all
-    (rw (← c.len-len.ensures) c.read.ensures.value) (rw (← c.len-len.ensures) c.read.ensures.small)
-    (rw (← c.len-len.ensures) c.write.ensures.ok) c.write.ensures.err
+    let range = c.args.range in
+    let stands : IsNumberAt (g.N.PhysMem.bytes c.args.judged.now) range.pa (2 ^ range.power) c.read.result =
+    record {
+      is = rw (← c.len-len.ensures) c.read.ensures.value;
+      small = rw (← c.len-len.ensures) c.read.ensures.small;
+    } in
+    number_written range c.write.result c.requires.all stands (rw (← c.len-len.ensures) c.write.ensures.ok)
+    c.write.ensures.err

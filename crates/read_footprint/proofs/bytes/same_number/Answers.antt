@@ -1,4 +1,5 @@
-use Rattle.read_footprint.proofs.Ranges.{numbers_decided, place_of}
+use Rattle.std.proofs.Common.{◌^◌}
+use Rattle.read_footprint.proofs.Ranges.{IsNumberAt, numbers_decided, place_of}
 use Rattle.read_footprint.proofs.bytes.same_number.Goals as goal
 
 pub read-requires : goal.read-requires
@@ -15,8 +16,15 @@ read-requires-2 g c =
 
 pub returns : goal.returns
 returns g c =
-    let other = g.N.PhysMem.bytes c.args.other.now in
-    let one = g.M.PhysMem.bytes c.args.one.now in
-    numbers_decided c.args.range one other c.read.result c.read-2.result c.requires.all
-    (rw (← c.len-len.ensures) c.read.ensures.value) (rw (← c.len-len.ensures) c.read-2.ensures.value)
-    (rw (← c.len-len.ensures) c.read.ensures.small) (rw (← c.len-len.ensures) c.read-2.ensures.small)
+    let range = c.args.range in
+    let other : IsNumberAt (g.N.PhysMem.bytes c.args.other.now) range.pa (2 ^ range.power) c.read.result =
+    record {
+      is = rw (← c.len-len.ensures) c.read.ensures.value;
+      small = rw (← c.len-len.ensures) c.read.ensures.small;
+    } in
+    let one : IsNumberAt (g.M.PhysMem.bytes c.args.one.now) range.pa (2 ^ range.power) c.read-2.result =
+    record {
+      is = rw (← c.len-len.ensures) c.read-2.ensures.value;
+      small = rw (← c.len-len.ensures) c.read-2.ensures.small;
+    } in
+    numbers_decided range c.requires.all other one

@@ -36,7 +36,7 @@ loop-place-preserved g c =
     let turn =
     row_turn (standing bytes_of before c.loop-place.invariant.accesses)
     (standing bytes_of now (c.loop-place.invariant.accesses ++ more)) (readings_in c.args.rows.now)
-    c.loop-place.place row c.in_ok-judge_row.field-0 _ c.in-Some.ensures judges.gives
+    c.loop-place.place c.in_ok-judge_row.field-0 c.in-Some.ensures judges.gives
     c.loop-place.invariant.whole in
     let rows = rw c.in-None-2.is at c.in_ok-judge_row.ensures.rows in
     record {
@@ -64,7 +64,7 @@ returns-in-Some-2-clause-judged g c =
     let turn =
     row_turn (standing bytes_of before c.loop-place.invariant.accesses)
     (standing bytes_of now (c.loop-place.invariant.accesses ++ more)) (readings_in c.args.rows.now)
-    c.loop-place.place row c.in_ok-judge_row.field-0 _ c.in-Some.ensures judges.gives
+    c.loop-place.place c.in_ok-judge_row.field-0 c.in-Some.ensures judges.gives
     c.loop-place.invariant.whole in
     let whole = rw c.in-Some-2.is at turn in
     ended bytes_of (state_of bytes_of c.args.start) (readings_in c.args.rows.now) c.in-Some-2.verdict

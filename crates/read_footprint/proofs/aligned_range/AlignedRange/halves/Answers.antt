@@ -23,7 +23,7 @@ pub invariant_of-front : goal.invariant_of-front
 invariant_of-front c =
     let halves = halves_of c.args.self c.requires (omega arith) in
     record {
-      few = omega (arith, c.args.self.few);
+      at_most_6 = omega (arith, c.args.self.at_most_6);
       aligned = halves.front;
       fits =
           rw (one_shifted c.half-half.result (omega (arith, c.half-half.ensures.at_most_32)), c.half-half.ensures.is)
@@ -34,7 +34,7 @@ pub invariant_of-back : goal.invariant_of-back
 invariant_of-back c =
     let halves = halves_of c.args.self c.requires (omega arith) in
     record {
-      few = omega (arith, c.args.self.few);
+      at_most_6 = omega (arith, c.args.self.at_most_6);
       aligned = rw c.half-half.ensures.is halves.back;
       fits = rw c.half-half.ensures.is halves.high;
     }

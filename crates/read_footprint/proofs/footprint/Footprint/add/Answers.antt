@@ -9,21 +9,21 @@ returns-in_err-reserve-clause-err c =
 
 pub returns-clause-read : goal.returns-clause-read
 returns-clause-read c =
-    added_read c.args.self.now _ _ _ _ _ c.as_slice-reads.ensures
-    (same_found _ (record { blocks = c.reserve.new.self }) c.in_ok-reserve.ensures.entries.2)
+    added_read _ _ c.as_slice-reads.ensures
+    (same_found c.args.self.now (record { blocks = c.reserve.new.self }) c.in_ok-reserve.ensures.entries.2)
     c.note_reads.ensures.read c.note_writes.ensures.read
 
 pub returns-clause-wrote : goal.returns-clause-wrote
 returns-clause-wrote c =
-    added_written c.args.self.now _ _ _ _ _ c.as_slice-writes.ensures
-    (same_found _ (record { blocks = c.reserve.new.self }) c.in_ok-reserve.ensures.entries.2)
+    added_written _ _ c.as_slice-writes.ensures
+    (same_found c.args.self.now (record { blocks = c.reserve.new.self }) c.in_ok-reserve.ensures.entries.2)
     c.note_reads.ensures.wrote c.note_writes.ensures.wrote
 
 pub returns-clause-rows : goal.returns-clause-rows
 returns-clause-rows c =
     let same = same_found c.args.self.now (record { blocks = c.reserve.new.self }) c.in_ok-reserve.ensures.entries.2 in
     row_added c.args.self.now c.note_writes.new.self (record { reads = c.args.seen.now; wrote = c.args.wrote.now })
-    (added_read c.args.self.now _ _ _ _ _ c.as_slice-reads.ensures same c.note_reads.ensures.read
+    (added_read _ _ c.as_slice-reads.ensures same c.note_reads.ensures.read
     c.note_writes.ensures.read)
-    (added_written c.args.self.now _ _ _ _ _ c.as_slice-writes.ensures same c.note_reads.ensures.wrote
+    (added_written _ _ c.as_slice-writes.ensures same c.note_reads.ensures.wrote
     c.note_writes.ensures.wrote)

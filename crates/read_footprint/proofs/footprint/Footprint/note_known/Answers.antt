@@ -7,7 +7,6 @@ pub returns-in-Some-clause-noted : goal.returns-in-Some-clause-noted
 returns-in-Some-clause-noted c = λ known.
     let found = sym c.get_mut.ensures.value ∙ ap option_copied_mut c.in-Some.is in
     let updates = (c.get_mut.follows.holds c.then.result).3 (rw found refl) in
-    noted c.args.self.now (record { blocks = c.get_mut.follows.lender c.then.result }) c.args.number
-    c.in-Some.block.now c.args.later c.then.result
-    (block_found c.args.self.now c.args.number c.in-Some.block.now found)
-    (record { read = c.then.ensures.read; wrote = c.then.ensures.wrote }) updates.0
+    noted
+    (record { was = block_found c.args.self.now c.args.number c.in-Some.block.now found; sets = updates.0 })
+    (record { read = c.then.ensures.read; wrote = c.then.ensures.wrote })

@@ -1,5 +1,5 @@
 use Rattle.std.proofs.Common.{ap, ◌+◌, ◌∙◌, arith}
-use Rattle.read_footprint.proofs.Noting.{read_same, written_more}
+use Rattle.read_footprint.proofs.Noting.{bits_up_to, read_same, written_more}
 use Rattle.read_footprint.proofs.footprint.Footprint.note_write.Goals as goal
 
 pub loop-number-preserved : goal.loop-number-preserved
@@ -10,7 +10,7 @@ loop-number-preserved c = record {
       λ address. read_same c.loop-number.self c.note.new.self c.loop-number.number c.bits_of-wrote.result address
       c.note.ensures.noted ∙ c.loop-number.invariant.read address;
   wrote =
-      λ address. written_more c.args.self.now c.loop-number.self c.note.new.self c.loop-number.number c.args.pa
-      c.args.len _ c.bits_of-wrote.result address c.note.ensures.noted (c.loop-number.invariant.wrote address)
-      (ap (λ n. c.args.pa + n) c.from.ensures) c.bits_of-wrote.ensures;
+      λ address. written_more c.args.self.now address c.note.ensures.noted
+      (bits_up_to (ap (λ n. c.args.pa + n) c.from.ensures) c.bits_of-wrote.ensures)
+      (c.loop-number.invariant.wrote address);
 }

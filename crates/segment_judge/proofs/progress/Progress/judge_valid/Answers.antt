@@ -9,13 +9,13 @@ pub add-requires-clause-reads : goal.add-requires-clause-reads
 add-requires-clause-reads g c =
     let core = c.args.self.now.hart.core in
     reads_narrow core.map.ram c.in-Ok.stepped.seen
-    (performed_reads core _ _ _ _ _ _ _ (IfOk-at_ok _ c.in-Ok.is c.step-done.ensures.stepped))
+    (performed_reads core _ (IfOk-at_ok _ c.in-Ok.is c.step-done.ensures.stepped))
 
 pub add-requires-clause-writes : goal.add-requires-clause-writes
 add-requires-clause-writes g c =
     let core = c.args.self.now.hart.core in
     writes_narrow core.map.ram c.in-Ok.stepped.wrote
-    (performed_writes core _ _ _ _ _ _ _ (IfOk-at_ok _ c.in-Ok.is c.step-done.ensures.stepped))
+    (performed_writes core _ (IfOk-at_ok _ c.in-Ok.is c.step-done.ensures.stepped))
 
 pub returns-in-Some-clause-judges : goal.returns-in-Some-clause-judges
 returns-in-Some-clause-judges g c = λ accesses.
@@ -44,17 +44,15 @@ returns-in-None-clause-judges g c = λ accesses.
 pub returns-in-Some-clause-can_judge : goal.returns-in-Some-clause-can_judge
 returns-in-Some-clause-can_judge g c =
     let core = c.args.self.now.hart.core in
-    still_judges g.M.PhysMem.ram c.args.self.now _ c.in-Ok.stepped.seen c.in-Ok.stepped.wrote c.requires.can_judge
-    c.step-done.ensures.sound c.step-done.ensures.map c.step-done.ensures.ram
-    c.in_ok-add.ensures.read c.in_ok-add.ensures.wrote
-    (performed_reads core _ _ _ _ _ _ _ (IfOk-at_ok _ c.in-Ok.is c.step-done.ensures.stepped))
-    (performed_writes core _ _ _ _ _ _ _ (IfOk-at_ok _ c.in-Ok.is c.step-done.ensures.stepped))
+    still_judges g.M.PhysMem.ram c.requires.can_judge c.step-done.ensures.sound c.step-done.ensures.map
+    c.step-done.ensures.ram (record { read = c.in_ok-add.ensures.read; wrote = c.in_ok-add.ensures.wrote })
+    (performed_reads core _ (IfOk-at_ok _ c.in-Ok.is c.step-done.ensures.stepped))
+    (performed_writes core _ (IfOk-at_ok _ c.in-Ok.is c.step-done.ensures.stepped))
 
 pub returns-in-None-clause-can_judge : goal.returns-in-None-clause-can_judge
 returns-in-None-clause-can_judge g c =
     let core = c.args.self.now.hart.core in
-    still_judges g.M.PhysMem.ram c.args.self.now _ c.in-Ok.stepped.seen c.in-Ok.stepped.wrote c.requires.can_judge
-    c.step-done.ensures.sound c.step-done.ensures.map c.step-done.ensures.ram
-    c.in_ok-add.ensures.read c.in_ok-add.ensures.wrote
-    (performed_reads core _ _ _ _ _ _ _ (IfOk-at_ok _ c.in-Ok.is c.step-done.ensures.stepped))
-    (performed_writes core _ _ _ _ _ _ _ (IfOk-at_ok _ c.in-Ok.is c.step-done.ensures.stepped))
+    still_judges g.M.PhysMem.ram c.requires.can_judge c.step-done.ensures.sound c.step-done.ensures.map
+    c.step-done.ensures.ram (record { read = c.in_ok-add.ensures.read; wrote = c.in_ok-add.ensures.wrote })
+    (performed_reads core _ (IfOk-at_ok _ c.in-Ok.is c.step-done.ensures.stepped))
+    (performed_writes core _ (IfOk-at_ok _ c.in-Ok.is c.step-done.ensures.stepped))
