@@ -25,6 +25,11 @@ use Rattle.boundary_guess.proofs.Faults.{IsFault}
 abbrev pub ShowsWords : Shown → Type 0
 ShowsWords shown = (signal : Signal) → IfSome (shown signal) (λ value. value < 2 ^ 64)
 
+-- and none of its signals differs from what the hart did
+pub record RowAgrees (retired : Retired) (shown : Shown) : Type 0 where
+  pub words : ShowsWords shown
+  pub none_differs : (signal : Signal) → signal_difference retired shown signal ≡ None
+
 -- where nothing differs under a mask, both values are the same under it
 differs_by : (want found : ℕ) (difference : Difference) (test : Bool) → (want == found) ≡ test
     → (if test then None else Some difference) ≡ None → want ≡ found
@@ -58,13 +63,13 @@ found_is signal (Some found) want there word small none =
     (same_word want found small word (same_under signal found (record { value = want; mask = all_bits }) none)))
 
 -- a signal that is shown, and of which a whole word is wanted, has that value
-shown_is : (retired : Retired) (shown : Shown) (signal : Signal) (want : ℕ) → IsShown shown signal → ShowsWords shown
-    → want < 2 ^ 64 → expected_signal retired shown signal ≡ whole want
-    → signal_difference retired shown signal ≡ None → shown signal ≡ Some want
+shown_is : {retired : Retired} {shown : Shown} (signal : Signal) (want : ℕ) → RowAgrees retired shown
+    → IsShown shown signal → want < 2 ^ 64 → expected_signal retired shown signal ≡ whole want
+    → shown signal ≡ Some want
 unfolding signal_difference
-shown_is retired shown signal want there words small is none =
-    found_is signal (shown signal) want there (words signal) small
-    (ap (λ w. difference_between signal (shown signal) w) (sym is) ∙ none)
+shown_is {shown} signal want agrees there small is =
+    found_is signal (shown signal) want there (agrees.words signal) small
+    (ap (λ w. difference_between signal (shown signal) w) (sym is) ∙ agrees.none_differs signal)
 
 -- ---- traps
 
@@ -77,43 +82,40 @@ trap_wanted cause true is fault = absurd cc
 trap_wanted cause false is fault = refl
 
 -- a row that agrees and does not show 1 did not take a trap for a fault
-pub took_no_fault : (retired : Retired) (shown : Shown) (cause : Cause) → retired.effects ≡ Err cause → IsFault cause
-    → IsShown shown Trap → ShowsWords shown → shows (shown Trap) 1 ≡ false
-    → signal_difference retired shown Trap ≡ None → ⊥
+pub took_no_fault : {retired : Retired} {shown : Shown} {cause : Cause} → RowAgrees retired shown
+    → retired.effects ≡ Err cause → IsFault cause → IsShown shown Trap → shows (shown Trap) 1 ≡ false → ⊥
 unfolding expected_signal
-took_no_fault retired shown cause is fault there words other none =
+took_no_fault {retired} {shown} {cause} agrees is fault there other =
     let want : expected_signal retired shown Trap ≡ whole 1 =
     ap expected_trap is ∙ trap_wanted cause (is_call_or_breakpoint cause) refl fault in
-    one_shows (shown Trap) (shown_is retired shown Trap 1 there words (lit< tt) want none) other
+    one_shows (shown Trap) (shown_is Trap 1 agrees there (lit< tt) want) other
 
 -- the bits that were fetched
-pub insn_is : (retired : Retired) (shown : Shown) (bits : ℕ) → retired.insn ≡ Some bits → bits < 2 ^ 64
-    → IsShown shown Insn → ShowsWords shown → signal_difference retired shown Insn ≡ None → shown Insn ≡ Some bits
+pub insn_is : {retired : Retired} {shown : Shown} (bits : ℕ) → RowAgrees retired shown → retired.insn ≡ Some bits
+    → bits < 2 ^ 64 → IsShown shown Insn → shown Insn ≡ Some bits
 unfolding expected_signal
-insn_is retired shown bits is small there words none =
-    shown_is retired shown Insn bits there words small (ap where_known is) none
+insn_is bits agrees is small there = shown_is Insn bits agrees there small (ap where_known is)
 
 -- what an instruction that retired did
-pub rd_is : (retired : Retired) (shown : Shown) (effects : Effects) → retired.effects ≡ Ok effects
-    → effects.rd < 2 ^ 64 → IsShown shown RdAddr → ShowsWords shown → signal_difference retired shown RdAddr ≡ None
-    → shown RdAddr ≡ Some effects.rd
+pub rd_is : {retired : Retired} {shown : Shown} (effects : Effects) → RowAgrees retired shown
+    → retired.effects ≡ Ok effects → effects.rd < 2 ^ 64 → IsShown shown RdAddr → shown RdAddr ≡ Some effects.rd
 unfolding expected_signal
-rd_is retired shown effects is small there words none =
-    shown_is retired shown RdAddr effects.rd there words small
-    (ap (λ e. unless_trap (record retired { effects = e }) (λ done. whole done.rd)) is) none
+rd_is {retired} effects agrees is small there =
+    shown_is RdAddr effects.rd agrees there small
+    (ap (λ e. unless_trap (record retired { effects = e }) (λ done. whole done.rd)) is)
 
-pub value_is : (retired : Retired) (shown : Shown) (effects : Effects) → retired.effects ≡ Ok effects
-    → effects.rd_value < 2 ^ 64 → IsShown shown RdWdata → ShowsWords shown
-    → signal_difference retired shown RdWdata ≡ None → shown RdWdata ≡ Some effects.rd_value
+pub value_is : {retired : Retired} {shown : Shown} (effects : Effects) → RowAgrees retired shown
+    → retired.effects ≡ Ok effects → effects.rd_value < 2 ^ 64 → IsShown shown RdWdata
+    → shown RdWdata ≡ Some effects.rd_value
 unfolding expected_signal
-value_is retired shown effects is small there words none =
-    shown_is retired shown RdWdata effects.rd_value there words small
-    (ap (λ e. unless_trap (record retired { effects = e }) (λ done. whole done.rd_value)) is) none
+value_is {retired} effects agrees is small there =
+    shown_is RdWdata effects.rd_value agrees there small
+    (ap (λ e. unless_trap (record retired { effects = e }) (λ done. whole done.rd_value)) is)
 
-pub next_is : (retired : Retired) (shown : Shown) (effects : Effects) → retired.effects ≡ Ok effects
-    → effects.next_pc < 2 ^ 64 → IsShown shown PcWdata → ShowsWords shown
-    → signal_difference retired shown PcWdata ≡ None → shown PcWdata ≡ Some effects.next_pc
+pub next_is : {retired : Retired} {shown : Shown} (effects : Effects) → RowAgrees retired shown
+    → retired.effects ≡ Ok effects → effects.next_pc < 2 ^ 64 → IsShown shown PcWdata
+    → shown PcWdata ≡ Some effects.next_pc
 unfolding expected_signal
-next_is retired shown effects is small there words none =
-    shown_is retired shown PcWdata effects.next_pc there words small
-    (ap (λ e. unless_trap (record retired { effects = e }) (λ done. whole done.next_pc)) is) none
+next_is {retired} effects agrees is small there =
+    shown_is PcWdata effects.next_pc agrees there small
+    (ap (λ e. unless_trap (record retired { effects = e }) (λ done. whole done.next_pc)) is)

@@ -217,48 +217,57 @@ into_supervisor_word status mode small =
     merged_word supervisor_stack status _ small
     (supervisor_stack_word (bit_at status SIE) (mode_number mode) (bit_at-lt status SIE) (mode_few mode))
 
-machine_words : (csrs : Csrs) (mode : Mode) (value tval pc : ℕ) → IsLegal csrs → HasWords csrs → value < 2 ^ 64
-    → tval < 2 ^ 64 → pc < 2 ^ 64 → pc % 2 ≡ 0 → HasWords (enter_machine_of csrs mode value tval pc)
+-- what an entry writes are words, and pc is even
+record EntersWords (value tval pc : ℕ) : Type 0 where
+  pub cause_fits : value < 2 ^ 64
+  pub tval_fits : tval < 2 ^ 64
+  pub pc_fits : pc < 2 ^ 64
+  pub pc_even : pc % 2 ≡ 0
+
+machine_words : (csrs : Csrs) (mode : Mode) (value tval pc : ℕ) → AreSane csrs → EntersWords value tval pc
+    → HasWords (enter_machine_of csrs mode value tval pc)
 unfolding enter_machine_of
-machine_words csrs mode value tval pc legal words v t p even =
-    let first = legal_with csrs Mepc pc legal even in
-    let first_words = with_word csrs Mepc pc legal words p in
+machine_words csrs mode value tval pc sane enters =
+    let words = sane.1 in
+    let first = legal_with csrs Mepc pc sane.0 enters.pc_even in
+    let first_words = with_word csrs Mepc pc sane.0 words enters.pc_fits in
     let second = legal_with _ Mcause value first tt in
-    let second_words = with_word _ Mcause value first first_words v in
+    let second_words = with_word _ Mcause value first first_words enters.cause_fits in
     let third = legal_with _ Mtval tval second tt in
-    let third_words = with_word _ Mtval tval second second_words t in
+    let third_words = with_word _ Mtval tval second second_words enters.tval_fits in
     with_word _ Mstatus _ third third_words (into_machine_word (at csrs Mstatus) mode (words.values Mstatus))
 
-supervisor_words : (csrs : Csrs) (mode : Mode) (value tval pc : ℕ) → IsLegal csrs → HasWords csrs → value < 2 ^ 64
-    → tval < 2 ^ 64 → pc < 2 ^ 64 → pc % 2 ≡ 0 → HasWords (enter_supervisor_of csrs mode value tval pc)
+supervisor_words : (csrs : Csrs) (mode : Mode) (value tval pc : ℕ) → AreSane csrs → EntersWords value tval pc
+    → HasWords (enter_supervisor_of csrs mode value tval pc)
 unfolding enter_supervisor_of
-supervisor_words csrs mode value tval pc legal words v t p even =
-    let first = legal_with csrs Sepc pc legal even in
-    let first_words = with_word csrs Sepc pc legal words p in
+supervisor_words csrs mode value tval pc sane enters =
+    let words = sane.1 in
+    let first = legal_with csrs Sepc pc sane.0 enters.pc_even in
+    let first_words = with_word csrs Sepc pc sane.0 words enters.pc_fits in
     let second = legal_with _ Scause value first tt in
-    let second_words = with_word _ Scause value first first_words v in
+    let second_words = with_word _ Scause value first first_words enters.cause_fits in
     let third = legal_with _ Stval tval second tt in
-    let third_words = with_word _ Stval tval second second_words t in
+    let third_words = with_word _ Stval tval second second_words enters.tval_fits in
     with_word _ Mstatus _ third third_words (into_supervisor_word (at csrs Mstatus) mode (words.values Mstatus))
 
-enter_by : (delegated : Bool) (csrs : Csrs) (mode : Mode) (value tval pc : ℕ) → IsLegal csrs → HasWords csrs
-    → value < 2 ^ 64 → tval < 2 ^ 64 → pc < 2 ^ 64 → pc % 2 ≡ 0
+enter_by : (delegated : Bool) (csrs : Csrs) (mode : Mode) (value tval pc : ℕ) → AreSane csrs
+    → EntersWords value tval pc
     → AreSane
     (if delegated then enter_supervisor_of csrs mode value tval pc else enter_machine_of csrs mode value tval pc)
-enter_by true csrs mode value tval pc legal words v t p even = (
-  supervisor_legal csrs mode value tval pc legal even,
-  supervisor_words csrs mode value tval pc legal words v t p even,
+enter_by true csrs mode value tval pc sane enters = (
+  supervisor_legal csrs mode value tval pc sane.0 enters.pc_even,
+  supervisor_words csrs mode value tval pc sane enters,
 )
-enter_by false csrs mode value tval pc legal words v t p even =
-    (machine_legal csrs mode value tval pc legal even, machine_words csrs mode value tval pc legal words v t p even)
+enter_by false csrs mode value tval pc sane enters = (
+  machine_legal csrs mode value tval pc sane.0 enters.pc_even,
+  machine_words csrs mode value tval pc sane enters,
+)
 
-enter_sane : (csrs : Csrs) (mode : Mode) (interrupt : Bool) (code tval pc : ℕ) → IsLegal csrs → HasWords csrs
-    → cause_value interrupt code < 2 ^ 64 → tval < 2 ^ 64 → pc < 2 ^ 64 → pc % 2 ≡ 0
-    → AreSane (enter_of csrs mode interrupt code tval pc)
+enter_sane : (csrs : Csrs) (mode : Mode) (interrupt : Bool) (code tval pc : ℕ) → AreSane csrs
+    → EntersWords (cause_value interrupt code) tval pc → AreSane (enter_of csrs mode interrupt code tval pc)
 unfolding enter_of
-enter_sane csrs mode interrupt code tval pc legal words v t p even =
-    enter_by (is_delegated csrs mode interrupt code) csrs mode (cause_value interrupt code) tval pc legal words v t p
-    even
+enter_sane csrs mode interrupt code tval pc sane enters =
+    enter_by (is_delegated csrs mode interrupt code) csrs mode (cause_value interrupt code) tval pc sane enters
 
 -- a handler's address
 handler_by : (vectored : Bool) (tvec code : ℕ) → tvec < 2 ^ 64
@@ -288,9 +297,10 @@ pub entered_sane : (core : Core) (interrupt : Bool) (code value : ℕ) → IsSan
     → cause_value interrupt code < 2 ^ 64 → value < 2 ^ 64 → IsSane (core_after_entry core interrupt code value)
 unfolding core_after_entry
 entered_sane core interrupt code value sane cause small =
+    let enters : EntersWords (cause_value interrupt code) value core.pc =
+    record { cause_fits = cause; tval_fits = small; pc_fits = sane.pc; pc_even = sane.sound.even } in
     let csrs =
-    enter_sane core.csrs core.mode interrupt code value core.pc sane.sound.legal sane.csrs cause small sane.pc
-    sane.sound.even in
+    enter_sane core.csrs core.mode interrupt code value core.pc (sane.sound.legal, sane.csrs) enters in
     let pc = entry_even core.csrs core.mode interrupt code sane.csrs in
     record {
       sound = record { even = pc.1; legal = csrs.0 };

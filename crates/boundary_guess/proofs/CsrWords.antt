@@ -155,18 +155,14 @@ write_words csrs UnimplementedCounter value legal words small = words
 
 -- ---- reads
 
-eight_bytes : (b0 b1 b2 b3 b4 b5 b6 b7 : ℕ) → b0 < 256 → b1 < 256 → b2 < 256 → b3 < 256 → b4 < 256 → b5 < 256
-    → b6 < 256 → b7 < 256
-    → b0 + 2 ^ 8 * b1 + 2 ^ 16 * b2 + 2 ^ 24 * b3 + 2 ^ 32 * b4 + 2 ^ 40 * b5 + 2 ^ 48 * b6 + 2 ^ 56 * b7 < 2 ^ 64
-eight_bytes b0 b1 b2 b3 b4 b5 b6 b7 h0 h1 h2 h3 h4 h5 h6 h7 = omega (arith, h0, h1, h2, h3, h4, h5, h6, h7)
+eight_bytes : (byte : ℕ → ℕ) → ((i : ℕ) → byte i < 256)
+    → byte 0 + 2 ^ 8 * byte 1 + 2 ^ 16 * byte 2 + 2 ^ 24 * byte 3 + 2 ^ 32 * byte 4 + 2 ^ 40 * byte 5 + 2 ^ 48 * byte 6
+    + 2 ^ 56 * byte 7 < 2 ^ 64
+eight_bytes byte below =
+    omega (arith, below 0, below 1, below 2, below 3, below 4, below 5, below 6, below 7)
 
 packed_word : (bytes : List ℕ) → ((i : ℕ) → slice_index bytes i < 256) → from_le_bytes w64 bytes < 2 ^ 64
-packed_word bytes few =
-    let all =
-    eight_bytes (slice_index bytes 0) (slice_index bytes 1) (slice_index bytes 2) (slice_index bytes 3)
-    (slice_index bytes 4) (slice_index bytes 5) (slice_index bytes 6) (slice_index bytes 7)
-    (few 0) (few 1) (few 2) (few 3) (few 4) (few 5) (few 6) (few 7) in
-    omega (arith, all)
+packed_word bytes below = let all = eight_bytes (slice_index bytes) below in omega (arith, all)
 
 configurations_word : (csrs : Csrs) (first : ℕ) → HasWords csrs → packed_pmpcfg_of csrs first < 2 ^ 64
 unfolding packed_pmpcfg_of

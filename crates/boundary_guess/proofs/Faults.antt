@@ -304,23 +304,18 @@ second_word : (first : ℕ) (second : Result ℕ Exception) → first < 2 ^ 16 �
 second_word first (Err exception) low long high = tt
 second_word first (Ok second) low long high = long_word first second low high long
 
-after_word_by : (long : Bool) (csrs : Csrs) (map : Map) (mode : Mode) (pc first : ℕ) (bytes : Bytes)
-    → (first % 4 == 3) ≡ long → first < 2 ^ 16 → AreBytes bytes
-    → IfOk
-    ((if long then mapped (with_second first) (parcel_at csrs map mode ((pc + 2) % 2 ^ 64)) else pure
-    (Ok (first, 2))).run bytes).value IsFetchedWord
-unfolding pure mapped
-after_word_by true csrs map mode pc first bytes is low are =
-    second_word first _ low is (parcel_below csrs map mode ((pc + 2) % 2 ^ 64) bytes are)
-after_word_by false csrs map mode pc first bytes is low are =
-    record { length = sym (ap (λ (t : Bool). if t then 4 else 2) is); below = low }
-
 after_word : (csrs : Csrs) (map : Map) (mode : Mode) (pc : ℕ) (first : Result ℕ Exception) (bytes : Bytes)
     → IfOk first IsParcel → AreBytes bytes → IfOk ((after_first csrs map mode pc first).run bytes).value IsFetchedWord
-unfolding pure
+unfolding pure mapped
 after_word csrs map mode pc (Err exception) bytes low are = tt
-after_word csrs map mode pc (Ok first) bytes low are =
-    after_word_by (first % 4 == 3) csrs map mode pc first bytes refl low are
+after_word csrs map mode pc (Ok first) bytes low are = by (first % 4 == 3) refl
+  where
+    by : (long : Bool) → (first % 4 == 3) ≡ long
+        → IfOk
+        ((if long then mapped (with_second first) (parcel_at csrs map mode ((pc + 2) % 2 ^ 64))
+        else pure (Ok (first, 2))).run bytes).value IsFetchedWord
+    by true is = second_word first _ low is (parcel_below csrs map mode ((pc + 2) % 2 ^ 64) bytes are)
+    by false is = record { length = sym (ap (λ (t : Bool). if t then 4 else 2) is); below = low }
 
 pub fetch_word : (csrs : Csrs) (map : Map) (mode : Mode) (pc : ℕ) (bytes : Bytes) → AreBytes bytes
     → IfOk ((fetch_result csrs map mode pc).run bytes).value IsFetchedWord

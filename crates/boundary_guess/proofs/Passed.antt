@@ -25,18 +25,18 @@ drop_found : {A : Type 0} (xs : List A) (i : ℕ) (x : A) → Some x ≡ slice_g
 drop_found xs i x is = rw add-one (drop_from xs i x is)
 
 -- a row is passed
-pub row_turn : (before now : HartState) (rows : List RowReading) (place : ℕ) (row : RowReading) (whole : HartState)
-    → Some row ≡ slice_get rows place → (goes_on : Bool) → goes_on ≡ true → PassesReading before row goes_on now
+pub row_turn : (before now : HartState) (rows : List RowReading) (place : ℕ) {row : RowReading} {whole : HartState}
+    {goes_on : Bool} → Some row ≡ slice_get rows place → goes_on ≡ true → PassesReading before row goes_on now
     → guess_after before (drop place rows) ≡ whole → guess_after now (drop (place + 1) rows) ≡ whole
-row_turn before now rows place row whole here goes_on is passes so_far =
+row_turn before now rows place {row} here is passes so_far =
     sym (passes (drop (place + 1) rows) ∙ ap (λ test. if test then guess_after now (drop (place + 1) rows) else now) is)
     ∙ sym (ap (λ rest. guess_after before rest) (drop_found rows place row here)) ∙ so_far
 
 -- a row ends the guess
-pub row_stops : (before now : HartState) (rows : List RowReading) (place : ℕ) (row : RowReading) (whole : HartState)
-    → Some row ≡ slice_get rows place → (goes_on : Bool) → goes_on ≡ false → PassesReading before row goes_on now
+pub row_stops : (before now : HartState) (rows : List RowReading) (place : ℕ) {row : RowReading} {whole : HartState}
+    {goes_on : Bool} → Some row ≡ slice_get rows place → goes_on ≡ false → PassesReading before row goes_on now
     → guess_after before (drop place rows) ≡ whole → now ≡ whole
-row_stops before now rows place row whole here goes_on is passes so_far =
+row_stops before now rows place {row} here is passes so_far =
     sym (passes (drop (place + 1) rows) ∙ ap (λ test. if test then guess_after now (drop (place + 1) rows) else now) is)
     ∙ sym (ap (λ rest. guess_after before rest) (drop_found rows place row here)) ∙ so_far
 
@@ -48,13 +48,13 @@ rows_end state rows place whole past so_far =
     sym (ap (λ rest. guess_after state rest) (drop_all place rows past)) ∙ so_far
 
 -- a segment is passed
-pub segment_turn : (columns : ColumnList) (before now : HartState) (segments : List (List (List ℕ))) (index : ℕ)
-    (lines : List (List ℕ)) (done whole : List HartState) → Some lines ≡ slice_get segments index
+pub segment_turn : (columns : ColumnList) (before : HartState) (segments : List (List (List ℕ))) (index : ℕ)
+    (done : List HartState) {now : HartState} {lines : List (List ℕ)} {whole : List HartState} → Some lines ≡ slice_get segments index
     → now ≡ guess_after before (rows_of columns lines)
     → done ++ guesses_of before columns (drop index segments) ≡ whole
     → (done ++ before ∷ []) ++ guesses_of now columns (drop (index + 1) segments) ≡ whole
 unfolding guesses_of
-segment_turn columns before now segments index lines done whole here is so_far =
+segment_turn columns before segments index done {now} {lines} here is so_far =
     append_assoc done (before ∷ []) (guesses_of now columns (drop (index + 1) segments))
     ∙ ap (λ state. done ++ before ∷ guesses_of state columns (drop (index + 1) segments)) is
     ∙ sym (ap (λ rest. done ++ guesses_of before columns rest) (drop_found segments index lines here))
@@ -93,33 +93,40 @@ can_copy ram hart other core mem can = record {
   ram = mem ∙ can.ram ∙ sym (ap (λ core. core.map.ram) core);
 }
 
-kept_last : {M : Type 0} (bytes : M → Bytes) (items : List (Hart M)) (kept : Hart M) (before : HartState)
-    → state_of bytes kept ≡ before
-    → map (state_of bytes) (items ++ kept ∷ []) ≡ map (state_of bytes) items ++ before ∷ []
-kept_last bytes items kept before is =
-    map-append (state_of bytes) items (kept ∷ []) ∙ ap (λ state. map (state_of bytes) items ++ state ∷ []) is
+kept_last : {M : Type 0} (bytes : M → Bytes) (items : List (Hart M)) (kept : Hart M)
+    → map (state_of bytes) (items ++ kept ∷ []) ≡ map (state_of bytes) items ++ state_of bytes kept ∷ []
+kept_last bytes items kept = map-append (state_of bytes) items (kept ∷ [])
 
-pub hart_turn : {M : Type 0} (bytes : M → Bytes) (columns : ColumnList) (segments : List Segment) (index : ℕ)
-    (segment : Segment) (before : HartState) (kept now : Hart M) (items : List (Hart M)) (whole : List HartState)
-    → slice_get segments index ≡ Some segment → state_of bytes kept ≡ before
-    → state_of bytes now ≡ guess_after before (rows_of columns segment.lines)
-    → map (state_of bytes) items ++ guesses_of before columns (drop index (map segment_lines segments)) ≡ whole
+-- a turn of the loop keeps a copy of the hart before a segment, and passes its rows
+pub record PassesSegment {M : Type 0} (bytes : M → Bytes) (columns : ColumnList) (segments : List Segment) (index : ℕ)
+    (before kept now : Hart M) : Type 0 where
+  pub segment : Segment
+  pub segment_is : slice_get segments index ≡ Some segment
+  pub copied : state_of bytes kept ≡ state_of bytes before
+  pub passed : state_of bytes now ≡ guess_after (state_of bytes before) (rows_of columns segment.lines)
+
+pub hart_turn : {M : Type 0} {bytes : M → Bytes} {columns : ColumnList} {segments : List Segment} {index : ℕ}
+    {before kept now : Hart M} (items : List (Hart M)) {whole : List HartState}
+    → PassesSegment bytes columns segments index before kept now
+    → map (state_of bytes) items ++ guesses_of (state_of bytes before) columns (drop index (map segment_lines segments))
+    ≡ whole
     → map (state_of bytes) (items ++ kept ∷ [])
     ++ guesses_of (state_of bytes now) columns (drop (index + 1) (map segment_lines segments)) ≡ whole
-hart_turn bytes columns segments index segment before kept now items whole here is_kept went so_far =
-    ap (λ done. done ++ guesses_of (state_of bytes now) columns (drop (index + 1) (map segment_lines segments)))
-    (kept_last bytes items kept before is_kept)
-    ∙ segment_turn columns before (state_of bytes now) (map segment_lines segments) index segment.lines
-    (map (state_of bytes) items) whole (lines_at segments index segment here) went so_far
+hart_turn {bytes} {columns} {segments} {index} {before} {kept} {now} items turn so_far =
+    let left = guesses_of (state_of bytes now) columns (drop (index + 1) (map segment_lines segments)) in
+    ap (λ done. done ++ left) (kept_last bytes items kept)
+    ∙ ap (λ state. (map (state_of bytes) items ++ state ∷ []) ++ left) turn.copied
+    ∙ segment_turn columns (state_of bytes before) (map segment_lines segments) index (map (state_of bytes) items)
+    (lines_at segments index turn.segment turn.segment_is) turn.passed so_far
 
 pub hart_end : {M : Type 0} (bytes : M → Bytes) (columns : ColumnList) (segments : List Segment) (index : ℕ)
-    (before : HartState) (kept : Hart M) (items : List (Hart M)) (whole : List HartState)
-    → length segments ≡ index + 1 → state_of bytes kept ≡ before
-    → map (state_of bytes) items ++ guesses_of before columns (drop index (map segment_lines segments)) ≡ whole
-    → map (state_of bytes) (items ++ kept ∷ []) ≡ whole
-hart_end bytes columns segments index before kept items whole all is_kept so_far =
-    kept_last bytes items kept before is_kept
-    ∙ segments_end columns before (map segment_lines segments) index (map (state_of bytes) items) whole
+    (last : Hart M) (items : List (Hart M)) {whole : List HartState} → length segments ≡ index + 1
+    → map (state_of bytes) items ++ guesses_of (state_of bytes last) columns (drop index (map segment_lines segments))
+    ≡ whole
+    → map (state_of bytes) (items ++ last ∷ []) ≡ whole
+hart_end bytes columns segments index last items {whole} all so_far =
+    kept_last bytes items last
+    ∙ segments_end columns (state_of bytes last) (map segment_lines segments) index (map (state_of bytes) items) whole
     (length-map segments segment_lines ∙ all) so_far
 
 pub no_segment : {M : Type 0} (bytes : M → Bytes) (columns : ColumnList) (segments : List Segment) (state : HartState)

@@ -37,33 +37,37 @@ cut_next k (line ∷ lines) some any =
     (pieces_enough (length lines) (length (drop k (line ∷ lines))) k (drop k (line ∷ lines)) some
     (shorter (length lines) k line lines some (omega arith)) (omega arith))
 
+-- the next piece, of so many lines
+pub record IsNextPiece (k start count : ℕ) (lines piece : List (List ℕ)) : Type 0 where
+  pub positive : 0 < k
+  pub within : start < length lines
+  pub count_is : count ≡ min k (length lines - start)
+  pub piece_is : piece ≡ take (start + count - start) (drop start lines)
+
 -- one more piece of what is left
-pub cut_turn : (k start end : ℕ) (lines piece : List (List ℕ)) (done whole : List (List (List ℕ))) → 0 < k
-    → start < length lines → end ≡ start + min k (length lines - start)
-    → piece ≡ take (end - start) (drop start lines) → done ++ cut_of k (drop start lines) ≡ whole
-    → (done ++ piece ∷ []) ++ cut_of k (drop end lines) ≡ whole
-cut_turn k start end lines piece done whole some within is made so_far =
+cut_turn : {k start count : ℕ} {lines piece : List (List ℕ)} (done : List (List (List ℕ)))
+    → IsNextPiece k start count lines piece
+    → (done ++ piece ∷ []) ++ cut_of k (drop (start + count) lines) ≡ done ++ cut_of k (drop start lines)
+cut_turn {k} {start} {count} {lines} {piece} done is =
     let left = drop start lines in
     let long : length left ≡ length lines - start = length-drop start lines in
-    let all : end ≡ start + min k (length left) = is ∙ ap (λ n. start + min k n) (sym long) in
-    let count : end - start ≡ min k (length left) = omega (arith, all) in
-    let first : piece ≡ take k left = made ∙ ap (λ n. take n left) count ∙ take_min k left in
-    let rest : drop end lines ≡ drop k left =
-    ap (λ n. drop n lines) all ∙ sym (drop-drop (min k (length left)) start lines) ∙ drop_min k left in
-    append_assoc done (piece ∷ []) (cut_of k (drop end lines))
-    ∙ rw (first, rest) (ap (λ more. done ++ more) (sym (cut_next k left some (omega (arith, long, within)))))
-    ∙ so_far
+    let all : count ≡ min k (length left) = is.count_is ∙ ap (min k) (sym long) in
+    let same : start + count - start ≡ count = omega arith in
+    let first : piece ≡ take k left = is.piece_is ∙ ap (λ n. take n left) (same ∙ all) ∙ take_min k left in
+    let rest : drop (start + count) lines ≡ drop k left =
+    ap (λ n. drop (start + n) lines) all ∙ sym (drop-drop (min k (length left)) start lines) ∙ drop_min k left in
+    append_assoc done (piece ∷ []) (cut_of k (drop (start + count) lines))
+    ∙ rw (first, rest) (ap (λ more. done ++ more)
+    (sym (cut_next k left is.positive (omega (arith, long, is.within)))))
 
 -- the same of segments
-pub segments_turn : (k start count : ℕ) (lines : List (List ℕ)) (items : List Segment) (segment : Segment)
-    (whole : List (List (List ℕ))) → 0 < k → start < length lines → count ≡ min k (length lines - start)
-    → segment.lines ≡ take (start + count - start) (drop start lines)
+pub segments_turn : {k start count : ℕ} {lines : List (List ℕ)} (items : List Segment) (segment : Segment)
+    {whole : List (List (List ℕ))} → IsNextPiece k start count lines segment.lines
     → map segment_lines items ++ cut_of k (drop start lines) ≡ whole
     → map segment_lines (items ++ segment ∷ []) ++ cut_of k (drop (start + count) lines) ≡ whole
-segments_turn k start count lines items segment whole some within is made so_far =
+segments_turn {k} {start} {count} {lines} items segment is so_far =
     ap (λ done. done ++ cut_of k (drop (start + count) lines)) (map-append segment_lines items (segment ∷ []))
-    ∙ cut_turn k start (start + count) lines segment.lines (map segment_lines items) whole some within
-    (ap (λ n. start + n) is) made so_far
+    ∙ cut_turn (map segment_lines items) is ∙ so_far
 
 -- no line is left
 pub cut_end : (k start : ℕ) (lines : List (List ℕ)) (done whole : List (List (List ℕ))) → length lines ≤ start

@@ -127,15 +127,6 @@ told_by false row word known_files met other =
 some_same : {A : Type 0} (x y : A) → Some x ≡ Some y → x ≡ y
 some_same x y is = cc
 
-plain_by : (test : Bool) (row : Pattern) (rest : Option Pattern) (word : ℕ) (op : Op) → is_told row ≡ true
-    → meets row word ≡ test → is_special (word % 128) ≡ false
-    → (option_map (λ row. operation_of row.form word) rest ≡ Some op → is_plain_op op ≡ true)
-    → option_map (λ row. operation_of row.form word) (if test then Some row else rest) ≡ Some op → is_plain_op op ≡ true
-plain_by true row rest word op known_files met other more is =
-    let same : operation_of row.form word ≡ op = some_same _ _ is in
-    ap is_plain_op (sym same) ∙ of_form row.form word ∙ told_by (is_plain_form row.form) row word known_files met other
-plain_by false row rest word op known_files met other more is = more is
-
 plain_among : (rows : List Pattern) (word : ℕ) (op : Op) → list_all is_told rows ≡ true
     → is_special (word % 128) ≡ false
     → option_map (λ row. operation_of row.form word) (find (λ row. meets row word) rows) ≡ Some op
@@ -143,8 +134,17 @@ plain_among : (rows : List Pattern) (word : ℕ) (op : Op) → list_all is_told 
 plain_among [] word op known_files other is = absurd cc
 plain_among (row ∷ rows) word op known_files other is =
     let parts = both (is_told row) (list_all is_told rows) known_files in
-    plain_by (meets row word) row (find (λ row. meets row word) rows) word op parts.0 refl other
-    (plain_among rows word op parts.1 other) is
+    by (meets row word) parts.0 refl (plain_among rows word op parts.1 other) is
+  where
+    by : (test : Bool) → is_told row ≡ true → meets row word ≡ test
+        → (option_map (λ row. operation_of row.form word) (find (λ row. meets row word) rows) ≡ Some op
+        → is_plain_op op ≡ true)
+        → option_map (λ row. operation_of row.form word)
+        (if test then Some row else find (λ row. meets row word) rows) ≡ Some op → is_plain_op op ≡ true
+    by true told met more at =
+        let same : operation_of row.form word ≡ op = some_same _ _ at in
+        ap is_plain_op (sym same) ∙ of_form row.form word ∙ told_by (is_plain_form row.form) row word told met other
+    by false told met more at = more at
 
 pub plain_decoded : (word : ℕ) (op : Op) → is_special (word % 128) ≡ false → decoded_op_of word ≡ Some op
     → is_plain_op op ≡ true
@@ -175,17 +175,6 @@ parcel_told true row parcel known_files met short other =
     let whole : parcel ≡ 0x9002 = omega (arith, low, sym (ap (bit_and parcel) mask) ∙ fixed ∙ bits, short) in
     absurd (grind (arith, nat_tests, whole, other))
 
-common_by : (test : Bool) (row : Parcel) (rest : Option Parcel) (parcel word : ℕ) → is_told_parcel row ≡ true
-    → meets_parcel row parcel ≡ test → parcel < 2 ^ 16 → (parcel == 0x9002) ≡ false
-    → (option_map (λ row. encoding_of row.op parcel) rest ≡ Some word → is_special (word % 128) ≡ false)
-    → option_map (λ row. encoding_of row.op parcel) (if test then Some row else rest) ≡ Some word
-    → is_special (word % 128) ≡ false
-common_by true row rest parcel word known_files met short other more is =
-    let same : encoding_of row.op parcel ≡ word = some_same _ _ is in
-    ap (λ w. is_special (w % 128)) (sym same)
-    ∙ common_word row.op parcel (parcel_told (is_special (opcode_of row.op)) row parcel known_files met short other)
-common_by false row rest parcel word known_files met short other more is = more is
-
 common_among : (rows : List Parcel) (parcel word : ℕ) → list_all is_told_parcel rows ≡ true → parcel < 2 ^ 16
     → (parcel == 0x9002) ≡ false
     → option_map (λ row. encoding_of row.op parcel) (find (λ row. meets_parcel row parcel) rows) ≡ Some word
@@ -193,8 +182,19 @@ common_among : (rows : List Parcel) (parcel word : ℕ) → list_all is_told_par
 common_among [] parcel word known_files short other is = absurd cc
 common_among (row ∷ rows) parcel word known_files short other is =
     let parts = both (is_told_parcel row) (list_all is_told_parcel rows) known_files in
-    common_by (meets_parcel row parcel) row (find (λ row. meets_parcel row parcel) rows) parcel word parts.0 refl
-    short other (common_among rows parcel word parts.1 short other) is
+    by (meets_parcel row parcel) parts.0 refl (common_among rows parcel word parts.1 short other) is
+  where
+    by : (test : Bool) → is_told_parcel row ≡ true → meets_parcel row parcel ≡ test
+        → (option_map (λ row. encoding_of row.op parcel) (find (λ row. meets_parcel row parcel) rows) ≡ Some word
+        → is_special (word % 128) ≡ false)
+        → option_map (λ row. encoding_of row.op parcel)
+        (if test then Some row else find (λ row. meets_parcel row parcel) rows) ≡ Some word
+        → is_special (word % 128) ≡ false
+    by true told met more at =
+        let same : encoding_of row.op parcel ≡ word = some_same _ _ at in
+        ap (λ w. is_special (w % 128)) (sym same)
+        ∙ common_word row.op parcel (parcel_told (is_special (opcode_of row.op)) row parcel told met short other)
+    by false told met more at = more at
 
 expansion_common : (parcel word : ℕ) → parcel < 2 ^ 16 → (parcel == 0x9002) ≡ false → expansion_of parcel ≡ Some word
     → is_special (word % 128) ≡ false

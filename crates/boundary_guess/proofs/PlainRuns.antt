@@ -281,46 +281,54 @@ load_does core choices i address size signed bytes =
     (load_faults core.csrs core.map core.mode address (bytes_of size) false bytes))
 
 -- a store
-stored_does : (core : Core) (choices : RowChoices) (i : Instruction) (address : ℕ) (size : AccessSize) (value : ℕ)
-    (place : Result Place Exception)
-    → address < 2 ^ 64 → value < 2 ^ bits_of size → RaisesFaults place
-    → IfOk place (StandsIn core.map (bytes_of size))
-    → (translates_data core ≡ false → IfOk place (λ place. place.pa ≡ address))
+record IsStoreOf (address : ℕ) (size : AccessSize) (value : ℕ) : Type 0 where
+  pub address_fits : address < 2 ^ 64
+  pub value_fits : value < 2 ^ bits_of size
+
+-- what becomes of its place
+record IsStorePlace (core : Core) (address : ℕ) (size : AccessSize) (place : Result Place Exception) : Type 0 where
+  pub faults : RaisesFaults place
+  pub stands : IfOk place (StandsIn core.map (bytes_of size))
+  pub physical : translates_data core ≡ false → IfOk place (λ place. place.pa ≡ address)
+
+stored_does : {core : Core} {address : ℕ} {size : AccessSize} {value : ℕ} (choices : RowChoices) (i : Instruction)
+    (place : Result Place Exception) → IsStoreOf address size value → IsStorePlace core address size place
     → (let request : MemoryRequest = record { address = address; size = size; op = memory.Store value } in
     Does core i true (after_access core i (answer_from core choices request (found_without_value place)))
     (writes_from core choices request (found_without_value place)))
 unfolding after_access access_result_of
-stored_does core choices i address size value (Err exception) in_range fits faults stands physical = faults
-stored_does core choices i address size value (Ok place) in_range fits faults stands physical = record {
+stored_does choices i (Err exception) store found = found.faults
+stored_does {address} {size} {value} choices i (Ok place) store found = record {
   leaves = record { value = _; next = _; is = refl };
   touches = record {
     request = record { address = address; size = size; op = memory.Store value };
     value = value;
     place = place;
-    address = in_range;
-    fits = fits;
+    address = store.address_fits;
+    fits = store.value_fits;
     made = refl;
     wrote_is = refl;
-    stands = stands;
-    physical = physical;
+    stands = found.stands;
+    physical = found.physical;
   };
 }
 
-store_does : (core : Core) (choices : RowChoices) (i : Instruction) (address : ℕ) (size : AccessSize) (value : ℕ)
-    (bytes : Bytes) → address < 2 ^ 64 → value < 2 ^ bits_of size
+store_does : (core : Core) (choices : RowChoices) (i : Instruction) {address : ℕ} {size : AccessSize} {value : ℕ}
+    (bytes : Bytes) → IsStoreOf address size value
     → DoesBy core i true
     ((execution_by core choices i
     (results.Access (record { address = address; size = size; op = memory.Store value }))).run bytes)
 unfolding located_access mapped
-store_does core choices i address size value bytes in_range fits =
+store_does core choices i {address} {size} {value} bytes store =
     let request : MemoryRequest = record { address = address; size = size; op = memory.Store value } in
     let way = store_place_of core.csrs core.map core.mode address (bytes_of size) false in
     let physical = store_physical core.csrs core.map core.mode address (bytes_of size) false bytes in
-    access_does core choices i request true bytes
-    (stored_does core choices i address size value (way.run bytes).value in_range fits
-    (store_faults core.csrs core.map core.mode address (bytes_of size) false bytes)
-    (store_stands core.csrs core.map core.mode address (bytes_of size) bytes)
-    (λ off. (physical (untranslated core.csrs (data_mode_of core.csrs core.mode) off)).1))
+    let found : IsStorePlace core address size (way.run bytes).value = record {
+      faults = store_faults core.csrs core.map core.mode address (bytes_of size) false bytes;
+      stands = store_stands core.csrs core.map core.mode address (bytes_of size) bytes;
+      physical = λ off. (physical (untranslated core.csrs (data_mode_of core.csrs core.mode) off)).1;
+    } in
+    access_does core choices i request true bytes (stored_does choices i (way.run bytes).value store found)
 
 load_by : (core : Core) (choices : RowChoices) (i : Instruction) (op : LoadOp) (address : ℕ) (bytes : Bytes)
     → DoesBy core i false ((execution_by core choices i (load_of op address)).run bytes)
@@ -332,52 +340,55 @@ load_by core choices i loads.Lbu address bytes = load_does core choices i addres
 load_by core choices i loads.Lhu address bytes = load_does core choices i address Halfword false bytes
 load_by core choices i loads.Lwu address bytes = load_does core choices i address Word false bytes
 
-does_by : (core : Core) (choices : RowChoices) (i : Instruction) (op : Op) (a b pc len : ℕ) (bytes : Bytes)
+does_by : (core : Core) (choices : RowChoices) (i : Instruction) (op : Op) (a b : ℕ) (bytes : Bytes)
     → is_plain_op op ≡ true
-    → DoesBy core i (is_store (Some op)) ((execution_by core choices i (result_of op a b pc len)).run bytes)
+    → DoesBy core i (is_store (Some op)) ((execution_by core choices i (result_of op a b core.pc i.len)).run bytes)
 unfolding result_of pure
-does_by core choices i (ops.Lui rd imm) a b pc len bytes plain =
+does_by core choices i (ops.Lui rd imm) a b bytes plain =
     record { leaves = record { value = _; next = _; is = refl }; touches = refl }
-does_by core choices i (ops.Auipc rd imm) a b pc len bytes plain =
+does_by core choices i (ops.Auipc rd imm) a b bytes plain =
     record { leaves = record { value = _; next = _; is = refl }; touches = refl }
-does_by core choices i (ops.Jal rd offset) a b pc len bytes plain =
+does_by core choices i (ops.Jal rd offset) a b bytes plain =
     record { leaves = record { value = _; next = _; is = refl }; touches = refl }
-does_by core choices i (ops.Jalr rd rs1 offset) a b pc len bytes plain =
+does_by core choices i (ops.Jalr rd rs1 offset) a b bytes plain =
     record { leaves = record { value = _; next = _; is = refl }; touches = refl }
-does_by core choices i (ops.Branch op rs1 rs2 offset) a b pc len bytes plain =
+does_by core choices i (ops.Branch op rs1 rs2 offset) a b bytes plain =
     record { leaves = record { value = _; next = _; is = refl }; touches = refl }
-does_by core choices i (ops.Load op rd rs1 offset) a b pc len bytes plain =
+does_by core choices i (ops.Load op rd rs1 offset) a b bytes plain =
     load_by core choices i op (wrapped_sum a offset) bytes
-does_by core choices i (ops.Store op rs1 rs2 offset) a b pc len bytes plain =
-    store_does core choices i (wrapped_sum a offset) (size_of_store op) (low_bits (size_of_store op) b) bytes
-    (mod_below (a + offset) (2 ^ 64) (lit< tt))
-    (mod_below b (2 ^ bits_of (size_of_store op)) (pow_pos (bits_of (size_of_store op))))
-does_by core choices i (ops.Immediate op rd rs1 imm) a b pc len bytes plain =
+does_by core choices i (ops.Store op rs1 rs2 offset) a b bytes plain =
+    let size = size_of_store op in
+    let store : IsStoreOf (wrapped_sum a offset) size (low_bits size b) = record {
+      address_fits = mod_below (a + offset) (2 ^ 64) (lit< tt);
+      value_fits = mod_below b (2 ^ bits_of size) (pow_pos (bits_of size));
+    } in
+    store_does core choices i bytes store
+does_by core choices i (ops.Immediate op rd rs1 imm) a b bytes plain =
     record { leaves = record { value = _; next = _; is = refl }; touches = refl }
-does_by core choices i (ops.ImmediateWord op rd rs1 imm) a b pc len bytes plain =
+does_by core choices i (ops.ImmediateWord op rd rs1 imm) a b bytes plain =
     record { leaves = record { value = _; next = _; is = refl }; touches = refl }
-does_by core choices i (ops.Register op rd rs1 rs2) a b pc len bytes plain =
+does_by core choices i (ops.Register op rd rs1 rs2) a b bytes plain =
     record { leaves = record { value = _; next = _; is = refl }; touches = refl }
-does_by core choices i (ops.RegisterWord op rd rs1 rs2) a b pc len bytes plain =
+does_by core choices i (ops.RegisterWord op rd rs1 rs2) a b bytes plain =
     record { leaves = record { value = _; next = _; is = refl }; touches = refl }
-does_by core choices i ops.Fence a b pc len bytes plain =
+does_by core choices i ops.Fence a b bytes plain =
     record { leaves = record { value = _; next = _; is = refl }; touches = refl }
-does_by core choices i ops.FenceI a b pc len bytes plain =
+does_by core choices i ops.FenceI a b bytes plain =
     record { leaves = record { value = _; next = _; is = refl }; touches = refl }
-does_by core choices i ops.Ecall a b pc len bytes plain = absurd cc
-does_by core choices i ops.Ebreak a b pc len bytes plain = absurd cc
-does_by core choices i ops.Mret a b pc len bytes plain = absurd cc
-does_by core choices i ops.Sret a b pc len bytes plain = absurd cc
-does_by core choices i ops.Wfi a b pc len bytes plain = absurd cc
-does_by core choices i (ops.SfenceVma rs1 rs2) a b pc len bytes plain = absurd cc
-does_by core choices i (ops.Csr op rd rs1 csr) a b pc len bytes plain = absurd cc
-does_by core choices i (ops.CsrImmediate op rd imm csr) a b pc len bytes plain = absurd cc
-does_by core choices i (ops.LoadReserved width rd rs1) a b pc len bytes plain = absurd cc
-does_by core choices i (ops.StoreConditional width rd rs1 rs2) a b pc len bytes plain = absurd cc
-does_by core choices i (ops.Amo op width rd rs1 rs2) a b pc len bytes plain = absurd cc
+does_by core choices i ops.Ecall a b bytes plain = absurd cc
+does_by core choices i ops.Ebreak a b bytes plain = absurd cc
+does_by core choices i ops.Mret a b bytes plain = absurd cc
+does_by core choices i ops.Sret a b bytes plain = absurd cc
+does_by core choices i ops.Wfi a b bytes plain = absurd cc
+does_by core choices i (ops.SfenceVma rs1 rs2) a b bytes plain = absurd cc
+does_by core choices i (ops.Csr op rd rs1 csr) a b bytes plain = absurd cc
+does_by core choices i (ops.CsrImmediate op rd imm csr) a b bytes plain = absurd cc
+does_by core choices i (ops.LoadReserved width rd rs1) a b bytes plain = absurd cc
+does_by core choices i (ops.StoreConditional width rd rs1 rs2) a b bytes plain = absurd cc
+does_by core choices i (ops.Amo op width rd rs1 rs2) a b bytes plain = absurd cc
 
 pub plain_does : (core : Core) (choices : RowChoices) (i : Instruction) (bytes : Bytes) → is_plain_op i.op ≡ true
     → DoesBy core i (is_store (Some i.op)) ((execution_of core choices i).run bytes)
 unfolding execution_of
 plain_does core choices i bytes plain =
-    does_by core choices i i.op (first_value core i.op) (second_value core i.op) core.pc i.len bytes plain
+    does_by core choices i i.op (first_value core i.op) (second_value core i.op) bytes plain

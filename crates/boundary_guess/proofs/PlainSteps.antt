@@ -39,21 +39,18 @@ neither true b none = absurd cc
 whole_word : (bits : ℕ) → bits < 256 ^ 2 → bits % 256 ^ 2 ≡ bits
 whole_word bits below = omega (arith, below)
 
-plain_word_by : (long : Bool) (bits len : ℕ) (op : Op) → (bits % 4 == 3) ≡ long → len ≡ (if long then 4 else 2)
-    → bits < 256 ^ len
-    → (if (if long then 4 else 2) == 2 then bits % 256 ^ (if long then 4 else 2) == 0x9002
-    else (bits % 128 == 0x73 || bits % 128 == 0x2f)) ≡ false
-    → op_of bits len ≡ Some op → is_plain_op op ≡ true
-plain_word_by true bits len op is long below common means =
-    plain_decoded bits op common (sym (ap (op_of bits) long) ∙ means)
-plain_word_by false bits len op is short below common means =
-    let few : bits < 256 ^ 2 = subst (λ n. bits < 256 ^ n) short below in
-    plain_expanded bits op few (ap (λ b. b == 0x9002) (sym (whole_word bits few)) ∙ common)
-    (sym (ap (op_of bits) short) ∙ means)
-
 pub plain_word : (bits len : ℕ) → IsFetchedWord (bits, len) → is_system_or_atomic bits ≡ false → MeansPlain bits len
-plain_word bits len word common op means =
-    plain_word_by (bits % 4 == 3) bits len op refl word.length word.below common means
+plain_word bits len word common op means = by (bits % 4 == 3) word.length common
+  where
+    by : (long : Bool) → len ≡ (if long then 4 else 2)
+        → (if (if long then 4 else 2) == 2 then bits % 256 ^ (if long then 4 else 2) == 0x9002
+        else (bits % 128 == 0x73 || bits % 128 == 0x2f)) ≡ false
+        → is_plain_op op ≡ true
+    by true long other = plain_decoded bits op other (sym (ap (op_of bits) long) ∙ means)
+    by false short other =
+        let below : bits < 256 ^ 2 = subst (λ n. bits < 256 ^ n) short word.below in
+        plain_expanded bits op below (ap (λ b. b == 0x9002) (sym (whole_word bits below)) ∙ other)
+        (sym (ap (op_of bits) short) ∙ means)
 
 -- the bits of a word that was fetched are all of it
 bits_by : (long : Bool) (bits len : ℕ) → len ≡ (if long then 4 else 2) → bits < 256 ^ len

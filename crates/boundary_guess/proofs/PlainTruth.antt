@@ -5,8 +5,7 @@ use Rattle.std.specs.Prelude.{◌||◌, unwrap_or, slice_index, slice_set}
 use Rattle.std.proofs.Math.Path.{fun_ext}
 use Rattle.hart_words.specs.declared.registers.Registers.{Registers}
 use Rattle.hart_words.specs.declared.accesses.Write.{Write}
-use Rattle.hart_words.specs.declared.signal.Signal.{Signal}
-use Rattle.hart_words.specs.declared.signal.Signal.TheVariants.{Halt, Insn, Intr, PcWdata, RdAddr, RdWdata, Trap}
+use Rattle.hart_words.specs.declared.signal.Signal.TheVariants.{Halt, Intr, PcWdata, RdAddr, RdWdata, Trap}
 use Rattle.hart_words.specs.Memory.{Bytes, after_writes}
 use Rattle.hart_words.specs.Registers.{register_of, with_register}
 use Rattle.hart_words.specs.Signals.{Shown}
@@ -14,19 +13,19 @@ use Rattle.rv_decode.specs.Operands.{operands_of}
 use Rattle.rvfi_rows.specs.declared.expected.Retired.{Retired as Retirement}
 use Rattle.rvfi_rows.specs.declared.expected.Effects.{Effects}
 use Rattle.rvfi_rows.specs.declared.expected.Accessed.{Accessed}
-use Rattle.row_compare.specs.Difference.{signal_difference}
 use Rattle.hart_step.specs.declared.state.Core.{Core}
 use Rattle.hart_step.specs.declared.instruction.Instruction.{Instruction}
 use Rattle.hart_step.specs.declared.instruction.InstructionOutcome.{InstructionOutcome}
 use Rattle.hart_step.specs.declared.instruction.InstructionOutcome.TheVariants.{Trapped, Retired}
 use Rattle.hart_step.specs.Choices.{shows}
 use Rattle.hart_step.specs.Instructions.{InstructionRun, core_after_retirement}
-use Rattle.hart_step.specs.PlainRows.{bytes_put, memory_shown, core_shown, insn_shown, is_plain, is_store}
+use Rattle.hart_step.specs.PlainRows.{bytes_put, memory_shown, core_shown, insn_shown, is_plain}
 use Rattle.hart_step.specs.PlainRows.{is_system_or_atomic, next_pc_shown, next_address_shown, registers_shown}
 use Rattle.hart_step.specs.PlainRows.{shows_bytes, shows_store, store_shown}
 use Rattle.hart_step.specs.Steps.{core_after_count, effects_of, core_after_run, insn_of}
+use Rattle.hart_step.proofs.WordOpcodes.{both}
 use Rattle.boundary_guess.specs.Truth.{ShowsChanges}
-use Rattle.boundary_guess.proofs.Compared.{ShowsWords, insn_is, next_is, rd_is, took_no_fault, value_is}
+use Rattle.boundary_guess.proofs.Compared.{RowAgrees, insn_is, next_is, rd_is, took_no_fault, value_is}
 use Rattle.boundary_guess.proofs.PlainOps.{destination_below}
 use Rattle.boundary_guess.proofs.PlainRuns.{Leaves, Touches}
 use Rattle.boundary_guess.proofs.PlainSteps.{Runs, fetched_fits, insn_as, plain_word, stores_as}
@@ -37,36 +36,46 @@ use Rattle.boundary_guess.proofs.ShownStores.{store_is_true}
 -- what a plain row says
 pub record IsPlain (core : Core) (shown : Shown) : Type 0 where
   pub runs : core.halted ≡ false
-  pub calm : core.trapped_last ≡ false
+  pub not_trapped : core.trapped_last ≡ false
   pub trap : shows (shown Trap) 1 ≡ false
   pub intr : shows (shown Intr) 1 ≡ false
   pub halt : shows (shown Halt) 1 ≡ false
   pub common : is_system_or_atomic (insn_shown shown) ≡ false
   pub stores : shows_store shown ≡ true → shows_bytes core shown ≡ true
 
-all_of : (halted trapped trap intr halt special stores shows : Bool)
-    → (not halted && not trapped && (not trap && not intr && not halt) && not special && (not stores || shows)) ≡ true
-    → (halted ≡ false) × (trapped ≡ false) × (trap ≡ false) × (intr ≡ false) × (halt ≡ false) × (special ≡ false)
-    × (stores ≡ true → shows ≡ true)
-all_of false false false false false false stores shows is = (refl, refl, refl, refl, refl, refl, kept stores shows is)
-  where
-    kept : (stores shows : Bool) → (not stores || shows) ≡ true → stores ≡ true → shows ≡ true
-    kept true shows is there = is
-    kept false shows is there = absurd cc
-all_of false false false false false true stores shows is = absurd cc
-all_of false false false false true special stores shows is = absurd cc
-all_of false false false true halt special stores shows is = absurd cc
-all_of false false true intr halt special stores shows is = absurd cc
-all_of false true trap intr halt special stores shows is = absurd cc
-all_of true trapped trap intr halt special stores shows is = absurd cc
+negated : (b : Bool) → not b ≡ true → b ≡ false
+negated true h = cc
+negated false h = refl
+
+implied : (a b : Bool) → (not a || b) ≡ true → a ≡ true → b ≡ true
+implied true b either is = either
+implied false b either is = absurd cc
 
 pub plain_facts : (core : Core) (shown : Shown) → is_plain core shown ≡ true → IsPlain core shown
 unfolding is_plain
 plain_facts core shown is =
-    let all =
-    all_of core.halted core.trapped_last (shows (shown Trap) 1) (shows (shown Intr) 1) (shows (shown Halt) 1)
-    (is_system_or_atomic (insn_shown shown)) (shows_store shown) (shows_bytes core shown) is in
-    record { runs = all.0; calm = all.1; trap = all.2; intr = all.3; halt = all.4; common = all.5; stores = all.6 }
+    let runs = not core.halted in
+    let not_trapped = not core.trapped_last in
+    let trap = not (shows (shown Trap) 1) in
+    let intr = not (shows (shown Intr) 1) in
+    let halt = not (shows (shown Halt) 1) in
+    let common = not (is_system_or_atomic (insn_shown shown)) in
+    let stores = not (shows_store shown) || shows_bytes core shown in
+    let all = both (runs && not_trapped && (trap && intr && halt) && common) stores is in
+    let word = both (runs && not_trapped && (trap && intr && halt)) common all.0 in
+    let undisturbed = both (runs && not_trapped) (trap && intr && halt) word.0 in
+    let state = both runs not_trapped undisturbed.0 in
+    let row = both (trap && intr) halt undisturbed.1 in
+    let entries = both trap intr row.0 in
+    record {
+      runs = negated core.halted state.0;
+      not_trapped = negated core.trapped_last state.1;
+      trap = negated (shows (shown Trap) 1) entries.0;
+      intr = negated (shows (shown Intr) 1) entries.1;
+      halt = negated (shows (shown Halt) 1) row.1;
+      common = negated (is_system_or_atomic (insn_shown shown)) word.1;
+      stores = implied (shows_store shown) (shows_bytes core shown) all.1;
+    }
 
 -- ---- registers
 
@@ -125,9 +134,9 @@ finished_made : (core : Core) (shown : Shown) (i : Instruction) (access : Option
 unfolding core_after_run core_after_retirement core_after_count
 finished_made core shown i access value next = refl
 
-same_made : (core : Core) (shown : Shown) (r r' : Registers) (pc pc' : ℕ) (t t' h h' : Bool) → r ≡ r' → pc ≡ pc'
+same_made : (core : Core) (shown : Shown) {r r' : Registers} {pc pc' : ℕ} {t t' h h' : Bool} → r ≡ r' → pc ≡ pc'
     → t ≡ t' → h ≡ h' → made core shown r pc t h ≡ made core shown r' pc' t' h'
-same_made core shown r r' pc pc' t t' h h' a b c d =
+same_made core shown {r} {r'} {pc} {pc'} {t} {t'} {h} {h'} a b c d =
     ap (λ x. made core shown x pc t h) a ∙ ap (λ x. made core shown r' x t h) b
     ∙ ap (λ x. made core shown r' pc' x h) c ∙ ap (λ x. made core shown r' pc' t' x) d
 
@@ -143,54 +152,47 @@ unfolding core_after_retirement
 left_pc core shown i value next = refl
 
 -- what an instruction that retired leaves, as the row shows it
-core_is_true : (core : Core) (shown : Shown) (i : Instruction) (access : Option Accessed) (after : Core)
-    → IsPlain core shown → Leaves (core_after_count core shown) i after
-    → shown RdAddr ≡ Some (operands_of i.op).rd
-    → shown RdWdata ≡ Some (register_of after.registers (operands_of i.op).rd) → shown PcWdata ≡ Some after.pc
-    → after.pc % 2 ≡ 0
+record ShowsAfter (shown : Shown) (i : Instruction) (after : Core) : Type 0 where
+  pub register : shown RdAddr ≡ Some (operands_of i.op).rd
+  pub value : shown RdWdata ≡ Some (register_of after.registers (operands_of i.op).rd)
+  pub next : shown PcWdata ≡ Some after.pc
+
+core_is_true : {core : Core} {shown : Shown} {i : Instruction} {after : Core} (access : Option Accessed)
+    → IsPlain core shown → Leaves (core_after_count core shown) i after → ShowsAfter shown i after → after.pc % 2 ≡ 0
     → core_shown core shown ≡ core_after_run (record { core = after; executed = Retired i access }) shown
-core_is_true core shown i access after plain leaves rd value next even =
+core_is_true {core} {shown} {i} {after} access plain leaves shows even =
     let rd_number = (operands_of i.op).rd in
     let made_so = with_register core.registers rd_number leaves.value in
     let registers_are : after.registers ≡ made_so =
     ap (λ k. k.registers) leaves.is ∙ left_registers core shown i leaves.value leaves.next in
     let pc_is : after.pc ≡ leaves.next = ap (λ k. k.pc) leaves.is ∙ left_pc core shown i leaves.value leaves.next in
     let shown_registers : registers_shown core.registers (shown RdAddr) (shown RdWdata) ≡ made_so =
-    ap (λ r. registers_shown core.registers r (shown RdWdata)) rd
-    ∙ ap (λ v. registers_shown core.registers (Some rd_number) v) value
+    ap (λ r. registers_shown core.registers r (shown RdWdata)) shows.register
+    ∙ ap (λ v. registers_shown core.registers (Some rd_number) v) shows.value
     ∙ ap (λ r. with_register core.registers rd_number (register_of r rd_number)) registers_are
     ∙ again core.registers rd_number leaves.value in
-    let shown_next : next_pc_shown shown ≡ leaves.next = next_shown shown after.pc next even ∙ pc_is in
+    let shown_next : next_pc_shown shown ≡ leaves.next = next_shown shown after.pc shows.next even ∙ pc_is in
     core_made core shown
-    ∙ same_made core shown _ made_so _ leaves.next _ false _ (shows (shown Halt) 1) shown_registers shown_next
-    plain.calm (plain.runs ∙ sym plain.halt)
+    ∙ same_made core shown shown_registers shown_next plain.not_trapped (plain.runs ∙ sym plain.halt)
     ∙ sym (finished_made core shown i access leaves.value leaves.next)
     ∙ ap (λ k. core_after_run (record { core = k; executed = Retired i access }) shown) (sym leaves.is)
 
 -- ---- memory
 
-bytes_by : (stores : Bool) (core : Core) (shown : Shown) (bytes : Bytes) (facts : Retirement) (effects : Effects)
-    (wrote : List Write) → shows_store shown ≡ stores
-    → Touches stores (core_after_count core shown) effects.access wrote → facts.effects ≡ Ok effects
-    → IsPlain core shown → ShowsWords shown → ((signal : Signal) → signal_difference facts shown signal ≡ None)
-    → (x : ℕ) → (if stores then bytes_put core.map.ram (store_shown shown) 8 bytes else bytes) x
-    ≡ after_writes wrote bytes x
-unfolding after_writes core_after_count shows_bytes
-bytes_by false core shown bytes facts effects wrote is touches effects_are plain words none x =
-    ap (λ w. after_writes w bytes x) (sym touches)
-bytes_by true core shown bytes facts effects wrote is touches effects_are plain words none x =
-    store_is_true (core_after_count core shown) shown bytes facts effects wrote touches effects_are (plain.stores is)
-    words none x
-
-bytes_are_true : (stores : Bool) (core : Core) (shown : Shown) (bytes : Bytes) (facts : Retirement)
-    (effects : Effects) (wrote : List Write) → shows_store shown ≡ stores
-    → Touches stores (core_after_count core shown) effects.access wrote → facts.effects ≡ Ok effects
-    → IsPlain core shown → ShowsWords shown → ((signal : Signal) → signal_difference facts shown signal ≡ None)
+bytes_are_true : {core : Core} {shown : Shown} {facts : Retirement} {effects : Effects} {stores : Bool} (bytes : Bytes)
+    (wrote : List Write) → IsPlain core shown → RowAgrees facts shown → facts.effects ≡ Ok effects
+    → shows_store shown ≡ stores → Touches stores (core_after_count core shown) effects.access wrote
     → memory_shown core shown bytes ≡ after_writes wrote bytes
-unfolding memory_shown
-bytes_are_true stores core shown bytes facts effects wrote is touches effects_are plain words none =
+unfolding memory_shown after_writes core_after_count shows_bytes
+bytes_are_true {core} {shown} {facts} {effects} {stores} bytes wrote plain agrees effects_are is touches =
     fun_ext (λ x. ap (λ (t : Bool). (if t then bytes_put core.map.ram (store_shown shown) 8 bytes else bytes) x) is
-    ∙ bytes_by stores core shown bytes facts effects wrote is touches effects_are plain words none x)
+    ∙ by stores is touches x)
+  where
+    by : (stores : Bool) → shows_store shown ≡ stores
+        → Touches stores (core_after_count core shown) effects.access wrote → (x : ℕ)
+        → (if stores then bytes_put core.map.ram (store_shown shown) 8 bytes else bytes) x ≡ after_writes wrote bytes x
+    by false none touches x = ap (λ w. after_writes w bytes x) (sym touches)
+    by true stores touches x = store_is_true bytes touches effects_are (plain.stores stores) agrees x
 
 -- ---- the row
 
@@ -200,41 +202,47 @@ pub record IsShownRightly (core : Core) (shown : Shown) (bytes : Bytes) (done : 
   pub core_is : core_shown core shown ≡ core_after_run done shown
   pub bytes_are : memory_shown core shown bytes ≡ after_writes wrote bytes
 
-pub ran_true : (core : Core) (shown : Shown) (bytes : Bytes) (x : InstructionOutcome) (after : Core)
-    (wrote : List Write) (facts : Retirement) → IsPlain core shown → ShowsChanges shown → ShowsWords shown
-    → Runs (core_after_count core shown) x after wrote → facts.insn ≡ insn_of x
-    → facts.effects ≡ effects_of (core_after_count core shown) after x
-    → ((signal : Signal) → signal_difference facts shown signal ≡ None)
-    → IsInRange (core_after_run (record { core = after; executed = x }) shown)
+-- what the step did at it
+pub record IsRunOf (core : Core) (shown : Shown) (facts : Retirement) (x : InstructionOutcome) (after : Core)
+    (wrote : List Write) : Type 0 where
+  pub runs : Runs (core_after_count core shown) x after wrote
+  pub insn : facts.insn ≡ insn_of x
+  pub effects : facts.effects ≡ effects_of (core_after_count core shown) after x
+  pub in_range : IsInRange (core_after_run (record { core = after; executed = x }) shown)
+
+pub ran_true : {core : Core} {shown : Shown} {facts : Retirement} {after : Core} {wrote : List Write} (bytes : Bytes)
+    (x : InstructionOutcome) → IsPlain core shown → ShowsChanges shown → RowAgrees facts shown
+    → IsRunOf core shown facts x after wrote
     → IsShownRightly core shown bytes (record { core = after; executed = x }) wrote
 unfolding core_after_run
-ran_true core shown bytes (Trapped None exception) after wrote facts plain shows words runs insn effects none range =
-    absurd (took_no_fault facts shown exception.0 effects runs shows.trap words plain.trap (none Trap))
-ran_true core shown bytes (Trapped (Some bits) exception) after wrote facts plain shows words runs insn effects none
-    range =
-    let is = insn_is facts shown bits insn (fetched_fits bits runs.len runs.word) shows.insn words (none Insn) in
+ran_true bytes (Trapped None exception) plain shows agrees did =
+    absurd (took_no_fault agrees did.effects did.runs shows.trap plain.trap)
+ran_true {shown} bytes (Trapped (Some bits) exception) plain shows agrees did =
+    let runs = did.runs in
+    let is = insn_is bits agrees did.insn (fetched_fits bits runs.len runs.word) shows.insn in
     let common : is_system_or_atomic bits ≡ false =
     sym (ap is_system_or_atomic (insn_as shown bits is)) ∙ plain.common in
     absurd
-    (took_no_fault facts shown exception.0 effects (runs.fault (plain_word bits runs.len runs.word common))
-    shows.trap words plain.trap (none Trap))
-ran_true core shown bytes (Retired i access) after wrote facts plain shows words runs insn effects none range =
-    let is = insn_is facts shown i.bits insn (fetched_fits i.bits i.len runs.word) shows.insn words (none Insn) in
+    (took_no_fault agrees did.effects (runs.fault (plain_word bits runs.len runs.word common)) shows.trap plain.trap)
+ran_true {shown} {after} {wrote} bytes (Retired i access) plain shows agrees did =
+    let runs = did.runs in
+    let rd = (operands_of i.op).rd in
+    let is = insn_is i.bits agrees did.insn (fetched_fits i.bits i.len runs.word) shows.insn in
     let common : is_system_or_atomic i.bits ≡ false =
     sym (ap is_system_or_atomic (insn_as shown i.bits is)) ∙ plain.common in
     let done = runs.does (plain_word i.bits i.len runs.word common i.op runs.means) in
-    let rd_fits : (operands_of i.op).rd < 2 ^ 64 =
-    below_word (operands_of i.op).rd (destination_below i.bits i.len i.op runs.means) in
-    let rd = rd_is facts shown _ effects rd_fits shows.register words (none RdAddr) in
-    let value =
-    value_is facts shown _ effects (range.registers (operands_of i.op).rd) shows.value words (none RdWdata) in
-    let next = next_is facts shown _ effects range.pc shows.next words (none PcWdata) in
+    let rd_fits : rd < 2 ^ 64 = below_word rd (destination_below i.bits i.len i.op runs.means) in
+    let shows_after : ShowsAfter shown i after = record {
+      register = rd_is _ agrees did.effects rd_fits shows.register;
+      value = value_is _ agrees did.effects (did.in_range.registers rd) shows.value;
+      next = next_is _ agrees did.effects did.in_range.pc shows.next;
+    } in
     record {
-      core_is = core_is_true core shown i access after plain done.leaves rd value next range.even;
+      core_is = core_is_true access plain done.leaves shows_after did.in_range.even;
       bytes_are =
-          bytes_are_true (is_store (Some i.op)) core shown bytes facts _ wrote
-          (stores_as shown i.bits i.len i.op is runs.word runs.means) done.touches effects plain words none;
+          bytes_are_true bytes wrote plain agrees did.effects
+          (stores_as shown i.bits i.len i.op is runs.word runs.means) done.touches;
     }
   where
     below_word : (n : ℕ) → n < 32 → n < 2 ^ 64
-    below_word n few = omega (arith, few)
+    below_word n below = omega (arith, below)

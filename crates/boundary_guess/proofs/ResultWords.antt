@@ -212,35 +212,42 @@ load_words loads.Lbu address small = small
 load_words loads.Lhu address small = small
 load_words loads.Lwu address small = small
 
-pub computed_words : (op : Op) (a b pc len : ℕ) → HasOperands op → a < 2 ^ 64 → b < 2 ^ 64 → pc % 2 ≡ 0 → len % 2 ≡ 0
+-- the values of the operands are words, pc and the length of the instruction are even
+pub record AreOperands (a b pc len : ℕ) : Type 0 where
+  pub first_fits : a < 2 ^ 64
+  pub second_fits : b < 2 ^ 64
+  pub pc_even : pc % 2 ≡ 0
+  pub len_even : len % 2 ≡ 0
+
+pub computed_words : (op : Op) (a b pc len : ℕ) → HasOperands op → AreOperands a b pc len
     → IsOfWords (result_of op a b pc len)
 unfolding result_of
-computed_words (ops.Lui rd imm) a b pc len has one other even short = has
-computed_words (ops.Auipc rd imm) a b pc len has one other even short = wrapped (pc + imm)
-computed_words (ops.Jal rd offset) a b pc len has one other even short =
-    (wrapped (pc + len), even_sum pc offset even has)
-computed_words (ops.Jalr rd rs1 offset) a b pc len has one other even short =
+computed_words (ops.Lui rd imm) a b pc len has are = has
+computed_words (ops.Auipc rd imm) a b pc len has are = wrapped (pc + imm)
+computed_words (ops.Jal rd offset) a b pc len has are =
+    (wrapped (pc + len), even_sum pc offset are.pc_even has)
+computed_words (ops.Jalr rd rs1 offset) a b pc len has are =
     (wrapped (pc + len), halved (wrapped_sum a offset) (wrapped (a + offset)))
-computed_words (ops.Branch op rs1 rs2 offset) a b pc len has one other even short =
-    branch_even (is_taken op a b) (wrapped_sum pc offset) (wrapped_sum pc len) (even_sum pc offset even has)
-    (even_sum pc len even short)
-computed_words (ops.Load op rd rs1 offset) a b pc len has one other even short =
+computed_words (ops.Branch op rs1 rs2 offset) a b pc len has are =
+    branch_even (is_taken op a b) (wrapped_sum pc offset) (wrapped_sum pc len) (even_sum pc offset are.pc_even has)
+    (even_sum pc len are.pc_even are.len_even)
+computed_words (ops.Load op rd rs1 offset) a b pc len has are =
     load_words op (wrapped_sum a offset) (wrapped (a + offset))
-computed_words (ops.Store op rs1 rs2 offset) a b pc len has one other even short = wrapped (a + offset)
-computed_words (ops.Immediate op rd rs1 imm) a b pc len has one other even short = immediate_word op a imm one has
-computed_words (ops.ImmediateWord op rd rs1 imm) a b pc len has one other even short = immediate_word_word op a imm
-computed_words (ops.Register op rd rs1 rs2) a b pc len has one other even short = register_word op a b one other
-computed_words (ops.RegisterWord op rd rs1 rs2) a b pc len has one other even short = register_word_word op a b
-computed_words ops.Fence a b pc len has one other even short = even_sum pc len even short
-computed_words ops.FenceI a b pc len has one other even short = even_sum pc len even short
-computed_words ops.Ecall a b pc len has one other even short = tt
-computed_words ops.Ebreak a b pc len has one other even short = tt
-computed_words ops.Mret a b pc len has one other even short = tt
-computed_words ops.Sret a b pc len has one other even short = tt
-computed_words ops.Wfi a b pc len has one other even short = tt
-computed_words (ops.SfenceVma rs1 rs2) a b pc len has one other even short = tt
-computed_words (ops.Csr op rd rs1 csr) a b pc len has one other even short = one
-computed_words (ops.CsrImmediate op rd imm csr) a b pc len has one other even short = has
-computed_words (ops.LoadReserved width rd rs1) a b pc len has one other even short = one
-computed_words (ops.StoreConditional width rd rs1 rs2) a b pc len has one other even short = one
-computed_words (ops.Amo op width rd rs1 rs2) a b pc len has one other even short = one
+computed_words (ops.Store op rs1 rs2 offset) a b pc len has are = wrapped (a + offset)
+computed_words (ops.Immediate op rd rs1 imm) a b pc len has are = immediate_word op a imm are.first_fits has
+computed_words (ops.ImmediateWord op rd rs1 imm) a b pc len has are = immediate_word_word op a imm
+computed_words (ops.Register op rd rs1 rs2) a b pc len has are = register_word op a b are.first_fits are.second_fits
+computed_words (ops.RegisterWord op rd rs1 rs2) a b pc len has are = register_word_word op a b
+computed_words ops.Fence a b pc len has are = even_sum pc len are.pc_even are.len_even
+computed_words ops.FenceI a b pc len has are = even_sum pc len are.pc_even are.len_even
+computed_words ops.Ecall a b pc len has are = tt
+computed_words ops.Ebreak a b pc len has are = tt
+computed_words ops.Mret a b pc len has are = tt
+computed_words ops.Sret a b pc len has are = tt
+computed_words ops.Wfi a b pc len has are = tt
+computed_words (ops.SfenceVma rs1 rs2) a b pc len has are = tt
+computed_words (ops.Csr op rd rs1 csr) a b pc len has are = are.first_fits
+computed_words (ops.CsrImmediate op rd imm csr) a b pc len has are = has
+computed_words (ops.LoadReserved width rd rs1) a b pc len has are = are.first_fits
+computed_words (ops.StoreConditional width rd rs1 rs2) a b pc len has are = are.first_fits
+computed_words (ops.Amo op width rd rs1 rs2) a b pc len has are = are.first_fits

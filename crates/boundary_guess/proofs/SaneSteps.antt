@@ -70,7 +70,7 @@ use Rattle.boundary_guess.proofs.PlainRuns.{accessed_value, answer_from}
 use Rattle.boundary_guess.proofs.PlainSteps.{fetched_fits}
 use Rattle.boundary_guess.proofs.StepWords.{FitsFound, RaisesWords, answer_word, fetch_raises, found_fits}
 use Rattle.boundary_guess.proofs.StepWords.{placed_raises}
-use Rattle.boundary_guess.proofs.ResultWords.{AsksWords, HasOperands, IsOfWords, computed_words, operands_by_form}
+use Rattle.boundary_guess.proofs.ResultWords.{AreOperands, AsksWords, HasOperands, IsOfWords, computed_words, operands_by_form}
 
 -- ---- registers
 
@@ -161,16 +161,23 @@ unfolding access_result_of
 answer_fits core choices request (Err exception) fits = tt
 answer_fits core choices request (Ok found) fits = answer_word core choices request found.0 found.1 request.op fits
 
-access_sane : (core : Core) (choices : RowChoices) (i : Instruction) (request : MemoryRequest) (bytes : Bytes)
-    → IsSane core → IsInstruction i → AreBytes bytes → request.address < 2 ^ 64
+-- what an instruction starts from, and its destination's value if the row shows it
+record IsSaneStart (core : Core) (choices : RowChoices) (i : Instruction) (bytes : Bytes) : Type 0 where
+  pub state : IsSane core
+  pub instruction : IsInstruction i
+  pub memory : AreBytes bytes
+  pub destination : IfSome choices.rd_wdata (λ v. v < 2 ^ 64)
+
+access_sane : {core : Core} {choices : RowChoices} {i : Instruction} {bytes : Bytes} (request : MemoryRequest)
+    → IsSaneStart core choices i bytes → request.address < 2 ^ 64
     → IsSaneResult (after_access core i ((memory_access core choices request).run bytes).value)
-access_sane core choices i request bytes sane is are small =
+access_sane {core} {choices} {i} {bytes} request start small =
     let found = ((located_access core request).run bytes).value in
     let P : Result AccessResult Exception → Type 0 = λ answer. IsSaneResult (after_access core i answer) in
     subst P (sym (accessed_value core choices request bytes))
-    (after_access_sane core i (answer_from core choices request found) sane is
+    (after_access_sane core i (answer_from core choices request found) start.state start.instruction
     (answer_raises core choices request found (placed_raises core request bytes small))
-    (answer_fits core choices request found (found_fits core request bytes are)))
+    (answer_fits core choices request found (found_fits core request bytes start.memory)))
 
 after_csr_sane : (core : Core) (i : Instruction) (answer : Result (ℕ × Csrs) Illegal) → IsSane core → IsInstruction i
     → IfOk answer IsSaneAnswer → IsSaneResult (after_csr core i answer)
@@ -212,30 +219,35 @@ system_sane core choices i system.TranslationFence sane is small word =
     done_if_sane (may_use_supervisor_instruction core TVM) (core_at_next core i 0) i
     (goes_on_sane core i 0 sane is (lit< tt)) is
 
-executed_by_sane : (core : Core) (choices : RowChoices) (i : Instruction) (result : IntResult) (bytes : Bytes)
-    → IsSane core → IsInstruction i → AreBytes bytes → IfSome choices.rd_wdata (λ v. v < 2 ^ 64) → IsOfWords result
+executed_by_sane : {core : Core} {choices : RowChoices} {i : Instruction} {bytes : Bytes} (result : IntResult)
+    → IsSaneStart core choices i bytes → IsOfWords result
     → IsSaneResult ((execution_by core choices i result).run bytes).value
 unfolding pure mapped
-executed_by_sane core choices i (results.Value value) bytes sane is are word words =
-    goes_on_sane core i value sane is words
-executed_by_sane core choices i (results.Jump link target) bytes sane is are word words =
-    retired_sane core i link target sane words.0 words.1.0 words.1.1
-executed_by_sane core choices i (results.Continue next_pc) bytes sane is are word words =
-    retired_sane core i 0 next_pc sane (lit< tt) words.0 words.1
-executed_by_sane core choices i (results.Access request) bytes sane is are word words =
-    access_sane core choices i request bytes sane is are words
-executed_by_sane core choices i (results.System request) bytes sane is are word words =
-    system_sane core choices i request sane is words word
+executed_by_sane {core} {i} (results.Value value) start words =
+    goes_on_sane core i value start.state start.instruction words
+executed_by_sane {core} {i} (results.Jump link target) start words =
+    retired_sane core i link target start.state words.0 words.1.0 words.1.1
+executed_by_sane {core} {i} (results.Continue next_pc) start words =
+    retired_sane core i 0 next_pc start.state (lit< tt) words.0 words.1
+executed_by_sane (results.Access request) start words = access_sane request start words
+executed_by_sane {core} {choices} {i} (results.System request) start words =
+    system_sane core choices i request start.state start.instruction words start.destination
 
-executed_sane : (core : Core) (choices : RowChoices) (i : Instruction) (bytes : Bytes) → IsSane core → IsInstruction i
-    → HasOperands i.op → AreBytes bytes → IfSome choices.rd_wdata (λ v. v < 2 ^ 64)
+executed_sane : {core : Core} {choices : RowChoices} {i : Instruction} {bytes : Bytes}
+    → IsSaneStart core choices i bytes → HasOperands i.op
     → IsSaneResult ((execution_of core choices i).run bytes).value
 unfolding execution_of
-executed_sane core choices i bytes sane is has are word =
-    executed_by_sane core choices i (result_of i.op (first_value core i.op) (second_value core i.op) core.pc i.len)
-    bytes sane is are word
-    (computed_words i.op (first_value core i.op) (second_value core i.op) core.pc i.len has (sane.registers _)
-    (sane.registers _) sane.sound.even is.even)
+executed_sane {core} {i} start has =
+    let first = first_value core i.op in
+    let second = second_value core i.op in
+    let operands : AreOperands first second core.pc i.len = record {
+      first_fits = start.state.registers _;
+      second_fits = start.state.registers _;
+      pc_even = start.state.sound.even;
+      len_even = start.instruction.even;
+    } in
+    executed_by_sane (result_of i.op first second core.pc i.len) start
+    (computed_words i.op first second core.pc i.len has operands)
 
 -- ---- what stands at pc
 
@@ -265,39 +277,49 @@ even_length : (long : Bool) (len : ℕ) → len ≡ (if long then 4 else 2) → 
 even_length true len is = ap (λ n. n % 2) is
 even_length false len is = ap (λ n. n % 2) is
 
-decoded_sane : (core : Core) (shown : Shown) (bits len : ℕ) (op : Option Op) (bytes : Bytes) → IsSane core
-    → ShowsWords shown → AreBytes bytes → IsFetchedWord (bits, len) → op_of bits len ≡ op
+-- what a step starts from
+record IsSaneRow (core : Core) (shown : Shown) (bytes : Bytes) : Type 0 where
+  pub state : IsSane core
+  pub row : ShowsWords shown
+  pub memory : AreBytes bytes
+
+decoded_sane : {core : Core} {shown : Shown} {bytes : Bytes} (bits len : ℕ) (op : Option Op)
+    → IsSaneRow core shown bytes → IsFetchedWord (bits, len) → op_of bits len ≡ op
     → IsSaneRun ((run_of_decoded core shown bits len op).run bytes).value
 unfolding pure mapped
-decoded_sane core shown bits len None bytes sane words are word means =
-    record { core = sane; traps = fetched_fits bits len word }
-decoded_sane core shown bits len (Some op) bytes sane words are word means =
+decoded_sane bits len None sane word means = record { core = sane.state; traps = fetched_fits bits len word }
+decoded_sane {core} {shown} {bytes} bits len (Some op) sane word means =
     let i : Instruction = record { op = op; bits = bits; len = len } in
-    let is : IsInstruction i =
-    record { even = even_length (bits % 4 == 3) len word.length; bits = fetched_fits bits len word } in
     let choices = choices_of shown (operands_of op).rd in
-    ended_sane core i ((execution_of core choices i).run bytes).value sane
-    (executed_sane core choices i bytes sane is (of_some_form HasOperands operands_by_form bits len op means) are
-    (row_word (operands_of op).rd shown words))
+    let start : IsSaneStart core choices i bytes = record {
+      state = sane.state;
+      instruction = record {
+        even = even_length (bits % 4 == 3) len word.length;
+        bits = fetched_fits bits len word;
+      };
+      memory = sane.memory;
+      destination = row_word (operands_of op).rd shown sane.row;
+    } in
+    ended_sane core i ((execution_of core choices i).run bytes).value sane.state
+    (executed_sane start (of_some_form HasOperands operands_by_form bits len op means))
 
-fetched_sane : (core : Core) (shown : Shown) (word : Result (ℕ × ℕ) Exception) (bytes : Bytes) → IsSane core
-    → ShowsWords shown → AreBytes bytes → RaisesWords word → IfOk word IsFetchedWord
+fetched_sane : {core : Core} {shown : Shown} {bytes : Bytes} (word : Result (ℕ × ℕ) Exception)
+    → IsSaneRow core shown bytes → RaisesWords word → IfOk word IsFetchedWord
     → IsSaneRun ((run_of_fetched core shown word).run bytes).value
 unfolding pure
-fetched_sane core shown (Err exception) bytes sane words are raises word = record { core = sane; traps = raises }
-fetched_sane core shown (Ok found) bytes sane words are raises word =
-    decoded_sane core shown found.0 found.1 (op_of found.0 found.1) bytes sane words are word refl
+fetched_sane (Err exception) sane raises word = record { core = sane.state; traps = raises }
+fetched_sane (Ok found) sane raises word = decoded_sane found.0 found.1 (op_of found.0 found.1) sane word refl
 
-ran_sane : (core : Core) (shown : Shown) (bytes : Bytes) → IsSane core → ShowsWords shown → AreBytes bytes
+ran_sane : (core : Core) (shown : Shown) (bytes : Bytes) → IsSaneRow core shown bytes
     → IsSaneRun ((instruction_run core shown).run bytes).value
 unfolding instruction_run
-ran_sane core shown bytes sane words are =
+ran_sane core shown bytes sane =
     let fetch = fetch_result core.csrs core.map core.mode core.pc in
     then_gives_here IsSaneRun fetch (run_of_fetched core shown) bytes
     (fetch_writes_nothing core.csrs core.map core.mode core.pc bytes)
-    (fetched_sane core shown (fetch.run bytes).value bytes sane words are
-    (fetch_raises core.csrs core.map core.mode core.pc bytes sane.pc)
-    (fetch_word core.csrs core.map core.mode core.pc bytes are))
+    (fetched_sane (fetch.run bytes).value sane
+    (fetch_raises core.csrs core.map core.mode core.pc bytes sane.state.pc)
+    (fetch_word core.csrs core.map core.mode core.pc bytes sane.memory))
 
 -- ---- the step
 
@@ -397,7 +419,8 @@ next_sane core shown bytes sane words are = elim (cases_Bool core.halted) [
   | inl halted ↦ subst IsSane (sym (next_halted core shown bytes halted)) sane
   | inr runs ↦ subst IsSane (sym (next_running core shown bytes runs))
       (finished_sane ((instruction_run (before_instruction core shown) shown).run bytes).value shown
-      (ran_sane (before_instruction core shown) shown bytes (begun_sane core shown sane) words are))
+      (ran_sane (before_instruction core shown) shown bytes
+      (record { state = begun_sane core shown sane; row = words; memory = are })))
 ]
 
 -- ---- memory

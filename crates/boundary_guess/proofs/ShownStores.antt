@@ -4,6 +4,7 @@ use Rattle.std.proofs.Common.{[], ◌∷◌, Option, Some, None, Ok, if◌then�
 use Rattle.std.specs.Prelude.{◌||◌, IfSome, unwrap_or, option_map}
 use Rattle.std.specs.Option.{is_some, option_and_then}
 use Rattle.std.proofs.lemmas.Nat.{mod_below, pow_below}
+use Rattle.std.proofs.lemmas.Bool.{false_from_ne_true}
 use Rattle.std.proofs.lemmas.Bool.Decides.{nat_tests}
 use Rattle.hart_words.specs.declared.access_size.AccessSize.{AccessSize}
 use Rattle.hart_words.specs.declared.access_size.AccessSize.TheVariants.{Byte, Halfword, Word, Doubleword}
@@ -31,7 +32,7 @@ use Rattle.row_compare.specs.Difference.{difference_between, signal_difference}
 use Rattle.hart_step.specs.declared.state.Core.{Core}
 use Rattle.hart_step.specs.declared.shown_store.ShownStore.{ShownStore}
 use Rattle.hart_step.specs.PlainRows.{bytes_put, shows_bytes, store_shown, translates_data}
-use Rattle.boundary_guess.proofs.Compared.{ShowsWords, found_is, same_under}
+use Rattle.boundary_guess.proofs.Compared.{RowAgrees, ShowsWords, found_is, same_under}
 use Rattle.boundary_guess.proofs.PlainRuns.{Stores}
 use Rattle.boundary_guess.proofs.StoreBytes.{ShowsStored, put_to_device, put_to_ram}
 
@@ -53,26 +54,31 @@ access_is retired effects access is made = ap access_in is ∙ made
 own_place : (va : ℕ) → va < 2 ^ 64 → above va va ≡ 0
 own_place va small = omega (arith, small)
 
-near_by : (near : Bool) (va len named : ℕ) → va < 2 ^ 64 → named < 2 ^ 64 → len ≤ 8
-    → nat_le (above va named + len) 8 ≡ near
-    → difference_between MemAddr (Some named) (address_at va (if near then Some (above va named) else None)) ≡ None
-    → near ≡ true
-near_by true va len named small word few is none = refl
-near_by false va len named small word few is none =
-    let same : Some named ≡ Some va = found_is MemAddr (Some named) va refl word small none in
-    let here : named ≡ va = cc in
-    let zero_away : above va named ≡ 0 = ap (above va) here ∙ own_place va small in
-    let near : nat_le (above va named + len) 8 ≡ true = grind (arith, nat_tests, zero_away, few) in
-    absurd cc
+near : (va len named : ℕ) → va < 2 ^ 64 → named < 2 ^ 64 → len ≤ 8
+    → difference_between MemAddr (Some named) (address_at va (distance_in_window va len named)) ≡ None
+    → nat_le (above va named + len) 8 ≡ true
+near va len named small word at_most none = by (nat_le (above va named + len) 8) refl none
+  where
+    by : (near : Bool) → nat_le (above va named + len) 8 ≡ near
+        → difference_between MemAddr (Some named) (address_at va (if near then Some (above va named) else None)) ≡ None
+        → near ≡ true
+    by true is agrees = refl
+    by false is agrees =
+        let same : Some named ≡ Some va = found_is MemAddr (Some named) va refl word small agrees in
+        let here : named ≡ va = cc in
+        let zero_away : above va named ≡ 0 = ap (above va) here ∙ own_place va small in
+        let close : nat_le (above va named + len) 8 ≡ true = grind (arith, nat_tests, zero_away, at_most) in
+        absurd cc
 
--- a value is shown of each of three signals
-pub record ShowsAccess (shown : Shown) : Type 0 where
+-- a value is shown of each of three signals, and the physical address too where addresses are translated
+pub record ShowsAccess (core : Core) (shown : Shown) : Type 0 where
   pub address : ℕ
   pub mask : ℕ
   pub bytes : ℕ
   pub address_is : shown MemAddr ≡ Some address
   pub mask_is : shown MemWmask ≡ Some mask
   pub bytes_are : shown MemWdata ≡ Some bytes
+  pub place_known : (is_some (shown MemPaddr) || not (translates_data core)) ≡ true
 
 word_of : (shown : Shown) (signal : Signal) (value : ℕ) → ShowsWords shown → shown signal ≡ Some value → value < 2 ^ 64
 word_of shown signal value words is =
@@ -95,18 +101,15 @@ place_fits map len place true is stands = by map.io stands
     by None held = absurd cc
     by (Some io) held = let end = io.below in grind (arith, nat_tests, held)
 
-apart_by : (ram io : Span) (pa len x : ℕ) (test : Bool) → is_apart_from ram io ≡ true → holds_all io pa len ≡ true
-    → is_in ram x ≡ true → is_within pa len x ≡ test → test ≡ false
-apart_by ram io pa len x false apart held inside is = refl
-apart_by ram io pa len x true apart held inside is = absurd (grind (arith, nat_tests, apart, held, inside, is))
-
 device_apart : (map : Map) (pa len x : ℕ) → is_device map.io pa len ≡ true → is_in map.ram x ≡ true
     → is_within pa len x ≡ false
 device_apart map pa len x held inside = by map.io refl held
   where
     by : (io : Option Span) → map.io ≡ io → is_device io pa len ≡ true → is_within pa len x ≡ false
     by None is held = absurd cc
-    by (Some io) is held = apart_by map.ram io pa len x (is_within pa len x) (map.apart io is) held inside refl
+    by (Some io) is held =
+        let apart : is_apart_from map.ram io ≡ true = map.apart io is in
+        false_from_ne_true (is_within pa len x) (λ within. grind (arith, nat_tests, apart, held, inside, within))
 
 few_bytes : (size : AccessSize) → bytes_of size ≤ 8
 few_bytes Byte = omega arith
@@ -163,63 +166,71 @@ mask_wanted retired shown effects access named is made shows =
 some_is : (a b : ℕ) → Some a ≡ Some b → a ≡ b
 some_is a b is = cc
 
-there_by : (core : Core) (shown : Shown) (retired : Retired) (va pa len value named : ℕ) (paddr : Option ℕ)
-    → shown MemPaddr ≡ paddr
-    → va < 2 ^ 64 → pa < 2 ^ 64 → named < 2 ^ 64 → distance_in_window va len named ≡ Some (above va named)
-    → access_in retired.effects ≡ Some (store_at va pa len value) → shown MemAddr ≡ Some named
-    → (is_some paddr || not (translates_data core)) ≡ true → (translates_data core ≡ false → pa ≡ va)
-    → ShowsWords shown → signal_difference retired shown MemPaddr ≡ None
-    → pa ≡ (unwrap_or paddr named + above va named) % 2 ^ 64
-there_by core shown retired va pa len value named None is small low word near made shows known physical words none =
-    let off : translates_data core ≡ false = negated (translates_data core) known in
-    physical off ∙ own_distance va named small word
+-- a store that retired, of so many bytes
+record IsStoredAt (core : Core) (retired : Retired) (va pa len value : ℕ) : Type 0 where
+  pub effects : Effects
+  pub effects_are : retired.effects ≡ Ok effects
+  pub made : effects.access ≡ Some (store_at va pa len value)
+  pub va_fits : va < 2 ^ 64
+  pub pa_fits : pa < 2 ^ 64
+  pub end_fits : pa + len ≤ 2 ^ 64
+  pub at_most_8 : len ≤ 8
+  pub physical : translates_data core ≡ false → pa ≡ va
+
+place_by : {core : Core} {shown : Shown} {retired : Retired} {va pa len value : ℕ} (paddr : Option ℕ)
+    (shows : ShowsAccess core shown) → IsStoredAt core retired va pa len value → RowAgrees retired shown
+    → distance_in_window va len shows.address ≡ Some (above va shows.address) → shown MemPaddr ≡ paddr
+    → (is_some paddr || not (translates_data core)) ≡ true
+    → pa ≡ (unwrap_or paddr shows.address + above va shows.address) % 2 ^ 64
+place_by {core} {shown} {va} None shows stored agrees near is known =
+    stored.physical (negated (translates_data core) known)
+    ∙ own_distance va shows.address stored.va_fits (word_of shown MemAddr shows.address agrees.words shows.address_is)
   where
     negated : (b : Bool) → not b ≡ true → b ≡ false
     negated true h = cc
     negated false h = refl
-there_by core shown retired va pa len value named (Some place) is small low word near made shows known physical words
-    none =
-    let want : expected_signal retired shown MemPaddr ≡ whole (moved_back pa (above va named)) =
-    physical_wanted retired shown (store_at va pa len value) named made shows
+place_by {shown} {retired} {va} {pa} {len} {value} (Some place) shows stored agrees near is known =
+    let named = shows.address in
+    let access = store_at va pa len value in
+    let made_in = access_is retired stored.effects access stored.effects_are stored.made in
+    let back = moved_back pa (above va named) in
+    let want : expected_signal retired shown MemPaddr ≡ whole back =
+    physical_wanted retired shown access named made_in shows.address_is
     ∙ ap (λ d. where_known (option_map (moved_back pa) d)) near in
     let differs =
-    difference_at retired shown MemPaddr (Some place) (whole (moved_back pa (above va named))) is want none in
-    let shown_at : Some place ≡ Some (moved_back pa (above va named)) =
-    found_is MemPaddr (Some place) (moved_back pa (above va named)) refl (word_of shown MemPaddr place words is)
+    difference_at retired shown MemPaddr (Some place) (whole back) is want (agrees.none_differs MemPaddr) in
+    let shown_at : Some place ≡ Some back =
+    found_is MemPaddr (Some place) back refl (word_of shown MemPaddr place agrees.words is)
     (mod_below (pa + (2 ^ 64 - above va named)) (2 ^ 64) (lit< tt)) differs in
     let away_fits : above va named < 2 ^ 64 = mod_below (va + (2 ^ 64 - named)) (2 ^ 64) (lit< tt) in
-    back_place place pa (above va named) low away_fits (some_is place _ shown_at)
+    back_place place pa (above va named) stored.pa_fits away_fits (some_is place _ shown_at)
 
 -- the shown store is that of the instruction
-shows_stored : (core : Core) (shown : Shown) (retired : Retired) (effects : Effects) (va pa len value : ℕ)
-    (shows : ShowsAccess shown) → retired.effects ≡ Ok effects → effects.access ≡ Some (store_at va pa len value)
-    → va < 2 ^ 64 → len ≤ 8 → pa + len ≤ 2 ^ 64 → pa < 2 ^ 64
-    → (is_some (shown MemPaddr) || not (translates_data core)) ≡ true → (translates_data core ≡ false → pa ≡ va)
-    → ShowsWords shown
-    → ((signal : Signal) → signal_difference retired shown signal ≡ None)
+shows_stored : {core : Core} {shown : Shown} {retired : Retired} {va pa len value : ℕ}
+    (shows : ShowsAccess core shown) → IsStoredAt core retired va pa len value → RowAgrees retired shown
     → ShowsStored (store_shown shown) pa len value (above va shows.address)
 unfolding store_shown
-shows_stored core shown retired effects va pa len value shows is made small few fits low known physical words none =
+shows_stored {shown} {retired} {va} {pa} {len} {value} shows stored agrees =
     let access = store_at va pa len value in
     let named = shows.address in
     let away = above va named in
-    let made_in = access_is retired effects access is made in
-    let word = word_of shown MemAddr named words shows.address_is in
-    let near : nat_le (away + len) 8 ≡ true =
-    near_by (nat_le (away + len) 8) va len named small word few refl
+    let words = agrees.words in
+    let made_in = access_is retired stored.effects access stored.effects_are stored.made in
+    let close : nat_le (away + len) 8 ≡ true =
+    near va len named stored.va_fits (word_of shown MemAddr named words shows.address_is) stored.at_most_8
     (difference_at retired shown MemAddr (Some named) (expected_address access (Some named)) shows.address_is
-    (address_wanted retired shown access named made_in shows.address_is) (none MemAddr)) in
+    (address_wanted retired shown access named made_in shows.address_is) (agrees.none_differs MemAddr)) in
     let distance : distance_in_window va len named ≡ Some away =
-    ap (λ (t : Bool). if t then Some away else None) near in
-    let within : away + len ≤ 8 = grind (arith, nat_tests, near) in
+    ap (λ (t : Bool). if t then Some away else None) close in
+    let within : away + len ≤ 8 = grind (arith, nat_tests, close) in
     let mask_want : expected_signal retired shown MemWmask ≡ whole (ones away len) =
-    mask_wanted retired shown effects access named is made shows.address_is
+    mask_wanted retired shown stored.effects access named stored.effects_are stored.made shows.address_is
     ∙ ap (λ d. write_mask_at len d (Some value)) distance in
     let mask_found : Some shows.mask ≡ Some (ones away len) =
     found_is MemWmask (Some shows.mask) (ones away len) refl (word_of shown MemWmask shows.mask words shows.mask_is)
     (ones_below away len within)
     (difference_at retired shown MemWmask (Some shows.mask) (whole (ones away len)) shows.mask_is mask_want
-    (none MemWmask)) in
+    (agrees.none_differs MemWmask)) in
     let want : ExpectedSignal = record { value = moved_up value away; mask = byte_ones away len } in
     let bytes_want : expected_signal retired shown MemWdata ≡ Some want =
     written_wanted retired shown access named made_in shows.address_is
@@ -227,17 +238,15 @@ shows_stored core shown retired effects va pa len value shows is made small few 
     let bytes_same =
     same_under MemWdata shows.bytes want
     (difference_at retired shown MemWdata (Some shows.bytes) (Some want) shows.bytes_are bytes_want
-    (none MemWdata)) in
+    (agrees.none_differs MemWdata)) in
     let place_is : unwrap_or (shown MemPaddr) (unwrap_or (shown MemAddr) 0) ≡ unwrap_or (shown MemPaddr) named =
     ap (λ a. unwrap_or (shown MemPaddr) (unwrap_or a 0)) shows.address_is in
     record {
       place = place_word (shown MemPaddr) (shown MemAddr) (words MemPaddr) (words MemAddr);
       within = within;
-      there =
-          there_by core shown retired va pa len value named (shown MemPaddr) refl small low word distance made_in
-          shows.address_is known physical words (none MemPaddr)
+      begins = place_by (shown MemPaddr) shows stored agrees distance refl shows.place_known
           ∙ ap (λ p. (p + away) % 2 ^ 64) (sym place_is);
-      fits = fits;
+      fits = stored.end_fits;
       mask = ap (λ m. unwrap_or m 0) shows.mask_is ∙ some_is shows.mask (ones away len) mask_found;
       bytes = bytes_same ∙ ap (λ d. bit_and (unwrap_or d 0) (byte_ones away len)) (sym shows.bytes_are);
     }
@@ -250,8 +259,7 @@ shows_stored core shown retired effects va pa len value shows is made small few 
 
 -- ---- and its bytes are those that are written
 
-access_of : (shown : Shown) (core : Core) → shows_bytes core shown ≡ true
-    → ShowsAccess shown × ((is_some (shown MemPaddr) || not (translates_data core)) ≡ true)
+access_of : (shown : Shown) (core : Core) → shows_bytes core shown ≡ true → ShowsAccess core shown
 unfolding shows_bytes
 access_of shown core shows =
     by (shown MemAddr) (shown MemWmask) (shown MemWdata) (is_some (shown MemPaddr) || not (translates_data core)) refl
@@ -259,42 +267,51 @@ access_of shown core shows =
   where
     by : (address mask bytes : Option ℕ) (known : Bool) → shown MemAddr ≡ address → shown MemWmask ≡ mask
         → shown MemWdata ≡ bytes → (is_some (shown MemPaddr) || not (translates_data core)) ≡ known
-        → (is_some address && is_some mask && is_some bytes && known) ≡ true
-        → ShowsAccess shown × ((is_some (shown MemPaddr) || not (translates_data core)) ≡ true)
-    by (Some address) (Some mask) (Some bytes) true a m b k h =
-        (record { address = address; mask = mask; bytes = bytes; address_is = a; mask_is = m; bytes_are = b }, k)
+        → (is_some address && is_some mask && is_some bytes && known) ≡ true → ShowsAccess core shown
+    by (Some address) (Some mask) (Some bytes) true a m b k h = record {
+      address = address;
+      mask = mask;
+      bytes = bytes;
+      address_is = a;
+      mask_is = m;
+      bytes_are = b;
+      place_known = k;
+    }
     by (Some address) (Some mask) (Some bytes) false a m b k h = absurd cc
     by (Some address) (Some mask) None known a m b k h = absurd cc
     by (Some address) None bytes known a m b k h = absurd cc
     by None mask bytes known a m b k h = absurd cc
 
-written_by : (map : Map) (store : ShownStore) (place : Place) (len value away : ℕ) (io : Bool) (bytes : Bytes) (x : ℕ)
+written_by : {store : ShownStore} {len value away : ℕ} (map : Map) (place : Place) (io : Bool) (bytes : Bytes) (x : ℕ)
     → ShowsStored store place.pa len value away
     → (if io then is_device map.io place.pa len else holds_all map.ram place.pa len) ≡ true
     → bytes_put map.ram store 8 bytes x
     ≡ after_writes (if io then [] else record { pa = place.pa; len = len; value = value } ∷ []) bytes x
 unfolding after_writes
-written_by map store place len value away true bytes x shows stands =
-    put_to_device map.ram store place.pa len value away bytes x shows (device_apart map place.pa len x stands)
-written_by map store place len value away false bytes x shows stands =
-    put_to_ram map.ram store place.pa len value away bytes x shows stands
+written_by {len} map place true bytes x shows stands =
+    put_to_device map.ram bytes x shows (device_apart map place.pa len x stands)
+written_by map place false bytes x shows stands = put_to_ram map.ram bytes x shows stands
 
-pub store_is_true : (core : Core) (shown : Shown) (bytes : Bytes) (retired : Retired) (effects : Effects)
-    (wrote : List Write) → Stores core effects.access wrote → retired.effects ≡ Ok effects
-    → shows_bytes core shown ≡ true → ShowsWords shown
-    → ((signal : Signal) → signal_difference retired shown signal ≡ None)
+pub store_is_true : {core : Core} {shown : Shown} {retired : Retired} {effects : Effects} {wrote : List Write}
+    (bytes : Bytes) → Stores core effects.access wrote → retired.effects ≡ Ok effects → shows_bytes core shown ≡ true
+    → RowAgrees retired shown
     → (x : ℕ) → bytes_put core.map.ram (store_shown shown) 8 bytes x ≡ after_writes wrote bytes x
-store_is_true core shown bytes retired effects wrote stores is shows words none x =
+store_is_true {core} {shown} {retired} {effects} bytes stores is shows agrees x =
     let place = stores.place in
     let len = bytes_of stores.request.size in
     let known = access_of shown core shows in
     let fits = place_fits core.map len place place.io refl stores.stands in
-    let shown_store =
-    shows_stored core shown retired effects stores.request.address place.pa len stores.value known.0 is
-    stores.made stores.address (few_bytes stores.request.size) fits (low_place place.pa stores.request.size fits)
-    known.1 stores.physical words none in
-    written_by core.map (store_shown shown) place len stores.value (above stores.request.address known.0.address)
-    place.io bytes x shown_store stores.stands
+    let stored : IsStoredAt core retired stores.request.address place.pa len stores.value = record {
+      effects = effects;
+      effects_are = is;
+      made = stores.made;
+      va_fits = stores.address;
+      pa_fits = low_place place.pa stores.request.size fits;
+      end_fits = fits;
+      at_most_8 = few_bytes stores.request.size;
+      physical = stores.physical;
+    } in
+    written_by core.map place place.io bytes x (shows_stored known stored agrees) stores.stands
     ∙ ap (λ w. after_writes w bytes x) (sym stores.wrote_is)
   where
     low_place : (pa : ℕ) (size : AccessSize) → pa + bytes_of size ≤ 2 ^ 64 → pa < 2 ^ 64

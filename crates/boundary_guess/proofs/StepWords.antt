@@ -92,22 +92,20 @@ unfolding pure
 load_from_raises va len (Err cause) bytes small = small
 load_from_raises va len (Ok place) bytes small = value_raises place len place.io bytes
 
-load_raises_by : (aligned : Bool) (csrs : Csrs) (map : Map) (request : AccessRequest) (va len : ℕ) (cause : Cause)
-    (bytes : Bytes) → va < 2 ^ 64
-    → RaisesWords
-    ((if aligned then virtual_place_of csrs map request va >>= load_from va len else pure (Err (cause, va))).run
-    bytes).value
-unfolding pure
-load_raises_by true csrs map request va len cause bytes small =
-    let way = virtual_place_of csrs map request va in
-    then_gives RaisesWords way (load_from va len) bytes (λ now. load_from_raises va len (way.run bytes).value now small)
-load_raises_by false csrs map request va len cause bytes small = small
-
 load_raises : (csrs : Csrs) (map : Map) (mode : Mode) (va len : ℕ) (atomic : Bool) (bytes : Bytes) → va < 2 ^ 64
     → RaisesWords ((load_result csrs map mode va len atomic).run bytes).value
-unfolding load_result
-load_raises csrs map mode va len atomic bytes small =
-    load_raises_by (va % len == 0) csrs map (data_load csrs mode len atomic) va len _ bytes small
+unfolding load_result pure
+load_raises csrs map mode va len atomic bytes small = by (va % len == 0) _
+  where
+    by : (aligned : Bool) (cause : Cause)
+        → RaisesWords
+        ((if aligned then virtual_place_of csrs map (data_load csrs mode len atomic) va >>= load_from va len
+        else pure (Err (cause, va))).run bytes).value
+    by true cause =
+        let way = virtual_place_of csrs map (data_load csrs mode len atomic) va in
+        then_gives RaisesWords way (load_from va len) bytes
+        (λ now. load_from_raises va len (way.run bytes).value now small)
+    by false cause = small
 
 address_raises : (va : ℕ) (place : Result Place Cause) → va < 2 ^ 64 → RaisesWords (with_address va place)
 address_raises va (Err cause) small = small
@@ -179,23 +177,21 @@ unfolding pure
 load_from_below va len (Err cause) bytes are = tt
 load_from_below va len (Ok place) bytes are = value_below place len place.io bytes are
 
-load_below_by : (aligned : Bool) (csrs : Csrs) (map : Map) (request : AccessRequest) (va len : ℕ) (cause : Cause)
-    (bytes : Bytes) → AreBytes bytes
-    → IfOk
-    ((if aligned then virtual_place_of csrs map request va >>= load_from va len else pure (Err (cause, va))).run
-    bytes).value (λ found. found.1 < 256 ^ len)
-unfolding pure
-load_below_by true csrs map request va len cause bytes are =
-    let way = virtual_place_of csrs map request va in
-    then_gives_here (λ found. IfOk found (λ f. f.1 < 256 ^ len)) way (load_from va len) bytes
-    (reach_writes csrs map request va bytes) (load_from_below va len (way.run bytes).value bytes are)
-load_below_by false csrs map request va len cause bytes are = tt
-
 load_below : (csrs : Csrs) (map : Map) (mode : Mode) (va len : ℕ) (atomic : Bool) (bytes : Bytes) → AreBytes bytes
     → IfOk ((load_result csrs map mode va len atomic).run bytes).value (λ found. found.1 < 256 ^ len)
-unfolding load_result
-load_below csrs map mode va len atomic bytes are =
-    load_below_by (va % len == 0) csrs map (data_load csrs mode len atomic) va len _ bytes are
+unfolding load_result pure
+load_below csrs map mode va len atomic bytes are = by (va % len == 0) _
+  where
+    by : (aligned : Bool) (cause : Cause)
+        → IfOk
+        ((if aligned then virtual_place_of csrs map (data_load csrs mode len atomic) va >>= load_from va len
+        else pure (Err (cause, va))).run bytes).value (λ found. found.1 < 256 ^ len)
+    by true cause =
+        let request = data_load csrs mode len atomic in
+        let way = virtual_place_of csrs map request va in
+        then_gives_here (λ found. IfOk found (λ f. f.1 < 256 ^ len)) way (load_from va len) bytes
+        (reach_writes csrs map request va bytes) (load_from_below va len (way.run bytes).value bytes are)
+    by false cause = tt
 
 -- what a load found is no more than its bytes
 abbrev pub FitsFound : MemoryOp → ℕ → Result LocatedValue Exception → Type 0

@@ -1,15 +1,17 @@
 -- The bytes that a store's row shows are those that the store writes.
 use Rattle.std.proofs.Common.{◌≡◌, ◌⊎◌, inl, inr, ℕ, zero, suc, ◌+◌, ◌-◌, ◌*◌, ◌/◌, ◌%◌, ◌^◌, ◌<◌, ◌≤◌, ◌==◌, Bool}
 use Rattle.std.proofs.Common.{true, false, not, ◌&&◌, nat_le, nat_lt, bit_and, Some, None, if◌then◌else◌, refl, sym, ap}
-use Rattle.std.proofs.Common.{◌∙◌, arith, lit<}
+use Rattle.std.proofs.Common.{◌∙◌, arith, lit<, subst}
 use Rattle.std.specs.Prelude.{◌||◌}
 use Rattle.std.proofs.Math.Nat.{div-div-eq-div-mul, mul-div_cancel_left, pow-suc}
 use Rattle.std.proofs.lemmas.Nat.{and_mask, and_mod, and_shr, pow-add}
 use Rattle.std.proofs.lemmas.Nat.Bits.{bit_at_mask_above, bit_at_mask_below, bit_at_mask_inside}
+use Rattle.std.proofs.lemmas.Bool.{false_from_ne_true}
 use Rattle.std.proofs.lemmas.Bool.Decides.{nat_tests}
 use Rattle.hart_words.specs.declared.span.Span.{Span}
 use Rattle.hart_words.specs.Memory.{Bytes, is_within, bytes_after_store}
 use Rattle.hart_words.specs.Spans.{holds_all, is_in}
+use Rattle.hart_words.proofs.Powers.{bits_of_bytes}
 use Rattle.csr_file.specs.Fields.{bit_is_set}
 use Rattle.rvfi_rows.specs.Window.{above, distance_in_window, moved_up}
 use Rattle.row_compare.specs.Memory.{byte_ones, ones}
@@ -17,26 +19,9 @@ use Rattle.hart_step.specs.declared.shown_store.ShownStore.{ShownStore}
 use Rattle.hart_step.specs.PlainRows.{byte_after, bytes_put}
 use Rattle.hart_step.proofs.ShownBytes.{put_all}
 
--- ---- numbers below 8, one by one
+-- ---- the bytes that a mask has
 
-below_8 : (P : ℕ → Type 0) → P 0 → P 1 → P 2 → P 3 → P 4 → P 5 → P 6 → P 7 → (k : ℕ) → k < 8 → P k
-below_8 P p0 p1 p2 p3 p4 p5 p6 p7 zero few = p0
-below_8 P p0 p1 p2 p3 p4 p5 p6 p7 (suc zero) few = p1
-below_8 P p0 p1 p2 p3 p4 p5 p6 p7 (suc (suc zero)) few = p2
-below_8 P p0 p1 p2 p3 p4 p5 p6 p7 (suc (suc (suc zero))) few = p3
-below_8 P p0 p1 p2 p3 p4 p5 p6 p7 (suc (suc (suc (suc zero)))) few = p4
-below_8 P p0 p1 p2 p3 p4 p5 p6 p7 (suc (suc (suc (suc (suc zero))))) few = p5
-below_8 P p0 p1 p2 p3 p4 p5 p6 p7 (suc (suc (suc (suc (suc (suc zero)))))) few = p6
-below_8 P p0 p1 p2 p3 p4 p5 p6 p7 (suc (suc (suc (suc (suc (suc (suc zero))))))) few = p7
-below_8 P p0 p1 p2 p3 p4 p5 p6 p7 (suc (suc (suc (suc (suc (suc (suc (suc k)))))))) few = absurd (omega (arith, few))
-
--- a word has the low bytes of a number
-word_byte : (y k : ℕ) → k < 8 → y % 2 ^ 64 / 256 ^ k % 256 ≡ y / 256 ^ k % 256
-word_byte y k few =
-    below_8 (λ k. y % 2 ^ 64 / 256 ^ k % 256 ≡ y / 256 ^ k % 256) (omega arith) (omega arith) (omega arith)
-    (omega arith) (omega arith) (omega arith) (omega arith) (omega arith) k few
-
--- a byte that a mask has
+-- one byte
 byte_under : (x mask bit : ℕ) → mask / 2 ^ bit % 256 ≡ 255 → bit_and x mask / 2 ^ bit % 256 ≡ x / 2 ^ bit % 256
 byte_under x mask bit all =
     let moved : bit_and x mask / 2 ^ bit % 256 ≡ bit_and (x / 2 ^ bit) (mask / 2 ^ bit) % 256 =
@@ -47,13 +32,12 @@ byte_under x mask bit all =
     let twice : x / 2 ^ bit % 256 % 256 ≡ x / 2 ^ bit % 256 = omega arith in
     moved ∙ cut ∙ ap (bit_and (x / 2 ^ bit % 256)) all ∙ kept ∙ twice
 
-mask_byte : (x mask k : ℕ) → k < 8 → mask / 256 ^ k % 256 ≡ 255 → bit_and x mask / 256 ^ k % 256 ≡ x / 256 ^ k % 256
-mask_byte x mask k few all =
-    below_8 (λ k. mask / 256 ^ k % 256 ≡ 255 → bit_and x mask / 256 ^ k % 256 ≡ x / 256 ^ k % 256)
-    (byte_under x mask 0) (byte_under x mask 8) (byte_under x mask 16) (byte_under x mask 24) (byte_under x mask 32)
-    (byte_under x mask 40) (byte_under x mask 48) (byte_under x mask 56) k few all
+mask_byte : (x mask k : ℕ) → mask / 256 ^ k % 256 ≡ 255 → bit_and x mask / 256 ^ k % 256 ≡ x / 256 ^ k % 256
+mask_byte x mask k all =
+    let Kept : ℕ → Type 0 = λ power. mask / power % 256 ≡ 255 → bit_and x mask / power % 256 ≡ x / power % 256 in
+    subst Kept (sym (bits_of_bytes k)) (byte_under x mask (8 * k)) all
 
--- the bytes that a mask has, by trying all
+-- all bytes from one to another, by trying all
 all_below : ℕ → (ℕ → Bool) → Bool
 all_below zero p = true
 all_below (suc n) p = p n && all_below n p
@@ -110,6 +94,23 @@ whole_byte k low high most from to =
     second true false c one two is same = absurd cc
     second false b c one two is same = absurd cc
 
+-- a word has the low bytes of a number
+word_byte : (y k : ℕ) → k < 8 → y % 2 ^ 64 / 256 ^ k % 256 ≡ y / 256 ^ k % 256
+word_byte y k low =
+    let all : (2 ^ 64 - 1) / 256 ^ k % 256 ≡ 255 = whole_byte k 0 8 (lit< tt) (omega arith) low in
+    let same : bit_and y (2 ^ 64 - 1) ≡ y % 2 ^ 64 = and_mask y 64 in
+    ap (λ v. v / 256 ^ k % 256) (sym same) ∙ mask_byte y (2 ^ 64 - 1) k all
+
+-- ---- a row that shows a store of a value: `away` is how far its bytes begin above the place that is shown
+
+pub record ShowsStored (store : ShownStore) (pa len value away : ℕ) : Type 0 where
+  pub place : store.place < 2 ^ 64
+  pub within : away + len ≤ 8
+  pub begins : pa ≡ (store.place + away) % 2 ^ 64
+  pub fits : pa + len ≤ 2 ^ 64
+  pub mask : store.mask ≡ ones away len
+  pub bytes : bit_and (moved_up value away) (byte_ones away len) ≡ bit_and store.value (byte_ones away len)
+
 -- ---- a byte of the data that are shown
 
 positive : (k : ℕ) → 0 < 256 ^ k
@@ -126,17 +127,16 @@ moved_byte value away k from =
     ∙ ap (λ v. v / 256 ^ away / 256 ^ (k - away)) turned
     ∙ ap (λ v. v / 256 ^ (k - away)) (mul-div_cancel_left value (positive away))
 
-shown_byte : (value given away len k : ℕ) → away + len ≤ 8 → away ≤ k → k < away + len
-    → bit_and (moved_up value away) (byte_ones away len) ≡ bit_and given (byte_ones away len)
-    → given / 256 ^ k % 256 ≡ value / 256 ^ (k - away) % 256
-shown_byte value given away len k within from to same =
-    let few : k < 8 = omega (arith, to, within) in
+shown_byte : {store : ShownStore} {pa len value away : ℕ} (k : ℕ) → ShowsStored store pa len value away → away ≤ k
+    → k < away + len → store.value / 256 ^ k % 256 ≡ value / 256 ^ (k - away) % 256
+shown_byte {store} {len} {value} {away} k shows from to =
+    let within : away + len ≤ 8 = shows.within in
     let all : byte_ones away len / 256 ^ k % 256 ≡ 255 =
     whole_byte k away (away + len) (omega (arith, within)) from to in
-    sym (mask_byte given (byte_ones away len) k few all)
-    ∙ ap (λ v. v / 256 ^ k % 256) (sym same)
-    ∙ mask_byte (moved_up value away) (byte_ones away len) k few all
-    ∙ word_byte (value * 256 ^ away) k few
+    sym (mask_byte store.value (byte_ones away len) k all)
+    ∙ ap (λ v. v / 256 ^ k % 256) (sym shows.bytes)
+    ∙ mask_byte (moved_up value away) (byte_ones away len) k all
+    ∙ word_byte (value * 256 ^ away) k (omega (arith, to, within))
     ∙ ap (λ v. v % 256) (moved_byte value away k from)
 
 -- the bits of the mask
@@ -162,32 +162,23 @@ mask_bit away len k = bit_by _ (nat_le away k && nat_lt k (away + len)) inside o
 -- ---- where the bytes fall
 
 -- an address of the access, by its distance from the place that is shown
-in_window : (place pa away len x : ℕ) → place < 2 ^ 64 → x < 2 ^ 64 → pa ≡ (place + away) % 2 ^ 64 → pa + len ≤ 2 ^ 64
-    → away + len ≤ 8 → pa ≤ x → x < pa + len
-    → above x place ≡ away + (x - pa)
-in_window place pa away len x small in_range is fits within from to =
+in_window : {store : ShownStore} {pa len value away : ℕ} (x : ℕ) → ShowsStored store pa len value away → x < 2 ^ 64
+    → pa ≤ x → x < pa + len → above x store.place ≡ away + (x - pa)
+in_window {store} {pa} {len} {away} x shows in_range from to =
     let offset : x ≡ pa + (x - pa) = omega (arith, from) in
     let less : x - pa < len = omega (arith, from, to) in
-    omega (arith, is, offset, less, within, small, in_range, fits)
+    omega (arith, shows.begins, offset, less, shows.within, shows.place, in_range, shows.fits)
 
-out_window : (place pa away len x : ℕ) → place < 2 ^ 64 → x < 2 ^ 64 → pa ≡ (place + away) % 2 ^ 64
-    → pa + len ≤ 2 ^ 64 → away + len ≤ 8 → away ≤ above x place → above x place < away + len
-    → (pa ≤ x) × (x < pa + len)
-out_window place pa away len x small in_range is fits within from to =
-    let there : x ≡ (place + above x place) % 2 ^ 64 = omega (arith, small, in_range) in
-    let here : x ≡ pa + (above x place - away) = omega (arith, there, is, from, to, within, fits, small) in
+out_window : {store : ShownStore} {pa len value away : ℕ} (x : ℕ) → ShowsStored store pa len value away → x < 2 ^ 64
+    → away ≤ above x store.place → above x store.place < away + len → (pa ≤ x) × (x < pa + len)
+out_window {store} {pa} {len} {away} x shows in_range from to =
+    let place : store.place < 2 ^ 64 = shows.place in
+    let at : x ≡ (store.place + above x store.place) % 2 ^ 64 = omega (arith, place, in_range) in
+    let here : x ≡ pa + (above x store.place - away) =
+    omega (arith, at, shows.begins, from, to, shows.within, shows.fits, place) in
     (omega (arith, here), omega (arith, here, from, to))
 
 -- ---- the bytes as a whole
-
--- a row shows a store of a value: `away` is how far its bytes begin above the place that is shown
-pub record ShowsStored (store : ShownStore) (pa len value away : ℕ) : Type 0 where
-  pub place : store.place < 2 ^ 64
-  pub within : away + len ≤ 8
-  pub there : pa ≡ (store.place + away) % 2 ^ 64
-  pub fits : pa + len ≤ 2 ^ 64
-  pub mask : store.mask ≡ ones away len
-  pub bytes : bit_and (moved_up value away) (byte_ones away len) ≡ bit_and store.value (byte_ones away len)
 
 picked : (near : Bool) (store : ShownStore) (k old : ℕ) → near ≡ true → bit_is_set store.mask k ≡ true
     → byte_after store (if near then Some k else None) old ≡ store.value / 256 ^ k % 256
@@ -202,47 +193,44 @@ passed_over false store k old none = refl
 among : (pa len x : ℕ) → is_within pa len x ≡ true → (pa ≤ x) × (x < pa + len)
 among pa len x is = (grind (arith, nat_tests, is), grind (arith, nat_tests, is))
 
-bit_of : (store : ShownStore) (pa len value away k : ℕ) (test : Bool) → ShowsStored store pa len value away
+bit_of : {store : ShownStore} {pa len value away : ℕ} {test : Bool} (k : ℕ) → ShowsStored store pa len value away
     → (nat_le away k && nat_lt k (away + len)) ≡ test → bit_is_set store.mask k ≡ test
-bit_of store pa len value away k test shows is = ap (λ mask. bit_is_set mask k) shows.mask ∙ mask_bit away len k ∙ is
+bit_of {len} {away} k shows is = ap (λ mask. bit_is_set mask k) shows.mask ∙ mask_bit away len k ∙ is
 
-stored_here : (store : ShownStore) (pa len value away x old : ℕ) → ShowsStored store pa len value away → x < 2 ^ 64
-    → is_within pa len x ≡ true
+stored_here : {store : ShownStore} {pa len value away : ℕ} (x old : ℕ) → ShowsStored store pa len value away
+    → x < 2 ^ 64 → is_within pa len x ≡ true
     → byte_after store (distance_in_window x 1 store.place) old ≡ value / 256 ^ (x - pa) % 256
-stored_here store pa len value away x old shows in_range is =
+stored_here {store} {pa} {len} {value} {away} x old shows in_range is =
     let ends = among pa len x is in
     let k = above x store.place in
-    let at : k ≡ away + (x - pa) =
-    in_window store.place pa away len x shows.place in_range shows.there shows.fits shows.within ends.0 ends.1 in
+    let at : k ≡ away + (x - pa) = in_window x shows in_range ends.0 ends.1 in
     let from : away ≤ k = omega (arith, at) in
     let to : k < away + len = omega (arith, at, ends.0, ends.1) in
     let near : nat_le (k + 1) 8 ≡ true = grind (arith, nat_tests, to, shows.within) in
     let set : (nat_le away k && nat_lt k (away + len)) ≡ true = grind (arith, nat_tests, from, to) in
     let offset : k - away ≡ x - pa = omega (arith, at) in
-    picked (nat_le (k + 1) 8) store k old near (bit_of store pa len value away k true shows set)
-    ∙ shown_byte value store.value away len k shows.within from to shows.bytes
+    picked (nat_le (k + 1) 8) store k old near (bit_of k shows set)
+    ∙ shown_byte k shows from to
     ∙ ap (λ j. value / 256 ^ j % 256) offset
 
-never_set : (place pa away len x : ℕ) (test : Bool) → place < 2 ^ 64 → x < 2 ^ 64 → pa ≡ (place + away) % 2 ^ 64
-    → pa + len ≤ 2 ^ 64 → away + len ≤ 8 → is_within pa len x ≡ false
-    → (nat_le away (above x place) && nat_lt (above x place) (away + len)) ≡ test → test ≡ false
-never_set place pa away len x false small in_range there fits within out is = refl
-never_set place pa away len x true small in_range there fits within out is =
-    let ends =
-    out_window place pa away len x small in_range there fits within (grind (arith, nat_tests, is))
-    (grind (arith, nat_tests, is)) in
-    let inside : is_within pa len x ≡ true = grind (arith, nat_tests, ends.0, ends.1) in
-    absurd cc
+never_set : {store : ShownStore} {pa len value away : ℕ} (x : ℕ) → ShowsStored store pa len value away → x < 2 ^ 64
+    → is_within pa len x ≡ false
+    → (nat_le away (above x store.place) && nat_lt (above x store.place) (away + len)) ≡ false
+never_set {store} {pa} {len} {away} x shows in_range out =
+    false_from_ne_true (nat_le away (above x store.place) && nat_lt (above x store.place) (away + len)) set
+  where
+    set : (nat_le away (above x store.place) && nat_lt (above x store.place) (away + len)) ≡ true → ⊥
+    set is =
+        let ends = out_window x shows in_range (grind (arith, nat_tests, is)) (grind (arith, nat_tests, is)) in
+        let inside : is_within pa len x ≡ true = grind (arith, nat_tests, ends.0, ends.1) in
+        cc
 
-stored_elsewhere : (store : ShownStore) (pa len value away x old : ℕ) → ShowsStored store pa len value away
+stored_elsewhere : {store : ShownStore} {pa len value away : ℕ} (x old : ℕ) → ShowsStored store pa len value away
     → x < 2 ^ 64 → is_within pa len x ≡ false
     → byte_after store (distance_in_window x 1 store.place) old ≡ old
-stored_elsewhere store pa len value away x old shows in_range out =
+stored_elsewhere {store} x old shows in_range out =
     let k = above x store.place in
-    let test = nat_le away k && nat_lt k (away + len) in
-    let none : test ≡ false =
-    never_set store.place pa away len x test shows.place in_range shows.there shows.fits shows.within out refl in
-    passed_over (nat_le (k + 1) 8) store k old (bit_of store pa len value away k false shows none)
+    passed_over (nat_le (k + 1) 8) store k old (bit_of k shows (never_set x shows in_range out))
 
 in_ram : (ram : Span) (x : ℕ) → is_in ram x ≡ true → x < 2 ^ 64
 in_ram ram x inside = let end = ram.below in grind (arith, nat_tests, inside)
@@ -254,37 +242,28 @@ out_of_ram ram pa len x false held out is = refl
 out_of_ram ram pa len x true held out is =
     let inside : is_in ram x ≡ true = grind (arith, nat_tests, held, is) in absurd cc
 
-ram_by : (inside within : Bool) (ram : Span) (store : ShownStore) (pa len value away : ℕ) (bytes : Bytes) (x : ℕ)
-    → ShowsStored store pa len value away → holds_all ram pa len ≡ true → is_in ram x ≡ inside
-    → is_within pa len x ≡ within
-    → (if inside then byte_after store (distance_in_window x 1 store.place) (bytes x) else bytes x)
-    ≡ (if within then value / 256 ^ (x - pa) % 256 else bytes x)
-ram_by true true ram store pa len value away bytes x shows held inside within =
-    stored_here store pa len value away x (bytes x) shows (in_ram ram x inside) within
-ram_by true false ram store pa len value away bytes x shows held inside within =
-    stored_elsewhere store pa len value away x (bytes x) shows (in_ram ram x inside) within
-ram_by false true ram store pa len value away bytes x shows held inside within =
-    absurd (let none = out_of_ram ram pa len x true held inside within in cc)
-ram_by false false ram store pa len value away bytes x shows held inside within = refl
-
-pub put_to_ram : (ram : Span) (store : ShownStore) (pa len value away : ℕ) (bytes : Bytes) (x : ℕ)
+pub put_to_ram : {store : ShownStore} {pa len value away : ℕ} (ram : Span) (bytes : Bytes) (x : ℕ)
     → ShowsStored store pa len value away → holds_all ram pa len ≡ true
     → bytes_put ram store 8 bytes x ≡ bytes_after_store pa len value bytes x
 unfolding bytes_after_store
-put_to_ram ram store pa len value away bytes x shows held =
-    put_all ram store bytes x shows.place
-    ∙ ram_by (is_in ram x) (is_within pa len x) ram store pa len value away bytes x shows held refl refl
+put_to_ram {store} {pa} {len} {value} ram bytes x shows held =
+    put_all ram store bytes x shows.place ∙ by (is_in ram x) (is_within pa len x) refl refl
+  where
+    by : (inside within : Bool) → is_in ram x ≡ inside → is_within pa len x ≡ within
+        → (if inside then byte_after store (distance_in_window x 1 store.place) (bytes x) else bytes x)
+        ≡ (if within then value / 256 ^ (x - pa) % 256 else bytes x)
+    by true true inside within = stored_here x (bytes x) shows (in_ram ram x inside) within
+    by true false inside within = stored_elsewhere x (bytes x) shows (in_ram ram x inside) within
+    by false true inside within = absurd (let none = out_of_ram ram pa len x true held inside within in cc)
+    by false false inside within = refl
 
 -- and one to a device, none of whose bytes are in RAM
-device_by : (inside : Bool) (ram : Span) (store : ShownStore) (pa len value away : ℕ) (bytes : Bytes) (x : ℕ)
-    → ShowsStored store pa len value away → (is_in ram x ≡ true → is_within pa len x ≡ false) → is_in ram x ≡ inside
-    → (if inside then byte_after store (distance_in_window x 1 store.place) (bytes x) else bytes x) ≡ bytes x
-device_by true ram store pa len value away bytes x shows apart inside =
-    stored_elsewhere store pa len value away x (bytes x) shows (in_ram ram x inside) (apart inside)
-device_by false ram store pa len value away bytes x shows apart inside = refl
-
-pub put_to_device : (ram : Span) (store : ShownStore) (pa len value away : ℕ) (bytes : Bytes) (x : ℕ)
+pub put_to_device : {store : ShownStore} {pa len value away : ℕ} (ram : Span) (bytes : Bytes) (x : ℕ)
     → ShowsStored store pa len value away → (is_in ram x ≡ true → is_within pa len x ≡ false)
     → bytes_put ram store 8 bytes x ≡ bytes x
-put_to_device ram store pa len value away bytes x shows apart =
-    put_all ram store bytes x shows.place ∙ device_by (is_in ram x) ram store pa len value away bytes x shows apart refl
+put_to_device {store} ram bytes x shows apart = put_all ram store bytes x shows.place ∙ by (is_in ram x) refl
+  where
+    by : (inside : Bool) → is_in ram x ≡ inside
+        → (if inside then byte_after store (distance_in_window x 1 store.place) (bytes x) else bytes x) ≡ bytes x
+    by true inside = stored_elsewhere x (bytes x) shows (in_ram ram x inside) (apart inside)
+    by false inside = refl

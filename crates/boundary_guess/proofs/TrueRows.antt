@@ -2,13 +2,12 @@
 use Rattle.std.proofs.Common.{◌≡◌, ℕ, Bool, true, false, not, ◌&&◌, Option, None, if◌then◌else◌, refl, sym, ap, ◌∙◌}
 use Rattle.std.proofs.Common.{subst}
 use Rattle.std.specs.Option.{is_some}
-use Rattle.hart_words.specs.declared.signal.Signal.{Signal}
 use Rattle.hart_words.specs.declared.signal.Signal.TheVariants.{Intr, PcRdata}
 use Rattle.hart_words.specs.Memory.{Bytes, after_writes}
 use Rattle.hart_words.specs.Signals.{Shown}
 use Rattle.rvfi_rows.specs.declared.expected.Expected.TheVariants as expected
 use Rattle.rvfi_rows.specs.declared.expected.Retired.{Retired as Retirement}
-use Rattle.row_compare.specs.Difference.{difference_of, signal_difference}
+use Rattle.row_compare.specs.Difference.{difference_of}
 use Rattle.row_compare.proofs.Among.{agrees_in_all}
 use Rattle.hart_step.specs.declared.state.Core.{Core}
 use Rattle.hart_step.specs.Choices.{asks_interrupt, pending_lines_of, shows}
@@ -21,10 +20,10 @@ use Rattle.hart_step.specs.Steps.{insn_of, interrupt_of, lacks_interrupt, step_o
 use Rattle.hart_step.proofs.Phases.{begun_kept, expected_running, next_running, wrote_running}
 use Rattle.boundary_guess.specs.Guesses.{guess_after_row, state_shown}
 use Rattle.boundary_guess.specs.Truth.{ShowsChanges}
-use Rattle.boundary_guess.proofs.Compared.{ShowsWords}
+use Rattle.boundary_guess.proofs.Compared.{RowAgrees, ShowsWords}
 use Rattle.boundary_guess.proofs.Faults.{AreBytes}
 use Rattle.boundary_guess.proofs.PlainSteps.{Runs, ran_runs}
-use Rattle.boundary_guess.proofs.PlainTruth.{IsInRange, plain_facts, ran_true}
+use Rattle.boundary_guess.proofs.PlainTruth.{IsInRange, IsRunOf, plain_facts, ran_true}
 
 -- no interrupt is entered before a plain row
 never_asked : (intr : Option ℕ) (more : Bool) (pick : Bool) → shows intr 1 ≡ false
@@ -56,16 +55,15 @@ expected_is : (core : Core) (shown : Shown) (done : InstructionRun)
 unfolding expected_of
 expected_is core shown done = refl
 
-agrees_so : (core : Core) (shown : Shown) (bytes : Bytes) → core.halted ≡ false
+agrees_so : (core : Core) (shown : Shown) (bytes : Bytes) → core.halted ≡ false → ShowsWords shown
     → difference_of ((step_of core shown).run bytes).value.expected shown ≡ None
-    → (signal : Signal)
-    → signal_difference
-    (retirement core shown ((instruction_run (before_instruction core shown) shown).run bytes).value) shown signal
-    ≡ None
-agrees_so core shown bytes runs none =
+    → RowAgrees (retirement core shown ((instruction_run (before_instruction core shown) shown).run bytes).value) shown
+agrees_so core shown bytes runs words none =
     let done = ((instruction_run (before_instruction core shown) shown).run bytes).value in
     let is = expected_running core shown bytes runs ∙ expected_is core shown done in
-    agrees_in_all (retirement core shown done) shown (sym (ap (λ e. difference_of e shown) is) ∙ none)
+    let none_differs =
+    agrees_in_all (retirement core shown done) shown (sym (ap (λ e. difference_of e shown) is) ∙ none) in
+    record { words = words; none_differs = none_differs }
 
 same_states : (one other : HartState) → one.core ≡ other.core → one.bytes ≡ other.bytes → one ≡ other
 same_states one other core bytes =
@@ -85,26 +83,25 @@ plain_row_is_true state shown is are range shows words agrees =
     let next = next_running core shown bytes plain.runs in
     let wrote = wrote_running core shown bytes plain.runs in
     let P : Core → Type 0 = λ k. Runs k done.executed done.core run.wrote in
+    let did : IsRunOf core shown (retirement core shown done) done.executed done.core run.wrote = record {
+      runs = subst P begins (ran_runs (before_instruction core shown) shown bytes are);
+      insn = refl;
+      effects = ap (λ k. effects_of k done.core done.executed) begins;
+      in_range = subst IsInRange next range;
+    } in
     let right =
-    ran_true core shown bytes done.executed done.core run.wrote (retirement core shown done) plain shows words
-    (subst P begins (ran_runs (before_instruction core shown) shown bytes are)) refl
-    (ap (λ k. effects_of k done.core done.executed) begins)
-    (agrees_so core shown bytes plain.runs agrees)
-    (subst IsInRange next range) in
+    ran_true bytes done.executed plain shows (agrees_so core shown bytes plain.runs words agrees) did in
     same_states (state_shown state shown) (after_row state shown) (right.core_is ∙ sym next)
     (right.bytes_are ∙ ap (λ w. after_writes w bytes) (sym wrote))
-
-row_by : (plain : Bool) (state : HartState) (shown : Shown) → is_plain state.core shown ≡ plain → AreBytes state.bytes
-    → IsInRange (after_row state shown).core → ShowsChanges shown → ShowsWords shown
-    → difference_of ((step_of state.core shown).run state.bytes).value.expected shown ≡ None
-    → (if plain then state_shown state shown else after_row state shown) ≡ after_row state shown
-row_by true state shown is are range shows words agrees = plain_row_is_true state shown is are range shows words agrees
-row_by false state shown is are range shows words agrees = refl
 
 pub row_is_true : (state : HartState) (shown : Shown) → AreBytes state.bytes → IsInRange (after_row state shown).core
     → ShowsChanges shown → ShowsWords shown
     → difference_of ((step_of state.core shown).run state.bytes).value.expected shown ≡ None
     → guess_after_row state shown ≡ after_row state shown
 unfolding guess_after_row
-row_is_true state shown are range shows words agrees =
-    row_by (is_plain state.core shown) state shown refl are range shows words agrees
+row_is_true state shown are range shows words agrees = by (is_plain state.core shown) refl
+  where
+    by : (plain : Bool) → is_plain state.core shown ≡ plain
+        → (if plain then state_shown state shown else after_row state shown) ≡ after_row state shown
+    by true is = plain_row_is_true state shown is are range shows words agrees
+    by false is = refl

@@ -264,8 +264,8 @@ fn write(core: &mut Core, address: u16, value: u64) -> Result<(), Fail>
         .map_err(|_| Fail::from("no register"))
 }
 
-/// Where rows show their instructions alone, x2 stays 0, so that the first store, at row 6, traps to
-/// address 0. No RAM is there, and so each row after it traps to address 0 from there.
+/// Where rows show their instructions alone, x2 stays 0, so that the first store, at row 6, traps
+/// to address 0. No RAM is there, and so each row after it traps to address 0 from there.
 #[test]
 fn guesses_of_bare_rows(rt: HostRuntime) -> Result<(), Fail> {
     let alloc = rt.alloc();

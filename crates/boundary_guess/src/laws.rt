@@ -36,7 +36,8 @@ pub fn guesses_are_true_where_rows_show_changes()
     ensures rows { (state : HartState) (columns : ColumnList) (lines : List (List ℕ))
         → IsSound state.core → HoldsWords state
         → Agree state (rows_of columns lines) → ShowChanges (rows_of columns lines)
-        → guess_after state (rows_of columns lines) ≡ true_state_after state (rows_of columns lines) }
+        → guess_after state (rows_of columns lines)
+        ≡ true_state_after state (rows_of columns lines) }
     ensures segments { (state : HartState) (columns : ColumnList)
         (segments : List (List (List ℕ))) (last : List (List ℕ))
         → IsSound state.core → HoldsWords state

@@ -41,9 +41,10 @@ legal_with csrs stored value legal can = record {
 }
 
 -- mstatus keeps what it is where MPP is left out, or takes no 2
-pub status_without_mpp : (mask old value : ℕ) → mask < 2 ^ 64 → bit_and mask (all_bits - writable_bits Mstatus) ≡ 0
-    → bit_at mask 11 ≡ 0 → bit_at mask 12 ≡ 0 → IsLegalStatus old → IsLegalStatus (masked_update mask old value)
-status_without_mpp mask old value small apart low high legal = record {
+pub status_without_mpp : {old : ℕ} (mask value : ℕ) → mask < 2 ^ 64
+    → bit_and mask (all_bits - writable_bits Mstatus) ≡ 0 → bit_at mask 11 ≡ 0 → bit_at mask 12 ≡ 0
+    → IsLegalStatus old → IsLegalStatus (masked_update mask old value)
+status_without_mpp {old} mask value small apart low high legal = record {
   constant = merged_keeps mask old value (all_bits - writable_bits Mstatus) small (lit< tt) apart ∙ legal.constant;
   previous = λ two. legal.previous (
       mpp_bits old
@@ -53,10 +54,10 @@ status_without_mpp mask old value small apart low high legal = record {
       ∙ sym (mpp_bits (masked_update mask old value)) ∙ two);
 }
 
-pub status_with_mpp : (mask old value : ℕ) → mask < 2 ^ 64 → bit_and mask (all_bits - writable_bits Mstatus) ≡ 0
+pub status_with_mpp : {old : ℕ} (mask value : ℕ) → mask < 2 ^ 64 → bit_and mask (all_bits - writable_bits Mstatus) ≡ 0
     → bit_at mask 11 ≡ 1 → bit_at mask 12 ≡ 1 → mpp_of value ≢ 2 → IsLegalStatus old
     → IsLegalStatus (masked_update mask old value)
-status_with_mpp mask old value small apart low high mode legal = record {
+status_with_mpp {old} mask value small apart low high mode legal = record {
   constant = merged_keeps mask old value (all_bits - writable_bits Mstatus) small (lit< tt) apart ∙ legal.constant;
   previous = λ two. mode (
       mpp_bits value
@@ -75,11 +76,11 @@ status_written old value legal = elim (cases_Bool (mpp_of value == 2)) [
   | inl two ↦
       subst
       (λ b. IsLegalStatus (masked_update (if b then writable_without_mpp else (writable_bits Mstatus)) old value))
-      (sym two) (status_without_mpp writable_without_mpp old value (lit< tt) refl refl refl legal)
+      (sym two) (status_without_mpp writable_without_mpp value (lit< tt) refl refl refl legal)
   | inr mode ↦
       subst
       (λ b. IsLegalStatus (masked_update (if b then writable_without_mpp else (writable_bits Mstatus)) old value))
-      (sym mode) (status_with_mpp (writable_bits Mstatus) old value (lit< tt) refl refl refl (differs _ _ mode) legal)
+      (sym mode) (status_with_mpp (writable_bits Mstatus) value (lit< tt) refl refl refl (differs _ _ mode) legal)
 ]
 
 even : (value : ℕ) → bit_and value pc_bits % 2 ≡ 0
@@ -150,7 +151,7 @@ write_legal csrs csr.Mtval value legal = written csrs Mtval value legal tt
 write_legal csrs csr.Mip value legal = written csrs Mip value legal (within_mask (writable_bits Mip) value)
 write_legal csrs csr.Sstatus value legal =
     legal_with csrs Mstatus _ legal
-    (status_without_mpp sstatus_writable (at csrs Mstatus) value (lit< tt) refl refl refl (legal.values Mstatus))
+    (status_without_mpp sstatus_writable value (lit< tt) refl refl refl (legal.values Mstatus))
 write_legal csrs csr.Sie value legal =
     legal_with csrs Mie _ legal
     (enables (at csrs Mideleg) (at csrs Mie) value (legal.values Mideleg) (legal.values Mie))

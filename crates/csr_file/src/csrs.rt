@@ -373,7 +373,8 @@ impl Csrs {
 
     /// Writes the bits of a mask.
     fn write_bits(&mut self, stored: StoredCsr, mask: u64, value: u64)
-        ensures { self.new ≡ with_at self.old stored (masked_update mask (at self.old stored) value) }
+        ensures { let updated = masked_update mask (at self.old stored) value in
+            self.new ≡ with_at self.old stored updated }
     {
         self.set(stored, merge(mask, self.get(stored), value));
     }

@@ -130,7 +130,7 @@ shared_from byte line rest closed =
 
 pub shared_line : (text line rest : List ℕ) → text ≡ line ++ line_feed ∷ rest → IsShareable line
     → IsShared text line rest
-shared_line text [] rest is closed = absurd (omega (arith, closed.unmarked.some))
+shared_line text [] rest is closed = absurd (omega (arith, closed.unmarked.nonempty))
 shared_line text (byte ∷ line) rest is closed =
     let P : List ℕ → Type 0 = λ (t : List ℕ). IsShared t (byte ∷ line) rest in
     subst P (sym is) (shared_from byte line rest closed)

@@ -37,13 +37,13 @@ leaves text rest left fields found state next reached =
       rest_is = sym ends.1 ∙ ap (λ (r : Read). r.2) same;
     }
 
-pub stands_on : (text line rest : List ℕ) (found : List (List ℕ)) (before now : Reader (Bor (List ℕ)))
+pub stands_on : {text line rest : List ℕ} (found : List (List ℕ)) (before now : Reader (Bor (List ℕ)))
     → StandsAt text before → IsShared text line rest
     → ReadRecord (λ (bytes : Bor (List ℕ)). Some bytes.now) before now true found
     → is_flexible now ≡ is_flexible before → took_first now ≡ true
     → ReadsLineFields line rest (map trimmed_of found) now
 unfolding fields_of_line Reached
-stands_on text line rest found before now stands shared reads flexible first =
+stands_on {text} {rest} found before now stands shared reads flexible first =
     let more =
     rows-more (λ (bytes : Bor (List ℕ)). Some bytes.now) before now found default_config StartRecord text text []
     stands.config stands.source (sym stands.state, refl) reads in

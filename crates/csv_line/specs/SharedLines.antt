@@ -31,7 +31,7 @@ IsPlain byte = (byte ≢ 34) × EndsNoRecord byte
 
 -- the line has a first byte, and no byte order mark begins with it
 pub record IsUnmarked (line : List ℕ) : Type 0 where
-  pub some : 0 < length line
+  pub nonempty : 0 < length line
   pub first : slice_index line 0 ≢ 0xEF
 
 -- nothing in the line ends a record, each quote that opens a field is closed, and csv drops no mark

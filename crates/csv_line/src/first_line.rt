@@ -178,7 +178,8 @@ fn is_outside(place: Place) -> bool
 
 /// Where a field stands after one more byte.
 fn next_place(place: Place, byte: u8) -> Place
-    ensures { EndsNoRecord byte → machine_state_of result ≡ (step default_config (machine_state_of place) byte).0 }
+    ensures { EndsNoRecord byte
+        → machine_state_of result ≡ (step default_config (machine_state_of place) byte).0 }
 {
     match (place, byte) {
         (Place::Quoted, b'"') => Place::Closed,

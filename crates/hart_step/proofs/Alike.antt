@@ -26,7 +26,7 @@ use Rattle.mem_access.specs.Accesses.{parcel_fetch}
 use Rattle.mem_access.specs.Places.{data_mode_of}
 use Rattle.mem_access.specs.Reads.{CheckedRead, IsPermittedRead, access_reads_of, fetch_reads_of, reads_in}
 use Rattle.mem_access.specs.Reads.{walk_reads_of}
-use Rattle.mem_access.proofs.Orders.{access_all, data_all, fetch_all, walk_all}
+use Rattle.mem_access.proofs.Orders.{HoldsOfReads, access_all, data_all, fetch_all, walk_all}
 use Rattle.hart_step.specs.declared.state.Core.{Core}
 use Rattle.hart_step.specs.Rows.{HartState, RunBelowMachine, after_row, after_rows}
 use Rattle.hart_step.specs.Steps.{before_instruction, step_of}
@@ -52,15 +52,6 @@ as_supervisor Machine entries byte access lower allowed = absurd (lower refl)
 as_supervisor Supervisor entries byte access lower allowed = allowed
 as_supervisor User entries byte access lower allowed = sym (both_alike entries byte 1 access) ∙ allowed
 
-bytes_granted : (core : Core) (one other : Bytes) (mode : Mode) (pa len : ℕ) (access : Access)
-    → AgreeWherePermitted core one other → mode ≢ Machine
-    → is_allowed (pmp_entries_of core.csrs) mode pa len access ≡ true → SameBytes pa len one other
-bytes_granted core one other mode pa len access agree lower allowed =
-    let entries = pmp_entries_of core.csrs in
-    same_bytes len pa one other
-    (λ byte low high. agree byte access
-    (as_supervisor mode entries byte access lower (byte_allowed entries mode pa len access byte allowed low high)))
-
 -- those of a read
 SameAt : Bytes → Bytes → Read → Type 0
 SameAt one other read = SameBytes read.pa read.len one other
@@ -70,7 +61,15 @@ permitted_same : (core : Core) (one other : Bytes) (check : CheckedRead) → Agr
     → check.mode ≢ Machine → IsPermittedRead core.csrs core.map check → SameAt one other check.read
 unfolding SameAt
 permitted_same core one other check agree lower permitted =
-    bytes_granted core one other check.mode check.read.pa check.read.len check.access agree lower permitted.1
+    let entries = pmp_entries_of core.csrs in
+    let mode = check.mode in
+    let access = check.access in
+    let pa = check.read.pa in
+    let len = check.read.len in
+    let allowed = permitted.1 in
+    same_bytes len pa one other
+    (λ byte low high. agree byte access
+    (as_supervisor mode entries byte access lower (byte_allowed entries mode pa len access allowed byte low high)))
 
 supervisor_lower : Supervisor ≢ Machine
 supervisor_lower is = cc
@@ -116,10 +115,12 @@ asked_lower : (core : Core) (asks : Option IntResult) (bytes : Bytes) → core.m
     → All IsLower (asked_reads_of core asks bytes)
 asked_lower core (Some (results.Access request)) bytes lower =
     let check = check_of core request in
-    data_all IsLower core.csrs core.map check (reads_its_bytes request.op) request.address bytes
-    (λ aligned. access_lower core.csrs core.map check request.address bytes
-    (check_lower core (bytes_of request.size) request.op lower))
-    (walk_lower core.csrs core.map check.mode request.address bytes)
+    let holds : HoldsOfReads IsLower core.csrs core.map check request.address bytes = record {
+      whole = λ aligned. access_lower core.csrs core.map check request.address bytes
+          (check_lower core (bytes_of request.size) request.op lower);
+      walk = walk_lower core.csrs core.map check.mode request.address bytes;
+    } in
+    data_all (reads_its_bytes request.op) holds
 asked_lower core _ bytes lower = All-nil IsLower
 
 instruction_lower : (core : Core) (bytes : Bytes) → core.mode ≢ Machine → All IsLower (instruction_reads_of core bytes)

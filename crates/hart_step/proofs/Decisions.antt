@@ -5,7 +5,7 @@ use Rattle.std.specs.Prelude.{◌==◌}
 use Rattle.std.specs.Option.{is_none, unwrap_or}
 use Rattle.std.proofs.lemmas.Bool.{cases_Bool}
 use lib.Bits.{and_zero_r}
-use Rattle.hart_words.specs.declared.signal.Signal.TheVariants.{Intr, PcRdata, RdWdata, Trap}
+use Rattle.hart_words.specs.declared.signal.Signal.TheVariants.{Intr, MemWmask, PcRdata, RdWdata, Trap}
 use Rattle.hart_words.specs.AccessSizes.{bytes_of}
 use Rattle.hart_words.specs.Memory.{Bytes, after_writes}
 use Rattle.hart_words.specs.Signals.{Shown}
@@ -183,46 +183,46 @@ found_by : (one other : RowChoices) (request : MemoryRequest) (io : Bool) (held 
 found_by one other request true held same = same refl
 found_by one other request false held same = refl
 
-found_same : (one other : Shown) (rd : ℕ) (request : MemoryRequest) (place : Place) (held : ℕ) (signed : Bool)
-    → AgreeOnAccess (Ok (place, held)) (memory.Load signed) one other
-    → value_found (choices_of other rd) request place held ≡ value_found (choices_of one rd) request place held
+found_same : (one other : Shown) (rd : ℕ) (request : MemoryRequest) (found : LocatedValue) (signed : Bool)
+    → AgreeOnAccess (Ok found) (memory.Load signed) one other
+    → value_found (choices_of other rd) request found.0 found.1 ≡ value_found (choices_of one rd) request found.0 found.1
 unfolding choices_of
-found_same one other rd request place held signed agree =
-    found_by (choices_of one rd) (choices_of other rd) request place.io held (λ io.
+found_same one other rd request found signed agree =
+    found_by (choices_of one rd) (choices_of other rd) request found.0.io found.1 (λ io.
     device_same (choices_of one rd) (choices_of other rd) request.address (bytes_of request.size)
     (rd_same one other rd (agree io).0) (agree io).1.0 (agree io).1.1)
 
-stored_same : (core : Core) (one other : Shown) (rd value : ℕ) (request : MemoryRequest) (place : Place) (held : ℕ)
-    → AgreeOnAccess (Ok (place, held)) (memory.StoreConditional value) one other
+stored_same : (core : Core) (one other : Shown) (rd : ℕ) (request : MemoryRequest) (place : Place)
+    → SameAt RdWdata one other → SameAt MemWmask one other
     → is_stored core (choices_of other rd) request place ≡ is_stored core (choices_of one rd) request place
 unfolding choices_of
-stored_same core one other rd value request place held agree =
+stored_same core one other rd request place value mask =
     ap (λ says. is_covered core.reservation.block place.pa (bytes_of request.size) && says)
-    (told_same (choices_of one rd) (choices_of other rd) (rd_same one other rd agree.0) agree.1)
+    (told_same (choices_of one rd) (choices_of other rd) (rd_same one other rd value) mask)
 
-answer_same : (core : Core) (one other : Shown) (rd : ℕ) (request : MemoryRequest) (place : Place) (held : ℕ)
-    (op : MemoryOp) → AgreeOnAccess (Ok (place, held)) op one other
-    → access_result_by core (choices_of other rd) request place held op
-    ≡ access_result_by core (choices_of one rd) request place held op
-answer_same core one other rd request place held (memory.Load signed) agree =
+answer_same : (core : Core) (one other : Shown) (rd : ℕ) (request : MemoryRequest) (found : LocatedValue)
+    (op : MemoryOp) → AgreeOnAccess (Ok found) op one other
+    → access_result_by core (choices_of other rd) request found.0 found.1 op
+    ≡ access_result_by core (choices_of one rd) request found.0 found.1 op
+answer_same core one other rd request found (memory.Load signed) agree =
     ap (λ value.
     record {
       value =
           loaded_value signed request value;
       access =
-          expected_access request place (Some value) None;
+          expected_access request found.0 (Some value) None;
       reservation = core.reservation;
     })
-    (found_same one other rd request place held signed agree)
-answer_same core one other rd request place held memory.LoadReserved agree = refl
-answer_same core one other rd request place held (memory.Store value) agree = refl
-answer_same core one other rd request place held (memory.StoreConditional value) agree =
+    (found_same one other rd request found signed agree)
+answer_same core one other rd request found memory.LoadReserved agree = refl
+answer_same core one other rd request found (memory.Store value) agree = refl
+answer_same core one other rd request found (memory.StoreConditional value) agree =
     let free : Reservation = record { block = None } in
     let yes : AccessResult =
-    record { value = 0; access = expected_access request place None (Some value); reservation = free } in
+    record { value = 0; access = expected_access request found.0 None (Some value); reservation = free } in
     let not_so : AccessResult = record { value = 1; access = None; reservation = free } in
-    ap (λ stored. if stored then yes else not_so) (stored_same core one other rd value request place held agree)
-answer_same core one other rd request place held (memory.Amo op width b) agree = refl
+    ap (λ stored. if stored then yes else not_so) (stored_same core one other rd request found.0 agree.0 agree.1)
+answer_same core one other rd request found (memory.Amo op width b) agree = refl
 
 answered_same : (core : Core) (one other : Shown) (rd : ℕ) (request : MemoryRequest)
     (found : Result LocatedValue Exception) (bytes : Bytes) → AgreeOnAccess found request.op one other
@@ -233,7 +233,7 @@ answered_same core one other rd request (Err exception) bytes agree = refl
 answered_same core one other rd request (Ok found) bytes agree =
     let given : AccessResult → Unit {0} → Result AccessResult Exception = λ a _. Ok a in
     ap (λ answer. (mapped (given answer) (put found.0 (bytes_of request.size) (number_written answer.access))).run
-    bytes) (answer_same core one other rd request found.0 found.1 request.op agree)
+    bytes) (answer_same core one other rd request found request.op agree)
 
 access_same : (core : Core) (one other : Shown) (rd : ℕ) (request : MemoryRequest) (bytes : Bytes)
     → AgreeOnAccess ((located_access core request).run bytes).value request.op one other
@@ -371,38 +371,43 @@ system_same core one other rd i system.WaitForInterrupt lines agree =
 system_same core one other rd i system.TranslationFence lines agree = refl
 
 -- what stands at pc
+-- two rows agree on all that a step takes from its row after the fetch
+record AgreeOnChoices (core : Core) (bytes : Bytes) (asks : Option IntResult) (one other : Shown) : Type 0 where
+  pub lines : pending_lines_of other ≡ pending_lines_of one
+  pub instruction : AgreeOnInstruction core bytes asks one other
+
 executed_by_same : (core : Core) (one other : Shown) (rd : ℕ) (i : Instruction) (result : IntResult) (bytes : Bytes)
-    → pending_lines_of other ≡ pending_lines_of one → AgreeOnInstruction core bytes (Some result) one other
+    → AgreeOnChoices core bytes (Some result) one other
     → (execution_by core (choices_of other rd) i result).run bytes
     ≡ (execution_by core (choices_of one rd) i result).run bytes
 unfolding mapped
-executed_by_same core one other rd i (results.Value value) bytes lines agree = refl
-executed_by_same core one other rd i (results.Jump link target) bytes lines agree = refl
-executed_by_same core one other rd i (results.Continue next_pc) bytes lines agree = refl
-executed_by_same core one other rd i (results.Access request) bytes lines agree =
+executed_by_same core one other rd i (results.Value value) bytes agree = refl
+executed_by_same core one other rd i (results.Jump link target) bytes agree = refl
+executed_by_same core one other rd i (results.Continue next_pc) bytes agree = refl
+executed_by_same core one other rd i (results.Access request) bytes agree =
     ap (λ r. record { value = after_access core i r.value; reads = r.reads; wrote = r.wrote })
-    (access_same core one other rd request bytes agree)
-executed_by_same core one other rd i (results.System request) bytes lines agree =
+    (access_same core one other rd request bytes agree.instruction)
+executed_by_same core one other rd i (results.System request) bytes agree =
     let did : Result Completion Exception → Action (Result Completion Exception) = λ d. pure d in
-    ap (λ d. (did d).run bytes) (system_same core one other rd i request lines agree)
+    ap (λ d. (did d).run bytes) (system_same core one other rd i request agree.lines agree.instruction)
 
 decoded_same : (core : Core) (one other : Shown) (bits len : ℕ) (op : Option Op) (bytes : Bytes)
-    → pending_lines_of other ≡ pending_lines_of one → AgreeOnInstruction core bytes (request_by core len op) one other
+    → AgreeOnChoices core bytes (request_by core len op) one other
     → (run_of_decoded core other bits len op).run bytes ≡ (run_of_decoded core one bits len op).run bytes
 unfolding mapped execution_of
-decoded_same core one other bits len None bytes lines agree = refl
-decoded_same core one other bits len (Some op) bytes lines agree =
+decoded_same core one other bits len None bytes agree = refl
+decoded_same core one other bits len (Some op) bytes agree =
     let i : Instruction = record { op = op; bits = bits; len = len } in
     let result = result_of op (first_value core op) (second_value core op) core.pc len in
     ap (λ r. record { value = run_of_result core i r.value; reads = r.reads; wrote = r.wrote })
-    (executed_by_same core one other (operands_of op).rd i result bytes lines agree)
+    (executed_by_same core one other (operands_of op).rd i result bytes agree)
 
 fetched_same : (core : Core) (one other : Shown) (word : Result (ℕ × ℕ) Exception) (bytes : Bytes)
-    → pending_lines_of other ≡ pending_lines_of one → AgreeOnInstruction core bytes (request_from core word) one other
+    → AgreeOnChoices core bytes (request_from core word) one other
     → (run_of_fetched core other word).run bytes ≡ (run_of_fetched core one word).run bytes
-fetched_same core one other (Err exception) bytes lines agree = refl
-fetched_same core one other (Ok word) bytes lines agree =
-    decoded_same core one other word.0 word.1 (op_of word.0 word.1) bytes lines agree
+fetched_same core one other (Err exception) bytes agree = refl
+fetched_same core one other (Ok word) bytes agree =
+    decoded_same core one other word.0 word.1 (op_of word.0 word.1) bytes agree
 
 unchanged : (core : Core) (bytes : Bytes)
     → bytes ≡ after_writes ((fetch_result core.csrs core.map core.mode core.pc).run bytes).wrote bytes
@@ -420,8 +425,8 @@ ran_same core one other bytes lines agree =
     let P : Bytes → Type 0 = λ m. AgreeOnInstruction core m (request_from core before.value) one other in
     run_then-is fetch (run_of_fetched core other) bytes
     ∙ ap (followed_by before)
-    (fetched_same core one other before.value (after_writes before.wrote bytes) lines
-    (subst P (unchanged core bytes) agree))
+    (fetched_same core one other before.value (after_writes before.wrote bytes)
+    (record { lines = lines; instruction = subst P (unchanged core bytes) agree }))
     ∙ sym (run_then-is fetch (run_of_fetched core one) bytes)
 
 pub decide_alike : (core : Core) (bytes : Bytes) (one other : Shown) → RowsDecideAlike core bytes one other

@@ -1,6 +1,6 @@
 -- An exception leads to the handler of the mode that it is delegated to.
 use Rattle.std.proofs.Common.{◌≡◌, ◌≢◌, ℕ, ◌*◌, ◌/◌, Bool, true, false, length, length-set, refl, sym, ap, ◌∙◌, subst}
-use Rattle.std.proofs.Common.{inl, inr, Option, Some, None, Ok, Err, if◌then◌else◌}
+use Rattle.std.proofs.Common.{inl, inr, Option, Some, None, Err, if◌then◌else◌}
 use Rattle.std.proofs.lemmas.Bool.{cases_Bool}
 use Rattle.hart_words.specs.declared.privilege.Mode.{Mode}
 use Rattle.hart_words.specs.declared.privilege.Mode.TheVariants.{User, Supervisor, Machine}
@@ -31,15 +31,15 @@ use Rattle.hart_step.specs.Cores.{IsSound}
 use Rattle.hart_step.specs.Choices.{asks_interrupt}
 use Rattle.hart_step.specs.Instructions.{InstructionRun, instruction_run}
 use Rattle.hart_step.specs.Steps.{before_instruction, core_after_count, core_after_entry, interrupt_of}
-use Rattle.hart_step.specs.Steps.{core_after_interrupt_by, core_after_interrupt, core_after_outcome, core_after_run}
+use Rattle.hart_step.specs.Steps.{core_after_interrupt_by, core_after_interrupt, core_after_run}
 use Rattle.hart_step.specs.Steps.{expected_of, step_of}
 use Rattle.hart_step.specs.Laws.{next_of}
-use Rattle.hart_step.specs.TrapLaws.{executed_at, Raises, IsDelegatedToSupervisor, LeadsToMachine, LeadsToSupervisor}
+use Rattle.hart_step.specs.TrapLaws.{executed_at, Raises, LeadsToMachine, LeadsToSupervisor}
 use Rattle.hart_step.specs.TrapLaws.{LeadsToHandler, HasCause}
 use Rattle.hart_step.proofs.Phases.{next_running, expected_running}
 use Rattle.hart_step.proofs.Traps.{is_trap, finished_trapped, ran_clean}
 
--- four registers, each at its own place, have what they got
+-- registers, each at its own place, have what they got
 abbrev AreApart : StoredCsr → StoredCsr → Type 0
 AreApart one other = stored_index_of one ≢ stored_index_of other
 
@@ -50,32 +50,84 @@ whole_with : (csrs : Csrs) (stored : StoredCsr) (value : ℕ) → Whole csrs →
 unfolding with_at
 whole_with csrs stored value whole = length-set csrs.values (stored_index_of stored) value ∙ whole
 
-abbrev four : Csrs → StoredCsr → StoredCsr → StoredCsr → StoredCsr → ℕ → ℕ → ℕ → ℕ → Csrs
-four csrs a b c d v w x y = with_at (with_at (with_at (with_at csrs a v) b w) c x) d y
+-- the registers that an entry writes before mstatus
+record EntryRegisters : Type 0 where
+  pub epc : StoredCsr
+  pub cause : StoredCsr
+  pub tval : StoredCsr
 
-first : (csrs : Csrs) (a b c d : StoredCsr) (v w x y : ℕ) → Whole csrs → AreApart a b → AreApart a c → AreApart a d
-    → value_at (four csrs a b c d v w x y) a ≡ v
-first csrs a b c d v w x y whole nb nc nd =
-    at_other (with_at (with_at (with_at csrs a v) b w) c x) d a y nd
-    ∙ at_other (with_at (with_at csrs a v) b w) c a x nc
-    ∙ at_other (with_at csrs a v) b a w nb
-    ∙ at_same csrs a v whole
+-- and what they and mstatus get
+record EntryValues : Type 0 where
+  pub epc : ℕ
+  pub cause : ℕ
+  pub tval : ℕ
+  pub status : ℕ
 
-second : (csrs : Csrs) (a b c d : StoredCsr) (v w x y : ℕ) → Whole csrs → AreApart b c → AreApart b d
-    → value_at (four csrs a b c d v w x y) b ≡ w
-second csrs a b c d v w x y whole nc nd =
-    at_other (with_at (with_at (with_at csrs a v) b w) c x) d b y nd
-    ∙ at_other (with_at (with_at csrs a v) b w) c b x nc
-    ∙ at_same (with_at csrs a v) b w (whole_with csrs a v whole)
+abbrev csrs_written : Csrs → EntryRegisters → EntryValues → Csrs
+csrs_written csrs registers values =
+    with_at (with_at (with_at (with_at csrs registers.epc values.epc) registers.cause values.cause)
+    registers.tval values.tval) Mstatus values.status
 
-third : (csrs : Csrs) (a b c d : StoredCsr) (v w x y : ℕ) → Whole csrs → AreApart c d
-    → value_at (four csrs a b c d v w x y) c ≡ x
-third csrs a b c d v w x y whole nd =
-    at_other (with_at (with_at (with_at csrs a v) b w) c x) d c y nd
-    ∙ at_same (with_at (with_at csrs a v) b w) c x (whole_with _ b w (whole_with csrs a v whole))
+record AreAllApart (registers : EntryRegisters) : Type 0 where
+  pub epc_cause : AreApart registers.epc registers.cause
+  pub epc_tval : AreApart registers.epc registers.tval
+  pub epc_status : AreApart registers.epc Mstatus
+  pub cause_tval : AreApart registers.cause registers.tval
+  pub cause_status : AreApart registers.cause Mstatus
+  pub tval_status : AreApart registers.tval Mstatus
 
-fourth : (csrs : Csrs) (a b c d : StoredCsr) (v w x y : ℕ) → Whole csrs → value_at (four csrs a b c d v w x y) d ≡ y
-fourth csrs a b c d v w x y whole = at_same _ d y (whole_with _ c x (whole_with _ b w (whole_with csrs a v whole)))
+record HoldValues (csrs : Csrs) (registers : EntryRegisters) (values : EntryValues) : Type 0 where
+  pub epc : value_at csrs registers.epc ≡ values.epc
+  pub cause : value_at csrs registers.cause ≡ values.cause
+  pub tval : value_at csrs registers.tval ≡ values.tval
+  pub status : value_at csrs Mstatus ≡ values.status
+
+all_written : (csrs : Csrs) (registers : EntryRegisters) (values : EntryValues) → Whole csrs → AreAllApart registers
+    → HoldValues (csrs_written csrs registers values) registers values
+all_written csrs registers values whole apart =
+    let epc = registers.epc in
+    let cause = registers.cause in
+    let tval = registers.tval in
+    let one = with_at csrs epc values.epc in
+    let two = with_at one cause values.cause in
+    let three = with_at two tval values.tval in
+    let whole_one = whole_with csrs epc values.epc whole in
+    let whole_two = whole_with one cause values.cause whole_one in
+    let whole_three = whole_with two tval values.tval whole_two in
+    record {
+      epc = at_other three Mstatus epc values.status apart.epc_status ∙ at_other two tval epc values.tval apart.epc_tval
+          ∙ at_other one cause epc values.cause apart.epc_cause ∙ at_same csrs epc values.epc whole;
+      cause = at_other three Mstatus cause values.status apart.cause_status
+          ∙ at_other two tval cause values.tval apart.cause_tval ∙ at_same one cause values.cause whole_one;
+      tval = at_other three Mstatus tval values.status apart.tval_status ∙ at_same two tval values.tval whole_two;
+      status = at_same three Mstatus values.status whole_three;
+    }
+
+abbrev of_machine : EntryRegisters
+of_machine = record { epc = Mepc; cause = Mcause; tval = Mtval }
+
+abbrev of_supervisor : EntryRegisters
+of_supervisor = record { epc = Sepc; cause = Scause; tval = Stval }
+
+machine_apart : AreAllApart of_machine
+machine_apart = record {
+  epc_cause = differs 9 10 refl;
+  epc_tval = differs 9 11 refl;
+  epc_status = differs 9 0 refl;
+  cause_tval = differs 10 11 refl;
+  cause_status = differs 10 0 refl;
+  tval_status = differs 11 0 refl;
+}
+
+supervisor_apart : AreAllApart of_supervisor
+supervisor_apart = record {
+  epc_cause = differs 17 18 refl;
+  epc_tval = differs 17 19 refl;
+  epc_status = differs 17 0 refl;
+  cause_tval = differs 18 19 refl;
+  cause_status = differs 18 0 refl;
+  tval_status = differs 19 0 refl;
+}
 
 -- what an entry to M leaves
 machine_registers : (core after : Core) (exception : Exception) → Whole core.csrs
@@ -84,20 +136,21 @@ machine_registers : (core after : Core) (exception : Exception) → Whole core.c
     → ChangesOnly is_of_machine core.csrs after.csrs → LeadsToMachine core after exception
 unfolding enter_machine_of
 machine_registers core after exception whole is mode pc others =
-    let code = cause_code exception.0 in
-    let status = status_into_machine (value_at core.csrs Mstatus) core.mode in
+    let values : EntryValues = record {
+      epc = core.pc;
+      cause = cause_code exception.0;
+      tval = exception.1;
+      status = status_into_machine (value_at core.csrs Mstatus) core.mode;
+    } in
+    let holds = all_written core.csrs of_machine values whole machine_apart in
     record {
       mode = mode;
       pc = pc;
-      mepc = ap (λ c. value_at c Mepc) is ∙ first core.csrs Mepc Mcause Mtval Mstatus core.pc code exception.1 status
-          whole (differs 9 10 refl) (differs 9 11 refl) (differs 9 0 refl);
-      mcause = ap (λ c. value_at c Mcause) is ∙ second core.csrs Mepc Mcause Mtval Mstatus core.pc code exception.1
-          status whole (differs 10 11 refl) (differs 10 0 refl);
-      mtval = ap (λ c. value_at c Mtval) is ∙ third core.csrs Mepc Mcause Mtval Mstatus core.pc code exception.1
-          status whole (differs 11 0 refl);
+      mepc = ap (λ c. value_at c Mepc) is ∙ holds.epc;
+      mcause = ap (λ c. value_at c Mcause) is ∙ holds.cause;
+      mtval = ap (λ c. value_at c Mtval) is ∙ holds.tval;
       mstatus = subst (IsStackedForMachine (value_at core.csrs Mstatus) core.mode)
-          (sym (ap (λ c. value_at c Mstatus) is
-          ∙ fourth core.csrs Mepc Mcause Mtval Mstatus core.pc code exception.1 status whole))
+          (sym (ap (λ c. value_at c Mstatus) is ∙ holds.status))
           (stacked_for_machine (value_at core.csrs Mstatus) core.mode);
       others = others;
     }
@@ -109,20 +162,21 @@ supervisor_registers : (core after : Core) (exception : Exception) → Whole cor
     → ChangesOnly is_of_supervisor core.csrs after.csrs → LeadsToSupervisor core after exception
 unfolding enter_supervisor_of
 supervisor_registers core after exception whole is mode pc others =
-    let code = cause_code exception.0 in
-    let status = status_into_supervisor (value_at core.csrs Mstatus) core.mode in
+    let values : EntryValues = record {
+      epc = core.pc;
+      cause = cause_code exception.0;
+      tval = exception.1;
+      status = status_into_supervisor (value_at core.csrs Mstatus) core.mode;
+    } in
+    let holds = all_written core.csrs of_supervisor values whole supervisor_apart in
     record {
       mode = mode;
       pc = pc;
-      sepc = ap (λ c. value_at c Sepc) is ∙ first core.csrs Sepc Scause Stval Mstatus core.pc code exception.1 status
-          whole (differs 17 18 refl) (differs 17 19 refl) (differs 17 0 refl);
-      scause = ap (λ c. value_at c Scause) is ∙ second core.csrs Sepc Scause Stval Mstatus core.pc code exception.1
-          status whole (differs 18 19 refl) (differs 18 0 refl);
-      stval = ap (λ c. value_at c Stval) is ∙ third core.csrs Sepc Scause Stval Mstatus core.pc code exception.1
-          status whole (differs 19 0 refl);
+      sepc = ap (λ c. value_at c Sepc) is ∙ holds.epc;
+      scause = ap (λ c. value_at c Scause) is ∙ holds.cause;
+      stval = ap (λ c. value_at c Stval) is ∙ holds.tval;
       mstatus = subst (IsStackedForSupervisor (value_at core.csrs Mstatus) core.mode)
-          (sym (ap (λ c. value_at c Mstatus) is
-          ∙ fourth core.csrs Sepc Scause Stval Mstatus core.pc code exception.1 status whole))
+          (sym (ap (λ c. value_at c Mstatus) is ∙ holds.status))
           (stacked_for_supervisor (value_at core.csrs Mstatus) core.mode);
       others = others;
     }

@@ -53,31 +53,39 @@ missed before entry byte register none =
     (λ e. none (SomeByte-map byte 1 (λ a. (region_of-Covers before entry a register).0)
     ((some_byte region byte 1).0 e)))
 
+-- of the entries after one that ends at an address, the first that covers a byte
+record IsLeast (first : ℕ) (entries : List PmpEntry) (number byte : ℕ) : Type 0 where
+  pub registers : (lower : ℕ) → lower ≤ number → IsRegister (entry_at entries lower)
+  pub touches : Touches first entries number byte 1
+  pub none_before : (lower : ℕ) → lower < number → Touches first entries lower byte 1 → ⊥
+
 refused_from : (first : ℕ) (entries : List PmpEntry) (number : ℕ) (mode : Mode) (byte : ℕ)
-    → ((lower : ℕ) → lower ≤ number → IsRegister (entry_at entries lower))
-    → Touches first entries number byte 1 → ((lower : ℕ) → lower < number → Touches first entries lower byte 1 → ⊥)
-    → entry_permits (entry_at entries number).cfg mode kind.Store ≡ false
+    → IsLeast first entries number byte → entry_permits (entry_at entries number).cfg mode kind.Store ≡ false
     → is_allowed_after first entries mode byte 1 kind.Store ≡ false
 unfolding is_allowed_after
-refused_from first [] zero mode byte registers some least refuses = absurd some.holds
-refused_from first [] (suc number) mode byte registers some least refuses = absurd some.holds
-refused_from first (entry ∷ entries) zero mode byte registers some least refuses =
+refused_from first [] zero mode byte is refuses = absurd is.touches.holds
+refused_from first [] (suc number) mode byte is refuses = absurd is.touches.holds
+refused_from first (entry ∷ entries) zero mode byte is refuses =
     let region = region_of first entry in
     let permitted = entry_permits entry.cfg mode kind.Store in
     cond-true (covers_some region byte 1) (covers_all region byte 1 && permitted)
     (is_allowed_after entry.addr entries mode byte 1 kind.Store)
-    (accesses first entry byte 1 (registers 0 (omega arith)) some)
+    (accesses first entry byte 1 (is.registers 0 (omega arith)) is.touches)
     ∙ and_right (covers_all region byte 1) permitted refuses
-refused_from first (entry ∷ entries) (suc number) mode byte registers some least refuses =
+refused_from first (entry ∷ entries) (suc number) mode byte is refuses =
     let region = region_of first entry in
     let permitted = entry_permits entry.cfg mode kind.Store in
+    let later : IsLeast entry.addr entries number byte = record {
+      registers = λ lower below. is.registers (suc lower) (omega (arith, below));
+      touches = unshift first entry entries number byte 1 is.touches;
+      none_before =
+          λ lower below met. is.none_before (suc lower) (omega (arith, below))
+          (shift first entry entries lower byte 1 met);
+    } in
     cond-false (covers_some region byte 1) (covers_all region byte 1 && permitted)
     (is_allowed_after entry.addr entries mode byte 1 kind.Store)
-    (missed first entry byte (registers 0 (omega arith)) (least 0 (omega arith)))
-    ∙ refused_from entry.addr entries number mode byte (λ lower below. registers (suc lower) (omega (arith, below)))
-    (unshift first entry entries number byte 1 some)
-    (λ lower below there. least (suc lower) (omega (arith, below)) (shift first entry entries lower byte 1 there))
-    refuses
+    (missed first entry byte (is.registers 0 (omega arith)) (is.none_before 0 (omega arith)))
+    ∙ refused_from entry.addr entries number mode byte later refuses
 
 -- what stays of a locked byte
 record IsShut (csrs : Csrs) (byte : ℕ) : Type 0 where
@@ -90,22 +98,27 @@ unfolding is_allowed
 shut_refuses csrs byte mode shut =
     let lock = shut.lock in
     let cfg = configuration_of csrs lock.number in
-    refused_from 0 (pmp_entries_of csrs) lock.number mode byte shut.registers lock.decides.some lock.decides.least
+    let is : IsLeast 0 (pmp_entries_of csrs) lock.number byte = record {
+      registers = shut.registers;
+      touches = lock.decides.touches;
+      none_before = lock.decides.least;
+    } in
+    refused_from 0 (pmp_entries_of csrs) lock.number mode byte is
     (permits_none cfg mode (lock.locked lock.number (omega arith)) lock.forbids)
 
 shut_after : (before after : Csrs) (byte : ℕ) → LocksArePreserved before after → IsShut before byte → IsShut after byte
 shut_after before after byte outlasts shut =
     let lock = shut.lock in
     let number = lock.number in
-    let here = outlasts number lock.there (lock.locked number (omega arith)) in
-    let below = λ (lower : ℕ) (low : lower ≤ number). outlasts lower (omega (arith, low, lock.there))
+    let here = outlasts number lock.below_16 (lock.locked number (omega arith)) in
+    let below = λ (lower : ℕ) (low : lower ≤ number). outlasts lower (omega (arith, low, lock.below_16))
     (lock.locked lower low) in
     record {
       lock = record {
         number = number;
-        there = lock.there;
+        below_16 = lock.below_16;
         decides = record {
-          some = SomeByte-map byte 1 (λ a. (here.covers a).1) lock.decides.some;
+          touches = SomeByte-map byte 1 (λ a. (here.covers a).1) lock.decides.touches;
           least = λ lower low there. lock.decides.least lower low
               (SomeByte-map byte 1 (λ a. ((below lower (omega (arith, low))).covers a).0) there);
         };

@@ -82,19 +82,18 @@ kept core shown bytes number below locked = elim (cases_Bool core.halted) [
 ]
 
 -- what an entry covers is by the entry before it in TOR alone
-by_matching : (off top four : Bool) (addr one other a : ℕ) → (top ≡ true → other ≡ one)
-    → CoversAs (if off then Off else if top then TopOfRange else if four then FourBytes else PowerOfTwo) one addr a
-    → CoversAs (if off then Off else if top then TopOfRange else if four then FourBytes else PowerOfTwo) other addr a
-by_matching true top four addr one other a same covers = covers
-by_matching false true four addr one other a same covers =
-    subst (λ (b : ℕ). CoversAs TopOfRange b addr a) (sym (same refl)) covers
-by_matching false false true addr one other a same covers = covers
-by_matching false false false addr one other a same covers = covers
-
 same_bytes : (cfg addr one other a : ℕ) → ((cfg / 2 ^ 3 % 4 == 1) ≡ true → other ≡ one)
     → CoversAs (matching_of cfg) one addr a → CoversAs (matching_of cfg) other addr a
 same_bytes cfg addr one other a same =
-    by_matching (cfg / 2 ^ 3 % 4 == 0) (cfg / 2 ^ 3 % 4 == 1) (cfg / 2 ^ 3 % 4 == 2) addr one other a same
+    by (cfg / 2 ^ 3 % 4 == 0) (cfg / 2 ^ 3 % 4 == 1) (cfg / 2 ^ 3 % 4 == 2) same
+  where
+    by : (off top four : Bool) → (top ≡ true → other ≡ one)
+        → CoversAs (if off then Off else if top then TopOfRange else if four then FourBytes else PowerOfTwo) one addr a
+        → CoversAs (if off then Off else if top then TopOfRange else if four then FourBytes else PowerOfTwo) other addr a
+    by true top four is covers = covers
+    by false true four is covers = subst (λ (b : ℕ). CoversAs TopOfRange b addr a) (sym (is refl)) covers
+    by false false true is covers = covers
+    by false false false is covers = covers
 
 -- the address of the entry before a locked one, where it counts
 before_it : (before after : Csrs) (number : ℕ) → is_locked before number ≡ true → KeepsLocked before after number

@@ -215,24 +215,13 @@ puts_value : (P : Write → Type 0) (place : Place) (len value : ℕ) (bytes : B
 unfolding put
 puts_value P place len value bytes may = put_writes P place len value place.io bytes (may value)
 
-unwritten : (P : Write → Type 0) (Q : Accessed → Type 0) (place : Place) (len : ℕ) (answer : AccessResult)
-    (bytes : Bytes)
-    → number_written answer.access ≡ None → IfSome answer.access Q
+answered : {P : Write → Type 0} {Q : Accessed → Type 0} (place : Place) (len : ℕ) (answer : AccessResult)
+    (bytes : Bytes) → Puts P place len bytes (number_written answer.access) → IfSome answer.access Q
     → IsAnswered P Q ((answering place len answer).run bytes)
 unfolding mapped
-unwritten P Q place len answer bytes none granted =
-    let put_there = subst (Puts P place len bytes) (sym none) (puts_nothing P place len bytes) in
-    record { reads = put_there.0; writes = put_there.1; access = granted }
+answered place len answer bytes puts granted = record { reads = puts.0; writes = puts.1; access = granted }
 
-written : (P : Write → Type 0) (Q : Accessed → Type 0) (place : Place) (len value : ℕ) (answer : AccessResult)
-    (bytes : Bytes) → number_written answer.access ≡ Some value → IfSome answer.access Q → MayPut P place len
-    → IsAnswered P Q ((answering place len answer).run bytes)
-unfolding mapped
-written P Q place len value answer bytes some granted may =
-    let put_there = subst (Puts P place len bytes) (sym some) (puts_value P place len value bytes may) in
-    record { reads = put_there.0; writes = put_there.1; access = granted }
-
-stored_by : (P : Write → Type 0) (Q : Accessed → Type 0) (request : MemoryRequest) (place : Place) (value : ℕ)
+stored_by : {P : Write → Type 0} {Q : Accessed → Type 0} (request : MemoryRequest) (place : Place) (value : ℕ)
     (stored : Bool) (bytes : Bytes)
     → MayPut P place (bytes_of request.size) → IfSome (expected_access request place None (Some value)) Q
     → IsAnswered P Q ((answering place (bytes_of request.size) (if stored
@@ -243,27 +232,31 @@ stored_by : (P : Write → Type 0) (Q : Accessed → Type 0) (request : MemoryRe
       reservation = record { block = None };
     }
     else record { value = 1; access = None; reservation = record { block = None } })).run bytes)
-stored_by P Q request place value true bytes may granted =
+stored_by {P} request place value true bytes may granted =
+    let len = bytes_of request.size in
     let answer : AccessResult =
     record {
       value = 0;
       access = expected_access request place None (Some value);
       reservation = record { block = None };
     } in
-    written P Q place (bytes_of request.size) value answer bytes refl granted may
-stored_by P Q request place value false bytes may granted =
+    answered place len answer bytes (puts_value P place len value bytes may) granted
+stored_by {P} request place value false bytes may granted =
+    let len = bytes_of request.size in
     let answer : AccessResult = record { value = 1; access = None; reservation = record { block = None } } in
-    unwritten P Q place (bytes_of request.size) answer bytes refl tt
+    answered place len answer bytes (puts_nothing P place len bytes) tt
 
 -- where the place is, for the write and for the access that is expected
 abbrev IsFoundAt : Core → MemoryRequest → Bytes → Place → Access → Type 0
 IsFoundAt core request start place access =
     IsFoundFor core request start access place.pa (bytes_of request.size) place.io
 
-abbrev FoundAs : Core → MemoryRequest → MemoryOp → Bytes → Place → Type 0
-FoundAs core request op start place =
-    (access : Access) → (check_by core (bytes_of request.size) op).access ≡ access
-    → IsFoundAt core request start place access
+-- and that it is permitted, for an operation
+record IsGrantedAt (core : Core) (request : MemoryRequest) (op : MemoryOp) (start : Bytes) (place : Place) : Type
+    0 where
+  pub permitted : IsPermittedPlace core.csrs core.map (check_by core (bytes_of request.size) op) place
+  pub found : (access : Access) → (check_by core (bytes_of request.size) op).access ≡ access
+      → IsFoundAt core request start place access
 
 in_ram : (core : Core) (request : MemoryRequest) (start : Bytes) (place : Place)
     → IsFoundAt core request start place kind.Store → place.io ≡ false
@@ -285,56 +278,67 @@ asked_for : (core : Core) (request : MemoryRequest) (start : Bytes) (place : Pla
     (record { va = request.address; pa = place.pa; len = bytes_of request.size; read = read; written = written })
 asked_for core request start place read written found = record { va = refl; io = place.io; place = found }
 
-answer_granted : (core : Core) (choices : RowChoices) (request : MemoryRequest) (start : Bytes) (place : Place)
-    (held : ℕ) (op : MemoryOp) (bytes : Bytes)
-    → IsPermittedPlace core.csrs core.map (check_by core (bytes_of request.size) op) place
-    → FoundAs core request op start place
+answer_granted : (core : Core) (choices : RowChoices) (request : MemoryRequest) (start : Bytes)
+    (found : LocatedValue) (op : MemoryOp) (bytes : Bytes) → IsGrantedAt core request op start found.0
     → IsAnswered (IsOwnWrite core (Some (results.Access request)) start)
     (IsOwnAccess core (Some (results.Access request)) start)
-    ((answering place (bytes_of request.size) (access_result_by core choices request place held op)).run bytes)
-answer_granted core choices request start place held (Load signed) bytes granted found =
-    let asks : Option IntResult = Some (results.Access request) in
-    unwritten (IsOwnWrite core asks start) (IsOwnAccess core asks start) place (bytes_of request.size)
-    (access_result_by core choices request place held (Load signed)) bytes refl (
-      granted.granted,
-      asked_for core request start place (Some (value_found choices request place held)) None
-          (found kind.Load refl),
+    ((answering found.0 (bytes_of request.size)
+    (access_result_by core choices request found.0 found.1 op)).run bytes)
+answer_granted core choices request start found (Load signed) bytes is =
+    let place = found.0 in
+    let len = bytes_of request.size in
+    let Own : Write → Type 0 = IsOwnWrite core (Some (results.Access request)) start in
+    answered place len (access_result_by core choices request place found.1 (Load signed)) bytes
+    (puts_nothing Own place len bytes) (
+      is.permitted.granted,
+      asked_for core request start place (Some (value_found choices request place found.1)) None
+          (is.found kind.Load refl),
     )
-answer_granted core choices request start place held LoadReserved bytes granted found =
-    let asks : Option IntResult = Some (results.Access request) in
-    unwritten (IsOwnWrite core asks start) (IsOwnAccess core asks start) place (bytes_of request.size)
-    (access_result_by core choices request place held LoadReserved) bytes refl
-    (granted.granted, asked_for core request start place (Some held) None (found kind.Load refl))
-answer_granted core choices request start place held (Store value) bytes granted found =
-    let asks : Option IntResult = Some (results.Access request) in
-    let here = found kind.Store refl in
-    written (IsOwnWrite core asks start) (IsOwnAccess core asks start) place (bytes_of request.size) value
-    (access_result_by core choices request place held (Store value)) bytes refl
-    (granted.granted, asked_for core request start place None (Some value) here)
-    (may_put core request start place granted.inside granted.granted here)
-answer_granted core choices request start place held (StoreConditional value) bytes granted found =
-    let asks : Option IntResult = Some (results.Access request) in
-    let here = found kind.Store refl in
-    stored_by (IsOwnWrite core asks start) (IsOwnAccess core asks start) request place value
-    (is_stored core choices request place) bytes
-    (may_put core request start place granted.inside granted.granted here)
-    (granted.granted, asked_for core request start place None (Some value) here)
-answer_granted core choices request start place held (Amo op width b) bytes granted found =
-    let asks : Option IntResult = Some (results.Access request) in
-    let value = amo_of op width held b in
-    let here = found kind.Store refl in
-    written (IsOwnWrite core asks start) (IsOwnAccess core asks start) place (bytes_of request.size) value
-    (access_result_by core choices request place held (Amo op width b)) bytes refl
-    (granted.granted, asked_for core request start place (Some held) (Some value) here)
-    (may_put core request start place granted.inside granted.granted here)
+answer_granted core choices request start found LoadReserved bytes is =
+    let place = found.0 in
+    let len = bytes_of request.size in
+    let Own : Write → Type 0 = IsOwnWrite core (Some (results.Access request)) start in
+    answered place len (access_result_by core choices request place found.1 LoadReserved) bytes
+    (puts_nothing Own place len bytes)
+    (is.permitted.granted, asked_for core request start place (Some found.1) None (is.found kind.Load refl))
+answer_granted core choices request start found (Store value) bytes is =
+    let place = found.0 in
+    let len = bytes_of request.size in
+    let Own : Write → Type 0 = IsOwnWrite core (Some (results.Access request)) start in
+    let here = is.found kind.Store refl in
+    answered place len (access_result_by core choices request place found.1 (Store value)) bytes
+    (puts_value Own place len value bytes
+    (may_put core request start place is.permitted.inside is.permitted.granted here))
+    (is.permitted.granted, asked_for core request start place None (Some value) here)
+answer_granted core choices request start found (StoreConditional value) bytes is =
+    let place = found.0 in
+    let here = is.found kind.Store refl in
+    stored_by request place value (is_stored core choices request place) bytes
+    (may_put core request start place is.permitted.inside is.permitted.granted here)
+    (is.permitted.granted, asked_for core request start place None (Some value) here)
+answer_granted core choices request start found (Amo op width b) bytes is =
+    let place = found.0 in
+    let len = bytes_of request.size in
+    let value = amo_of op width found.1 b in
+    let Own : Write → Type 0 = IsOwnWrite core (Some (results.Access request)) start in
+    let here = is.found kind.Store refl in
+    answered place len (access_result_by core choices request place found.1 (Amo op width b)) bytes
+    (puts_value Own place len value bytes
+    (may_put core request start place is.permitted.inside is.permitted.granted here))
+    (is.permitted.granted, asked_for core request start place (Some found.1) (Some value) here)
 
-found_as : (core : Core) (request : MemoryRequest) (start : Bytes) (place : Place)
+granted_at : (core : Core) (request : MemoryRequest) (start : Bytes) (place : Place)
     → (check_of core request).len ≡ bytes_of request.size
     → IsPlaceFound core.csrs core.map (check_of core request) request.address start place
-    → FoundAs core request request.op start place
-found_as core request start place same is access checked =
+    → IsGrantedAt core request request.op start place
+granted_at core request start place same is =
     let P : ℕ → Type 0 = λ n. request.address % n ≡ 0 in
-    record { kind = checked; whole = refl; aligned = subst P same is.aligned; found = is.found }
+    record {
+      permitted = is.granted;
+      found =
+          λ access checked.
+          record { kind = checked; whole = refl; aligned = subst P same is.aligned; found = is.found };
+    }
 
 pub check_len : (core : Core) (len : ℕ) (op : MemoryOp) → (check_by core len op).len ≡ len
 check_len core len (Load signed) = refl
@@ -354,8 +358,8 @@ answered_granted core choices request start (Err exception) bytes is =
     record { reads = refl; writes = All-nil (IsOwnWrite core (Some (results.Access request)) start); access = tt }
 answered_granted core choices request start (Ok found) bytes is =
     let len = bytes_of request.size in
-    answer_granted core choices request start found.0 found.1 request.op bytes is.granted
-    (found_as core request start found.0 (check_len core len request.op) is)
+    answer_granted core choices request start found request.op bytes
+    (granted_at core request start found.0 (check_len core len request.op) is)
 
 -- an instruction, by what it asks for, from the memory that it finds
 record IsDone (core : Core) (asks : Option IntResult) (start : Bytes) (run : Run (Result Completion Exception)) : Type

@@ -9,7 +9,6 @@ use Rattle.hart_words.specs.declared.signal.Signal.TheVariants.{Intr, PcRdata}
 use Rattle.hart_words.specs.Signals.{Shown}
 use Rattle.hart_words.specs.Memory.{Bytes}
 use Rattle.hart_words.specs.Actions.{pure, mapped}
-use Rattle.csr_file.specs.declared.csrs.Csrs.{Csrs}
 use Rattle.trap_entry.specs.Entries.{enter_of, pc_by_enter}
 use Rattle.trap_entry.proofs.Undone.{never_lowers}
 use Rattle.interrupt_pick.proofs.Taken.{picks_taken}
@@ -179,15 +178,14 @@ asks_asked core shown asks =
     record { intr = both.0; entry = both.1 }
 
 -- what the facts about a step say of it
-pub fetched_at : (core : Core) (shown : Shown) (bytes : Bytes) (pc : ℕ) (mode : Mode) (csrs : Csrs)
-    → core.halted ≡ false
-    → (before_instruction core shown).pc ≡ pc → (before_instruction core shown).mode ≡ mode
-    → (before_instruction core shown).csrs ≡ csrs
-    → IsFetched ((step_of core shown).run bytes).value.expected pc mode csrs
+pub fetched_at : (core : Core) (shown : Shown) (bytes : Bytes) (begun : Core) → core.halted ≡ false
+    → before_instruction core shown ≡ begun
+    → IsFetched ((step_of core shown).run bytes).value.expected begun.pc begun.mode begun.csrs
 unfolding expected_of
-fetched_at core shown bytes pc mode csrs runs at in_mode with =
-    let P : Expected → Type 0 = λ e. IsFetched e pc mode csrs in
-    subst P (sym (expected_running core shown bytes runs)) (at, (in_mode, with))
+fetched_at core shown bytes begun runs is =
+    let P : Expected → Type 0 = λ e. IsFetched e begun.pc begun.mode begun.csrs in
+    subst P (sym (expected_running core shown bytes runs))
+    (ap (λ k. k.pc) is, (ap (λ k. k.mode) is, ap (λ k. k.csrs) is))
 
 pub enters : (core : Core) (shown : Shown) (bytes : Bytes) (code : ℕ) (taker : Mode) → core.halted ≡ false
     → asks_interrupt core shown ≡ true → interrupt_of core shown ≡ Some (code, taker)
@@ -195,15 +193,16 @@ pub enters : (core : Core) (shown : Shown) (bytes : Bytes) (code : ℕ) (taker :
 unfolding core_after_entry core_after_count
 enters core shown bytes code taker runs asked picked =
     let is = begun_entered core shown code taker asked picked in
-    let there = picks_where_entered core.csrs core.mode (pending_lines_of shown).up code taker picked in
+    let mode = picks_where_entered core.csrs core.mode (pending_lines_of shown).up code taker picked in
+    let begun = core_after_entry (core_after_count core shown) true code 0 in
+    let InMode : Mode → Type 0 =
+    λ m. IsFetched ((step_of core shown).run bytes).value.expected
+    (pc_by_enter core.csrs core.mode true code) m (enter_of core.csrs core.mode true code 0 core.pc) in
     record {
       taken = picks_taken core.csrs core.mode (pending_lines_of shown).up code taker picked;
       first = picks_first core.csrs core.mode (pending_lines_of shown).up code taker picked;
-      mode = there;
-      fetched =
-          fetched_at core shown bytes (pc_by_enter core.csrs core.mode true code) taker
-          (enter_of core.csrs core.mode true code 0 core.pc) runs (ap (λ k. k.pc) is)
-          (ap (λ k. k.mode) is ∙ sym there) (ap (λ k. k.csrs) is);
+      mode = mode;
+      fetched = subst InMode (sym mode) (fetched_at core shown bytes begun runs is);
     }
 
 pub stays : (core : Core) (shown : Shown) (bytes : Bytes) → core.halted ≡ false → enters_interrupt core shown ≡ false
@@ -211,8 +210,7 @@ pub stays : (core : Core) (shown : Shown) (bytes : Bytes) → core.halted ≡ fa
 unfolding core_after_count
 stays core shown bytes runs none =
     let is = begun_kept core shown none in
-    fetched_at core shown bytes core.pc core.mode core.csrs runs (ap (λ k. k.pc) is) (ap (λ k. k.mode) is)
-    (ap (λ k. k.csrs) is)
+    fetched_at core shown bytes (core_after_count core shown) runs is
 
 -- where there is none to take
 pub takes_none : (core : Core) (shown : Shown) → interrupt_of core shown ≡ None

@@ -33,25 +33,23 @@ record Lists (address : ℕ) (range : CsrRange) : Type 0 where
   pub listed : lists range address ≡ true
   pub apt : is_apt address range ≡ true
 
-step : (address : ℕ) (this other : CsrRange) (rest : Option CsrRange) (b : Bool) → lists this address ≡ b
-    → is_apt address this ≡ true → (rest ≡ Some other → Lists address other) → cond b (Some this) rest ≡ Some other
-    → Lists address other
-step address this other rest true here apt later is =
-    let same : this ≡ other = cc in
-    record {
-      listed =
-          ap (λ range. lists range address) (sym same) ∙ here;
-      apt = ap (λ range. is_apt address range) (sym same) ∙ apt;
-    }
-step address this other rest false here apt later is = later is
-
 found : (address : ℕ) (part : List CsrRange) (range : CsrRange) → list_all (is_apt address) part ≡ true
     → find (λ r. lists r address) part ≡ Some range → Lists address range
 found address [] range apt is = cc
 found address (this ∷ rest) range apt is =
     let parts = and_parts (is_apt address this) (list_all (is_apt address) rest) apt in
-    step address this range (find (λ r. lists r address) rest) (lists this address) refl parts.0
-    (found address rest range parts.1) is
+    by (lists this address) refl parts.0 (found address rest range parts.1) is
+  where
+    by : (b : Bool) → lists this address ≡ b → is_apt address this ≡ true
+        → (find (λ r. lists r address) rest ≡ Some range → Lists address range)
+        → cond b (Some this) (find (λ r. lists r address) rest) ≡ Some range → Lists address range
+    by true here fits later at =
+        let same : this ≡ range = cc in
+        record {
+          listed = ap (λ r. lists r address) (sym same) ∙ here;
+          apt = ap (λ r. is_apt address r) (sym same) ∙ fits;
+        }
+    by false here fits later at = later at
 
 third : (first last address : ℕ) → 0x300 ≤ first → last ≤ 0x3FF → first ≤ address → address ≤ last
     → address / 2 ^ 8 % 4 ≡ 3

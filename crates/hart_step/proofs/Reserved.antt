@@ -79,12 +79,12 @@ left_of : (a b : Bool) → (a && b) ≡ true → a ≡ true
 left_of true b both = refl
 left_of false b both = cc
 
-answered_in : (core : Core) (choices : RowChoices) (request : MemoryRequest) (op : MemoryOp) (value : ℕ)
-    (found : Result LocatedValue Exception) (bytes : Bytes) → op ≡ StoreConditional value → request.op ≡ op
+answered_in : (core : Core) (choices : RowChoices) (request : MemoryRequest) (value : ℕ)
+    (found : Result LocatedValue Exception) (bytes : Bytes) → request.op ≡ StoreConditional value
     → InReservedBlock core ((access_after_location core choices request found).run bytes).wrote
 unfolding pure mapped access_result_of
-answered_in core choices request op value (Err exception) bytes is named = All-nil (IsCovered core)
-answered_in core choices request op value (Ok found) bytes is named =
+answered_in core choices request value (Err exception) bytes is = All-nil (IsCovered core)
+answered_in core choices request value (Ok found) bytes is =
     let P : MemoryOp → Type 0 =
     λ o. InReservedBlock core
     ((put found.0 (bytes_of request.size)
@@ -95,7 +95,7 @@ answered_in core choices request op value (Ok found) bytes is named =
     let Q : AccessResult → Type 0 =
     λ a. InReservedBlock core ((put found.0 (bytes_of request.size) (number_written a.access)).run bytes).wrote in
     let stored = is_stored core choices request found.0 in
-    subst P (sym (named ∙ is))
+    subst P (sym is)
     (subst Q (sym (if_is request found.0 value stored)) (answer_if core request found.0 value stored bytes both))
 
 access_in : (core : Core) (choices : RowChoices) (request : MemoryRequest) (value : ℕ) (bytes : Bytes)
@@ -110,43 +110,47 @@ access_in core choices request value bytes is =
     ap (λ t. t.wrote)
     (run_then-is (located_access core request) (access_after_location core choices request) bytes) in
     subst P (sym (whole ∙ ap (λ w. w ++ after.wrote) (placed_writes core request bytes)))
-    (answered_in core choices request request.op value before.value now is refl)
+    (answered_in core choices request value before.value now is)
 
-executed_in : (core : Core) (choices : RowChoices) (i : Instruction) (result : IntResult) (request : MemoryRequest)
-    (value : ℕ) (bytes : Bytes) → result ≡ Access request → request.op ≡ StoreConditional value
-    → InReservedBlock core ((execution_by core choices i result).run bytes).wrote
-unfolding mapped
-executed_in core choices i result request value bytes asks is =
-    let P : IntResult → Type 0 = λ r. InReservedBlock core ((execution_by core choices i r).run bytes).wrote in
-    subst P (sym asks) (access_in core choices request value bytes is)
+-- an SC is asked for
+record AsksForStore (asks : Option IntResult) : Type 0 where
+  pub request : MemoryRequest
+  pub value : ℕ
+  pub asked : asks ≡ Some (Access request)
+  pub conditional : request.op ≡ StoreConditional value
 
 some_is : (one other : IntResult) → Some one ≡ Some other → one ≡ other
 some_is one other is = cc
 
-decoded_in : (core : Core) (shown : Shown) (bits len : ℕ) (op : Option Op) (request : MemoryRequest) (value : ℕ)
-    (bytes : Bytes) → request_by core len op ≡ Some (Access request) → request.op ≡ StoreConditional value
+executed_in : (core : Core) (choices : RowChoices) (i : Instruction) (result : IntResult) (bytes : Bytes)
+    → AsksForStore (Some result) → InReservedBlock core ((execution_by core choices i result).run bytes).wrote
+unfolding mapped
+executed_in core choices i result bytes sc =
+    let P : IntResult → Type 0 = λ r. InReservedBlock core ((execution_by core choices i r).run bytes).wrote in
+    subst P (sym (some_is result (Access sc.request) sc.asked))
+    (access_in core choices sc.request sc.value bytes sc.conditional)
+
+decoded_in : (core : Core) (shown : Shown) (bits len : ℕ) (op : Option Op) (bytes : Bytes)
+    → AsksForStore (request_by core len op)
     → InReservedBlock core ((run_of_decoded core shown bits len op).run bytes).wrote
 unfolding mapped execution_of pure
-decoded_in core shown bits len None request value bytes asks is = cc
-decoded_in core shown bits len (Some op) request value bytes asks is =
+decoded_in core shown bits len None bytes sc = let asked : None ≡ Some (Access sc.request) = sc.asked in cc
+decoded_in core shown bits len (Some op) bytes sc =
     let i : Instruction = record { op = op; bits = bits; len = len } in
     let result = result_of op (first_value core op) (second_value core op) core.pc len in
-    executed_in core (choices_of shown (operands_of op).rd) i result request value bytes
-    (some_is result (Access request) asks) is
+    executed_in core (choices_of shown (operands_of op).rd) i result bytes sc
 
-fetched_in : (core : Core) (shown : Shown) (word : Result (ℕ × ℕ) Exception) (request : MemoryRequest) (value : ℕ)
-    (bytes : Bytes) → request_from core word ≡ Some (Access request) → request.op ≡ StoreConditional value
+fetched_in : (core : Core) (shown : Shown) (word : Result (ℕ × ℕ) Exception) (bytes : Bytes)
+    → AsksForStore (request_from core word)
     → InReservedBlock core ((run_of_fetched core shown word).run bytes).wrote
 unfolding pure
-fetched_in core shown (Err exception) request value bytes asks is = cc
-fetched_in core shown (Ok word) request value bytes asks is =
-    decoded_in core shown word.0 word.1 (op_of word.0 word.1) request value bytes asks is
+fetched_in core shown (Err exception) bytes sc = let asked : None ≡ Some (Access sc.request) = sc.asked in cc
+fetched_in core shown (Ok word) bytes sc = decoded_in core shown word.0 word.1 (op_of word.0 word.1) bytes sc
 
-ran_in : (core : Core) (shown : Shown) (request : MemoryRequest) (value : ℕ) (bytes : Bytes)
-    → request_at_pc core bytes ≡ Some (Access request) → request.op ≡ StoreConditional value
+ran_in : (core : Core) (shown : Shown) (bytes : Bytes) → AsksForStore (request_at_pc core bytes)
     → InReservedBlock core ((instruction_run core shown).run bytes).wrote
 unfolding instruction_run request_at_pc
-ran_in core shown request value bytes asks is =
+ran_in core shown bytes sc =
     let fetch = fetch_result core.csrs core.map core.mode core.pc in
     let before = fetch.run bytes in
     let now = after_writes before.wrote bytes in
@@ -154,7 +158,7 @@ ran_in core shown request value bytes asks is =
     let P : List Write → Type 0 = λ w. InReservedBlock core w in
     let whole = ap (λ t. t.wrote) (run_then-is fetch (run_of_fetched core shown) bytes) in
     subst P (sym (whole ∙ ap (λ w. w ++ after.wrote) (fetch_writes_nothing core.csrs core.map core.mode core.pc
-    bytes))) (fetched_in core shown before.value request value now asks is)
+    bytes))) (fetched_in core shown before.value now sc)
 
 pub stores_in_block : (core : Core) (shown : Shown) (bytes : Bytes) (request : MemoryRequest) (value : ℕ)
     → request_at_pc (before_instruction core shown) bytes ≡ Some (Access request)
@@ -167,8 +171,9 @@ stores_in_block core shown bytes request value asks is = elim (cases_Bool core.h
       let begins = before_instruction core shown in
       let wrote = ((step_of core shown).run bytes).wrote in
       let P : List Write → Type 0 = λ w. InReservedBlock begins w in
-      let here =
-      subst P (sym (wrote_running core shown bytes runs)) (ran_in begins shown request value bytes asks is) in
+      let sc : AsksForStore (request_at_pc begins bytes) =
+      record { request = request; value = value; asked = asks; conditional = is } in
+      let here = subst P (sym (wrote_running core shown bytes runs)) (ran_in begins shown bytes sc) in
       let Q : Reservation → Type 0 = λ r. All (λ write. is_covered r.block write.pa write.len ≡ true) wrote in
       subst Q (begun_reservation core shown) here
 ]

@@ -64,7 +64,7 @@ pub refused_misses : (core : Core) (byte : ℕ) (write : Write)
     → Misses byte write
 refused_misses core byte write refused granted = unless_reached byte write (λ low high.
     let mode = data_mode_of core.csrs core.mode in
-    let alone = byte_allowed (pmp_entries_of core.csrs) mode write.pa write.len kind.Store byte granted.1 low high in
+    let alone = byte_allowed (pmp_entries_of core.csrs) mode write.pa write.len kind.Store granted.1 byte low high in
     let none = refused mode in
     cc)
 
@@ -73,7 +73,7 @@ write_misses : (core : Core) (byte : ℕ) (write : Write) → core.mode ≢ Mach
     → IsStepWrite core write → Misses byte write
 write_misses core byte write lower refused granted = unless_reached byte write (λ low high.
     let alone = byte_allowed (pmp_entries_of core.csrs) (data_mode_of core.csrs core.mode) write.pa write.len
-    kind.Store byte granted.1 low high in
+    kind.Store granted.1 byte low high in
     let allowed = lower_allowed core.csrs core.mode (pmp_entries_of core.csrs) byte lower alone in
     cc)
 
@@ -139,8 +139,8 @@ forbidden_refused : (core : Core) (byte : ℕ) → IsSound core → ForbidsStore
 unfolding entry_permits
 forbidden_refused core byte sound by =
     let entries = pmp_entries_of core.csrs in
-    whole_decides entries by.number Supervisor byte 1 kind.Store (legal_registers core.csrs sound.legal) by.there
-    by.decides (each_of_one (CoversAt entries by.number) byte by.decides.some)
+    whole_decides entries by.number Supervisor byte 1 kind.Store (legal_registers core.csrs sound.legal) by.below_length
+    by.decides (each_of_one (CoversAt entries by.number) byte by.decides.touches)
     ∙ by.forbids
 
 uncovered_refused : (core : Core) (byte : ℕ) → IsSound core → NoneCovers (pmp_entries_of core.csrs) byte 1

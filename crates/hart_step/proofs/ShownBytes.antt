@@ -51,65 +51,49 @@ same_byte store away number old before e b =
     ap (λ k. if bit_is_set store.mask k then store.value / 256 ^ k % 256 else before) (sym e)
     ∙ ap (λ o. if bit_is_set store.mask away then store.value / 256 ^ away % 256 else o) b
 
-step_here : (ram : Span) (store : ShownStore) (number old a : ℕ) (before : Bytes) → byte_place store number ≡ a
-    → is_in ram a ≡ true → above a store.place ≡ number
-    → before a ≡ among (nat_lt (above a store.place) number) store (above a store.place) old
-    → byte_put ram store number before a
-    ≡ among (nat_lt (above a store.place) (suc number)) store (above a store.place) old
-unfolding among
-step_here ram store number old a before place inside away is =
-    let low : nat_lt (above a store.place) number ≡ false = grind (arith, nat_tests) in
-    let high : nat_lt (above a store.place) (suc number) ≡ true = grind (arith, nat_tests) in
-    let was : before a ≡ old = is ∙ ap (λ t. among t store (above a store.place) old) low in
-    here (bit_is_set store.mask number) (is_in ram (byte_place store number)) (byte_place store number)
-    (store.value / 256 ^ number) before a place (ap (is_in ram) place ∙ inside)
-    ∙ same_byte store (above a store.place) number old (before a) away was
-    ∙ ap (λ t. among t store (above a store.place) old) (sym high)
-
-step_apart : (ram : Span) (store : ShownStore) (number old a : ℕ) (before : Bytes) → byte_place store number ≢ a
-    → above a store.place ≢ number
-    → before a ≡ among (nat_lt (above a store.place) number) store (above a store.place) old
-    → byte_put ram store number before a
-    ≡ among (nat_lt (above a store.place) (suc number)) store (above a store.place) old
-step_apart ram store number old a before place away is =
-    let same : nat_lt (above a store.place) number ≡ nat_lt (above a store.place) (suc number) =
-    grind (arith, nat_tests) in
-    apart (stores_byte ram store number) (byte_place store number) (store.value / 256 ^ number) before a place
-    ∙ is ∙ ap (λ t. among t store (above a store.place) old) same
-
-step_by : (ram : Span) (store : ShownStore) (number old a : ℕ) (before : Bytes) → store.place < 2 ^ 64 → number < 8
-    → a < 2 ^ 64 → is_in ram a ≡ true
-    → before a ≡ among (nat_lt (above a store.place) number) store (above a store.place) old
-    → ((above a store.place == number) ≡ true) × (above a store.place ≡ number)
-    ⊎ ((above a store.place == number) ≡ false) × (above a store.place ≢ number)
-    → byte_put ram store number before a
-    ≡ among (nat_lt (above a store.place) (suc number)) store (above a store.place) old
-step_by ram store number old a before p n fits inside is (inl same) =
-    step_here ram store number old a before (falls_there store.place number a p n fits same.1) inside same.1 is
-step_by ram store number old a before p n fits inside is (inr other) =
-    step_apart ram store number old a before
-    (λ place. other.1 (falls_nowhere_else store.place number a p n fits place)) other.1 is
+below : (ram : Span) (a : ℕ) → is_in ram a ≡ true → a < 2 ^ 64
+below ram a inside = let end = ram.below in grind (arith, nat_tests)
 
 -- after so many bytes, each address of RAM has that of the store which falls there
 put_at : (ram : Span) (store : ShownStore) (count : ℕ) (bytes : Bytes) (a : ℕ) → store.place < 2 ^ 64 → count ≤ 8
-    → a < 2 ^ 64 → is_in ram a ≡ true
+    → is_in ram a ≡ true
     → bytes_put ram store count bytes a
     ≡ among (nat_lt (above a store.place) count) store (above a store.place) (bytes a)
 unfolding bytes_put among
-put_at ram store zero bytes a p n fits inside =
+put_at ram store zero bytes a p n inside =
     let none : nat_lt (above a store.place) 0 ≡ false = grind (arith, nat_tests) in
     ap (λ t. among t store (above a store.place) (bytes a)) (sym none)
-put_at ram store (suc count) bytes a p n fits inside =
-    step_by ram store count (bytes a) a (bytes_put ram store count bytes) p (omega (arith, n)) fits inside
-    (put_at ram store count bytes a p (omega (arith, n)) fits inside) (eqb_tells (above a store.place) count)
-
-outside_by : (masked inside : Bool) (ram : Span) (pa value : ℕ) (bytes : Bytes) (a : ℕ) → is_in ram pa ≡ inside
-    → is_in ram a ≡ false → (if masked && inside then bytes_after_store pa 1 value bytes else bytes) a ≡ bytes a
-outside_by false inside ram pa value bytes a there outside = refl
-outside_by true false ram pa value bytes a there outside = refl
-outside_by true true ram pa value bytes a there outside =
-    let other : pa ≢ a = λ same. absurd (let both : true ≡ false = sym there ∙ ap (is_in ram) same ∙ outside in cc) in
-    apart true pa value bytes a other
+put_at ram store (suc count) bytes a p n inside =
+    by (below ram a inside) (put_at ram store count bytes a p (omega (arith, n)) inside)
+    (eqb_tells (above a store.place) count)
+  where
+    by : a < 2 ^ 64
+        → bytes_put ram store count bytes a
+        ≡ among (nat_lt (above a store.place) count) store (above a store.place) (bytes a)
+        → ((above a store.place == count) ≡ true) × (above a store.place ≡ count)
+        ⊎ ((above a store.place == count) ≡ false) × (above a store.place ≢ count)
+        → byte_put ram store count (bytes_put ram store count bytes) a
+        ≡ among (nat_lt (above a store.place) (suc count)) store (above a store.place) (bytes a)
+    by fits is (inl same) =
+        let away : above a store.place ≡ count = same.1 in
+        let low : nat_lt (above a store.place) count ≡ false = grind (arith, nat_tests) in
+        let high : nat_lt (above a store.place) (suc count) ≡ true = grind (arith, nat_tests) in
+        let before = bytes_put ram store count bytes in
+        let was : before a ≡ bytes a = is ∙ ap (λ t. among t store (above a store.place) (bytes a)) low in
+        let place = falls_there store.place count a p (omega (arith, n)) fits away in
+        here (bit_is_set store.mask count) (is_in ram (byte_place store count)) (byte_place store count)
+        (store.value / 256 ^ count) before a place (ap (is_in ram) place ∙ inside)
+        ∙ same_byte store (above a store.place) count (bytes a) (before a) away was
+        ∙ ap (λ t. among t store (above a store.place) (bytes a)) (sym high)
+    by fits is (inr other) =
+        let away : above a store.place ≢ count = other.1 in
+        let same : nat_lt (above a store.place) count ≡ nat_lt (above a store.place) (suc count) =
+        grind (arith, nat_tests) in
+        let place : byte_place store count ≢ a =
+        λ at. away (falls_nowhere_else store.place count a p (omega (arith, n)) fits at) in
+        apart (stores_byte ram store count) (byte_place store count) (store.value / 256 ^ count)
+        (bytes_put ram store count bytes) a place
+        ∙ is ∙ ap (λ t. among t store (above a store.place) (bytes a)) same
 
 -- bytes outside RAM are passed over
 put_outside : (ram : Span) (store : ShownStore) (count : ℕ) (bytes : Bytes) (a : ℕ) → is_in ram a ≡ false
@@ -117,12 +101,20 @@ put_outside : (ram : Span) (store : ShownStore) (count : ℕ) (bytes : Bytes) (a
 unfolding bytes_put
 put_outside ram store zero bytes a outside = refl
 put_outside ram store (suc count) bytes a outside =
-    outside_by (bit_is_set store.mask count) (is_in ram (byte_place store count)) ram (byte_place store count)
-    (store.value / 256 ^ count) (bytes_put ram store count bytes) a refl outside
+    by (bit_is_set store.mask count) (is_in ram (byte_place store count)) refl
     ∙ put_outside ram store count bytes a outside
-
-below : (ram : Span) (a : ℕ) → is_in ram a ≡ true → a < 2 ^ 64
-below ram a inside = let end = ram.below in grind (arith, nat_tests)
+  where
+    by : (masked inside : Bool) → is_in ram (byte_place store count) ≡ inside
+        → (if masked && inside
+        then bytes_after_store (byte_place store count) 1 (store.value / 256 ^ count) (bytes_put ram store count bytes)
+        else bytes_put ram store count bytes) a
+        ≡ bytes_put ram store count bytes a
+    by false inside is = refl
+    by true false is = refl
+    by true true is =
+        let other : byte_place store count ≢ a =
+        λ same. absurd (let both : true ≡ false = sym is ∙ ap (is_in ram) same ∙ outside in cc) in
+        apart true (byte_place store count) (store.value / 256 ^ count) (bytes_put ram store count bytes) a other
 
 eight : (test : Bool) (store : ShownStore) (away old : ℕ)
     → among test store away old ≡ byte_after store (if test then Some away else None) old
@@ -137,7 +129,7 @@ put_by : (inside : Bool) (ram : Span) (store : ShownStore) (bytes : Bytes) (a : 
 put_by false ram store bytes a there place = put_outside ram store 8 bytes a there
 put_by true ram store bytes a there place =
     let count : nat_lt (above a store.place) 8 ≡ nat_le (above a store.place + 1) 8 = grind (arith, nat_tests) in
-    put_at ram store 8 bytes a place (omega arith) (below ram a there) there
+    put_at ram store 8 bytes a place (omega arith) there
     ∙ ap (λ t. among t store (above a store.place) (bytes a)) count
     ∙ eight (nat_le (above a store.place + 1) 8) store (above a store.place) (bytes a)
 

@@ -137,24 +137,24 @@ same_test a b c left right = grind (arith, nat_tests)
 some_same : {A : Type 0} (x y : A) → Some x ≡ Some y → x ≡ y
 some_same x y is = cc
 
-begins_by : (test : Bool) (row : Parcel) (rest : Option Parcel) (parcel word : ℕ) → is_told_parcel row ≡ true
-    → meets_parcel row parcel ≡ test → word % 128 ≡ STORE
-    → (option_map (λ row. encoding_of row.op parcel) rest ≡ Some word → BeginsStore parcel)
-    → option_map (λ row. encoding_of row.op parcel) (if test then Some row else rest) ≡ Some word → BeginsStore parcel
-begins_by true row rest parcel word known_files met stores more is =
-    let same : encoding_of row.op parcel ≡ word = some_same _ _ is in
-    let opcode : word % 128 ≡ opcode_of row.op = ap (λ w. w % 128) (sym same) ∙ word_opcode row.op parcel in
-    parcel_told (opcode_of row.op == STORE) row parcel known_files met (same_test _ _ _ opcode stores)
-begins_by false row rest parcel word known_files met stores more is = more is
-
 begins_among : (rows : List Parcel) (parcel word : ℕ) → list_all is_told_parcel rows ≡ true → word % 128 ≡ STORE
     → option_map (λ row. encoding_of row.op parcel) (find (λ row. meets_parcel row parcel) rows) ≡ Some word
     → BeginsStore parcel
 begins_among [] parcel word known_files stores is = absurd cc
 begins_among (row ∷ rows) parcel word known_files stores is =
     let parts = both (is_told_parcel row) (list_all is_told_parcel rows) known_files in
-    begins_by (meets_parcel row parcel) row (find (λ row. meets_parcel row parcel) rows) parcel word parts.0 refl
-    stores (begins_among rows parcel word parts.1 stores) is
+    by (meets_parcel row parcel) parts.0 refl (begins_among rows parcel word parts.1 stores) is
+  where
+    by : (test : Bool) → is_told_parcel row ≡ true → meets_parcel row parcel ≡ test
+        → (option_map (λ row. encoding_of row.op parcel) (find (λ row. meets_parcel row parcel) rows) ≡ Some word
+        → BeginsStore parcel)
+        → option_map (λ row. encoding_of row.op parcel)
+        (if test then Some row else find (λ row. meets_parcel row parcel) rows) ≡ Some word → BeginsStore parcel
+    by true told met more at =
+        let same : encoding_of row.op parcel ≡ word = some_same _ _ at in
+        let opcode : word % 128 ≡ opcode_of row.op = ap (λ w. w % 128) (sym same) ∙ word_opcode row.op parcel in
+        parcel_told (opcode_of row.op == STORE) row parcel told met (same_test _ _ _ opcode stores)
+    by false told met more at = more at
 
 expansion_begins : (parcel word : ℕ) → word % 128 ≡ STORE → expansion_of parcel ≡ Some word → BeginsStore parcel
 unfolding expansion_of expansion_by table

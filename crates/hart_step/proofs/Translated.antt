@@ -31,7 +31,7 @@ use Rattle.mem_access.specs.Accesses.{parcel_fetch}
 use Rattle.mem_access.specs.Places.{data_mode_of}
 use Rattle.mem_access.specs.Reads.{AreMapped, access_reads_of, fetch_reads_of, place_found}
 use Rattle.mem_access.proofs.Mapped.{place_mapped}
-use Rattle.mem_access.proofs.Orders.{access_all, data_all, fetch_all, walk_all}
+use Rattle.mem_access.proofs.Orders.{HoldsOfReads, access_all, data_all, fetch_all, walk_all}
 use Rattle.hart_step.specs.declared.state.Core.{Core}
 use Rattle.hart_step.specs.Choices.{asks_interrupt}
 use Rattle.hart_step.specs.Cores.{IsSound}
@@ -44,11 +44,11 @@ use Rattle.hart_step.specs.TranslationLaws.{IsMappedAccess, IsMappedRead, IsMapp
 use Rattle.hart_step.proofs.Alike.{check_mode}
 use Rattle.hart_step.proofs.Permitted.{check_len, some_weaker, step_granted}
 
-found_mapped : (csrs : Csrs) (map : Map) (request : AccessRequest) (va : ℕ) (bytes : Bytes) (place : Place)
+found_mapped : (csrs : Csrs) (map : Map) (request : AccessRequest) (va : ℕ) (bytes : Bytes) {place : Place}
     → IsLength request.len → va % request.len ≡ 0
     → place_found csrs map request va bytes ≡ Ok place
     → AreMapped csrs map request.mode request.access bytes va place.pa request.len
-found_mapped csrs map request va bytes place sized aligned is =
+found_mapped csrs map request va bytes sized aligned is =
     let P : Result Place Cause → Type 0 =
     λ placed. IfOk placed (λ p. AreMapped csrs map request.mode request.access bytes va p.pa request.len) in
     subst P is (place_mapped csrs map request va bytes sized aligned)
@@ -73,7 +73,7 @@ asked_mapped core request bytes access pa len io is =
     let mode = data_mode_of core.csrs core.mode in
     let same : check.len ≡ bytes_of request.size = check_len core (bytes_of request.size) request.op in
     let Aligned : ℕ → Type 0 = λ n. va % n ≡ 0 in
-    let here = found_mapped core.csrs core.map check va bytes (record { pa = pa; io = io })
+    let here = found_mapped core.csrs core.map check va bytes
     (check_length core request) (subst Aligned (sym same) is.aligned) is.found in
     let InMode : Mode → Type 0 = λ m. AreMapped core.csrs core.map m check.access bytes va pa check.len in
     let OfKind : Access → Type 0 = λ a. AreMapped core.csrs core.map mode a bytes va pa check.len in
@@ -108,7 +108,7 @@ own_mapped : (core : Core) (request : AccessRequest) (va : ℕ) (bytes : Bytes) 
     → va % request.len ≡ 0 → All (IsMappedRead core bytes) (access_reads_of core.csrs core.map request va bytes)
 own_mapped core request va bytes sized aligned =
     access_all (IsMappedRead core bytes) core.csrs core.map request va bytes (λ pa can. tt)
-    (λ place is memory. found_mapped core.csrs core.map request va bytes place sized aligned is)
+    (λ place is memory. found_mapped core.csrs core.map request va bytes sized aligned is)
 
 fetch_mapped : (core : Core) (bytes : Bytes) → core.pc % 2 ≡ 0 → All (IsMappedRead core bytes)
     (fetch_reads_of core.csrs core.map core.mode core.pc bytes)
@@ -123,9 +123,11 @@ asked_reads_mapped : (core : Core) (asks : Option IntResult) (bytes : Bytes)
     → All (IsMappedRead core bytes) (asked_reads_of core asks bytes)
 asked_reads_mapped core (Some (results.Access request)) bytes =
     let check = check_of core request in
-    data_all (IsMappedRead core bytes) core.csrs core.map check (reads_its_bytes request.op) request.address bytes
-    (λ aligned. own_mapped core check request.address bytes (check_length core request) aligned)
-    (walk_all (IsMappedRead core bytes) core.csrs core.map check.mode request.address bytes (λ pa can. tt))
+    let holds : HoldsOfReads (IsMappedRead core bytes) core.csrs core.map check request.address bytes = record {
+      whole = λ aligned. own_mapped core check request.address bytes (check_length core request) aligned;
+      walk = walk_all (IsMappedRead core bytes) core.csrs core.map check.mode request.address bytes (λ pa can. tt);
+    } in
+    data_all (reads_its_bytes request.op) holds
 asked_reads_mapped core _ bytes = All-nil (IsMappedRead core bytes)
 
 instruction_mapped : (core : Core) (bytes : Bytes) → core.pc % 2 ≡ 0 → All (IsMappedRead core bytes)

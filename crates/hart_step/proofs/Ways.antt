@@ -40,13 +40,13 @@ use Rattle.hart_step.specs.Steps.{before_instruction, core_after_run, insn_of, e
 use Rattle.hart_step.specs.Steps.{step_of}
 
 -- a place is looked for as the kind of the access has it
-pub placed_as : (core : Core) (request : MemoryRequest) (op : MemoryOp) (len : ℕ)
-    (found : Result LocatedValue Exception) (s0 s1 : List Read) (bytes : Bytes)
+pub placed_as : (core : Core) (request : MemoryRequest) {op : MemoryOp} {len : ℕ}
+    {found : Result LocatedValue Exception} {s0 s1 : List Read} {bytes : Bytes}
     → request.op ≡ op → len ≡ bytes_of request.size
     → Observes (located_access_by core request.address len op) found s0 s1 bytes
     → Observes (located_access core request) found s0 s1 bytes
 unfolding located_access
-placed_as core request op len found s0 s1 bytes is length look =
+placed_as core request {op} {found} {s0} {s1} {bytes} is length look =
     let P : MemoryOp → Type 0 =
     λ o. Observes (located_access_by core request.address (bytes_of request.size) o) found s0 s1 bytes in
     let Q : ℕ → Type 0 = λ n. Observes (located_access_by core request.address n op) found s0 s1 bytes in
@@ -60,13 +60,13 @@ exchange_refused core va len exception s0 s1 bytes look =
     Observes-then (store_place_of core.csrs core.map core.mode va len true) (found_with_read len) look
     (Observes-pure (Err exception) s1 bytes)
 
-pub exchange_placed : (core : Core) (va len : ℕ) (place : Place) (held : ℕ) (s0 s1 s2 : List Read) (bytes : Bytes)
+pub exchange_placed : (core : Core) (va len : ℕ) {place : Place} {held : ℕ} {s0 s1 s2 : List Read} {bytes : Bytes}
     → Observes (store_place_of core.csrs core.map core.mode va len true) (Ok place) s0 s1 bytes
     → held ≡ number_at bytes place.pa len
     → s2 ≡ s1 ++ record { pa = place.pa; len = len } ∷ []
     → Observes (store_place_of core.csrs core.map core.mode va len true >>= found_with_read len)
     (Ok (place, held)) s0 s2 bytes
-exchange_placed core va len place held s0 s1 s2 bytes look read noted =
+exchange_placed core va len {place} {held} {s0} {s1} {s2} {bytes} look read noted =
     let asked : Read = record { pa = place.pa; len = len } in
     let P : List Read → Type 0 = λ s. Observes (found_with_read len (Ok place)) (Ok (place, held)) s1 s bytes in
     let reads =
@@ -81,11 +81,11 @@ pub put_nothing : (place : Place) (len : ℕ) (seen : List Read) (wrote : List W
 unfolding put
 put_nothing place len seen wrote bytes = Performs-pure tt seen wrote bytes
 
-pub put_as : (place : Place) (len : ℕ) (written known : Option ℕ) (seen : List Read) (wrote wrote' : List Write)
-    (bytes bytes' : Bytes)
+pub put_as : (place : Place) (len : ℕ) {written known : Option ℕ} {seen : List Read} {wrote wrote' : List Write}
+    {bytes bytes' : Bytes}
     → written ≡ known → Performs (put place len known) tt seen seen wrote wrote' bytes bytes'
     → Performs (put place len written) tt seen seen wrote wrote' bytes bytes'
-put_as place len written known seen wrote wrote' bytes bytes' is did =
+put_as place len {seen} {wrote} {wrote'} {bytes} {bytes'} is did =
     let P : Option ℕ → Type 0 = λ w. Performs (put place len w) tt seen seen wrote wrote' bytes bytes' in
     subst P (sym is) did
 
@@ -96,53 +96,54 @@ put_device place len value seen wrote bytes io =
     let P : Bool → Type 0 = λ b. Performs (put_to place len value b) tt seen seen wrote wrote bytes bytes in
     subst P (sym io) (Performs-pure tt seen wrote bytes)
 
-pub put_memory : (place : Place) (len value : ℕ) (seen : List Read) (wrote wrote' : List Write) (bytes bytes' : Bytes)
+pub put_memory : (place : Place) (len value : ℕ) {seen : List Read} {wrote wrote' : List Write} {bytes bytes' : Bytes}
     → place.io ≡ false
     → wrote' ≡ wrote ++ record { pa = place.pa; len = len; value = value } ∷ []
     → bytes' ≡ bytes_after_store place.pa len value bytes
     → Performs (put place len (Some value)) tt seen seen wrote wrote' bytes bytes'
 unfolding put
-put_memory place len value seen wrote wrote' bytes bytes' io noted is =
+put_memory place len value {seen} {wrote} {wrote'} {bytes} {bytes'} io noted is =
     let P : Bool → Type 0 = λ b. Performs (put_to place len value b) tt seen seen wrote wrote' bytes bytes' in
     subst P (sym io)
     (rw (noted, is) (Performs-write_memory (record { pa = place.pa; len = len; value = value }) seen wrote bytes))
 
 -- an access that is refused, and one that is made
-pub access_refused : (core : Core) (choices : RowChoices) (request : MemoryRequest) (exception : Exception)
-    (s0 s1 : List Read) (wrote : List Write) (bytes : Bytes)
+pub access_refused : (core : Core) (choices : RowChoices) (request : MemoryRequest) {exception : Exception}
+    {s0 s1 : List Read} {wrote : List Write} {bytes : Bytes}
     → Observes (located_access core request) (Err exception) s0 s1 bytes
     → Performs (memory_access core choices request) (Err exception) s0 s1 wrote wrote bytes bytes
 unfolding memory_access
-access_refused core choices request exception s0 s1 wrote bytes look =
+access_refused core choices request {exception} {s0} {s1} {wrote} {bytes} look =
     Performs-then (located_access core request) (access_after_location core choices request)
     (Performs-observed (located_access core request) (Err exception) s0 s1 wrote bytes look)
     (Performs-pure (Err exception) s1 wrote bytes)
 
-pub access_made : (core : Core) (choices : RowChoices) (request : MemoryRequest) (found : LocatedValue)
-    (answer : AccessResult) (s0 s1 : List Read) (wrote wrote' : List Write) (bytes bytes' : Bytes)
+pub access_made : (core : Core) (choices : RowChoices) (request : MemoryRequest) {found : LocatedValue}
+    {answer : AccessResult} {s0 s1 : List Read} {wrote wrote' : List Write} {bytes bytes' : Bytes}
     → Observes (located_access core request) (Ok found) s0 s1 bytes
     → answer ≡ access_result_of core choices request found
     → Performs (put found.0 (bytes_of request.size) (number_written answer.access)) tt s1 s1 wrote wrote' bytes bytes'
     → Performs (memory_access core choices request) (Ok answer) s0 s1 wrote wrote' bytes bytes'
 unfolding memory_access
-access_made core choices request found answer s0 s1 wrote wrote' bytes bytes' look is made =
+access_made core choices request {found} {answer} {s0} {s1} {wrote} {wrote'} {bytes} {bytes'} look is made =
     let given : AccessResult → Unit {0} → Result AccessResult Exception = λ a _. Ok a in
     let P : AccessResult → Type 0 =
     λ a. Performs (mapped (given a) (put found.0 (bytes_of request.size) (number_written a.access))) (Ok answer)
     s1 s1 wrote wrote' bytes bytes' in
     Performs-then (located_access core request) (access_after_location core choices request)
     (Performs-observed (located_access core request) (Ok found) s0 s1 wrote bytes look)
-    (subst P is (Performs-mapped (given answer) (put found.0 (bytes_of request.size) (number_written answer.access)) made))
+    (subst P is
+    (Performs-mapped (given answer) (put found.0 (bytes_of request.size) (number_written answer.access)) made))
 
 -- an instruction does what its result asks for
-pub executed_as : (core : Core) (choices : RowChoices) (i : Instruction) (result : IntResult) (operands : Operands)
-    (a b : ℕ) (done : Result Completion Exception) (s0 s1 : List Read) (w0 w1 : List Write) (b0 b1 : Bytes)
+pub executed_as : (core : Core) (choices : RowChoices) (i : Instruction) {result : IntResult} {operands : Operands}
+    {a b : ℕ} {done : Result Completion Exception} {s0 s1 : List Read} {w0 w1 : List Write} {b0 b1 : Bytes}
     → operands ≡ operands_of i.op → a ≡ register_of core.registers operands.rs1
     → b ≡ register_of core.registers operands.rs2 → result ≡ result_of i.op a b core.pc i.len
     → Performs (execution_by core choices i result) done s0 s1 w0 w1 b0 b1
     → Performs (execution_of core choices i) done s0 s1 w0 w1 b0 b1
 unfolding execution_of
-executed_as core choices i result operands a b done s0 s1 w0 w1 b0 b1 from first second is did =
+executed_as core choices i {a} {b} {done} {s0} {s1} {w0} {w1} {b0} {b1} from first second is did =
     let one : a ≡ first_value core i.op = first ∙ ap (λ o. register_of core.registers o.rs1) from in
     let two : b ≡ second_value core i.op = second ∙ ap (λ o. register_of core.registers o.rs2) from in
     let P : ℕ → Type 0 =
@@ -160,25 +161,25 @@ executed_pure meant done seen wrote bytes is = rw is (Performs-pure meant seen w
 
 -- one that does
 pub executed_access : (core : Core) (choices : RowChoices) (i : Instruction) (request : MemoryRequest)
-    (answer : Result AccessResult Exception) (s0 s1 : List Read) (w0 w1 : List Write) (b0 b1 : Bytes)
+    (answer : Result AccessResult Exception) {s0 s1 : List Read} {w0 w1 : List Write} {b0 b1 : Bytes}
     → Performs (memory_access core choices request) answer s0 s1 w0 w1 b0 b1
     → Performs (mapped (after_access core i) (memory_access core choices request)) (after_access core i answer) s0
     s1 w0 w1 b0 b1
-executed_access core choices i request answer s0 s1 w0 w1 b0 b1 did =
+executed_access core choices i request answer did =
     Performs-mapped (after_access core i) (memory_access core choices request) did
 
-pub executed_answer : (core next : Core) (choices : RowChoices) (i : Instruction) (request : MemoryRequest)
-    (answer : AccessResult) (s0 s1 : List Read) (w0 w1 : List Write) (b0 b1 : Bytes)
+pub executed_answer : (core : Core) (choices : RowChoices) (i : Instruction) (request : MemoryRequest)
+    (answer : AccessResult) {next : Core} {s0 s1 : List Read} {w0 w1 : List Write} {b0 b1 : Bytes}
     → next ≡ core_at_next (record core { reservation = answer.reservation }) i answer.value
     → Performs (memory_access core choices request) (Ok answer) s0 s1 w0 w1 b0 b1
     → Performs (mapped (after_access core i) (memory_access core choices request))
     (Ok (record { core = next; access = answer.access })) s0 s1 w0 w1 b0 b1
 unfolding after_access
-executed_answer core next choices i request answer s0 s1 w0 w1 b0 b1 is did =
+executed_answer core choices i request answer {s0} {s1} {w0} {w1} {b0} {b1} is did =
     let P : Core → Type 0 =
     λ k. Performs (mapped (after_access core i) (memory_access core choices request))
     (Ok (record { core = k; access = answer.access })) s0 s1 w0 w1 b0 b1 in
-    subst P (sym is) (executed_access core choices i request (Ok answer) s0 s1 w0 w1 b0 b1 did)
+    subst P (sym is) (executed_access core choices i request (Ok answer) did)
 
 -- what stands at pc
 pub ran_refused : (core : Core) (shown : Shown) (exception : Exception) (s0 s1 : List Read) (wrote : List Write)
@@ -191,36 +192,36 @@ ran_refused core shown exception s0 s1 wrote bytes look =
     (Performs-observed (fetch_result core.csrs core.map core.mode core.pc) (Err exception) s0 s1 wrote bytes look)
     (Performs-pure (run_of_exception core None exception) s1 wrote bytes)
 
-pub ran_decoded : (core : Core) (shown : Shown) (word len : ℕ) (op : Option Op) (done : InstructionRun)
-    (s0 s1 s2 : List Read) (w0 w1 : List Write) (b0 b1 : Bytes)
+pub ran_decoded : (core : Core) (shown : Shown) (word len : ℕ) {op : Option Op} {done : InstructionRun}
+    {s0 s1 s2 : List Read} {w0 w1 : List Write} {b0 b1 : Bytes}
     → Observes (fetch_result core.csrs core.map core.mode core.pc) (Ok (word, len)) s0 s1 b0 → op ≡ op_of word len
     → Performs (run_of_decoded core shown word len op) done s1 s2 w0 w1 b0 b1
     → Performs (instruction_run core shown) done s0 s2 w0 w1 b0 b1
 unfolding instruction_run
-ran_decoded core shown word len op done s0 s1 s2 w0 w1 b0 b1 look is did =
+ran_decoded core shown word len {done} {s0} {s1} {s2} {w0} {w1} {b0} {b1} look is did =
     let P : Option Op → Type 0 = λ o. Performs (run_of_decoded core shown word len o) done s1 s2 w0 w1 b0 b1 in
     Performs-then (fetch_result core.csrs core.map core.mode core.pc) (run_of_fetched core shown)
     (Performs-observed (fetch_result core.csrs core.map core.mode core.pc) (Ok (word, len)) s0 s1 w0 b0 look)
     (subst P is did)
 
-pub ran_executed : (core : Core) (shown : Shown) (word len : ℕ) (op : Op) (choices : RowChoices)
-    (done : Result Completion Exception) (s0 s1 : List Read) (w0 w1 : List Write) (b0 b1 : Bytes)
+pub ran_executed : (core : Core) (shown : Shown) (word len : ℕ) (op : Op) (done : Result Completion Exception)
+    {choices : RowChoices} {s0 s1 : List Read} {w0 w1 : List Write} {b0 b1 : Bytes}
     → choices ≡ choices_of shown (operands_of op).rd
     → Performs (execution_of core choices (record { op = op; bits = word; len = len })) done s0 s1 w0 w1 b0 b1
     → Performs (run_of_decoded core shown word len (Some op))
     (run_of_result core (record { op = op; bits = word; len = len }) done) s0 s1 w0 w1 b0 b1
-ran_executed core shown word len op choices done s0 s1 w0 w1 b0 b1 chosen did =
+ran_executed core shown word len op done {s0} {s1} {w0} {w1} {b0} {b1} chosen did =
     let i : Instruction = record { op = op; bits = word; len = len } in
     let P : RowChoices → Type 0 = λ c. Performs (execution_of core c i) done s0 s1 w0 w1 b0 b1 in
     Performs-mapped (run_of_result core i) (execution_of core (choices_of shown (operands_of op).rd) i)
     (subst P chosen did)
 
 -- an exception leaves the hart
-pub ran_raised : (core next : Core) (shown : Shown) (insn : Option ℕ) (exception : Exception) (s0 s1 : List Read)
-    (w0 w1 : List Write) (b0 b1 : Bytes)
+pub ran_raised : (core : Core) (shown : Shown) (insn : Option ℕ) (exception : Exception) {next : Core}
+    {s0 s1 : List Read} {w0 w1 : List Write} {b0 b1 : Bytes}
     → next ≡ core → Performs (instruction_run core shown) (run_of_exception core insn exception) s0 s1 w0 w1 b0 b1
     → Performs (instruction_run core shown) (run_of_exception next insn exception) s0 s1 w0 w1 b0 b1
-ran_raised core next shown insn exception s0 s1 w0 w1 b0 b1 is did =
+ran_raised core shown insn exception {s0} {s1} {w0} {w1} {b0} {b1} is did =
     let P : Core → Type 0 =
     λ k. Performs (instruction_run core shown) (run_of_exception k insn exception) s0 s1 w0 w1 b0 b1 in
     subst P (sym is) did
@@ -238,12 +239,12 @@ step_halted core shown seen wrote bytes halted =
     (instruction_run (before_instruction core shown) shown)) gave seen seen wrote wrote bytes bytes in
     subst P (sym halted) (Performs-pure gave seen wrote bytes)
 
-pub step_done : (core : Core) (shown : Shown) (done : InstructionRun) (gave : StepResult) (s0 s1 : List Read)
-    (w0 w1 : List Write) (b0 b1 : Bytes) → core.halted ≡ false → gave ≡ step_result_of core shown done
+pub step_done : (core : Core) (shown : Shown) (done : InstructionRun) {gave : StepResult} {s0 s1 : List Read}
+    {w0 w1 : List Write} {b0 b1 : Bytes} → core.halted ≡ false → gave ≡ step_result_of core shown done
     → Performs (instruction_run (before_instruction core shown) shown) done s0 s1 w0 w1 b0 b1
     → Performs (step_of core shown) gave s0 s1 w0 w1 b0 b1
 unfolding step_of
-step_done core shown done gave s0 s1 w0 w1 b0 b1 running is did =
+step_done core shown done {gave} {s0} {s1} {w0} {w1} {b0} {b1} running is did =
     let halted : StepResult = record { next = core; expected = Halted } in
     let P : Bool → Type 0 =
     λ b. Performs
@@ -262,40 +263,55 @@ pub began : (core counts before : Core) (shown : Shown) → counts ≡ core_afte
 unfolding before_instruction
 began core counts before shown count is = is ∙ ap (λ c. core_after_interrupt c shown) count
 
-pub gave_parts : (core counts before next : Core) (shown : Shown) (done : InstructionRun) (lacks : Bool)
-    (insn : Option ℕ) (effects : Result Effects Cause) (lines : Lines)
-    → counts ≡ core_after_count core shown → before ≡ core_after_interrupt counts shown
-    → lacks ≡ lacks_interrupt counts shown → insn ≡ insn_of done.executed
-    → effects ≡ effects_of before done.core done.executed
-    → next ≡ core_after_run done shown → lines ≡ pending_lines_of shown
+-- what each phase of a step gives
+pub record StepParts (core : Core) (shown : Shown) (done : InstructionRun) : Type 0 where
+  pub counts : Core
+  pub before : Core
+  pub next : Core
+  pub lacks : Bool
+  pub insn : Option ℕ
+  pub effects : Result Effects Cause
+  pub lines : Lines
+  pub counts_is : counts ≡ core_after_count core shown
+  pub before_is : before ≡ core_after_interrupt counts shown
+  pub lacks_is : lacks ≡ lacks_interrupt counts shown
+  pub insn_is : insn ≡ insn_of done.executed
+  pub effects_are : effects ≡ effects_of before done.core done.executed
+  pub next_is : next ≡ core_after_run done shown
+  pub lines_are : lines ≡ pending_lines_of shown
+
+pub gave_parts : (core : Core) (shown : Shown) (done : InstructionRun) (parts : StepParts core shown done)
     → record {
       next =
-          next;
+          parts.next;
       expected =
           Retired
           (record {
             order =
                 core.next_order;
             lacks_interrupt =
-                lacks;
+                parts.lacks;
             pc =
-                before.pc;
+                parts.before.pc;
             mode =
-                before.mode;
+                parts.before.mode;
             insn =
-                insn;
-            effects = effects;
-            csrs_before = before.csrs;
-            csrs_after = next.csrs;
-            lines = lines.up;
+                parts.insn;
+            effects = parts.effects;
+            csrs_before = parts.before.csrs;
+            csrs_after = parts.next.csrs;
+            lines = parts.lines.up;
           });
     }
     ≡ step_result_of core shown done
 unfolding step_result_of expected_of
-gave_parts core counts before next shown done lacks insn effects lines count is lacking bits did after up =
-    let p = began core counts before shown count is in
-    let l = lacking ∙ ap (λ c. lacks_interrupt c shown) count in
-    let e = did ∙ ap (λ b. effects_of b done.core done.executed) p in
+gave_parts core shown done parts =
+    let p = began core parts.counts parts.before shown parts.counts_is parts.before_is in
+    let l = parts.lacks_is ∙ ap (λ c. lacks_interrupt c shown) parts.counts_is in
+    let e = parts.effects_are ∙ ap (λ b. effects_of b done.core done.executed) p in
+    let bits = parts.insn_is in
+    let after = parts.next_is in
+    let up = parts.lines_are in
     λ i. record {
       next = after i;
       expected =

@@ -61,13 +61,13 @@ unmet store away old false reason = refl
 unmet store away old true (inl unset) = rw unset refl
 unmet store away old true (inr far) = absurd cc
 
-apart : (ram : Span) (store : ShownStore) (len a old : ℕ) → IsPlace ram store.place len → store.mask ≡ 2 ^ len - 1
+apart : {ram : Span} (store : ShownStore) (len a old : ℕ) → IsPlace ram store.place len → store.mask ≡ 2 ^ len - 1
     → a < 2 ^ 64 → (a < store.place) ⊎ (store.place + len ≤ a)
     → byte_after store (distance_in_window a 1 store.place) old ≡ old
-apart ram store len a old place mask fits (inl before) =
+apart store len a old place mask fits (inl before) =
     let far : nat_le (above a store.place + 1) 8 ≡ false = grind (arith, nat_tests) in
     unmet store (above a store.place) old (nat_le (above a store.place + 1) 8) (inr far)
-apart ram store len a old place mask fits (inr following) =
+apart store len a old place mask fits (inr following) =
     let high : nat_lt (above a store.place) len ≡ false = grind (arith, nat_tests) in
     unmet store (above a store.place) old (nat_le (above a store.place + 1) 8)
     (inl (has_bit store.mask len (above a store.place) false mask high))
@@ -84,7 +84,7 @@ outside : (ram : Span) (store : ShownStore) (len a : ℕ) (bytes : Bytes) → Is
     → fallen ram store bytes a ≡ bytes_after_store store.place len store.value bytes a
 outside ram store len a bytes place mask away =
     kept (is_in ram a) (byte_after store (distance_in_window a 1 store.place) (bytes a)) (bytes a)
-    (λ here. apart ram store len a (bytes a) place mask (below ram a here) away)
+    (λ here. apart store len a (bytes a) place mask (below ram a here) away)
     ∙ sym (stored-outside store.place len store.value a bytes away)
 
 fallen_at : (ram : Span) (store : ShownStore) (len a : ℕ) (bytes : Bytes) → IsPlace ram store.place len

@@ -36,14 +36,14 @@ low_s : (opcode funct3 rs2 rs1 offset : ℕ) → opcode < 128 → s_format opcod
 unfolding s_format
 low_s opcode funct3 rs2 rs1 offset below = low_s_by opcode funct3 rs2 rs1 _ _ below
 
-low_b_by : (opcode funct3 rs1 rs2 a b c d : ℕ) → opcode < 128
-    → (a * 2 ^ 31 + b * 2 ^ 25 + rs2 * 2 ^ 20 + rs1 * 2 ^ 15 + funct3 * 2 ^ 12 + c * 2 ^ 8 + d * 2 ^ 7 + opcode) % 128
-    ≡ opcode
-low_b_by opcode funct3 rs1 rs2 a b c d below = omega arith
-
 low_b : (opcode funct3 rs1 rs2 offset : ℕ) → opcode < 128 → b_format opcode funct3 rs1 rs2 offset % 128 ≡ opcode
 unfolding b_format
-low_b opcode funct3 rs1 rs2 offset below = low_b_by opcode funct3 rs1 rs2 _ _ _ _ below
+low_b opcode funct3 rs1 rs2 offset below = by _ _ _ _
+  where
+    by : (a b c d : ℕ)
+        → (a * 2 ^ 31 + b * 2 ^ 25 + rs2 * 2 ^ 20 + rs1 * 2 ^ 15 + funct3 * 2 ^ 12 + c * 2 ^ 8 + d * 2 ^ 7 + opcode)
+        % 128 ≡ opcode
+    by a b c d = omega arith
 
 low_u : (opcode rd upper : ℕ) → opcode < 128 → u_format opcode rd upper % 128 ≡ opcode
 unfolding u_format

@@ -174,14 +174,14 @@ IsRefused core byte = is_allowed (pmp_entries_of core.csrs) Supervisor byte 1 ki
 -- the least entry that covers the byte has W clear
 pub record ForbidsStores (entries : List PmpEntry) (byte : ℕ) : Type 0 where
   pub number : ℕ
-  pub there : number < length entries
+  pub below_length : number < length entries
   pub decides : Decides entries number byte 1
   pub forbids : permits (entry_at entries number).cfg kind.Store ≡ false
 
 -- the least entry that covers the byte has W clear, and it and all before it are locked, so that they bind every mode
 pub record IsLockedByte (csrs : Csrs) (byte : ℕ) : Type 0 where
   pub number : ℕ
-  pub there : number < 16
+  pub below_16 : number < 16
   pub decides : Decides (pmp_entries_of csrs) number byte 1
   pub forbids : permits (configuration_of csrs number) kind.Store ≡ false
   pub locked : (lower : ℕ) → lower ≤ number → is_locked csrs lower ≡ true

@@ -37,8 +37,8 @@ impl<M: PhysMem + Drop> Hart<M> {
     /// Steps the hart by a valid row: what it did, and what was read and written.
     /// Without memory neither the state nor a byte changes.
     ///
-    /// From the Unprivileged ISA and the Privileged Architecture; what they leave open is taken from
-    /// the row, as riscv-formal's description of RVFI has it.
+    /// From the Unprivileged ISA and the Privileged Architecture; what they leave open is taken
+    /// from the row, as riscv-formal's description of RVFI has it.
     pub fn step(&mut self, row: &Row) -> Result<Stepped, NoMemory>
         requires sound { IsSound self.old.core }
         requires ram { M.ram self.old.mem ≡ self.old.core.map.ram }

@@ -55,8 +55,8 @@ pub fn privilege_rises_by_traps_alone()
         → (next_of core shown bytes).trapped_last ≡ false → FallsByReturnsOnly core shown bytes }
     ensures falls { (core : Core) (shown : Shown) (bytes : Bytes)
         → mode_number (next_of core shown bytes).mode < mode_number core.mode
-        → ReturnsTo (before_instruction core shown) (request_at_pc (before_instruction core shown) bytes)
-        (next_of core shown bytes).mode }
+        → ReturnsTo (before_instruction core shown)
+        (request_at_pc (before_instruction core shown) bytes) (next_of core shown bytes).mode }
 {}
 
 /// An interrupt is entered exactly where the hart is not halted, the row shows `intr` as 1, it is

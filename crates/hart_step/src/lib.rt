@@ -4,8 +4,8 @@
 //! hart did, and what was read and written: what `stepped` (`specs/Steps.antt`) gives. A step goes
 //! by phases: the order index, the interrupt lines, an interrupt's entry, fetch, decode,
 //! execution, a trap's entry. From the Unprivileged ISA and the Privileged Architecture's chapters
-//! "Machine-Level ISA" and "Supervisor-Level ISA"; what both leave open is taken from the row, after
-//! riscv-formal's description of RVFI.
+//! "Machine-Level ISA" and "Supervisor-Level ISA"; what both leave open is taken from the row,
+//! after riscv-formal's description of RVFI.
 //!
 //! A guess of a later state takes it from the rows themselves, where these are plain: they show all
 //! that their instructions change (`specs/PlainRows.antt`).

@@ -36,7 +36,8 @@ impl ShownStore {
     /// Puts the bytes that lie in RAM at their places. Without memory no byte changes.
     pub fn put<M: PhysMem>(&self, mem: &mut M, ram: &Span) -> Result<(), NoMemory>
         requires ram { M.ram mem.old ≡ ram.now }
-        ensures ok { OnOk result (M.bytes mem.new ≡ bytes_put ram.now self.now 8 (M.bytes mem.old)) }
+        ensures ok { OnOk result
+            (M.bytes mem.new ≡ bytes_put ram.now self.now 8 (M.bytes mem.old)) }
         ensures err { OnErr result (M.bytes mem.new ≡ M.bytes mem.old) }
         ensures ram_stays { M.ram mem.new ≡ M.ram mem.old }
     {
@@ -65,7 +66,8 @@ impl ShownStore {
     #[tactic(auto, unfolding(crate::specs::PlainRows::bytes_put))]
     fn put_bytes<M: PhysMem>(&self, mem: &mut M, ram: &Span) -> Result<(), NoMemory>
         requires ram { M.ram mem.old ≡ ram.now }
-        ensures ok { OnOk result (M.bytes mem.new ≡ bytes_put ram.now self.now 8 (M.bytes mem.old)) }
+        ensures ok { OnOk result
+            (M.bytes mem.new ≡ bytes_put ram.now self.now 8 (M.bytes mem.old)) }
         ensures err { OnErr result (M.bytes mem.new ≡ M.bytes mem.old) }
         ensures ram_stays { M.ram mem.new ≡ M.ram mem.old }
     {
@@ -108,7 +110,8 @@ impl ShownStore {
     fn put_byte<M: PhysMem>(&self, mem: &mut M, ram: &Span, number: u8) -> Result<(), NoMemory>
         requires ram { M.ram mem.old ≡ ram.now }
         requires below_8 { number < 8 }
-        ensures ok { OnOk result (M.bytes mem.new ≡ byte_put ram.now self.now number (M.bytes mem.old)) }
+        ensures ok { OnOk result
+            (M.bytes mem.new ≡ byte_put ram.now self.now number (M.bytes mem.old)) }
         ensures admitted { (stores_byte ram.now self.now number ≡ true
             → M.is_ready mem.old (byte_place self.now number / PAGE_SIZE)) → IsOk result }
         ensures kept { (page : ℕ) → M.is_ready mem.old page → M.is_ready mem.new page }

@@ -118,7 +118,8 @@ impl Core {
     /// row says so.
     #[tactic(auto, unfolding(crate::specs::Steps::core_after_run))]
     fn finish(&mut self, executed: &InstructionOutcome, row: &Row)
-        ensures state { self.new ≡ core_after_run (record { core = self.old; executed = executed.now })
+        ensures state { self.new
+            ≡ core_after_run (record { core = self.old; executed = executed.now })
             (shown_in row.now) }
         ensures sound { IsSound self.old → IsSound self.new }
         ensures map { self.new.map ≡ self.old.map }

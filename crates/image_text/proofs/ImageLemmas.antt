@@ -50,18 +50,18 @@ unfolding bytes_after
 after_bad ram bytes address token others kind word = rw word refl
 
 pub after_refused : (ram : Span) (bytes : ℕ → Option ℕ) (address : ℕ) (token : TokenView) (others : List TokenView)
-    (word : Word) (kind : FaultKind)
+    {word : Word} {kind : FaultKind}
     → word_of_token token.bytes ≡ Ok word → bytes_after_word ram bytes address word ≡ Err kind
     → bytes_after ram bytes address (token ∷ others) ≡ Err (record { kind = kind; line = token.line })
 unfolding bytes_after
-after_refused ram bytes address token others word kind is refused = rw (is, refused) refl
+after_refused ram bytes address token others is refused = rw (is, refused) refl
 
 pub after_put : (ram : Span) (bytes : ℕ → Option ℕ) (address : ℕ) (token : TokenView) (others : List TokenView)
-    (word : Word) (new : ℕ → Option ℕ) (next : ℕ)
+    {word : Word} {new : ℕ → Option ℕ} {next : ℕ}
     → word_of_token token.bytes ≡ Ok word → bytes_after_word ram bytes address word ≡ Ok (new, next)
     → bytes_after ram bytes address (token ∷ others) ≡ bytes_after ram new next others
 unfolding bytes_after
-after_put ram bytes address token others word new next is puts = rw (is, puts) refl
+after_put ram bytes address token others is puts = rw (is, puts) refl
 
 -- every byte of an image is in RAM
 abbrev AreInside : Span → (ℕ → Option ℕ) → Type 0

@@ -34,17 +34,21 @@ eq_same n = grind (arith, nat_tests)
 pub eq_other : (n q : ℕ) → (n ≡ q → ⊥) → (n == q) ≡ false
 eq_other n q apart = grind (arith, nat_tests)
 
+-- the pages after one was put at a number
+pub record IsPut {X : Type 0} (before after : ℕ → Option X) (number : ℕ) (page : X) : Type 0 where
+  pub updates : (q : ℕ) → after q ≡ cond (is_eq (nat_cmp number q)) (Some page) (before q)
+
 -- a page with no byte adds none
-pub added : {X : Type 0} (f : X → ℕ → Option ℕ) (before after : ℕ → Option X) (number : ℕ) (page : X)
-    → ((q : ℕ) → after q ≡ cond (is_eq (nat_cmp number q)) (Some page) (before q))
+pub added : {X : Type 0} (f : X → ℕ → Option ℕ) {before after : ℕ → Option X} {number : ℕ} {page : X}
+    → IsPut before after number page
     → before number ≡ None
     → ((k : ℕ) → f page k ≡ None)
     → (q k : ℕ) → content f (after q) k ≡ content f (before q) k
-added f before after number page updates absent empty q k =
+added f {before} {after} {number} put absent empty q k =
     let P : ℕ → Type 0 = λ n. content f (after n) k ≡ content f (before n) k in
     elim (cases_eq number q) [
-      | inl same ↦ subst P same (rw (updates number, is_eq_same number, absent) (empty k))
-      | inr apart ↦ rw (updates q, is_eq_other number q apart) refl
+      | inl same ↦ subst P same (rw (put.updates number, is_eq_same number, absent) (empty k))
+      | inr apart ↦ rw (put.updates q, is_eq_other number q apart) refl
     ]
 
 -- the same pages have the same bytes
@@ -59,9 +63,8 @@ pub added_page : (before after : Pieces) (number : ℕ) (page : _)
     → byte_at after ≡ byte_at before
 unfolding byte_at
 added_page before after number page updates absent empty =
-    fun_ext
-    (λ a. added (λ p k. slice_index_or p.value.bytes k None) (get nat_cmp before.pages) (get nat_cmp after.pages)
-    number page updates absent empty (a / 4096) (a % 4096))
+    let put : IsPut (get nat_cmp before.pages) (get nat_cmp after.pages) number page = record { updates = updates } in
+    fun_ext (λ a. added (λ p k. slice_index_or p.value.bytes k None) put absent empty (a / 4096) (a % 4096))
 
 -- an empty page has no byte at any offset
 pub none_at : {X : Type 0} (none : X) (n k : ℕ) → slice_index_or (replicate n none) k none ≡ none
@@ -78,17 +81,17 @@ none_from_test None h = refl
 none_from_test (Some x) h = cc
 
 -- a page with one byte written
-pub written : {X : Type 0} (f : X → ℕ → Option ℕ) (before after : ℕ → Option X) (number offset value : ℕ) (old new : X)
-    → ((q : ℕ) → after q ≡ cond (is_eq (nat_cmp number q)) (Some new) (before q))
+pub written : {X : Type 0} (f : X → ℕ → Option ℕ) {before after : ℕ → Option X} {number : ℕ} (offset value : ℕ)
+    {old new : X} → IsPut before after number new
     → before number ≡ Some old
     → ((k : ℕ) → f new k ≡ (if k == offset then Some value else f old k))
     → (q k : ℕ) → content f (after q) k ≡ (if q == number && k == offset then Some value else content f (before q) k)
-written f before after number offset value old new updates was writes q k =
+written f {before} {after} {number} offset value put was writes q k =
     let P : ℕ → Type 0 =
     λ n. content f (after n) k ≡ (if n == number && k == offset then Some value else content f (before n) k) in
     elim (cases_eq number q) [
-      | inl same ↦ subst P same (rw (updates number, is_eq_same number, was, eq_same number) (writes k))
-      | inr apart ↦ rw (updates q, is_eq_other number q apart, eq_other q number (λ e. apart (sym e))) refl
+      | inl same ↦ subst P same (rw (put.updates number, is_eq_same number, was, eq_same number) (writes k))
+      | inr apart ↦ rw (put.updates q, is_eq_other number q apart, eq_other q number (λ e. apart (sym e))) refl
     ]
 
 -- an address is its page's number and its offset there
@@ -96,19 +99,18 @@ same_place : (a b : ℕ) → (a == b) ≡ (a / 4096 == b / 4096 && a % 4096 == b
 same_place a b = grind (arith, nat_tests)
 
 -- a byte written into a page that is there
-pub written_page : (before after : Pieces) (address value : ℕ) (old new : _)
-    → ((q : ℕ) → get nat_cmp after.pages q ≡ cond (is_eq (nat_cmp (address / 4096) q)) (Some new)
-    (get nat_cmp before.pages q))
+pub written_page : (before after : Pieces) (address value : ℕ) {old new : _}
+    → IsPut (get nat_cmp before.pages) (get nat_cmp after.pages) (address / 4096) new
     → get nat_cmp before.pages (address / 4096) ≡ Some old
     → ((k : ℕ) → slice_index_or new.value.bytes k None ≡ (if k == address % 4096 then Some value else slice_index_or
     old.value.bytes k None))
     → byte_at after ≡ with_byte (byte_at before) address value
 unfolding byte_at
-written_page before after address value old new updates was writes =
+written_page before after address value put was writes =
     fun_ext
     (λ a. rw (same_place a address)
-    (written (λ p k. slice_index_or p.value.bytes k None) (get nat_cmp before.pages) (get nat_cmp after.pages)
-    (address / 4096) (address % 4096) value old new updates was writes (a / 4096) (a % 4096)))
+    (written (λ p k. slice_index_or p.value.bytes k None) (address % 4096) value put was writes (a / 4096)
+    (a % 4096)))
 
 -- a list with one element written
 pub set_at : {X : Type 0} (xs : List X) (offset k : ℕ) (x d : X) → offset < length xs

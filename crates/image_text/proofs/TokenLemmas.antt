@@ -197,10 +197,10 @@ joined_blank line b c text rest [] e h = rw e refl
 joined_blank line b c text rest (first ∷ others) e h = rw (e, h) refl
 
 -- what stands before another byte begins that byte's token
-joined_text : (line b c : ℕ) (text rest : List ℕ) (tokens : List TokenView) (first : TokenView)
-    (others : List TokenView) → text ≡ c ∷ rest → is_blank c ≡ false → tokens ≡ first ∷ others
+joined_text : (line b : ℕ) {c : ℕ} {text rest : List ℕ} {tokens : List TokenView} {first : TokenView}
+    {others : List TokenView} → text ≡ c ∷ rest → is_blank c ≡ false → tokens ≡ first ∷ others
     → tokens_with_byte line b text tokens ≡ record { line = first.line; bytes = b ∷ first.bytes } ∷ others
-joined_text line b c text rest tokens first others e h is = rw (e, is, h) refl
+joined_text line b e h is = rw (e, is, h) refl
 
 runs_text : (line a : ℕ) (rest : List ℕ) → is_blank a ≡ false
     → runs line (a ∷ rest) ≡ tokens_with_byte line a rest (runs line rest)
@@ -250,6 +250,6 @@ run_tokens line a (b ∷ rest) blank opens =
             (joined_blank line a 32 _ _ _ (opens_blank b rest is).1 refl)
         | inr neither ↦
             rw (front, text, more, add-one)
-            (joined_text line a b _ _ _ _ _ (plain_kept b rest neither) not (run_tokens line b rest not neither))
+            (joined_text line a (plain_kept b rest neither) not (run_tokens line b rest not neither))
       ]
     ]

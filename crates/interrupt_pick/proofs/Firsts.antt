@@ -27,17 +27,17 @@ record Decides (test : ℕ → Bool) (holds : ℕ → Type 0) : Type 0 where
 abbrev fails_of : (ℕ → Type 0) → ℕ → Type 0
 fails_of holds code = holds code → ⊥
 
-fails_so : (test : ℕ → Bool) (holds : ℕ → Type 0) (code : ℕ) → Decides test holds → test code ≡ false → holds code → ⊥
-fails_so test holds code decides fails is = wrong ⊥ (sym fails ∙ decides.complete code is)
+fails_so : {test : ℕ → Bool} {holds : ℕ → Type 0} (code : ℕ) → Decides test holds → test code ≡ false → holds code → ⊥
+fails_so code decides fails is = wrong ⊥ (sym fails ∙ decides.complete code is)
 
 -- what is found is the first
 head_is : (code other : ℕ) → Some code ≡ Some other → code ≡ other
 head_is code other is = cc
 
-first_step : (test : ℕ → Bool) (holds : ℕ → Type 0) (x : ℕ) (xs : List ℕ) (code : ℕ) (b : Bool) → Decides test holds
+first_step : {test : ℕ → Bool} {holds : ℕ → Type 0} (x : ℕ) (xs : List ℕ) (code : ℕ) (b : Bool) → Decides test holds
     → test x ≡ b → (find test xs ≡ Some code → IsFirst holds xs code) → cond b (Some x) (find test xs) ≡ Some code
     → IsFirst holds (x ∷ xs) code
-first_step test holds x xs code true decides passes later is =
+first_step {holds} x xs code true decides passes later is =
     let same = head_is x code is in
     record {
       before = [];
@@ -47,14 +47,14 @@ first_step test holds x xs code true decides passes later is =
       here =
           subst holds same (decides.sound x passes);
     }
-first_step test holds x xs code false decides fails later is =
+first_step {holds} x xs code false decides fails later is =
     let rest = later is in
     record {
       before = x ∷ rest.before;
       after = rest.after;
       place = ap (λ codes. x ∷ codes) rest.place;
       none_before =
-          All-cons (fails_of holds) x rest.before (fails_so test holds x decides fails) rest.none_before;
+          All-cons (fails_of holds) x rest.before (fails_so x decides fails) rest.none_before;
       here =
           rest.here;
     }
@@ -63,31 +63,31 @@ first_found : (test : ℕ → Bool) (holds : ℕ → Type 0) (xs : List ℕ) (co
     → find test xs ≡ Some code → IsFirst holds xs code
 first_found test holds [] code decides is = cc
 first_found test holds (x ∷ xs) code decides is =
-    first_step test holds x xs code (test x) decides refl (first_found test holds xs code decides) is
+    first_step x xs code (test x) decides refl (first_found test holds xs code decides) is
 
 -- nothing is found just where it holds of none
-none_step : (test : ℕ → Bool) (holds : ℕ → Type 0) (x : ℕ) (xs : List ℕ) (b : Bool) → Decides test holds → test x ≡ b
+none_step : {test : ℕ → Bool} {holds : ℕ → Type 0} (x : ℕ) (xs : List ℕ) (b : Bool) → Decides test holds → test x ≡ b
     → (find test xs ≡ None → HoldsOfNone holds xs) → cond b (Some x) (find test xs) ≡ None → HoldsOfNone holds (x ∷ xs)
-none_step test holds x xs true decides passes later is = cc
-none_step test holds x xs false decides fails later is =
-    All-cons (fails_of holds) x xs (fails_so test holds x decides fails) (later is)
+none_step x xs true decides passes later is = cc
+none_step {holds} x xs false decides fails later is =
+    All-cons (fails_of holds) x xs (fails_so x decides fails) (later is)
 
 none_found : (test : ℕ → Bool) (holds : ℕ → Type 0) (xs : List ℕ) → Decides test holds → find test xs ≡ None
     → HoldsOfNone holds xs
 none_found test holds [] decides is = All-nil (fails_of holds)
 none_found test holds (x ∷ xs) decides is =
-    none_step test holds x xs (test x) decides refl (none_found test holds xs decides) is
+    none_step x xs (test x) decides refl (none_found test holds xs decides) is
 
-finds_step : (test : ℕ → Bool) (holds : ℕ → Type 0) (x : ℕ) (xs : List ℕ) (b : Bool) → Decides test holds → test x ≡ b
+finds_step : {test : ℕ → Bool} {holds : ℕ → Type 0} (x : ℕ) (xs : List ℕ) (b : Bool) → Decides test holds → test x ≡ b
     → (holds x → ⊥) → find test xs ≡ None → cond b (Some x) (find test xs) ≡ None
-finds_step test holds x xs true decides passes not_here later = absurd (not_here (decides.sound x passes))
-finds_step test holds x xs false decides fails not_here later = later
+finds_step x xs true decides passes not_here later = absurd (not_here (decides.sound x passes))
+finds_step x xs false decides fails not_here later = later
 
 finds_none : (test : ℕ → Bool) (holds : ℕ → Type 0) (xs : List ℕ) → Decides test holds → HoldsOfNone holds xs
     → find test xs ≡ None
 finds_none test holds [] decides none = refl
 finds_none test holds (x ∷ xs) decides none =
-    finds_step test holds x xs (test x) decides refl (All-head (fails_of holds) x xs none)
+    finds_step x xs (test x) decides refl (All-head (fails_of holds) x xs none)
     (finds_none test holds xs decides (All-tail (fails_of holds) x xs none))
 
 -- the tests say what M and S take

@@ -73,7 +73,7 @@ job_agrees : (job : JobView) (number rows : ℕ) → IsMadeJob job number rows
     → job_outcome job (Some (made_image number)) (Some (made_trace number rows))
     ≡ Ok (outcome_of job (rulings.Verdict (Agrees rows rows)))
 job_agrees job number rows plain =
-    let few : rows ≤ 2 ^ 18 = plain.few in
+    let few : rows ≤ 2 ^ 18 = plain.within_most_rows in
     let most_image : job.max_image ≡ 2 ^ 30 = plain.max_image in
     let most_trace : job.max_trace ≡ 2 ^ 40 = plain.max_trace in
     let image_short : length (made_image number) ≡ 82 = image_len number in

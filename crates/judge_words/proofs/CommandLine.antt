@@ -20,10 +20,10 @@ unfolding command_line clap_on_literals
 command_line-is_simple = refl
 
 -- one argument more, where none is global
-pub adds_rule : (old new : Command) (arg : Arg) (app : App) (rule : Rule) → AddsArg old arg new
+pub adds_rule : {old new : Command} {arg : Arg} {app : App} {rule : Rule} → AddsArg old arg new
     → app_of old ≡ app → (out-Command old).has_globals ≡ false → rule_of arg ≡ rule → arg.global ≡ false
     → (app_of new ≡ with_rule app rule) × ((out-Command new).has_globals ≡ false)
-adds_rule old new arg app rule added is none fits local = (
+adds_rule added is none fits local = (
   added.shape local ∙ ap₂ with_rule is fits,
   added.globals ∙ ap₂ (λ (a b : Bool). a || b) none local,
 )

@@ -112,10 +112,15 @@ map_alone ram map same =
     let one : record { ram = ram; io = None; apart = apart_none ram } ≡ map = cc in
     (ap (λ (map : Map). map.ram) (sym one), ap (λ (map : Map). map.io) (sym one))
 
+-- RAM is what it is where nothing else is said, and there are no devices
+record IsPlainMap (map : Map) : Type 0 where
+  pub base : map.ram.base ≡ RAM_BASE
+  pub size : map.ram.size ≡ RAM_SIZE
+  pub io : map.io ≡ None
+
 of_made : (number rows : ℕ) (map : Map) (sharing : Sharing) → number ≤ MOST_MADE_NUMBER → rows ≤ MOST_MADE_ROWS
-    → map.ram.base ≡ RAM_BASE → map.ram.size ≡ RAM_SIZE → map.io ≡ None
-    → ForSome (Some (made_with number rows map sharing)) IfMade
-of_made number rows map sharing small few base size io job same n r made =
+    → IsPlainMap map → ForSome (Some (made_with number rows map sharing)) IfMade
+of_made number rows map sharing small within_most plain job same n r made =
     let one : made_with number rows map sharing ≡ job = cc in
     let texts : Make number rows ≡ Make n r = ap (λ (job : JobView). job.command) one ∙ made in
     let number_is : number ≡ n = cc in
@@ -123,11 +128,11 @@ of_made number rows map sharing small few base size io job same n r made =
     let over : map ≡ job.map = ap (λ (job : JobView). job.map) one in
     record {
       small = subst (λ n. n ≤ MOST_MADE_NUMBER) number_is small;
-      few = subst (λ n. n ≤ MOST_MADE_ROWS) rows_are few;
+      within_most_rows = subst (λ n. n ≤ MOST_MADE_ROWS) rows_are within_most;
       pc = ap (λ (job : JobView). job.pc) (sym one);
-      base = ap (λ (map : Map). map.ram.base) (sym over) ∙ base;
-      size = ap (λ (map : Map). map.ram.size) (sym over) ∙ size;
-      io = ap (λ (map : Map). map.io) (sym over) ∙ io;
+      base = ap (λ (map : Map). map.ram.base) (sym over) ∙ plain.base;
+      size = ap (λ (map : Map). map.ram.size) (sym over) ∙ plain.size;
+      io = ap (λ (map : Map). map.io) (sym over) ∙ plain.io;
       max_image = ap (λ (job : JobView). job.max_image) (sym one);
       max_trace = ap (λ (job : JobView). job.max_trace) (sym one);
     }
@@ -145,9 +150,11 @@ made_given given =
     of_made number rows map sharing
     (within MOST_MADE_NUMBER (first_of (codes "number") given) number small)
     (within MOST_MADE_ROWS (first_of (codes "rows") given) rows few)
-    (ap (λ (ram : Span). ram.base) alone.0 ∙ span.0)
-    (ap (λ (ram : Span). ram.size) alone.0 ∙ span.1)
-    alone.1)))))
+    (record {
+      base = ap (λ (ram : Span). ram.base) alone.0 ∙ span.0;
+      size = ap (λ (ram : Span). ram.size) alone.0 ∙ span.1;
+      io = alone.1;
+    }))))))
 
 pub made_plain : (words : List (List ℕ)) (job : JobView) (number rows : ℕ) → job_of words ≡ Some job
     → job.command ≡ Make number rows → IsMadeJob job number rows

@@ -124,7 +124,7 @@ pub record IsLawful (job : JobView) : Type 0 where
 -- bytes of either text are those that stand where nothing else is said, and there are no devices
 pub record IsMadeJob (job : JobView) (number rows : ℕ) : Type 0 where
   pub small : number ≤ MOST_MADE_NUMBER
-  pub few : rows ≤ MOST_MADE_ROWS
+  pub within_most_rows : rows ≤ MOST_MADE_ROWS
   pub pc : job.pc ≡ None
   pub base : job.map.ram.base ≡ RAM_BASE
   pub size : job.map.ram.size ≡ RAM_SIZE

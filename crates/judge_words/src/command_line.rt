@@ -84,7 +84,8 @@ fn option<'a>(alloc: Global, name: &'a str) -> Arg<'a>
 /// What `line` finds in the words, where it takes them.
 pub fn parse<'a>(line: Command<'a>, words: &'a [String]) -> Result<ArgMatches<'a>, WordError>
     requires { is_simple_and_free (app_of line) ≡ true }
-    ensures { let entered = command_entered (app_of line.entry) (map string_bytes words.entry.now) in
+    ensures { let texts = map string_bytes words.entry.now in
+        let entered = command_entered (app_of line.entry) texts in
         MatchResult result (λ matches. entered ≡ subcommand_rows_of matches)
         (λ e. e ≡ NotAJob → entered ≡ None) }
 {

@@ -188,9 +188,9 @@ cut_laid_out text ends place out within =
     (cut_at 0 (text_lines text) place inside)))
 
 -- the same of the places that the code has
-pub is_cut : (text ends : List ℕ) (number start end : ℕ) → IsLaidOut text ends → number < length ends
+pub is_cut : {text ends : List ℕ} (number start end : ℕ) → IsLaidOut text ends → number < length ends
     → start ≡ start_in ends number → end ≡ get_or ends number end → IsCut (text_lines text) text 0 number start end
-is_cut text ends number start end out within from to =
+is_cut {text} {ends} number start end out within from to =
     rw (from, get_or_read ends number end within to 0) (cut_laid_out text ends number out within)
 
 pub cut_line : (text ends : List ℕ) (number start end : ℕ) → IsCut (text_lines text) text 0 number start end

@@ -31,57 +31,54 @@ record IsLeafOf (readable : ℕ → Bool) (bytes : Bytes) (flags : WalkFlags) (v
     (visits : List Visit) (pa : ℕ) : Type 0 where
   pub number : ℕ
   pub visit : Visit
-  pub there : number < length visits
+  pub exists : number < length visits
   pub in_chain : visit_at visits number ≡ visit
   pub can : readable visit.pa ≡ true
   pub admits : (is_leaf (entry_in bytes visit) && leaf_admits visit.level flags access (entry_in bytes visit)) ≡ true
   pub address : pa ≡ address_in visit.level (entry_in bytes visit) va
-
-leaf_by : (level : ℕ) (flags : WalkFlags) (va : ℕ) (access : Access) (entry pa : ℕ) (passes : Bool)
-    → (is_leaf entry && leaf_admits level flags access entry) ≡ passes
-    → (if passes then Ok (address_in level entry va) else Err (page_fault_of access)) ≡ Ok pa
-    → ((is_leaf entry && leaf_admits level flags access entry) ≡ true) × (pa ≡ address_in level entry va)
-leaf_by level flags va access entry pa true is got = (is, cc)
-leaf_by level flags va access entry pa false is got = cc
 
 leaf_at : (level : ℕ) (flags : WalkFlags) (va : ℕ) (access : Access) (entry pa : ℕ)
     → final_result level flags va access entry ≡ Ok pa
     → ((is_leaf entry && leaf_admits level flags access entry) ≡ true) × (pa ≡ address_in level entry va)
 unfolding final_result
 leaf_at level flags va access entry pa got =
-    leaf_by level flags va access entry pa (is_leaf entry && leaf_admits level flags access entry) refl got
-
-last_by : (readable : ℕ → Bool) (bytes : Bytes) (flags : WalkFlags) (va : ℕ) (access : Access) (visit : Visit)
-    (pa : ℕ) (can : Bool) → readable visit.pa ≡ can
-    → (if can then final_result visit.level flags va access (number_at bytes visit.pa 8) else Err
-    (access_fault_of access)) ≡ Ok pa
-    → IsLeafOf readable bytes flags va access (visit ∷ []) pa
-last_by readable bytes flags va access visit pa true is got =
-    let leaf = leaf_at visit.level flags va access (number_at bytes visit.pa 8) pa got in
-    record {
-      number = 0;
-      visit = visit;
-      there = omega arith;
-      in_chain = refl;
-      can = is;
-      admits = leaf.0;
-      address = leaf.1;
-    }
-last_by readable bytes flags va access visit pa false is got = let none : ⊥ = cc in absurd none
+    by (is_leaf entry && leaf_admits level flags access entry) refl got
+  where
+    by : (passes : Bool) → (is_leaf entry && leaf_admits level flags access entry) ≡ passes
+        → (if passes then Ok (address_in level entry va) else Err (page_fault_of access)) ≡ Ok pa
+        → ((is_leaf entry && leaf_admits level flags access entry) ≡ true) × (pa ≡ address_in level entry va)
+    by true is got = (is, cc)
+    by false is got = cc
 
 leaf_of : (readable : ℕ → Bool) (bytes : Bytes) (flags : WalkFlags) (va : ℕ) (access : Access) (visits : List Visit)
     (pa : ℕ)
     → chain_result readable bytes flags va access visits ≡ Ok pa → IsLeafOf readable bytes flags va access visits pa
 unfolding chain_result
 leaf_of readable bytes flags va access [] pa got = let none : ⊥ = cc in absurd none
-leaf_of readable bytes flags va access (visit ∷ []) pa got =
-    last_by readable bytes flags va access visit pa (readable visit.pa) refl got
+leaf_of readable bytes flags va access (visit ∷ []) pa got = by (readable visit.pa) refl got
+  where
+    by : (can : Bool) → readable visit.pa ≡ can
+        → (if can then final_result visit.level flags va access (number_at bytes visit.pa 8) else Err
+        (access_fault_of access)) ≡ Ok pa
+        → IsLeafOf readable bytes flags va access (visit ∷ []) pa
+    by true is got =
+        let leaf = leaf_at visit.level flags va access (number_at bytes visit.pa 8) pa got in
+        record {
+          number = 0;
+          visit = visit;
+          exists = omega arith;
+          in_chain = refl;
+          can = is;
+          admits = leaf.0;
+          address = leaf.1;
+        }
+    by false is got = let none : ⊥ = cc in absurd none
 leaf_of readable bytes flags va access (visit ∷ next ∷ more) pa got =
     let rest = leaf_of readable bytes flags va access (next ∷ more) pa got in
     record {
       number = suc rest.number;
       visit = rest.visit;
-      there = omega (arith, rest.there);
+      exists = omega (arith, rest.exists);
       in_chain = rest.in_chain;
       can = rest.can;
       admits = rest.admits;
@@ -157,11 +154,11 @@ address_of_byte : (level entry va i : ℕ) → InOnePage va (va + i) → address
 unfolding page_size
 address_of_byte level entry va i same = omega (arith, offset_of_byte va i (12 + 9 * level) (same (9 * level)))
 
-byte_mapped : (csrs : Csrs) (map : Map) (mode : Mode) (access : Access) (bytes : Bytes) (va pa i : ℕ)
+byte_mapped : (csrs : Csrs) (map : Map) (mode : Mode) {access : Access} {bytes : Bytes} {va pa : ℕ} (i : ℕ)
     → InOnePage va (va + i)
     → IsLeafOf (is_readable csrs map) bytes (walk_flags_of csrs mode) va access (chain_of csrs map bytes va) pa
     → IsMapped csrs map mode access bytes (va + i) (pa + i)
-byte_mapped csrs map mode access bytes va pa i same leaf =
+byte_mapped csrs map mode {access} {bytes} {va} {pa} i same leaf =
     let chains : chain_of csrs map bytes (va + i) ≡ chain_of csrs map bytes va =
     same_chain (is_readable csrs map) bytes (at csrs Satp) va (va + i) same in
     let entry = entry_in bytes leaf.visit in
@@ -170,7 +167,7 @@ byte_mapped csrs map mode access bytes va pa i same leaf =
     record {
       number = leaf.number;
       visit = leaf.visit;
-      there = subst (λ (visits : List Visit). leaf.number < length visits) (sym chains) leaf.there;
+      exists = subst (λ (visits : List Visit). leaf.number < length visits) (sym chains) leaf.exists;
       in_chain = ap (λ visits. visit_at visits leaf.number) chains ∙ leaf.in_chain;
       readable = leaf.can;
       leaf = parts.0;
@@ -187,27 +184,25 @@ by_chain : (csrs : Csrs) (map : Map) (request : AccessRequest) (va : ℕ) (bytes
 unfolding address_found
 by_chain csrs map request va bytes on = rw on refl
 
-found_by : (csrs : Csrs) (map : Map) (request : AccessRequest) (va : ℕ) (bytes : Bytes) (address : Result ℕ Cause)
-    → address_found csrs map request va bytes ≡ address
-    → IsLength request.len → va % request.len ≡ 0 → IfOk (place_after_translation csrs map request address)
-    (λ place. AreMapped csrs map request.mode request.access bytes va place.pa request.len)
-found_by csrs map request va bytes (Err cause) is sized aligned = tt
-found_by csrs map request va bytes (Ok pa) is sized aligned =
-    let mapped : (place : Place) → IsAt pa place
-    → AreMapped csrs map request.mode request.access bytes va place.pa request.len = λ place here on i below.
-    let got = sym (by_chain csrs map request va bytes on) ∙ is in
-    let leaf = leaf_of (is_readable csrs map) bytes (walk_flags_of csrs request.mode) va request.access
-    (chain_of csrs map bytes va) pa got in
-    let P : ℕ → Type 0 = λ n. IsMapped csrs map request.mode request.access bytes (va + i) (n + i) in
-    subst P (sym here)
-    (byte_mapped csrs map request.mode request.access bytes va pa i
-    (in_one_page va i request.len sized aligned below) leaf) in
-    IfOk-weaker (place_after_translation csrs map request (Ok pa)) (IsAt pa)
-    (λ place. AreMapped csrs map request.mode request.access bytes va place.pa request.len) mapped
-    (placed_at csrs map request pa)
-
 pub place_mapped : (csrs : Csrs) (map : Map) (request : AccessRequest) (va : ℕ) (bytes : Bytes)
     → PlaceIsMapped csrs map request va bytes
 unfolding place_found
 place_mapped csrs map request va bytes sized aligned =
-    found_by csrs map request va bytes (address_found csrs map request va bytes) refl sized aligned
+    found (address_found csrs map request va bytes) refl
+  where
+    found : (address : Result ℕ Cause) → address_found csrs map request va bytes ≡ address
+        → IfOk (place_after_translation csrs map request address)
+        (λ place. AreMapped csrs map request.mode request.access bytes va place.pa request.len)
+    found (Err cause) is = tt
+    found (Ok pa) is =
+        let mapped : (place : Place) → IsAt pa place
+        → AreMapped csrs map request.mode request.access bytes va place.pa request.len = λ place here on i below.
+        let got = sym (by_chain csrs map request va bytes on) ∙ is in
+        let leaf = leaf_of (is_readable csrs map) bytes (walk_flags_of csrs request.mode) va request.access
+        (chain_of csrs map bytes va) pa got in
+        let P : ℕ → Type 0 = λ n. IsMapped csrs map request.mode request.access bytes (va + i) (n + i) in
+        subst P (sym here)
+        (byte_mapped csrs map request.mode i (in_one_page va i request.len sized aligned below) leaf) in
+        IfOk-weaker (place_after_translation csrs map request (Ok pa)) (IsAt pa)
+        (λ place. AreMapped csrs map request.mode request.access bytes va place.pa request.len) mapped
+        (placed_at csrs map request pa)

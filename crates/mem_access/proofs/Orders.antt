@@ -352,24 +352,23 @@ fetch_all P csrs map mode pc bytes one two =
     let has = has_second bytes (place_found csrs map request pc bytes) in
     All-append P (access_reads_of csrs map request pc bytes) (if has then second else []) one (all_if P second has two)
 
-data_by : (P : CheckedRead → Type 0) (csrs : Csrs) (map : Map) (request : AccessRequest) (own : Bool) (va : ℕ)
-    (aligned : Bool) (bytes : Bytes) → (va % request.len == 0) ≡ aligned
-    → (va % request.len ≡ 0 → All P (access_reads_of csrs map request va bytes))
-    → All P (walk_reads_of csrs map request.mode va bytes)
-    → All P (if aligned then if own then access_reads_of csrs map request va bytes else walk_reads_of csrs map
-    request.mode va bytes else [])
-data_by P csrs map request true va true bytes is whole walk = whole (eqb-true (va % request.len) 0 is)
-data_by P csrs map request false va true bytes is whole walk = walk
-data_by P csrs map request own va false bytes is whole walk = All-nil P
+-- something holds of each read of an access, and of its walk's alone
+pub record HoldsOfReads (P : CheckedRead → Type 0) (csrs : Csrs) (map : Map) (request : AccessRequest) (va : ℕ)
+    (bytes : Bytes) : Type 0 where
+  pub whole : va % request.len ≡ 0 → All P (access_reads_of csrs map request va bytes)
+  pub walk : All P (walk_reads_of csrs map request.mode va bytes)
 
-pub data_all : (P : CheckedRead → Type 0) (csrs : Csrs) (map : Map) (request : AccessRequest) (own : Bool) (va : ℕ)
-    (bytes : Bytes)
-    → (va % request.len ≡ 0 → All P (access_reads_of csrs map request va bytes))
-    → All P (walk_reads_of csrs map request.mode va bytes)
-    → All P (data_reads_of csrs map request own va bytes)
+pub data_all : {P : CheckedRead → Type 0} {csrs : Csrs} {map : Map} {request : AccessRequest} (own : Bool) {va : ℕ}
+    {bytes : Bytes} → HoldsOfReads P csrs map request va bytes → All P (data_reads_of csrs map request own va bytes)
 unfolding data_reads_of
-data_all P csrs map request own va bytes whole walk =
-    data_by P csrs map request own va (va % request.len == 0) bytes refl whole walk
+data_all {P} {csrs} {map} {request} own {va} {bytes} holds = by own (va % request.len == 0) refl
+  where
+    by : (own aligned : Bool) → (va % request.len == 0) ≡ aligned
+        → All P (if aligned then if own then access_reads_of csrs map request va bytes else walk_reads_of csrs map
+        request.mode va bytes else [])
+    by true true is = holds.whole (eqb-true (va % request.len) 0 is)
+    by false true is = holds.walk
+    by own false is = All-nil P
 
 -- each read is permitted
 entry_permitted : (csrs : Csrs) (map : Map) (pa : ℕ) → is_readable csrs map pa ≡ true
@@ -401,9 +400,11 @@ fetch_permitted csrs map mode pc bytes =
 pub data_permitted : (csrs : Csrs) (map : Map) (request : AccessRequest) (own : Bool) (va : ℕ) (bytes : Bytes)
     → All (IsPermittedRead csrs map) (data_reads_of csrs map request own va bytes)
 data_permitted csrs map request own va bytes =
-    data_all (IsPermittedRead csrs map) csrs map request own va bytes
-    (λ aligned. access_permitted csrs map request va bytes)
-    (walk_all (IsPermittedRead csrs map) csrs map request.mode va bytes (entry_permitted csrs map))
+    let holds : HoldsOfReads (IsPermittedRead csrs map) csrs map request va bytes = record {
+      whole = λ aligned. access_permitted csrs map request va bytes;
+      walk = walk_all (IsPermittedRead csrs map) csrs map request.mode va bytes (entry_permitted csrs map);
+    } in
+    data_all own holds
 
 -- the law
 pub fetch_granted : (csrs : Csrs) (map : Map) (mode : Mode) (pc : ℕ) (bytes : Bytes)

@@ -116,7 +116,7 @@ data_reads_of csrs map request own va bytes =
 pub record IsMapped (csrs : Csrs) (map : Map) (mode : Mode) (access : Access) (bytes : Bytes) (va pa : ℕ) : Type 0 where
   pub number : ℕ
   pub visit : Visit
-  pub there : number < length (chain_of csrs map bytes va)
+  pub exists : number < length (chain_of csrs map bytes va)
   pub in_chain : visit_at (chain_of csrs map bytes va) number ≡ visit
   pub readable : is_readable csrs map visit.pa ≡ true
   pub leaf : is_leaf (entry_in bytes visit) ≡ true

@@ -50,8 +50,9 @@ impl<'a, M: PhysMem> AddressSpace<'a, M> {
         requires length { IsLength request.len }
         requires aligned { va % request.len ≡ 0 }
         requires room { length seen.old + WALK_READS ≤ MOST_READS }
-        ensures reached { Observes (virtual_place_of self.now.csrs.now self.now.map.now request va) result
-            seen.old seen.new (M.bytes self.now.mem.now) }
+        ensures reached { let space = self.now in
+            Observes (virtual_place_of space.csrs.now space.map.now request va) result seen.old
+            seen.new (M.bytes space.mem.now) }
         ensures walk_reads { length seen.new ≤ length seen.old + WALK_READS }
         ensures memory { request.devices ≡ false → IfOk result (λ place. place.io ≡ false) }
         ensures placed { IfOk result (λ place. place.io ≡ false
@@ -67,8 +68,9 @@ impl<'a, M: PhysMem> AddressSpace<'a, M> {
     #[tactic(auto, unfolding(crate::specs::Translation::physical_address_of))]
     fn translate(&self, request: AccessRequest, va: u64, seen: &mut Seen) -> Result<u64, Cause>
         requires room { length seen.old + WALK_READS ≤ MOST_READS }
-        ensures translated { Observes (physical_address_of self.now.csrs.now self.now.map.now request va)
-            result seen.old seen.new (M.bytes self.now.mem.now) }
+        ensures translated { let space = self.now in
+            Observes (physical_address_of space.csrs.now space.map.now request va) result seen.old
+            seen.new (M.bytes space.mem.now) }
         ensures walk_reads { length seen.new ≤ length seen.old + WALK_READS }
         ensures offset { IfOk result (λ pa. pa % PAGE_SIZE ≡ va % PAGE_SIZE) }
     {

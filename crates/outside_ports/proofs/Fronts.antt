@@ -16,14 +16,12 @@ pub read_none : (file : Option (List ℕ)) → IsRead file []
 read_none None = tt
 read_none (Some file) = (omega arith, refl)
 
-pub read_more : (file : Option (List ℕ)) (bytes chunk : List ℕ) (at count : ℕ) → at ≡ length bytes
-    → count ≤ length chunk → IsRead file bytes → ReadsChunk file at chunk count
-    → IsRead file (bytes ++ take count chunk)
-read_more None bytes chunk at count is within so_far next = tt
-read_more (Some file) bytes chunk at count is within so_far next =
+pub read_more : (file : Option (List ℕ)) (bytes chunk : List ℕ) (count : ℕ) → count ≤ length chunk
+    → IsRead file bytes → ReadsChunk file (length bytes) chunk count → IsRead file (bytes ++ take count chunk)
+read_more None bytes chunk count within so_far next = tt
+read_more (Some file) bytes chunk count within so_far next =
     let inside : count ≤ length file - length bytes = omega (arith, next.within) in
-    let here : take count chunk ≡ take count (drop (length bytes) file) =
-    next.bytes ∙ ap (λ n. take count (drop n file)) is in
+    let here : take count chunk ≡ take count (drop (length bytes) file) = next.bytes in
     let len : length (bytes ++ take count chunk) ≡ length bytes + count =
     length-append bytes (take count chunk) ∙ ap (λ n. length bytes + n) (length-take-le count chunk within) in
     let parts : bytes ++ take count chunk ≡ take (length bytes) file ++ take count (drop (length bytes) file) =

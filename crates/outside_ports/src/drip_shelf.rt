@@ -15,7 +15,7 @@ pub struct DripShelf {
     pub shelf: MemShelf,
     /// The most bytes that a call gives.
     pub most: usize,
-    ghost some: { 0 < most },
+    ghost positive: { 0 < most },
 }
 
 impl DripShelf {
@@ -42,8 +42,10 @@ impl Shelf for DripShelf {
 
     fn read(&mut self, name: &str, at: u64, buf: &mut [u8]) -> Result<usize, Failed>
         ensures within { IfOk result (λ count. count ≤ length buf.new) }
-        ensures known_files { files_of self.new.shelf.files.items ≡ files_of self.old.shelf.files.items }
-        ensures bytes { ReadsWhereKnown (known_files_of self.old.shelf.files.items) name.now at buf.new result }
+        ensures known_files { files_of self.new.shelf.files.items
+            ≡ files_of self.old.shelf.files.items }
+        ensures bytes { let known_files = known_files_of self.old.shelf.files.items in
+            ReadsWhereKnown known_files name.now at buf.new result }
         ensures full { let file = files_of self.old.shelf.files.items name.now in
             IfOk result (λ count. count
             ≡ count_from file at (min (length buf.new) self.old.most)) }

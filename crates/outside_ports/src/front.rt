@@ -65,8 +65,8 @@ pub fn read_front<H: Shelf>(
     ensures file_exists { OnOk result (IsThere (H.known_files shelf.old) name.now) }
     ensures short { IfOk result (λ front. vec_len front.bytes ≤ most) }
     ensures faults { CountsFault is_read_fault result (H.faults shelf.old) (H.faults shelf.new) }
-    ensures misses { let known_files = H.known_files shelf.old in
-        CountsMiss is_read_fault result known_files name.now (H.misses shelf.old) (H.misses shelf.new) }
+    ensures misses { let known_files = H.known_files shelf.old in let before = H.misses shelf.old in
+        CountsMiss is_read_fault result known_files name.now before (H.misses shelf.new) }
 {
     let mut bytes = Vec::new(alloc);
     let mut chunk = new_chunk(alloc)?;
@@ -105,8 +105,8 @@ pub fn read_chunk<H: Shelf>(
     ensures next { let file = file_of (H.known_files shelf.old) name.now in
         IfOk result (λ count. ReadsChunk file at chunk.new.items count) }
     ensures faults { CountsFault is_read_fault result (H.faults shelf.old) (H.faults shelf.new) }
-    ensures misses { let known_files = H.known_files shelf.old in
-        CountsMiss is_read_fault result known_files name.now (H.misses shelf.old) (H.misses shelf.new) }
+    ensures misses { let known_files = H.known_files shelf.old in let before = H.misses shelf.old in
+        CountsMiss is_read_fault result known_files name.now before (H.misses shelf.new) }
 {
     match shelf.read(name, at, chunk) {
         Ok(count) => Ok(count),

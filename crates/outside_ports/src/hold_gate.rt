@@ -9,7 +9,7 @@ use std::thread::yield_now;
 /// How often a held worker looks whether it may go on.
 const MOST_TURNS: u32 = 10_000_000;
 
-/// After so many looks it lets another thread run, for where there are more threads than processors.
+/// After so many looks it lets another thread run: there may be more threads than processors.
 const TURNS_A_SPIN: u32 = 20_000;
 
 /// A gate at which segment 1 waits until some worker has looked at segment 2, or until it looked in

@@ -25,20 +25,25 @@ abbrev pub over : {A B : Type 0} → (A → ℕ → ℕ) → (B → ℕ → ℕ)
 over f g (Some page) left k = f page k
 over f g None left k = unwrap_or (option_map (λ p. g p k) left) 0
 
+-- the page of a number, one of the old ones, is made and no longer left to be made
+pub record IsMade {A B : Type 0} (before after : ℕ → Option A) (left rest old : ℕ → Option B) (n : ℕ) (page : A) (p : B)
+    : Type 0 where
+  pub put : (q : ℕ) → after q ≡ cond (nat_eq n q) (Some page) (before q)
+  pub taken : (q : ℕ) → left q ≡ cond (is_eq (nat_cmp q n)) (Some p) (rest q)
+  pub found : old n ≡ Some p
+
 -- one more page is made
-pub one_more : {A B : Type 0} (f : A → ℕ → ℕ) (g : B → ℕ → ℕ) (k : ℕ) (before after : ℕ → Option A)
-    (left rest old : ℕ → Option B) (n : ℕ) (page : A) (p : B)
-    → ((q : ℕ) → after q ≡ cond (nat_eq n q) (Some page) (before q))
-    → ((q : ℕ) → left q ≡ cond (is_eq (nat_cmp q n)) (Some p) (rest q))
+pub one_more : {A B : Type 0} (f : A → ℕ → ℕ) (g : B → ℕ → ℕ) (k : ℕ) {before after : ℕ → Option A}
+    {left rest old : ℕ → Option B} {n : ℕ} {page : A} {p : B} → IsMade before after left rest old n page p
     → f page k ≡ g p k
-    → old n ≡ Some p
     → ((q : ℕ) → over f g (before q) (left q) k ≡ over f g None (old q) k)
     → (q : ℕ) → over f g (after q) (rest q) k ≡ over f g None (old q) k
-one_more f g k before after left rest old n page p updates first same found kept q =
+one_more f g k {after} {rest} {old} {n} made same kept q =
     let P : ℕ → Type 0 = λ m. over f g (after m) (rest m) k ≡ over f g None (old m) k in
     elim (cases_eq n q) [
-      | inl is ↦ subst P is (rw (updates n, eq_same n, found) same)
-      | inr apart ↦ rw (updates q, eq_other n q apart) (rw (first q, is_eq_other q n (λ e. apart (sym e))) at (kept q))
+      | inl is ↦ subst P is (rw (made.put n, eq_same n, made.found) same)
+      | inr apart ↦
+          rw (made.put q, eq_other n q apart) (rw (made.taken q, is_eq_other q n (λ e. apart (sym e))) at (kept q))
     ]
 
 -- a page that is made, or 0

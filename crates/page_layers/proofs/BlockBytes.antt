@@ -1,9 +1,9 @@
 -- The bytes of a block, address by address.
-use Rattle.std.proofs.Common.{◌≡◌, ℕ, ◌/◌, ◌%◌, ◌*◌, ◌+◌, ◌^◌, ◌<◌, ◌≤◌, Bool, length, set, replicate, sym, ◌∙◌, ap}
+use Rattle.std.proofs.Common.{◌≡◌, ℕ, ◌/◌, ◌%◌, ◌*◌, ◌+◌, ◌^◌, ◌<◌, ◌≤◌, Bool, length, set, replicate, sym, ◌∙◌, ap, subst, lit<}
 use Rattle.std.proofs.Common.{inl, inr, arith, if◌then◌else◌, slice_index}
 use Rattle.std.specs.Prelude.{◌==◌}
 use Rattle.std.specs.Bool.{Decides}
-use Rattle.std.proofs.Math.Nat.{mod-eq_of_lt}
+use Rattle.std.proofs.Math.Nat.{mod-eq_of_lt, mod-lt}
 use Rattle.std.proofs.lemmas.Bool.{cases_eq}
 use Rattle.std.proofs.lemmas.Bool.Decides.{nat_tests}
 use Rattle.std.proofs.lemmas.Grind.{same_number_lists}
@@ -52,28 +52,37 @@ zero_block block is pa = ap (λ bytes. slice_index bytes (pa % 64)) is ∙ none_
 pub same_block : (pa len k : ℕ) → pa % 64 + len ≤ 64 → k < len → (pa + k) / 64 ≡ pa / 64
 same_block pa len k inside below = grind arith
 
+-- in the block of an address its byte is set, and each other stays
+pub record SetsByte (before after : Bytes) (pa byte : ℕ) : Type 0 where
+  pub sets : (at : ℕ) → at / 64 ≡ pa / 64 → after at ≡ (if at == pa then byte else before at)
+
+-- a byte of a number within a block
+pub record IsByteOf (pa len k : ℕ) : Type 0 where
+  pub inside : pa % 64 + len ≤ 64
+  pub below : k < len
+
 -- one more byte is put in a block
-pub put_more : (start before after : Bytes) (pa len k value byte at : ℕ) → byte ≡ value / 256 ^ k % 256 → byte < 256
-    → pa % 64 + len ≤ 64 → k < len → at / 64 ≡ pa / 64
-    → ((a : ℕ) → a / 64 ≡ (pa + k) / 64 → after a ≡ (if a == pa + k then byte else before a))
+pub put_more : (start : Bytes) {before after : Bytes} {pa len k : ℕ} (value : ℕ) {byte : ℕ} (at : ℕ)
+    → byte ≡ value / 256 ^ k % 256 → IsByteOf pa len k → at / 64 ≡ pa / 64 → SetsByte before after (pa + k) byte
     → before at ≡ bytes_after_store pa k value start at
     → after at ≡ bytes_after_store pa (k + 1) value start at
-put_more start before after pa len k value byte at is small inside below in_block sets done =
-    sets at (in_block ∙ sym (same_block pa len k inside below))
+put_more start {pa} {len} {k} value {byte} at is byte_of in_block set done =
+    let small : byte < 256 = subst (λ n. n < 256) (sym is) (mod-lt (value / 256 ^ k) (lit< tt)) in
+    set.sets at (in_block ∙ sym (same_block pa len k byte_of.inside byte_of.below))
     ∙ ap (λ b. if at == pa + k then byte else b) done
     ∙ sym (stored-byte (pa + k) byte at (bytes_after_store pa k value start) small)
     ∙ ap (λ bytes. bytes at) (stored-more pa k value byte start is small)
 
 -- the first bytes of a block, with one more
-pub one_more_byte : (old new : Block) (page : Page) (first k byte : ℕ) → k < 64 → byte ≡ page_byte page (first + k)
-    → ((at : ℕ) → at / 64 ≡ k / 64 → block_byte new at ≡ (if at == k then byte else block_byte old at))
-    → ((j : ℕ) → j < k → block_byte old j ≡ page_byte page (first + j))
-    → (j : ℕ) → j < k + 1 → block_byte new j ≡ page_byte page (first + j)
-one_more_byte old new page first k byte small is sets before j below =
+pub one_more_byte : {old new : Bytes} (page : Page) (first : ℕ) {k byte : ℕ} → k < 64
+    → byte ≡ page_byte page (first + k) → SetsByte old new k byte
+    → ((j : ℕ) → j < k → old j ≡ page_byte page (first + j))
+    → (j : ℕ) → j < k + 1 → new j ≡ page_byte page (first + j)
+one_more_byte page first {k} small is set before j below =
     let here : j / 64 ≡ k / 64 = omega (arith, small, below) in
     elim (cases_eq j k) [
-      | inl same ↦ sets j here ∙ rw (same, eq_same k) is
-      | inr apart ↦ sets j here ∙ rw (eq_other j k apart) (before j (omega (arith, below, apart)))
+      | inl same ↦ set.sets j here ∙ rw (same, eq_same k) is
+      | inr apart ↦ set.sets j here ∙ rw (eq_other j k apart) (before j (omega (arith, below, apart)))
     ]
 
 -- a block that has its page's bytes from its place on has them at each of its addresses

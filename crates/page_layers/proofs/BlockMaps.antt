@@ -95,21 +95,24 @@ outside pa len at inside apart = elim (cases_lt at pa) [
   ]
 ]
 
+-- a block is set at a number, and each other stays
+pub record SetsBlock (before after : ℕ → Option Block) (number : ℕ) (block : Block) : Type 0 where
+  pub sets : (q : ℕ) → after q ≡ (if q == number then Some block else before q)
+
 -- a number is put in a block
-pub number_put : (before after : ℕ → Option Block) (old new : Block) (base : Bytes) (pa len value : ℕ)
-    → pa % 64 + len ≤ 64
-    → ((q : ℕ) → after q ≡ (if q == pa / 64 then Some new else before q)) → before (pa / 64) ≡ Some old
+pub number_put : {before after : ℕ → Option Block} {old new : Block} (base : Bytes) (pa len value : ℕ)
+    → pa % 64 + len ≤ 64 → SetsBlock before after (pa / 64) new → before (pa / 64) ≡ Some old
     → ((at : ℕ) → at / 64 ≡ pa / 64 → block_byte new at ≡ bytes_after_store pa len value (block_byte old) at)
     → over (bytes_in after) base ≡ bytes_after_store pa len value (over (bytes_in before) base)
-number_put before after old new base pa len value inside sets was puts = fun_ext (λ at.
+number_put {before} {old} base pa len value inside set was puts = fun_ext (λ at.
     let seen : Option Block → ℕ = λ block. unwrap_or (option_map (λ b. block_byte b at) block) (base at) in
     elim (cases_eq (at / 64) (pa / 64)) [
       | inl here ↦
           let then_ : over (bytes_in before) base at ≡ block_byte old at = ap seen (ap before here ∙ was) in
-          ap seen (sets (at / 64)) ∙ rw (here, eq_same (pa / 64)) (puts at here)
+          ap seen (set.sets (at / 64)) ∙ rw (here, eq_same (pa / 64)) (puts at here)
           ∙ stored-congr pa len value at (block_byte old) (over (bytes_in before) base) (sym then_)
       | inr apart ↦
-          ap seen (sets (at / 64) ∙ rw (eq_other (at / 64) (pa / 64) apart) refl)
+          ap seen (set.sets (at / 64) ∙ rw (eq_other (at / 64) (pa / 64) apart) refl)
           ∙ sym (stored-outside pa len value at (over (bytes_in before) base) (outside pa len at inside apart))
     ])
 
@@ -127,11 +130,11 @@ later_found blocks key block rest later is found =
     λ k d below. subst (AreFound blocks) is found (suc k) d (omega (arith, below))
 
 -- of the entries that are left, one is done
-pub entry_done : (P : ℕ → Type 0) (key : ℕ) (block : Block) (rest later : List (ℕ × Block))
+pub entry_done : (P : ℕ → Type 0) {key : ℕ} {block : Block} {rest later : List (ℕ × Block)}
     → rest ≡ (key, block) ∷ later → P key
     → (q : ℕ) → (is_some (lookup (nat_eq q) rest) ≡ true) ⊎ P q → (is_some (lookup (nat_eq q) later) ≡ true) ⊎ P q
-entry_done P key block rest later is done q (inr before) = inr before
-entry_done P key block rest later is done q (inl left) = elim (eqb_tells q key) [
+entry_done P is done q (inr before) = inr before
+entry_done P {key} {block} {later} is done q (inl left) = elim (eqb_tells q key) [
   | inl same ↦ inr (subst P (sym same.1) done)
   | inr apart ↦
       inl
@@ -187,22 +190,21 @@ merge_begins blocks others all rest is same q = by_entry (get nat_eq blocks.bloc
     by_entry (Some block) found = inl (ap (λ entries. is_some (lookup (nat_eq q) entries)) is ∙ ap is_some found)
 
 -- the block that is put over the others
-pub merged_here : (blocks others before after : Blocks) (key : ℕ) (block : Block)
-    → get nat_eq blocks.blocks key ≡ Some block
-    → ((q : ℕ) → block_at after q ≡ (if q == key then Some block else block_at before q))
+pub merged_here : (blocks others before after : Blocks) {key : ℕ} {block : Block}
+    → get nat_eq blocks.blocks key ≡ Some block → SetsBlock (block_at before) (block_at after) key block
     → IsMerged blocks others after key
-merged_here blocks others before after key block found sets =
-    let put : block_at after key ≡ Some block = sets key ∙ rw (eq_same key) refl in
+merged_here blocks others before after {key} {block} found set =
+    let put : block_at after key ≡ Some block = set.sets key ∙ rw (eq_same key) refl in
     put ∙ ap (λ b. option_or b (block_at others key)) (sym (found_there blocks key block
     (small_key after key block put) found))
 
 -- every other stays as it was
-pub merged_still : (blocks others before after : Blocks) (key : ℕ) (block : Block) → IsMerged blocks others after key
-    → ((q : ℕ) → block_at after q ≡ (if q == key then Some block else block_at before q))
+pub merged_still : (blocks others before after : Blocks) {key : ℕ} {block : Block}
+    → SetsBlock (block_at before) (block_at after) key block → IsMerged blocks others after key
     → (q : ℕ) → IsMerged blocks others before q → IsMerged blocks others after q
-merged_still blocks others before after key block here sets q was = elim (cases_eq q key) [
+merged_still blocks others before after {key} set here q was = elim (cases_eq q key) [
   | inl same ↦ subst (IsMerged blocks others after) (sym same) here
-  | inr apart ↦ sets q ∙ rw (eq_other q key apart) was
+  | inr apart ↦ set.sets q ∙ rw (eq_other q key apart) was
 ]
 
 -- what holds anyway holds of a refusal

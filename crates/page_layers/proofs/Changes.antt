@@ -32,36 +32,16 @@ pub none_if_absent : {X : Type 0} (o : Option X) → is_some o ≡ false → o �
 none_if_absent None h = refl
 none_if_absent (Some x) h = cc
 
--- what is after an address: of its key's value, or else of the base
-abbrev pub following : {X : Type 0} → (X → ℕ) → Option X → ℕ → ℕ
-following f held base = unwrap_or (option_map f held) base
-
--- a value with the base's bytes is added
-pub added : {X : Type 0} (f : X → ℕ) (before after : ℕ → Option X) (key : ℕ) (value : X) (base q : ℕ)
-    → Sets before after key value → before key ≡ None → (key ≡ q → f value ≡ base)
-    → following f (after q) base ≡ following f (before q) base
-added f before after key value base q sets absent same = elim (cases_eq key q) [
-  | inl here ↦
-      let gone : before q ≡ None = ap before (sym here) ∙ absent in
-      rw (sets q, here, is_eq_same q, gone) (same here)
-  | inr apart ↦ rw (sets q, is_eq_other key q apart) refl
-]
-
-abbrev itself : ℕ → ℕ
-itself n = n
-
-option_itself : (o : Option ℕ) (d : ℕ) → following itself o d ≡ unwrap_or o d
-option_itself None d = refl
-option_itself (Some x) d = refl
-
 pub byte_added : (before after : MapMem) (pa : ℕ) → Sets (get nat_cmp before.bytes) (get nat_cmp after.bytes) pa 0
     → is_some (get nat_cmp before.bytes pa) ≡ false → map_bytes after ≡ map_bytes before
 unfolding map_bytes
-byte_added before after pa sets absent = fun_ext (λ a.
-    sym (option_itself (get nat_cmp after.bytes a) 0)
-    ∙ added itself (get nat_cmp before.bytes) (get nat_cmp after.bytes) pa 0 0 a sets (none_if_absent _ absent)
-    (λ here. refl)
-    ∙ option_itself (get nat_cmp before.bytes a) 0)
+byte_added before after pa sets absent = fun_ext (λ a. elim (cases_eq pa a) [
+  | inl here ↦
+      let none : get nat_cmp before.bytes a ≡ None =
+      ap (get nat_cmp before.bytes) (sym here) ∙ none_if_absent _ absent in
+      rw (sets a, here, is_eq_same a, none) refl
+  | inr apart ↦ rw (sets a, is_eq_other pa a apart) refl
+])
 
 pub byte_changed : (before after : MapMem) (pa byte : ℕ)
     → Sets (get nat_cmp before.bytes) (get nat_cmp after.bytes) pa byte → byte < 256

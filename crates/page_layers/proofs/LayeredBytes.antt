@@ -52,24 +52,23 @@ over_same : (before after : Blocks) (layers : List Layer) (image : PageImage)
 over_same before after layers image same =
     written_over after layers image ∙ same ∙ sym (written_over before layers image)
 
-over_stored : (before after : Blocks) (layers : List Layer) (image : PageImage) (pa len value : ℕ)
+over_changed : (before after : Blocks) (layers : List Layer) (image : PageImage) (change : Bytes → Bytes)
     → over (bytes_in (block_at after)) (over (bytes_in (block_among layers)) (byte_of image))
-    ≡ bytes_after_store pa len value
-    (over (bytes_in (block_at before)) (over (bytes_in (block_among layers)) (byte_of image)))
-    → bytes_under after layers image ≡ bytes_after_store pa len value (bytes_under before layers image)
-over_stored before after layers image pa len value put =
-    written_over after layers image ∙ put ∙ ap (bytes_after_store pa len value) (sym (written_over before layers image))
+    ≡ change (over (bytes_in (block_at before)) (over (bytes_in (block_among layers)) (byte_of image)))
+    → bytes_under after layers image ≡ change (bytes_under before layers image)
+over_changed before after layers image change is =
+    written_over after layers image ∙ is ∙ ap change (sym (written_over before layers image))
 
-pub put_under : (before after : Blocks) (layers : List Layer) (image : PageImage) (done : Bool) (pa len value : ℕ)
+-- a change of the bytes that blocks make over any others is one of the bytes that they make here
+pub put_under : (before after : Blocks) (layers : List Layer) (image : PageImage) (done : Bool)
+    (change : Bytes → Bytes)
     → ((base : Bytes)
     → over (bytes_in (block_at after)) base
-    ≡ (if done then bytes_after_store pa len value (over (bytes_in (block_at before)) base) else over
-    (bytes_in (block_at before)) base))
+    ≡ (if done then change (over (bytes_in (block_at before)) base) else over (bytes_in (block_at before)) base))
     → bytes_under after layers image
-    ≡ (if done then bytes_after_store pa len value (bytes_under before layers image) else bytes_under before
-    layers image)
-put_under before after layers image true pa len value puts = over_stored before after layers image pa len value (puts _)
-put_under before after layers image false pa len value puts = over_same before after layers image (puts _)
+    ≡ (if done then change (bytes_under before layers image) else bytes_under before layers image)
+put_under before after layers image true change puts = over_changed before after layers image change (puts _)
+put_under before after layers image false change puts = over_same before after layers image (puts _)
 
 -- memories whose blocks are the same have the same bytes
 pub same_under : (one other : Blocks) (layers others : List Layer) (image : PageImage)

@@ -32,12 +32,12 @@ moved block number pa =
     ap (slice_index block.bytes) offset
 
 -- a block of two memories is the same where the values that they have of it are
-pub block_decided : (one other : Bytes) (block others : Block) (number : ℕ) (result : Bool)
+pub block_decided : {one other : Bytes} (block others : Block) (number : ℕ) (result : Bool)
     → ((pa : ℕ) → pa / 64 ≡ number → block_byte block pa ≡ one pa)
     → ((pa : ℕ) → pa / 64 ≡ number → block_byte others pa ≡ other pa)
     → Decides result ((pa : ℕ) → block_byte block pa ≡ block_byte others pa)
     → Decides result ((pa : ℕ) → pa / 64 ≡ number → one pa ≡ other pa)
-block_decided one other block others number result has others_has decides = (
+block_decided block others number result has others_has decides = (
   (λ known_files pa here. sym (has pa here) ∙ decides.0 known_files pa ∙ others_has pa here),
   (λ same. decides.1 (λ pa.
       let at = number * 64 + pa % 64 in
@@ -78,35 +78,38 @@ page_moved : (page : Option Page) (number pa : ℕ) → byte_or_zero page (numbe
 page_moved None number pa = refl
 page_moved (Some page) number pa = same_offset page number pa
 
+-- an image has this page, or none, at a number
+pub record HasPage (image : PageImage) (number : ℕ) (page : Option Page) : Type 0 where
+  pub bytes : (pa : ℕ) → pa / 4096 ≡ number → byte_of image pa ≡ byte_or_zero page pa
+
 -- a page so far up that no block of it was written is that of the images
-pub far_page : (one other : Layered) (page : ℕ) (had others : Option Page) (result : Bool) → (page * 64 < 2 ^ 64 → ⊥)
-    → ((pa : ℕ) → pa / 4096 ≡ page → byte_of one.image.now pa ≡ byte_or_zero had pa)
-    → ((pa : ℕ) → pa / 4096 ≡ page → byte_of other.image.now pa ≡ byte_or_zero others pa)
-    → Decides result ((pa : ℕ) → byte_or_zero had pa ≡ byte_or_zero others pa)
-    → Decides result ((pa : ℕ) → pa / 4096 ≡ page → layered_bytes one pa ≡ layered_bytes other pa)
-far_page one other page had others result up has others_has decides = (
-  (λ known_files pa here. of one pa here ∙ has pa here ∙ decides.0 known_files pa ∙ sym (others_has pa here)
-      ∙ sym (of other pa here)),
+pub far_page : (one other : Layered) {number : ℕ} {page others : Option Page} (result : Bool)
+    → (number * 64 < 2 ^ 64 → ⊥) → HasPage one.image.now number page → HasPage other.image.now number others
+    → Decides result ((pa : ℕ) → byte_or_zero page pa ≡ byte_or_zero others pa)
+    → Decides result ((pa : ℕ) → pa / 4096 ≡ number → layered_bytes one pa ≡ layered_bytes other pa)
+far_page one other {number} {page} {others} result up has others_has decides = (
+  (λ known_files pa here. of one pa here ∙ has.bytes pa here ∙ decides.0 known_files pa
+      ∙ sym (others_has.bytes pa here) ∙ sym (of other pa here)),
   (λ same. decides.1 (λ pa.
-      let at = page * 4096 + pa % 4096 in
-      let here : at / 4096 ≡ page = grind arith in
-      sym (page_moved had page pa) ∙ sym (has at here) ∙ sym (of one at here) ∙ same at here ∙ of other at here
-      ∙ others_has at here ∙ page_moved others page pa)),
+      let at = number * 4096 + pa % 4096 in
+      let here : at / 4096 ≡ number = grind arith in
+      sym (page_moved page number pa) ∙ sym (has.bytes at here) ∙ sym (of one at here) ∙ same at here
+      ∙ of other at here ∙ others_has.bytes at here ∙ page_moved others number pa)),
 )
   where
-    of : (mem : Layered) (pa : ℕ) → pa / 4096 ≡ page → layered_bytes mem pa ≡ byte_of mem.image.now pa
+    of : (mem : Layered) (pa : ℕ) → pa / 4096 ≡ number → layered_bytes mem pa ≡ byte_of mem.image.now pa
     of mem pa here =
         block_absent mem (pa / 64)
         (far_of mem (pa / 64)
-        (elim (cases_lt (page * 64) (2 ^ 64))
+        (elim (cases_lt (number * 64) (2 ^ 64))
         [ inl below ↦ absurd (up below) | inr above ↦ omega (arith, here, above) ])) pa refl
 
 -- what no layer has is in none of them
-pub in_layers : (P : Type 0) (layer : Blocks) (first : Layer) (layers older : List Layer) (number : ℕ)
+pub in_layers : (P : Type 0) {layer : Blocks} {first : Layer} {layers older : List Layer} (number : ℕ)
     → layers ≡ first ∷ older → layer ≡ first.blocks.value → is_some (block_among layers number) ≡ true
     → (is_some (block_at layer number) ≡ true → P) → (is_some (block_among older number) ≡ true → P) → P
 unfolding block_among
-in_layers P layer first layers older number are is there here below =
+in_layers P {first} {older} number are is there here below =
     by_first (block_at first.blocks.value number) refl (ap (λ l. is_some (block_among l number)) (sym are) ∙ there)
   where
     by_first : (found : Option Block) → block_at first.blocks.value number ≡ found

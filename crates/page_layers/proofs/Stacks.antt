@@ -11,11 +11,11 @@ use Rattle.page_layers.specs.declared.blocks.Blocks.{Blocks}
 use Rattle.page_layers.specs.declared.layers.Layer.{Layer}
 use Rattle.page_layers.specs.Blocks.{block_among, block_at, newest_block}
 
-pub among-next : (layers : List Layer) (i : ℕ) (d : Layer) (number : ℕ) (here all : Option Block) → i < length layers
+pub among-next : (layers : List Layer) (i : ℕ) (d : Layer) (number : ℕ) {here all : Option Block} → i < length layers
     → here ≡ block_at (get_or layers i d).blocks.value number
     → block_among (drop i layers) number ≡ all → option_or here (block_among (drop (i + 1) layers) number) ≡ all
 unfolding block_among
-among-next layers i d number here all lt is so_far = rw (is, add-one) (rw (drop-cons layers i d lt) at so_far)
+among-next layers i d number lt is so_far = rw (is, add-one) (rw (drop-cons layers i d lt) at so_far)
 
 pub among-end : (layers : List Layer) (i number : ℕ) (all : Option Block) → length layers ≤ i
     → block_among (drop i layers) number ≡ all → None ≡ all
@@ -54,18 +54,23 @@ stacked_first layers layer newest older is of number =
     ap (λ found. option_or found (block_among older number))
     (ap (λ l. block_among l number) is ∙ among_one layer number ∙ ap (λ blocks. block_at blocks number) of)
 
+-- a copy of the older layer at a place is put below the layers
+pub record PutsCopy (layers more : List Layer) (copy : Layer) (older : List Layer) (i : ℕ) (d : Layer) : Type 0 where
+  pub within : i < length older
+  pub pushed : more ≡ layers ++ copy ∷ []
+  pub same : copy.blocks.value ≡ (get_or older i d).blocks.value
+
 -- and one after the other below it
-pub stacked_next : (layers more : List Layer) (copy : Layer) (older : List Layer) (i : ℕ) (d : Layer) (number : ℕ)
-    (all : Option Block) → i < length older
-    → more ≡ layers ++ copy ∷ [] → copy.blocks.value ≡ (get_or older i d).blocks.value
+pub stacked_next : {layers more : List Layer} {copy : Layer} {older : List Layer} {i : ℕ} {d : Layer} (number : ℕ)
+    {all : Option Block} → PutsCopy layers more copy older i d
     → option_or (block_among layers number) (block_among (drop i older) number) ≡ all
     → option_or (block_among more number) (block_among (drop (i + 1) older) number) ≡ all
-stacked_next layers more copy older i d number all lt is same so_far =
-    let left =
-    among-next older i d number (block_at copy.blocks.value number) (block_among (drop i older) number) lt
-    (ap (λ blocks. block_at blocks number) same) refl in
+stacked_next {layers} {copy} {older} {i} {d} number put so_far =
+    let left : option_or (block_at copy.blocks.value number) (block_among (drop (i + 1) older) number)
+    ≡ block_among (drop i older) number =
+    among-next older i d number put.within (ap (λ blocks. block_at blocks number) put.same) refl in
     ap (λ found. option_or found (block_among (drop (i + 1) older) number))
-    (ap (λ l. block_among l number) is ∙ among_more layers copy number)
+    (ap (λ l. block_among l number) put.pushed ∙ among_more layers copy number)
     ∙ or_assoc (block_among layers number) (block_at copy.blocks.value number) (block_among (drop (i + 1) older) number)
     ∙ ap (option_or (block_among layers number)) left ∙ so_far
 

@@ -38,7 +38,8 @@ impl MapMem {
         ensures bytes { map_bytes self.new ≡ map_bytes self.old }
         ensures ok { OnOk result (map_has_byte self.new pa ≡ true) }
         ensures held { map_has_byte self.old pa ≡ true → IsOk result }
-        ensures keeps { (at : ℕ) → map_has_byte self.old at ≡ true → map_has_byte self.new at ≡ true }
+        ensures keeps { (at : ℕ) → map_has_byte self.old at ≡ true
+            → map_has_byte self.new at ≡ true }
         ensures ram { self.new.ram ≡ self.old.ram }
     {
         if self.bytes.contains_key(&pa) {

@@ -52,7 +52,8 @@ impl<'a> Layered<'a> {
     /// Whether it has the bytes of another in each of these blocks.
     fn same_in_blocks(&self, other: &Layered, blocks: &Blocks) -> bool
         ensures known_files { IsTrue result → (number : ℕ)
-            → IsTrue (is_some (block_at blocks.now number)) → IsSameBlock self.now other.now number }
+            → IsTrue (is_some (block_at blocks.now number))
+            → IsSameBlock self.now other.now number }
         ensures same { layered_bytes self.now ≡ layered_bytes other.now → IsTrue result }
     {
         for number in blocks.map().keys() {
@@ -109,8 +110,8 @@ impl<'a> Layered<'a> {
     /// Whether it has the bytes of another in the blocks of a page, by the first.
     fn same_blocks(&self, other: &Layered, first: u64) -> bool
         requires { first ≤ 2 ^ 64 - PAGE_BLOCKS }
-        ensures known_files { IsTrue result → (number : ℕ) → first ≤ number → number < first + PAGE_BLOCKS
-            → IsSameBlock self.now other.now number }
+        ensures known_files { IsTrue result → (number : ℕ) → first ≤ number
+            → number < first + PAGE_BLOCKS → IsSameBlock self.now other.now number }
         ensures same { layered_bytes self.now ≡ layered_bytes other.now → IsTrue result }
     {
         for k in 0..PAGE_BLOCKS {

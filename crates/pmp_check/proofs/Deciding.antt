@@ -11,6 +11,7 @@ use Rattle.pmp_check.specs.Protection.{region_of, covers_some, covers_all, entry
 use Rattle.pmp_check.specs.Protection.{is_allowed}
 use Rattle.pmp_check.specs.Covering.{Covers, CoversAt, Decides, IsRegister, SomeByte, EachByte, entry_at}
 use Rattle.pmp_check.specs.Covering.{register_before}
+use Rattle.pmp_check.specs.Laws.{LeastDecides, LeastRefusesPart}
 use Rattle.pmp_check.proofs.Covering.{region_of-Covers, some_byte, each_byte}
 
 -- the entry at a place of a list that comes after an entry with the address register `first`
@@ -85,25 +86,37 @@ answer first entries i mode pa len access =
     covers_all (region_of (register_before first entries i) (entry_at entries i)) pa len
     && entry_permits (entry_at entries i).cfg mode access
 
-after_least : (first : ℕ) (entries : List PmpEntry) (i : ℕ) (mode : Mode) (pa len : ℕ) (access : Access)
-    → All IsRegister entries → i < length entries → Touches first entries i pa len
-    → ((j : ℕ) → j < i → Touches first entries j pa len → ⊥)
+-- the entry at a place is the first that touches an access
+record IsFirst (first : ℕ) (entries : List PmpEntry) (i pa len : ℕ) : Type 0 where
+  pub exists : i < length entries
+  pub touches : Touches first entries i pa len
+  pub least : (j : ℕ) → j < i → Touches first entries j pa len → ⊥
+
+-- so it is among the entries after the first of all
+first_later : {first : ℕ} {entry : PmpEntry} {entries : List PmpEntry} {i pa len : ℕ}
+    → IsFirst first (entry ∷ entries) (suc i) pa len → IsFirst entry.addr entries i pa len
+first_later {first} {entry} {entries} {i} {pa} {len} found = record {
+  exists = omega (arith, found.exists);
+  touches = unshift first entry entries i pa len found.touches;
+  least = λ j lower byte. found.least (suc j) (omega arith) (shift first entry entries j pa len byte);
+}
+
+after_least : {first : ℕ} (entries : List PmpEntry) (i : ℕ) (mode : Mode) {pa len : ℕ} (access : Access)
+    → All IsRegister entries → IsFirst first entries i pa len
     → is_allowed_after first entries mode pa len access ≡ answer first entries i mode pa len access
 unfolding is_allowed_after answer
-after_least first [] i mode pa len access h below some least = absurd (omega arith)
-after_least first (entry ∷ entries) zero mode pa len access h below some least =
+after_least [] i mode access h found = absurd (omega (arith, found.exists))
+after_least {first} (entry ∷ entries) zero mode {pa} {len} access h found =
     cond-true (covers_some (region_of first entry) pa len)
     (covers_all (region_of first entry) pa len && entry_permits entry.cfg mode access)
     (is_allowed_after entry.addr entries mode pa len access)
-    (accesses first entry pa len (head entry entries h) some)
-after_least first (entry ∷ entries) (suc i) mode pa len access h below some least =
+    (accesses first entry pa len (head entry entries h) found.touches)
+after_least {first} (entry ∷ entries) (suc i) mode {pa} {len} access h found =
     cond-false (covers_some (region_of first entry) pa len)
     (covers_all (region_of first entry) pa len && entry_permits entry.cfg mode access)
     (is_allowed_after entry.addr entries mode pa len access)
-    (untouched first entry pa len (head entry entries h) (least 0 (omega arith)))
-    ∙ after_least entry.addr entries i mode pa len access (tail entry entries h) (omega arith)
-    (unshift first entry entries i pa len some)
-    (λ j lower byte. least (suc j) (omega arith) (shift first entry entries j pa len byte))
+    (untouched first entry pa len (head entry entries h) (found.least 0 (omega arith)))
+    ∙ after_least entries i mode access (tail entry entries h) (first_later found)
     ∙ ap (λ b. covers_all (region_of b (entry_at entries i)) pa len
     && entry_permits (entry_at entries i).cfg mode access) (before_shift first entry entries i)
 
@@ -117,33 +130,30 @@ pub some_is : (pa len : ℕ) {P : ℕ → Type 0} → SomeByte pa len P → 1 �
 some_is pa len byte = omega (arith, byte.low, byte.high)
 
 -- the least entry decides, whether it covers every byte or not
-pub least_decides : (entries : List PmpEntry) (i : ℕ) (mode : Mode) (pa len : ℕ) (access : Access)
+pub least_decides : {entries : List PmpEntry} {i : ℕ} (mode : Mode) {pa len : ℕ} (access : Access)
     → All IsRegister entries → i < length entries → Decides entries i pa len
     → is_allowed entries mode pa len access
     ≡ (covers_all (region_of (register_before 0 entries i) (entry_at entries i)) pa len
     && entry_permits (entry_at entries i).cfg mode access)
 unfolding is_allowed answer
-least_decides entries i mode pa len access h below decides =
-    after_least 0 entries i mode pa len access h below decides.some decides.least
+least_decides {entries} {i} mode access h below decides =
+    after_least entries i mode access h
+    (record { exists = below; touches = decides.touches; least = decides.least })
 
 pub whole_decides : (entries : List PmpEntry) (i : ℕ) (mode : Mode) (pa len : ℕ) (access : Access)
-    → All IsRegister entries → i < length entries → Decides entries i pa len → EachByte pa len (CoversAt entries i)
-    → is_allowed entries mode pa len access ≡ entry_permits (entry_at entries i).cfg mode access
-unfolding is_allowed answer
+    → LeastDecides entries i mode pa len access
 whole_decides entries i mode pa len access h below decides each =
     let region : Region = region_of (register_before 0 entries i) (entry_at entries i) in
     let all : covers_all region pa len ≡ true =
-    (each_byte region pa len (some_is pa len decides.some)).1
+    (each_byte region pa len (some_is pa len decides.touches)).1
     (λ a low high.
     (region_of-Covers (register_before 0 entries i) (entry_at entries i) a (register_at entries i h below)).1
     (each a low high)) in
-    after_least 0 entries i mode pa len access h below decides.some decides.least
+    least_decides mode access h below decides
     ∙ ap (λ b. b && entry_permits (entry_at entries i).cfg mode access) all
 
 pub part_decides : (entries : List PmpEntry) (i : ℕ) (mode : Mode) (pa len : ℕ) (access : Access)
-    → All IsRegister entries → i < length entries → Decides entries i pa len
-    → SomeByte pa len (λ a. CoversAt entries i a → ⊥) → is_allowed entries mode pa len access ≡ false
-unfolding is_allowed answer
+    → LeastRefusesPart entries i mode pa len access
 part_decides entries i mode pa len access h below decides outside =
     let region : Region = region_of (register_before 0 entries i) (entry_at entries i) in
     let not_all : covers_all region pa len ≡ false =
@@ -151,6 +161,6 @@ part_decides entries i mode pa len access h below decides outside =
     (λ e. outside.holds
     ((region_of-Covers (register_before 0 entries i) (entry_at entries i) outside.a
     (register_at entries i h below)).0
-    ((each_byte region pa len (some_is pa len decides.some)).0 e outside.a outside.low outside.high))) in
-    after_least 0 entries i mode pa len access h below decides.some decides.least
+    ((each_byte region pa len (some_is pa len decides.touches)).0 e outside.a outside.low outside.high))) in
+    least_decides mode access h below decides
     ∙ ap (λ b. b && entry_permits (entry_at entries i).cfg mode access) not_all

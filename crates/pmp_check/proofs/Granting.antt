@@ -18,8 +18,8 @@ use Rattle.pmp_check.proofs.Deciding.{none_decides, whole_decides, least_decides
 -- the least entry that covers any byte of an access, among those after an entry with the address register `first`
 record IsLeast (first : ℕ) (entries : List PmpEntry) (pa len : ℕ) : Type 0 where
   pub number : ℕ
-  pub there : number < length entries
-  pub some : Touches first entries number pa len
+  pub exists : number < length entries
+  pub touches : Touches first entries number pa len
   pub least : (j : ℕ) → j < number → Touches first entries j pa len → ⊥
 
 abbrev Untouched : ℕ → List PmpEntry → ℕ → ℕ → Type 0
@@ -30,8 +30,8 @@ at_first : (first : ℕ) (entry : PmpEntry) (entries : List PmpEntry) (pa len : 
     → covers_some (region_of first entry) pa len ≡ true → IsLeast first (entry ∷ entries) pa len
 at_first first entry entries pa len h covers = record {
   number = 0;
-  there = omega arith;
-  some =
+  exists = omega arith;
+  touches =
       SomeByte-map pa len (λ a. (region_of-Covers first entry a h).0)
       ((some_byte (region_of first entry) pa len).0 covers);
   least = λ j below. absurd (omega (arith, below));
@@ -48,8 +48,8 @@ later : (first : ℕ) (entry : PmpEntry) (entries : List PmpEntry) (pa len : ℕ
     → IsLeast first (entry ∷ entries) pa len
 later first entry entries pa len h misses found = record {
   number = suc found.number;
-  there = omega (arith, found.there);
-  some = shift first entry entries found.number pa len found.some;
+  exists = omega (arith, found.exists);
+  touches = shift first entry entries found.number pa len found.touches;
   least = before;
 }
   where
@@ -88,19 +88,19 @@ least_grants : (entries : List PmpEntry) (mode : Mode) (pa len : ℕ) (access : 
 least_grants entries mode pa len access h allowed found =
     let i = found.number in
     let region : Region = region_of (register_before 0 entries i) (entry_at entries i) in
-    let decides : Decides entries i pa len = record { some = found.some; least = found.least } in
+    let decides : Decides entries i pa len = record { touches = found.touches; least = found.least } in
     let answers : (covers_all region pa len && entry_permits (entry_at entries i).cfg mode access) ≡ true =
-    sym (least_decides entries i mode pa len access h found.there decides) ∙ allowed in
+    sym (least_decides mode access h found.exists decides) ∙ allowed in
     let parts = and_parts (covers_all region pa len) (entry_permits (entry_at entries i).cfg mode access) answers in
-    let within : EachByte pa len (IsIn region) = (each_byte region pa len (some_is pa len found.some)).0 parts.0 in
+    let within : EachByte pa len (IsIn region) = (each_byte region pa len (some_is pa len found.touches)).0 parts.0 in
     record {
       number = i;
-      there = found.there;
+      exists = found.exists;
       decides = decides;
       covers =
           λ a low high.
           (region_of-Covers (register_before 0 entries i) (entry_at entries i) a
-          (register_at entries i h found.there)).0 (within a low high);
+          (register_at entries i h found.exists)).0 (within a low high);
       permits = parts.1;
     }
 
@@ -114,7 +114,7 @@ allowed_is_granted entries mode pa len access h allowed = elim (searched 0 entri
 granted_is_allowed : (entries : List PmpEntry) (mode : Mode) (pa len : ℕ) (access : Access) → All IsRegister entries
     → IsPermitted entries mode pa len access → IsTrue (is_allowed entries mode pa len access)
 granted_is_allowed entries mode pa len access h granted = elim granted [
-  | inl by ↦ whole_decides entries by.number mode pa len access h by.there by.decides by.covers ∙ by.permits
+  | inl by ↦ whole_decides entries by.number mode pa len access h by.exists by.decides by.covers ∙ by.permits
   | inr free ↦ none_decides entries mode pa len access h free.1 ∙ ap is_machine free.0
 ]
 

@@ -10,11 +10,22 @@ use Rattle.hart_words.specs.declared.privilege.Access.{Access}
 use Rattle.hart_words.specs.declared.privilege.PmpEntry.{PmpEntry}
 use Rattle.pmp_check.specs.declared.region.Region.{Region}
 use Rattle.pmp_check.specs.Protection.{region_of, covers_some, covers_all, entry_permits, is_allowed_after, is_allowed}
+use Rattle.pmp_check.specs.Covering.{EachByte}
+use Rattle.pmp_check.specs.Laws.{AllowsParts}
+
+-- some bytes are a part of others
+record IsPart (pa len part count : ℕ) : Type 0 where
+  pub low : pa ≤ part
+  pub nonempty : 1 ≤ count
+  pub high : part + count ≤ pa + len
 
 -- a region that has every byte of an access has some byte and every byte of each part of it
-covers_part : (region : Region) (pa len part count : ℕ) → pa ≤ part → 1 ≤ count → part + count ≤ pa + len
+covers_part : (region : Region) {pa len part count : ℕ} → IsPart pa len part count
     → covers_all region pa len ≡ true → (covers_some region part count ≡ true) × (covers_all region part count ≡ true)
-covers_part region pa len part count low some high all =
+covers_part region {pa} {len} {part} {count} is_part all =
+    let low = is_part.low in
+    let nonempty = is_part.nonempty in
+    let high = is_part.high in
     let ends : (nat_le region.first pa ≡ true) × (nat_le (pa + len) region.past ≡ true) =
     and_parts (nat_le region.first pa) (nat_le (pa + len) region.past) all in
     let first : region.first ≤ pa = leb-true region.first pa ends.0 in
@@ -25,16 +36,17 @@ covers_part region pa len part count low some high all =
     )
 
 -- a region without a byte of an access has none of a part of it
-misses_part : (region : Region) (pa len part count : ℕ) → pa ≤ part → part + count ≤ pa + len
+misses_part : (region : Region) {pa len part count : ℕ} → IsPart pa len part count
     → covers_some region pa len ≡ false → covers_some region part count ≡ false
-misses_part region pa len part count low high misses = false_from_ne_true (covers_some region part count) refuted
+misses_part region {pa} {len} {part} {count} is_part misses =
+    false_from_ne_true (covers_some region part count) refuted
   where
     refuted : covers_some region part count ≡ true → ⊥
     refuted h =
         let below : max region.first part < min region.past (part + count) =
         ltb-true (max region.first part) (min region.past (part + count)) h in
         let whole : covers_some region pa len ≡ true =
-        lt-ltb (max region.first pa) (min region.past (pa + len)) (omega arith) in
+        lt-ltb (max region.first pa) (min region.past (pa + len)) (omega (arith, is_part.low, is_part.high)) in
         cc
 
 -- where the first entry decides, and where it does not
@@ -58,40 +70,39 @@ by_later before entry entries mode pa len access misses =
     (covers_all (region_of before entry) pa len && entry_permits entry.cfg mode access)
     (is_allowed_after entry.addr entries mode pa len access) misses
 
-part_after : (before : ℕ) (entries : List PmpEntry) (mode : Mode) (pa len : ℕ) (access : Access) (part count : ℕ)
-    → pa ≤ part → 1 ≤ count → part + count ≤ pa + len → is_allowed_after before entries mode pa len access ≡ true
+part_after : (before : ℕ) (entries : List PmpEntry) (mode : Mode) {pa len : ℕ} (access : Access) {part count : ℕ}
+    → IsPart pa len part count → is_allowed_after before entries mode pa len access ≡ true
     → is_allowed_after before entries mode part count access ≡ true
 unfolding is_allowed_after
-part_after before [] mode pa len access part count low some high allowed = allowed
-part_after before (entry ∷ entries) mode pa len access part count low some high allowed =
+part_after before [] mode access is_part allowed = allowed
+part_after before (entry ∷ entries) mode {pa} {len} access {part} {count} is_part allowed =
     elim (cases_Bool (covers_some (region_of before entry) pa len)) [
       | inl covers ↦
           let region : Region = region_of before entry in
           let answers =
           and_parts (covers_all region pa len) (entry_permits entry.cfg mode access)
           (sym (by_first before entry entries mode pa len access covers) ∙ allowed) in
-          let covered = covers_part region pa len part count low some high answers.0 in
+          let covered = covers_part region is_part answers.0 in
           by_first before entry entries mode part count access covered.0
           ∙ and_from (covers_all region part count) (entry_permits entry.cfg mode access) covered.1 answers.1
       | inr misses ↦
           by_later before entry entries mode part count access
-          (misses_part (region_of before entry) pa len part count low high misses)
-          ∙ part_after entry.addr entries mode pa len access part count low some high
+          (misses_part (region_of before entry) is_part misses)
+          ∙ part_after entry.addr entries mode access is_part
           (sym (by_later before entry entries mode pa len access misses) ∙ allowed)
     ]
 
 pub part_allowed : (entries : List PmpEntry) (mode : Mode) (pa len : ℕ) (access : Access)
-    → is_allowed entries mode pa len access ≡ true → (part count : ℕ) → pa ≤ part → 1 ≤ count
-    → part + count ≤ pa + len → is_allowed entries mode part count access ≡ true
+    → AllowsParts entries mode pa len access
 unfolding is_allowed
-part_allowed entries mode pa len access allowed part count low some high =
-    part_after 0 entries mode pa len access part count low some high allowed
+part_allowed entries mode pa len access allowed part count low nonempty high =
+    part_after 0 entries mode access (record { low = low; nonempty = nonempty; high = high }) allowed
 
 -- each byte of an access that is allowed
-pub byte_allowed : (entries : List PmpEntry) (mode : Mode) (pa len : ℕ) (access : Access) (byte : ℕ)
-    → is_allowed entries mode pa len access ≡ true → pa ≤ byte → byte < pa + len
-    → is_allowed entries mode byte 1 access ≡ true
-byte_allowed entries mode pa len access byte allowed low high =
+pub byte_allowed : (entries : List PmpEntry) (mode : Mode) (pa len : ℕ) (access : Access)
+    → is_allowed entries mode pa len access ≡ true
+    → EachByte pa len (λ byte. is_allowed entries mode byte 1 access ≡ true)
+byte_allowed entries mode pa len access allowed byte low high =
     part_allowed entries mode pa len access allowed byte 1 low (omega arith) (omega (arith, high))
 
 permitted_alike : (cfg : ℕ) (access : Access) → entry_permits cfg User access ≡ entry_permits cfg Supervisor access

@@ -59,7 +59,7 @@ IsRegister entry = entry.addr < 2 ^ 64
 
 -- the entry at a place is the least that covers any byte of an access
 pub record Decides (entries : List PmpEntry) (i pa len : ℕ) : Type 0 where
-  pub some : SomeByte pa len (CoversAt entries i)
+  pub touches : SomeByte pa len (CoversAt entries i)
   pub least : (j : ℕ) → j < i → SomeByte pa len (CoversAt entries j) → ⊥
 
 -- no entry covers a byte of an access

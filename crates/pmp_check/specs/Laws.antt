@@ -40,7 +40,7 @@ NoneLeavesMachine entries mode pa len access =
 -- an entry is the least that covers any byte of an access, covers every byte of it, and permits it
 pub record PermitsAccess (entries : List PmpEntry) (mode : Mode) (pa len : ℕ) (access : Access) : Type 0 where
   pub number : ℕ
-  pub there : number < length entries
+  pub exists : number < length entries
   pub decides : Decides entries number pa len
   pub covers : EachByte pa len (CoversAt entries number)
   pub permits : IsTrue (entry_permits (entry_at entries number).cfg mode access)

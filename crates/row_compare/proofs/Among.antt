@@ -24,12 +24,12 @@ use Rattle.row_compare.specs.Laws.{IsOfShownSignal, DiffersWhereShown, AgreesInA
 -- ---- one entry after the other
 
 pub among-next : (retired : Retired) (shown : Shown) (entries : List SignalEntry) (i : ℕ) (d : SignalEntry)
-    (here all : Option Difference) → i < length entries
+    {here all : Option Difference} → i < length entries
     → here ≡ signal_difference retired shown (get_or entries i d).signal
     → first_among retired shown (drop i entries) ≡ all
     → option_or here (first_among retired shown (drop (i + 1) entries)) ≡ all
 unfolding first_among
-among-next retired shown entries i d here all lt is so_far = rw (is, add-one) (rw (drop-cons entries i d lt) at so_far)
+among-next retired shown entries i d lt is so_far = rw (is, add-one) (rw (drop-cons entries i d lt) at so_far)
 
 pub among-end : (retired : Retired) (shown : Shown) (entries : List SignalEntry) (i : ℕ) (all : Option Difference)
     → length entries ≤ i
@@ -140,11 +140,11 @@ of_values signal value want difference false test is =
     ]
 
 of_signal : (retired : Retired) (shown : Shown) (signal : Signal) (found : Option ℕ) (want : Option ExpectedSignal)
-    (difference : Difference) → shown signal ≡ found → expected_signal retired shown signal ≡ want
+    {difference : Difference} → shown signal ≡ found → expected_signal retired shown signal ≡ want
     → difference_between signal found want ≡ Some difference → IsOfShownSignal retired shown difference
-of_signal retired shown signal None want difference is_shown is_wanted is = absurd cc
-of_signal retired shown signal (Some value) None difference is_shown is_wanted is = absurd cc
-of_signal retired shown signal (Some value) (Some want) difference is_shown is_wanted is =
+of_signal retired shown signal None want is_shown is_wanted is = absurd cc
+of_signal retired shown signal (Some value) None is_shown is_wanted is = absurd cc
+of_signal retired shown signal (Some value) (Some want) {difference} is_shown is_wanted is =
     let both = of_values signal value want difference _ refl is in
     subst (IsOfShownSignal retired shown) (sym both.0) (record {
       value = value;
@@ -161,7 +161,7 @@ of_entries : (retired : Retired) (shown : Shown) (entries : List SignalEntry) (d
 unfolding first_among signal_difference
 of_entries retired shown [] difference is = absurd cc
 of_entries retired shown (entry ∷ entries) difference is = elim (either _ _ difference is) [
-  | inl here ↦ of_signal retired shown entry.signal _ _ difference refl refl here
+  | inl here ↦ of_signal retired shown entry.signal _ _ refl refl here
   | inr later ↦ of_entries retired shown entries difference later
 ]
 

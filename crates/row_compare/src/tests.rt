@@ -6,8 +6,8 @@ use std::alloc::Global;
 use std::process::Abort;
 use std::test::Fail;
 
-/// Columns beside `insn` and `pc_rdata`, what a row shows in them, and the signal that differs, with
-/// the values expected and found.
+/// Columns beside `insn` and `pc_rdata`, what a row shows in them, and the signal that differs,
+/// with the values expected and found.
 type Case<'a> = (&'a str, &'a str, Option<(Signal, u64, u64)>);
 
 /// The first difference of a row in which `insn` and `pc_rdata` are as expected.
@@ -521,8 +521,8 @@ const ORDERED: [(Signal, u64, u64); 24] = [
     (Signal::Csr(CsrName::Stval, CsrSide::Wdata), 0, 1),
 ];
 
-/// Of rows in which ever more signals from the left of that order are right, the first that is wrong
-/// is found, whatever the order of the columns.
+/// Of rows in which ever more signals from the left of that order are right, the first that is
+/// wrong is found, whatever the order of the columns.
 #[test]
 fn order_of_signals(rt: HostRuntime) -> Result<(), Fail> {
     let alloc = rt.alloc();

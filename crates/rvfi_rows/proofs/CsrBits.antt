@@ -56,30 +56,30 @@ is_shown_at : (bit value : ℕ) (b : Bool) → (bit == 1) ≡ b → is_some (cel
 is_shown_at bit value true is = rw is refl
 is_shown_at bit value false is = rw is refl
 
-one_of : (row : Row) (entry : SignalEntry) (from : ℕ) (here there rest : Bool) → is_csr entry.signal ≡ here
-    → (index_of entry.signal == from) ≡ there → (here && (there && rest)) ≡ true
-    → ((is_csr entry.signal && is_some (shown_in row entry.signal)) ≡ (bit_at row.shown from == 1)) × (rest ≡ true)
-unfolding shown_in
-one_of row entry from true true rest csr at all =
-    let same : index_of entry.signal ≡ from = eqb-true _ _ at in (
-      rw csr (is_shown_at (bit_at row.shown (index_of entry.signal)) (slice_index row.values (index_of entry.signal))
-          (bit_at row.shown from == 1) (ap (λ i. bit_at row.shown i == 1) same)),
-      all,
-    )
-one_of row entry from true false rest csr at all = absurd cc
-one_of row entry from false there rest csr at all = absurd cc
-
 by_bits : (row : Row) (entries : List SignalEntry) (from : ℕ) → follow from entries ≡ true
     → list_any (λ entry. is_csr entry.signal && is_some (shown_in row entry.signal)) entries
     ≡ any_bit row.shown from (length entries)
+unfolding shown_in
 by_bits row [] from all = refl
 by_bits row (entry ∷ entries) from all =
-    let here =
-    one_of row entry from (is_csr entry.signal) (index_of entry.signal == from) (follow (from + 1) entries) refl
-    refl all in
+    let here = first (is_csr entry.signal) (index_of entry.signal == from) refl refl all in
     let rest = by_bits row entries (from + 1) here.1 in
     ap (λ b. b || list_any (λ entry. is_csr entry.signal && is_some (shown_in row entry.signal)) entries) here.0
     ∙ ap (λ b. (bit_at row.shown from == 1) || b) rest
+  where
+    first : (here there : Bool) → is_csr entry.signal ≡ here → (index_of entry.signal == from) ≡ there
+        → (here && (there && follow (from + 1) entries)) ≡ true
+        → ((is_csr entry.signal && is_some (shown_in row entry.signal)) ≡ (bit_at row.shown from == 1))
+        × (follow (from + 1) entries ≡ true)
+    first true true csr at all =
+        let same : index_of entry.signal ≡ from = eqb-true _ _ at in (
+          rw csr (is_shown_at (bit_at row.shown (index_of entry.signal))
+              (slice_index row.values (index_of entry.signal)) (bit_at row.shown from == 1)
+              (ap (λ i. bit_at row.shown i == 1) same)),
+          all,
+        )
+    first true false csr at all = absurd cc
+    first false there csr at all = absurd cc
 
 pub shows_some : (row : Row) → not (row.shown / 2 ^ 22 == 0) ≡ shows_csr (shown_in row)
 unfolding shows_csr

@@ -69,30 +69,36 @@ values_length : (list : List ℕ) (signals : List Signal) → length (values_at 
 values_length list [] = refl
 values_length list (signal ∷ signals) = ap suc (values_length list signals)
 
--- what is there with one row more
-pub full_more : (signals : List Signal) (rows now_rows : List Kept) (values now_values list : List ℕ) (row : Kept)
-    → now_rows ≡ rows ++ row ∷ [] → now_values ≡ values ++ values_at list signals
+-- there is one row more, with the values of a list
+pub record IsPushed (signals : List Signal) (rows now_rows : List Kept) (values now_values list : List ℕ) (row : Kept)
+    : Type 0 where
+  pub rows_are : now_rows ≡ rows ++ row ∷ []
+  pub values_are : now_values ≡ values ++ values_at list signals
+
+pub full_more : {signals : List Signal} {rows now_rows : List Kept} {values now_values list : List ℕ} {row : Kept}
+    → IsPushed signals rows now_rows values now_values list row
     → length values ≡ length rows * length signals
     → length now_values ≡ length now_rows * length signals
-full_more signals rows now_rows values now_values list row rows_are values_are full =
+full_more {signals} {rows} {now_rows} {values} {now_values} {list} {row} pushed full =
     let many : length now_values ≡ length values + length signals =
-    ap length values_are ∙ length-append values (values_at list signals)
+    ap length pushed.values_are ∙ length-append values (values_at list signals)
     ∙ ap (λ n. length values + n) (values_length list signals) in
-    let some : length now_rows ≡ length rows + 1 = ap length rows_are ∙ length-append rows (row ∷ []) in
+    let some : length now_rows ≡ length rows + 1 = ap length pushed.rows_are ∙ length-append rows (row ∷ []) in
     rw (many, some, full) (omega arith)
 
-pub theirs_more : (signals : List Signal) (rows now_rows : List Kept) (row : Kept) → now_rows ≡ rows ++ row ∷ []
+pub theirs_more : {signals : List Signal} {rows now_rows : List Kept} {values now_values list : List ℕ} {row : Kept}
+    → IsPushed signals rows now_rows values now_values list row
     → All (ShowsOnly signals) rows → ShowsOnly signals row → All (ShowsOnly signals) now_rows
-theirs_more signals rows now_rows row rows_are all is =
+theirs_more {signals} {rows} {row} pushed all is =
     let P : List Kept → Type 0 = λ list. All (ShowsOnly signals) list in
-    subst P (sym rows_are) (All-push (ShowsOnly signals) rows row all is)
+    subst P (sym pushed.rows_are) (All-push (ShowsOnly signals) rows row all is)
 
-pub kept_more : (signals : List Signal) (rows now_rows : List Kept) (values now_values list : List ℕ) (row : Kept)
-    (reading : RowReading) → now_rows ≡ rows ++ row ∷ [] → now_values ≡ values ++ values_at list signals
+pub kept_more : {signals : List Signal} {rows now_rows : List Kept} {values now_values list : List ℕ} {row : Kept}
+    {reading : RowReading} → IsPushed signals rows now_rows values now_values list row
     → length values ≡ length rows * length signals → kept_reading signals row (values_at list signals) ≡ reading
     → kept_readings signals now_rows now_values ≡ kept_readings signals rows values ++ reading ∷ []
-kept_more signals rows now_rows values now_values list row reading rows_are values_are full is =
-    rw (rows_are, values_are)
+kept_more {signals} {rows} {values} {list} {row} pushed full is =
+    rw (pushed.rows_are, pushed.values_are)
     (kept-push signals rows values (values_at list signals) row full (values_length list signals)
     ∙ ap (λ last. kept_readings signals rows values ++ last ∷ []) is)
 

@@ -1,23 +1,40 @@
 -- Reading one line more.
-use Rattle.std.proofs.Common.{◌≡◌, ◌∙◌, ap, ℕ, List, [], ◌∷◌, ◌++◌, Some, append_assoc}
+use Rattle.std.proofs.Common.{◌≡◌, ◌∙◌, ap, sym, ℕ, List, [], ◌∷◌, ◌++◌, Some, append_assoc}
 use Rattle.csv_line.specs.declared.line_reader.LineRead.{LineRead}
 use Rattle.csv_line.specs.Next.{ReadsNext}
-use Rattle.csv_line.specs.Fields.{has_return_in}
+use Rattle.csv_line.specs.Fields.{fields_of_line, has_return_in}
 use Rattle.rvfi_rows.specs.Columns.{ColumnList}
 use Rattle.rvfi_rows.specs.Rows.{RowReading, row_of_fields, row_of_line, rows_of}
 use Rattle.rvfi_rows.proofs.Steps.{of_line}
 
-pub lines-next : (columns : ColumnList) (lines before left fields : List (List ℕ)) (read : LineRead)
-    (done now whole : List RowReading) → ReadsNext lines before (Some read) left fields
+-- the first of the lines was read
+pub record ReadsFirst (lines : List (List ℕ)) (read : LineRead) (left fields : List (List ℕ)) : Type 0 where
+  pub line : List ℕ
+  pub parts : lines ≡ line ∷ left
+  pub has_return : read.has_return ≡ has_return_in line
+  pub fields_are : fields ≡ fields_of_line line
+
+pub reads_first : (lines before : List (List ℕ)) (read : LineRead) (left fields : List (List ℕ))
+    → ReadsNext lines before (Some read) left fields → ReadsFirst lines read left fields
+reads_first [] before read left fields reads = absurd cc
+reads_first (line ∷ lines) before read left fields reads =
+    let same : read ≡ (record { has_return = has_return_in line }) = cc in
+    record {
+      line = line;
+      parts = ap (λ rest. line ∷ rest) (sym reads.others);
+      has_return = ap (λ (r : LineRead). r.has_return) same;
+      fields_are = reads.fields_are;
+    }
+
+pub lines-next : (columns : ColumnList) {lines left fields : List (List ℕ)} {read : LineRead}
+    (done : List RowReading) {now whole : List RowReading} → ReadsFirst lines read left fields
     → now ≡ done ++ row_of_fields columns read.has_return fields ∷ [] → done ++ rows_of columns lines ≡ whole
     → now ++ rows_of columns left ≡ whole
-lines-next columns [] before left fields read done now whole reads is so_far = absurd cc
-lines-next columns (line ∷ lines) before left fields read done now whole reads is so_far =
-    let same : read ≡ (record { has_return = has_return_in line }) = cc in
-    let row : row_of_fields columns read.has_return fields ≡ row_of_line columns line =
-    of_line columns line read.has_return fields (ap (λ (r : LineRead). r.has_return) same) reads.fields_are in
+lines-next columns {left} {fields} {read} done first is so_far =
+    let row : row_of_fields columns read.has_return fields ≡ row_of_line columns first.line =
+    of_line columns first.line read.has_return fields first.has_return first.fields_are in
     ap (λ front. front ++ rows_of columns left) is
     ∙ append_assoc done (row_of_fields columns read.has_return fields ∷ []) (rows_of columns left)
-    ∙ ap (λ first. done ++ first ∷ rows_of columns left) row
-    ∙ ap (λ rest. done ++ row_of_line columns line ∷ rows_of columns rest) reads.others
+    ∙ ap (λ reading. done ++ reading ∷ rows_of columns left) row
+    ∙ ap (λ list. done ++ rows_of columns list) (sym first.parts)
     ∙ so_far

@@ -70,19 +70,16 @@ cell_after shown values index value other within few = elim (eqb_tells other ind
   | inr differs ↦ rw differs.0 (cell_other shown values index value other few differs.1)
 ]
 
-pub shows_more : (row now : Row) (signal : Signal) (index place value : ℕ) → index ≡ index_of signal → place ≡ index
-    → index < 110
-    → now.shown ≡ bit_or row.shown (1 * 2 ^ index % 2 ^ 128) → now.values ≡ slice_set row.values place value
+pub shows_more : (row now : Row) (signal : Signal) {index : ℕ} (value : ℕ) → index ≡ index_of signal → index < 110
+    → now.shown ≡ bit_or row.shown (1 * 2 ^ index % 2 ^ 128) → now.values ≡ slice_set row.values index value
     → shown_in now ≡ with_shown (shown_in row) signal value
 unfolding shown_in
-shows_more row now signal index place value is at few shown values =
+shows_more row now signal {index} value is below shown values =
     let within : index < length row.values = omega (arith, row.full) in
-    let now_values : now.values ≡ slice_set row.values index value =
-    values ∙ ap (λ i. slice_set row.values i value) at in
     fun_ext (λ (other : Signal).
     ap (λ n. cell_in (bit_at n (index_of other)) (slice_index now.values (index_of other))) shown
     ∙ ap (λ v. cell_in (bit_at (bit_or row.shown (1 * 2 ^ index % 2 ^ 128)) (index_of other))
-    (slice_index v (index_of other))) now_values
+    (slice_index v (index_of other))) values
     ∙ cell_after row.shown row.values index value (index_of other) within (omega arith)
     ∙ ap (λ i. if index_of other == i then Some value else cell_in (bit_at row.shown (index_of other))
     (slice_index row.values (index_of other))) is)

@@ -177,13 +177,13 @@ regroup front first (Err fault) = refl
 after : Shown → Result Shown RowFault → Result Shown RowFault → Result Shown RowFault
 after front first rest = first >>= λ cells. with_front (shown_then front cells) rest
 
-cells-step : (columns : ColumnList) (fields : List (List ℕ)) (i : ℕ) (field : List ℕ) (front : Shown)
-    (wanted : Result Shown RowFault) → i < length columns → Some field ≡ slice_get fields i
+cells-step : (columns : ColumnList) (fields : List (List ℕ)) (i : ℕ) {field : List ℕ} (front : Shown)
+    {wanted : Result Shown RowFault} → i < length columns → Some field ≡ slice_get fields i
     → with_front front (cells_of (drop i columns) (drop i fields)) ≡ wanted
     → after front (field_shown (get_or columns i None) field) (cells_of (drop (i + 1) columns) (drop (i + 1) fields))
     ≡ wanted
 unfolding cells_of after
-cells-step columns fields i field front wanted lt is so_far =
+cells-step columns fields i {field} front lt is so_far =
     let here = rw (drop_at columns i None lt, drop_found fields i field is) at so_far in
     step front (field_shown (get_or columns i None) field) (cells_of (drop (i + 1) columns) (drop (i + 1) fields))
     ∙ here
@@ -207,21 +207,21 @@ failed fault front (Ok cells) rest wanted is so_far = absurd cc
 failed fault front (Err other) rest wanted is so_far =
     let same : other ≡ fault = cc in ap (λ (f : RowFault). Err f) (sym same) ∙ so_far
 
-pub cells-next : (columns : ColumnList) (fields : List (List ℕ)) (i : ℕ) (field : List ℕ) (front now : Shown)
-    (wanted : Result Shown RowFault) → i < length columns → Some field ≡ slice_get fields i
+pub cells-next : (columns : ColumnList) (fields : List (List ℕ)) (i : ℕ) {field : List ℕ} (front : Shown)
+    {now : Shown} {wanted : Result Shown RowFault} → i < length columns → Some field ≡ slice_get fields i
     → with_front front (field_shown (get_or columns i None) field) ≡ Ok now
     → with_front front (cells_of (drop i columns) (drop i fields)) ≡ wanted
     → with_front now (cells_of (drop (i + 1) columns) (drop (i + 1) fields)) ≡ wanted
-cells-next columns fields i field front now wanted lt is shown so_far =
-    added front now _ _ wanted shown (cells-step columns fields i field front wanted lt is so_far)
+cells-next columns fields i front {now} {wanted} lt is shown so_far =
+    added front now _ _ wanted shown (cells-step columns fields i front lt is so_far)
 
-pub cells-fail : (columns : ColumnList) (fields : List (List ℕ)) (i : ℕ) (field : List ℕ) (front : Shown)
-    (fault : RowFault) (wanted : Result Shown RowFault) → i < length columns → Some field ≡ slice_get fields i
+pub cells-fail : (columns : ColumnList) (fields : List (List ℕ)) (i : ℕ) {field : List ℕ} (front : Shown)
+    {fault : RowFault} {wanted : Result Shown RowFault} → i < length columns → Some field ≡ slice_get fields i
     → field_shown (get_or columns i None) field ≡ Err fault
     → with_front front (cells_of (drop i columns) (drop i fields)) ≡ wanted
     → Err fault ≡ wanted
-cells-fail columns fields i field front fault wanted lt is shown so_far =
-    failed fault front _ _ wanted shown (cells-step columns fields i field front wanted lt is so_far)
+cells-fail columns fields i front {fault} {wanted} lt is shown so_far =
+    failed fault front _ _ wanted shown (cells-step columns fields i front lt is so_far)
 
 no_cells : (front : Shown) (columns : ColumnList) → with_front front (cells_of columns []) ≡ Ok front
 unfolding cells_of

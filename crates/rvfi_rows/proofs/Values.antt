@@ -95,12 +95,12 @@ placed (signal ∷ signals) (value ∷ values) list = placed signals values (sli
 drop_at : {A : Type 0} (xs : List A) (i : ℕ) (d : A) → i < length xs → drop i xs ≡ get_or xs i d ∷ drop (i + 1) xs
 drop_at xs i d within = rw add-one (drop-cons xs i d within)
 
-pub placed-next : (signals : List Signal) (values list : List ℕ) (i : ℕ) (d : Signal) (index : ℕ) → i < length signals
+pub placed-next : (signals : List Signal) (values list : List ℕ) (i : ℕ) (d : Signal) {index : ℕ} → i < length signals
     → i < length values → index ≡ index_of (get_or signals i d)
     → placed (drop (i + 1) signals) (drop (i + 1) values) (slice_set list index (get_or values i 0))
     ≡ placed (drop i signals) (drop i values) list
 unfolding placed
-placed-next signals values list i d index some many is =
+placed-next signals values list i d some many is =
     rw (drop_at signals i d some, drop_at values i 0 many)
     (ap (λ n. placed (drop (i + 1) signals) (drop (i + 1) values) (slice_set list n (get_or values i 0))) is)
 
@@ -155,11 +155,11 @@ among_has (first ∷ signals) (value ∷ values) signal other as_many among =
     by false (Some x) among more = refl
 
 -- the row has the values that are put, under these bits
-pub shows_taken : (row now : Row) (signals : List Signal) (values : List ℕ) (bits : ℕ) → AreOf signals bits
+pub shows_taken : (row now : Row) {signals : List Signal} (values : List ℕ) {bits : ℕ} → AreOf signals bits
     → length values ≡ length signals → now.shown ≡ bits → now.values ≡ placed signals values row.values
     → shown_in now ≡ with_bits bits (values_of signals values)
 unfolding shown_in with_bits
-shows_taken row now signals values bits are as_many shown taken =
+shows_taken row now {signals} values {bits} are as_many shown taken =
     fun_ext (λ (signal : Signal).
     ap (λ n. cell_in (bit_at n (index_of signal)) (slice_index now.values (index_of signal))) shown
     ∙ ap (λ (list : List ℕ). cell_in (bit_at bits (index_of signal)) (slice_index list (index_of signal))) taken

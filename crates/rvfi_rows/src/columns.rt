@@ -35,7 +35,8 @@ impl Model for Columns {
 
     ghost view = { λ columns. columns.signals.items };
 
-    ghost invariant = { λ columns. columns.valid ≡ position (is_column_of Valid) columns.signals.items };
+    ghost invariant = { λ columns.
+        columns.valid ≡ position (is_column_of Valid) columns.signals.items };
 }
 
 impl Columns {

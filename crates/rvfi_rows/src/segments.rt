@@ -61,8 +61,9 @@ fn read_places<R: Threads + Sync>(
     read_in_threads(rt, threads.min(segments.len()), &unread)
 }
 
-/// Has so many threads read segments, this one the last of them. This thread alone makes the others:
-/// equal tasks ended sooner so than where new threads make further ones (docs/DECISIONS.md).
+/// Has so many threads read segments, this one the last of them. This thread alone makes the
+/// others: equal tasks ended sooner so than where new threads make further ones
+/// (docs/DECISIONS.md).
 #[cycle(threads)]
 fn read_in_threads<R: Threads + Sync>(
     rt: &R,

@@ -12,8 +12,8 @@ single : (readable : ℕ → Bool) (bytes : Bytes) (va level pa : ℕ)
     → LeadsNoFurther readable bytes (record { level = level; pa = pa })
     → IsWalk readable bytes va level pa (record { level = level; pa = pa } ∷ [])
 single readable bytes va level pa ends = record {
-  some = omega arith;
-  few = omega arith;
+  nonempty = omega arith;
+  within_levels = omega arith;
   first = refl;
   next = λ i below. absurd (omega arith);
   last = last_of_one;
@@ -25,40 +25,37 @@ single readable bytes va level pa ends = record {
     last_of_one (suc i) e = absurd (omega arith)
 
 -- a visit before a walk
-leads : (readable : ℕ → Bool) (bytes : Bytes) (va level pa : ℕ) (next : Visit) → readable pa ≡ true
-    → is_link (number_at bytes pa 8) ≡ true
-    → next ≡ record { level = level; pa = entry_address level (page_number (number_at bytes pa 8)) va }
-    → LeadsTo readable bytes va (record { level = suc level; pa = pa }) next
-leads readable bytes va level pa next can link e = record {
-  read = can;
-  link = link;
-  below = sym (ap (λ (v : Visit). suc v.level) e);
-  place =
-      ap (λ (v : Visit). v.pa) e
-      ∙ sym (ap (λ (v : Visit). entry_address v.level (page_number (number_at bytes pa 8)) va) e);
-}
-
-longer : (readable : ℕ → Bool) (bytes : Bytes) (va level pa : ℕ) (visits : List Visit) → readable pa ≡ true
+longer : (readable : ℕ → Bool) (bytes : Bytes) (va level pa : ℕ) {visits : List Visit} → readable pa ≡ true
     → is_link (number_at bytes pa 8) ≡ true
     → IsWalk readable bytes va level (entry_address level (page_number (number_at bytes pa 8)) va) visits
     → IsWalk readable bytes va (suc level) pa (record { level = suc level; pa = pa } ∷ visits)
-longer readable bytes va level pa visits can link walk = record {
-  some = omega arith;
-  few = omega (arith, walk.few);
+longer readable bytes va level pa {visits} can link walk = record {
+  nonempty = omega arith;
+  within_levels = omega (arith, walk.within_levels);
   first = refl;
   next = next_of_more;
   last = last_of_more;
 }
   where
+    leads : LeadsTo readable bytes va (record { level = suc level; pa = pa }) (visit_at visits 0)
+    leads = record {
+      read = can;
+      link = link;
+      below = sym (ap (λ (v : Visit). suc v.level) walk.first);
+      place =
+          ap (λ (v : Visit). v.pa) walk.first
+          ∙ sym (ap (λ (v : Visit). entry_address v.level (page_number (number_at bytes pa 8)) va) walk.first);
+    }
+
     next_of_more : (i : ℕ) → suc i < suc (length visits)
         → LeadsTo readable bytes va (visit_at (record { level = suc level; pa = pa } ∷ visits) i)
         (visit_at (record { level = suc level; pa = pa } ∷ visits) (suc i))
-    next_of_more zero below = leads readable bytes va level pa (visit_at visits 0) can link walk.first
+    next_of_more zero below = leads
     next_of_more (suc i) below = walk.next i (omega arith)
 
     last_of_more : (i : ℕ) → suc i ≡ suc (length visits)
         → LeadsNoFurther readable bytes (visit_at (record { level = suc level; pa = pa } ∷ visits) i)
-    last_of_more zero e = absurd (omega (arith, walk.some))
+    last_of_more zero e = absurd (omega (arith, walk.nonempty))
     last_of_more (suc i) e = walk.last i (omega arith)
 
 walk-chain_from : (readable : ℕ → Bool) (bytes : Bytes) (va level table : ℕ)
@@ -82,7 +79,7 @@ walk-chain_from readable bytes va (suc level) table =
         | inl link ↦
             subst P (sym (chain_from-goes_on readable bytes va level table
             (and_from (readable pa) (is_link entry) can link)))
-            (longer readable bytes va level pa (chain_from readable bytes va level (page_number entry)) can link below)
+            (longer readable bytes va level pa can link below)
         | inr none ↦
             subst P (sym (chain_from-stops readable bytes va level table
             (and_right (readable pa) (is_link entry) none))) (single readable bytes va (suc level) pa (inr (inr none)))
@@ -110,8 +107,8 @@ shorter readable bytes va level pa next more walk =
     let on : LeadsTo readable bytes va (record { level = suc level; pa = pa }) next = walk.next 0 (omega arith) in
     let same : next.level ≡ level = omega (arith, on.below) in
     record {
-      some = omega arith;
-      few = omega (arith, walk.few);
+      nonempty = omega arith;
+      within_levels = omega (arith, walk.within_levels);
       first =
           ap (λ n. record { level = n; pa = next.pa }) same
           ∙ ap (λ a. record { level = level; pa = a })
@@ -138,7 +135,7 @@ walk_is_chain : (readable : ℕ → Bool) (bytes : Bytes) (va level table : ℕ)
     → record { level = level; pa = entry_address level table va } ∷ rest ≡ chain_from readable bytes va level table
 walk_is_chain readable bytes va zero table rest walk =
     ap (λ (visits : List Visit). record { level = 0; pa = entry_address 0 table va } ∷ visits)
-    (no_more rest (omega (arith, walk.few)))
+    (no_more rest (omega (arith, walk.within_levels)))
     ∙ sym (chain_from-last readable bytes va table)
 walk_is_chain readable bytes va (suc level) table [] walk =
     sym
@@ -163,7 +160,7 @@ walk_is_chain readable bytes va (suc level) table (next ∷ more) walk =
 walk_from : (readable : ℕ → Bool) (bytes : Bytes) (va level table : ℕ) (visits : List Visit)
     → IsWalk readable bytes va level (entry_address level table va) visits
     → visits ≡ chain_from readable bytes va level table
-walk_from readable bytes va level table [] walk = absurd (omega (arith, walk.some))
+walk_from readable bytes va level table [] walk = absurd (omega (arith, walk.nonempty))
 walk_from readable bytes va level table (visit ∷ rest) walk =
     subst
     (λ (v : Visit). IsWalk readable bytes va level (entry_address level table va) (v ∷ rest)

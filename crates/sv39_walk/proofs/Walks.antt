@@ -12,8 +12,9 @@ use Rattle.hart_words.specs.Memory.{Bytes, number_at, entry_of, after_writes}
 use Rattle.hart_words.specs.Actions.{Run, Action, pure, read_memory, run_then, ◌>>=◌}
 use Rattle.sv39_walk.specs.Entries.{page_number, is_link, final_result, entry_address, is_canonical}
 use Rattle.hart_words.specs.Privilege.{access_fault_of, page_fault_of}
+use Rattle.sv39_walk.specs.declared.walk.Request.{Request}
 use Rattle.sv39_walk.specs.Walk.{root_of, entry_read, visit_of, walk_of, translation_of, Visit, chain_from, chain}
-use Rattle.sv39_walk.specs.Walk.{chain_result, entry_reads_of, by_chain}
+use Rattle.sv39_walk.specs.Walk.{chain_result, entry_reads_of, by_chain, walk_run}
 
 abbrev Got : Type 0
 Got = Run (Result ℕ Cause)
@@ -48,65 +49,75 @@ given bytes value = refl
 
 -- ---- one step
 
-pub walk_of_refused : (readable : ℕ → Bool) (bytes : Bytes) (flags : WalkFlags) (va : ℕ) (access : Access)
-    (level table : ℕ) → readable (entry_address level table va) ≡ false
-    → (walk_of readable flags va access level table).run bytes ≡ alone (Err (access_fault_of access))
-unfolding walk_of
-walk_of_refused readable bytes flags va access zero table e =
-    visited_refused readable bytes access (entry_address 0 table va)
-    (λ entry. pure (final_result 0 flags va access entry)) e
-walk_of_refused readable bytes flags va access (suc level) table e =
-    visited_refused readable bytes access (entry_address (suc level) table va)
-    (λ entry. cond (is_link entry) (walk_of readable flags va access level (page_number entry))
-    (pure (final_result (suc level) flags va access entry))) e
+-- for a request: the address of an entry, what the last entry gives, and the walk from a table on
+abbrev entry_place : Request → ℕ → ℕ → ℕ
+entry_place request level table = entry_address level table request.va
 
-pub walk_of_on : (readable : ℕ → Bool) (bytes : Bytes) (flags : WalkFlags) (va : ℕ) (access : Access)
-    (level table : ℕ) → readable (entry_address (suc level) table va) ≡ true
-    → is_link (number_at bytes (entry_address (suc level) table va) 8) ≡ true
-    → (walk_of readable flags va access (suc level) table).run bytes
-    ≡ after (entry_address (suc level) table va)
-    ((walk_of readable flags va access level
-    (page_number (number_at bytes (entry_address (suc level) table va) 8))).run bytes)
+abbrev result_at : Request → ℕ → ℕ → Result ℕ Cause
+result_at request level entry = final_result level request.flags request.va request.access entry
+
+abbrev walk_for : (ℕ → Bool) → Request → ℕ → ℕ → Action (Result ℕ Cause)
+walk_for readable request level table = walk_of readable request.flags request.va request.access level table
+
+pub walk_of_refused : (readable : ℕ → Bool) (bytes : Bytes) (request : Request) (level table : ℕ)
+    → readable (entry_place request level table) ≡ false
+    → (walk_for readable request level table).run bytes ≡ alone (Err (access_fault_of request.access))
 unfolding walk_of
-walk_of_on readable bytes flags va access level table e link =
-    let pa : ℕ = entry_address (suc level) table va in
+walk_of_refused readable bytes request zero table e =
+    visited_refused readable bytes request.access (entry_place request 0 table)
+    (λ entry. pure (result_at request 0 entry)) e
+walk_of_refused readable bytes request (suc level) table e =
+    visited_refused readable bytes request.access (entry_place request (suc level) table)
+    (λ entry. cond (is_link entry) (walk_for readable request level (page_number entry))
+    (pure (result_at request (suc level) entry))) e
+
+pub walk_of_on : (readable : ℕ → Bool) (bytes : Bytes) (request : Request) (level table : ℕ)
+    → readable (entry_place request (suc level) table) ≡ true
+    → is_link (number_at bytes (entry_place request (suc level) table) 8) ≡ true
+    → (walk_for readable request (suc level) table).run bytes
+    ≡ after (entry_place request (suc level) table)
+    ((walk_for readable request level
+    (page_number (number_at bytes (entry_place request (suc level) table) 8))).run bytes)
+unfolding walk_of
+walk_of_on readable bytes request level table e link =
+    let pa : ℕ = entry_place request (suc level) table in
     let entry : ℕ = number_at bytes pa 8 in
-    visited_read readable bytes access pa
-    (λ entry. cond (is_link entry) (walk_of readable flags va access level (page_number entry))
-    (pure (final_result (suc level) flags va access entry))) e
+    visited_read readable bytes request.access pa
+    (λ entry. cond (is_link entry) (walk_for readable request level (page_number entry))
+    (pure (result_at request (suc level) entry))) e
     ∙ ap (λ (action : Action (Result ℕ Cause)). after pa (action.run bytes))
-    (cond-true (is_link entry) (walk_of readable flags va access level (page_number entry))
-    (pure (final_result (suc level) flags va access entry)) link)
+    (cond-true (is_link entry) (walk_for readable request level (page_number entry))
+    (pure (result_at request (suc level) entry)) link)
 
-pub walk_of_last : (readable : ℕ → Bool) (bytes : Bytes) (flags : WalkFlags) (va : ℕ) (access : Access) (table : ℕ)
-    → readable (entry_address 0 table va) ≡ true
-    → (walk_of readable flags va access 0 table).run bytes
-    ≡ after (entry_address 0 table va)
-    (alone (final_result 0 flags va access (number_at bytes (entry_address 0 table va) 8)))
+pub walk_of_last : (readable : ℕ → Bool) (bytes : Bytes) (request : Request) (table : ℕ)
+    → readable (entry_place request 0 table) ≡ true
+    → (walk_for readable request 0 table).run bytes
+    ≡ after (entry_place request 0 table)
+    (alone (result_at request 0 (number_at bytes (entry_place request 0 table) 8)))
 unfolding walk_of
-walk_of_last readable bytes flags va access table e =
-    let pa : ℕ = entry_address 0 table va in
-    visited_read readable bytes access pa (λ entry. pure (final_result 0 flags va access entry)) e
-    ∙ ap (after pa) (given bytes (final_result 0 flags va access (number_at bytes pa 8)))
+walk_of_last readable bytes request table e =
+    let pa : ℕ = entry_place request 0 table in
+    visited_read readable bytes request.access pa (λ entry. pure (result_at request 0 entry)) e
+    ∙ ap (after pa) (given bytes (result_at request 0 (number_at bytes pa 8)))
 
-pub walk_of_stops : (readable : ℕ → Bool) (bytes : Bytes) (flags : WalkFlags) (va : ℕ) (access : Access)
-    (level table : ℕ) → readable (entry_address level table va) ≡ true
-    → is_link (number_at bytes (entry_address level table va) 8) ≡ false
-    → (walk_of readable flags va access level table).run bytes
-    ≡ after (entry_address level table va)
-    (alone (final_result level flags va access (number_at bytes (entry_address level table va) 8)))
+pub walk_of_stops : (readable : ℕ → Bool) (bytes : Bytes) (request : Request) (level table : ℕ)
+    → readable (entry_place request level table) ≡ true
+    → is_link (number_at bytes (entry_place request level table) 8) ≡ false
+    → (walk_for readable request level table).run bytes
+    ≡ after (entry_place request level table)
+    (alone (result_at request level (number_at bytes (entry_place request level table) 8)))
 unfolding walk_of
-walk_of_stops readable bytes flags va access zero table e none = walk_of_last readable bytes flags va access table e
-walk_of_stops readable bytes flags va access (suc level) table e none =
-    let pa : ℕ = entry_address (suc level) table va in
+walk_of_stops readable bytes request zero table e none = walk_of_last readable bytes request table e
+walk_of_stops readable bytes request (suc level) table e none =
+    let pa : ℕ = entry_place request (suc level) table in
     let entry : ℕ = number_at bytes pa 8 in
-    visited_read readable bytes access pa
-    (λ entry. cond (is_link entry) (walk_of readable flags va access level (page_number entry))
-    (pure (final_result (suc level) flags va access entry))) e
+    visited_read readable bytes request.access pa
+    (λ entry. cond (is_link entry) (walk_for readable request level (page_number entry))
+    (pure (result_at request (suc level) entry))) e
     ∙ ap (λ (action : Action (Result ℕ Cause)). after pa (action.run bytes))
-    (cond-false (is_link entry) (walk_of readable flags va access level (page_number entry))
-    (pure (final_result (suc level) flags va access entry)) none)
-    ∙ ap (after pa) (given bytes (final_result (suc level) flags va access entry))
+    (cond-false (is_link entry) (walk_for readable request level (page_number entry))
+    (pure (result_at request (suc level) entry)) none)
+    ∙ ap (after pa) (given bytes (result_at request (suc level) entry))
 
 -- ---- one step, from what the call of `entry` says
 
@@ -126,51 +137,48 @@ refused_fact readable bytes pa e = go (readable pa) refl e
     go true is got = cc
     go false is got = is
 
-abbrev run_of : (ℕ → Bool) → Bytes → WalkFlags → ℕ → Access → ℕ → ℕ → Got
-run_of readable bytes flags va access level table = (walk_of readable flags va access level table).run bytes
+pub step_refused : (readable : ℕ → Bool) (bytes : Bytes) (request : Request) (level table : ℕ)
+    → entry_of readable bytes (entry_place request level table) ≡ None
+    → walk_run readable bytes request level table ≡ alone (Err (access_fault_of request.access))
+step_refused readable bytes request level table got =
+    walk_of_refused readable bytes request level table
+    (refused_fact readable bytes (entry_place request level table) got)
 
-pub step_refused : (readable : ℕ → Bool) (bytes : Bytes) (flags : WalkFlags) (va : ℕ) (access : Access)
-    (level table : ℕ) → entry_of readable bytes (entry_address level table va) ≡ None
-    → run_of readable bytes flags va access level table ≡ alone (Err (access_fault_of access))
-step_refused readable bytes flags va access level table got =
-    walk_of_refused readable bytes flags va access level table
-    (refused_fact readable bytes (entry_address level table va) got)
-
-pub step_on : (readable : ℕ → Bool) (bytes : Bytes) (flags : WalkFlags) (va : ℕ) (access : Access)
-    (level table entry : ℕ) → entry_of readable bytes (entry_address level table va) ≡ Some entry → 0 < level
+pub step_on : (readable : ℕ → Bool) (bytes : Bytes) (request : Request) (level table : ℕ) {entry : ℕ}
+    → entry_of readable bytes (entry_place request level table) ≡ Some entry → 0 < level
     → is_link entry ≡ true
-    → run_of readable bytes flags va access level table
-    ≡ after (entry_address level table va) (run_of readable bytes flags va access (level - 1) (page_number entry))
-step_on readable bytes flags va access zero table entry got above link = absurd (omega arith)
-step_on readable bytes flags va access (suc level) table entry got above link =
-    let pa : ℕ = entry_address (suc level) table va in
+    → walk_run readable bytes request level table
+    ≡ after (entry_place request level table) (walk_run readable bytes request (level - 1) (page_number entry))
+step_on readable bytes request zero table {entry} got above link = absurd (omega arith)
+step_on readable bytes request (suc level) table {entry} got above link =
+    let pa : ℕ = entry_place request (suc level) table in
     let fact : (readable pa ≡ true) × (number_at bytes pa 8 ≡ entry) = read_fact readable bytes pa entry got in
     let below : suc level - 1 ≡ level = omega arith in
-    walk_of_on readable bytes flags va access level table fact.0 (ap is_link fact.1 ∙ link)
-    ∙ ap (λ e. after pa (run_of readable bytes flags va access level (page_number e))) fact.1
-    ∙ ap (λ l. after pa (run_of readable bytes flags va access l (page_number entry))) (sym below)
+    walk_of_on readable bytes request level table fact.0 (ap is_link fact.1 ∙ link)
+    ∙ ap (λ e. after pa (walk_run readable bytes request level (page_number e))) fact.1
+    ∙ ap (λ l. after pa (walk_run readable bytes request l (page_number entry))) (sym below)
 
-pub step_last : (readable : ℕ → Bool) (bytes : Bytes) (flags : WalkFlags) (va : ℕ) (access : Access)
-    (level table entry : ℕ) → entry_of readable bytes (entry_address level table va) ≡ Some entry → level ≡ 0
-    → run_of readable bytes flags va access level table
-    ≡ after (entry_address level table va) (alone (final_result level flags va access entry))
-step_last readable bytes flags va access zero table entry got last =
-    let pa : ℕ = entry_address 0 table va in
+pub step_last : (readable : ℕ → Bool) (bytes : Bytes) (request : Request) (level table : ℕ) {entry : ℕ}
+    → entry_of readable bytes (entry_place request level table) ≡ Some entry → level ≡ 0
+    → walk_run readable bytes request level table
+    ≡ after (entry_place request level table) (alone (result_at request level entry))
+step_last readable bytes request zero table {entry} got last =
+    let pa : ℕ = entry_place request 0 table in
     let fact : (readable pa ≡ true) × (number_at bytes pa 8 ≡ entry) = read_fact readable bytes pa entry got in
-    walk_of_last readable bytes flags va access table fact.0
-    ∙ ap (λ e. after pa (alone (final_result 0 flags va access e))) fact.1
-step_last readable bytes flags va access (suc level) table entry got last = absurd (omega arith)
+    walk_of_last readable bytes request table fact.0
+    ∙ ap (λ e. after pa (alone (result_at request 0 e))) fact.1
+step_last readable bytes request (suc level) table {entry} got last = absurd (omega arith)
 
-pub step_ends : (readable : ℕ → Bool) (bytes : Bytes) (flags : WalkFlags) (va : ℕ) (access : Access)
-    (level table entry : ℕ) → entry_of readable bytes (entry_address level table va) ≡ Some entry
+pub step_ends : (readable : ℕ → Bool) (bytes : Bytes) (request : Request) (level table : ℕ) {entry : ℕ}
+    → entry_of readable bytes (entry_place request level table) ≡ Some entry
     → is_link entry ≡ false
-    → run_of readable bytes flags va access level table
-    ≡ after (entry_address level table va) (alone (final_result level flags va access entry))
-step_ends readable bytes flags va access level table entry got none =
-    let pa : ℕ = entry_address level table va in
+    → walk_run readable bytes request level table
+    ≡ after (entry_place request level table) (alone (result_at request level entry))
+step_ends readable bytes request level table {entry} got none =
+    let pa : ℕ = entry_place request level table in
     let fact : (readable pa ≡ true) × (number_at bytes pa 8 ≡ entry) = read_fact readable bytes pa entry got in
-    walk_of_stops readable bytes flags va access level table fact.0 (ap is_link fact.1 ∙ none)
-    ∙ ap (λ e. after pa (alone (final_result level flags va access e))) fact.1
+    walk_of_stops readable bytes request level table fact.0 (ap is_link fact.1 ∙ none)
+    ∙ ap (λ e. after pa (alone (result_at request level e))) fact.1
 
 -- ---- the list of reads
 
@@ -185,7 +193,8 @@ one_read reads read more = append_assoc reads (read ∷ []) more
 
 pub translation_walks : (readable : ℕ → Bool) (bytes : Bytes) (satp : ℕ) (flags : WalkFlags) (va : ℕ)
     (access : Access) → is_canonical va ≡ true
-    → (translation_of readable satp flags va access).run bytes ≡ run_of readable bytes flags va access 2 (root_of satp)
+    → (translation_of readable satp flags va access).run bytes
+    ≡ walk_run readable bytes (record { flags = flags; va = va; access = access }) 2 (root_of satp)
 unfolding translation_of
 translation_walks readable bytes satp flags va access e =
     ap (λ action. action.run bytes)
@@ -234,91 +243,101 @@ pub chain_from-last : (readable : ℕ → Bool) (bytes : Bytes) (va table : ℕ)
 unfolding chain_from
 chain_from-last readable bytes va table = refl
 
--- a chain of one entry
-single-read : (readable : ℕ → Bool) (bytes : Bytes) (flags : WalkFlags) (va : ℕ) (access : Access) (level pa : ℕ)
-    → readable pa ≡ true
-    → after pa (alone (final_result level flags va access (number_at bytes pa 8)))
-    ≡ by_chain readable bytes flags va access (record { level = level; pa = pa } ∷ [])
-unfolding chain_result
-single-read readable bytes flags va access level pa e = rw e refl
+-- what a chain gives for a request
+abbrev chained : (ℕ → Bool) → Bytes → Request → List Visit → Got
+chained readable bytes request visits = by_chain readable bytes request.flags request.va request.access visits
 
-single-refused : (readable : ℕ → Bool) (bytes : Bytes) (flags : WalkFlags) (va : ℕ) (access : Access) (level pa : ℕ)
-    → readable pa ≡ false
-    → alone (Err (access_fault_of access))
-    ≡ by_chain readable bytes flags va access (record { level = level; pa = pa } ∷ [])
+abbrev chain_result_for : (ℕ → Bool) → Bytes → Request → List Visit → Result ℕ Cause
+chain_result_for readable bytes request visits =
+    chain_result readable bytes request.flags request.va request.access visits
+
+-- a chain of one entry
+single-read : (readable : ℕ → Bool) (bytes : Bytes) (request : Request) (level pa : ℕ)
+    → readable pa ≡ true
+    → after pa (alone (result_at request level (number_at bytes pa 8)))
+    ≡ chained readable bytes request (record { level = level; pa = pa } ∷ [])
 unfolding chain_result
-single-refused readable bytes flags va access level pa e = rw e refl
+single-read readable bytes request level pa e = rw e refl
+
+single-refused : (readable : ℕ → Bool) (bytes : Bytes) (request : Request) (level pa : ℕ)
+    → readable pa ≡ false
+    → alone (Err (access_fault_of request.access))
+    ≡ chained readable bytes request (record { level = level; pa = pa } ∷ [])
+unfolding chain_result
+single-refused readable bytes request level pa e = rw e refl
 
 -- an entry before a chain of some entries
-chain_result-front : (readable : ℕ → Bool) (bytes : Bytes) (flags : WalkFlags) (va : ℕ) (access : Access)
+chain_result-front : (readable : ℕ → Bool) (bytes : Bytes) (request : Request)
     (visit : Visit) (level table : ℕ)
-    → chain_result readable bytes flags va access (visit ∷ chain_from readable bytes va level table)
-    ≡ chain_result readable bytes flags va access (chain_from readable bytes va level table)
+    → chain_result_for readable bytes request (visit ∷ chain_from readable bytes request.va level table)
+    ≡ chain_result_for readable bytes request (chain_from readable bytes request.va level table)
 unfolding chain_result chain_from
-chain_result-front readable bytes flags va access visit zero table = refl
-chain_result-front readable bytes flags va access visit (suc level) table = refl
+chain_result-front readable bytes request visit zero table = refl
+chain_result-front readable bytes request visit (suc level) table = refl
 
 reads-front : (readable : ℕ → Bool) (level pa : ℕ) (visits : List Visit) → readable pa ≡ true
     → entry_read pa ∷ entry_reads_of readable visits
     ≡ entry_reads_of readable (record { level = level; pa = pa } ∷ visits)
 reads-front readable level pa visits e = rw e refl
 
-front : (readable : ℕ → Bool) (bytes : Bytes) (flags : WalkFlags) (va : ℕ) (access : Access)
+front : (readable : ℕ → Bool) (bytes : Bytes) (request : Request)
     (above pa level table : ℕ) → readable pa ≡ true
-    → after pa (by_chain readable bytes flags va access (chain_from readable bytes va level table))
-    ≡ by_chain readable bytes flags va access
-    (record { level = above; pa = pa } ∷ chain_from readable bytes va level table)
-front readable bytes flags va access above pa level table e =
-    let visits : List Visit = chain_from readable bytes va level table in
+    → after pa (chained readable bytes request (chain_from readable bytes request.va level table))
+    ≡ chained readable bytes request
+    (record { level = above; pa = pa } ∷ chain_from readable bytes request.va level table)
+front readable bytes request above pa level table e =
+    let visits : List Visit = chain_from readable bytes request.va level table in
     ap (λ value. record { value = value; reads = entry_read pa ∷ entry_reads_of readable visits; wrote = [] })
-    (sym (chain_result-front readable bytes flags va access (record { level = above; pa = pa }) level table))
+    (sym (chain_result-front readable bytes request (record { level = above; pa = pa }) level table))
     ∙ ap (λ reads.
     record {
       value =
-          chain_result readable bytes flags va access (record { level = above; pa = pa } ∷ visits);
+          chain_result_for readable bytes request (record { level = above; pa = pa } ∷ visits);
       reads =
           reads;
       wrote = [];
     }) (reads-front readable above pa visits e)
 
-walk-by_chain : (readable : ℕ → Bool) (bytes : Bytes) (flags : WalkFlags) (va : ℕ) (access : Access) (level table : ℕ)
-    → run_of readable bytes flags va access level table
-    ≡ by_chain readable bytes flags va access (chain_from readable bytes va level table)
-walk-by_chain readable bytes flags va access zero table =
-    let pa : ℕ = entry_address 0 table va in
+walk-by_chain : (readable : ℕ → Bool) (bytes : Bytes) (request : Request) (level table : ℕ)
+    → walk_run readable bytes request level table
+    ≡ chained readable bytes request (chain_from readable bytes request.va level table)
+walk-by_chain readable bytes request zero table =
+    let pa : ℕ = entry_place request 0 table in
     elim (cases_Bool (readable pa)) [
       | inl can ↦
-          walk_of_last readable bytes flags va access table can ∙ single-read readable bytes flags va access 0 pa can
-          ∙ ap (by_chain readable bytes flags va access) (sym (chain_from-last readable bytes va table))
+          walk_of_last readable bytes request table can ∙ single-read readable bytes request 0 pa can
+          ∙ ap (chained readable bytes request) (sym (chain_from-last readable bytes request.va table))
       | inr cannot ↦
-          walk_of_refused readable bytes flags va access 0 table cannot
-          ∙ single-refused readable bytes flags va access 0 pa cannot
-          ∙ ap (by_chain readable bytes flags va access) (sym (chain_from-last readable bytes va table))
+          walk_of_refused readable bytes request 0 table cannot
+          ∙ single-refused readable bytes request 0 pa cannot
+          ∙ ap (chained readable bytes request) (sym (chain_from-last readable bytes request.va table))
     ]
-walk-by_chain readable bytes flags va access (suc level) table =
-    let pa : ℕ = entry_address (suc level) table va in
+walk-by_chain readable bytes request (suc level) table =
+    let pa : ℕ = entry_place request (suc level) table in
     let entry : ℕ = number_at bytes pa 8 in
-    let below : run_of readable bytes flags va access level (page_number entry)
-    ≡ by_chain readable bytes flags va access (chain_from readable bytes va level (page_number entry)) =
-    walk-by_chain readable bytes flags va access level (page_number entry) in
+    let below : walk_run readable bytes request level (page_number entry)
+    ≡ chained readable bytes request (chain_from readable bytes request.va level (page_number entry)) =
+    walk-by_chain readable bytes request level (page_number entry) in
     elim (cases_Bool (readable pa)) [
       | inr cannot ↦
-          walk_of_refused readable bytes flags va access (suc level) table cannot
-          ∙ single-refused readable bytes flags va access (suc level) pa cannot
-          ∙ ap (by_chain readable bytes flags va access)
-          (sym (chain_from-stops readable bytes va level table (and_left (readable pa) (is_link entry) cannot)))
+          walk_of_refused readable bytes request (suc level) table cannot
+          ∙ single-refused readable bytes request (suc level) pa cannot
+          ∙ ap (chained readable bytes request)
+          (sym (chain_from-stops readable bytes request.va level table (and_left (readable pa) (is_link entry) cannot)))
       | inl can ↦ elim (cases_Bool (is_link entry)) [
         | inl link ↦
-            walk_of_on readable bytes flags va access level table can link ∙ ap (after pa) below
-            ∙ front readable bytes flags va access (suc level) pa level (page_number entry) can
-            ∙ ap (by_chain readable bytes flags va access)
+            walk_of_on readable bytes request level table can link ∙ ap (after pa) below
+            ∙ front readable bytes request (suc level) pa level (page_number entry) can
+            ∙ ap (chained readable bytes request)
             (sym
-            (chain_from-goes_on readable bytes va level table (and_from (readable pa) (is_link entry) can link)))
+            (chain_from-goes_on readable bytes request.va level table
+            (and_from (readable pa) (is_link entry) can link)))
         | inr none ↦
-            walk_of_stops readable bytes flags va access (suc level) table can none
-            ∙ single-read readable bytes flags va access (suc level) pa can
-            ∙ ap (by_chain readable bytes flags va access)
-            (sym (chain_from-stops readable bytes va level table (and_right (readable pa) (is_link entry) none)))
+            walk_of_stops readable bytes request (suc level) table can none
+            ∙ single-read readable bytes request (suc level) pa can
+            ∙ ap (chained readable bytes request)
+            (sym
+            (chain_from-stops readable bytes request.va level table (and_right (readable pa) (is_link entry) none)))
       ]
     ]
 
@@ -331,7 +350,7 @@ translation-by_chain readable bytes satp flags va access =
     elim (cases_Bool (is_canonical va)) [
       | inl can ↦
           translation_walks readable bytes satp flags va access can
-          ∙ walk-by_chain readable bytes flags va access 2 (root_of satp)
+          ∙ walk-by_chain readable bytes (record { flags = flags; va = va; access = access }) 2 (root_of satp)
           ∙ ap (by_chain readable bytes flags va access)
           (sym (cond-true (is_canonical va) (chain_from readable bytes va 2 (root_of satp)) [] can))
       | inr cannot ↦ translation_refused readable bytes satp flags va access cannot

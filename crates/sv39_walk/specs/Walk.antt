@@ -113,8 +113,8 @@ LeadsNoFurther readable bytes visit =
 
 -- from one visit each leads to the next, until one that leads no further
 pub record IsWalk (readable : ℕ → Bool) (bytes : Bytes) (va level pa : ℕ) (visits : List Visit) : Type 0 where
-  pub some : 1 ≤ length visits
-  pub few : length visits ≤ suc level
+  pub nonempty : 1 ≤ length visits
+  pub within_levels : length visits ≤ suc level
   pub first : visit_at visits 0 ≡ record { level = level; pa = pa }
   pub next : (i : ℕ) → suc i < length visits → LeadsTo readable bytes va (visit_at visits i) (visit_at visits (suc i))
   pub last : (i : ℕ) → suc i ≡ length visits → LeadsNoFurther readable bytes (visit_at visits i)

@@ -29,9 +29,13 @@ struct Tables {
 impl WalkMem for Tables {
     ghost use Rattle.sv39_walk.specs.declared.tests.TheConstants.{ROOT, MIDDLE, LAST};
 
-    ghost bytes = { λ t. bytes_after_store ROOT 8 t.root (bytes_after_store MIDDLE 8 t.middle (bytes_after_store LAST 8 t.last (λ a. 0))) };
+    ghost bytes = { λ t.
+        let last_alone = bytes_after_store LAST 8 t.last (λ a. 0) in
+        let two = bytes_after_store MIDDLE 8 t.middle last_alone in
+        bytes_after_store ROOT 8 t.root two };
 
-    ghost is_readable = { λ t pa. not (pa == t.hidden) && (pa == ROOT || pa == MIDDLE || pa == LAST) };
+    ghost is_readable = { λ t pa.
+        not (pa == t.hidden) && (pa == ROOT || pa == MIDDLE || pa == LAST) };
 
     fn entry(&self, pa: u64) -> Option<u64> {
         if pa == self.hidden {

@@ -18,13 +18,12 @@ unread_more file chunk place most count within reads =
     ∙ sym (take-add count (most - (place + count)) (drop place file))
     ∙ ap (λ n. take n (drop place file)) (sym left)
 
-pub text_more : (file held chunk items : List ℕ) (following : Following) (place most count kept : ℕ)
-    → following ≡ Unread → kept ≡ count → place + count ≤ most → Reads file place chunk count
-    → items ≡ held ++ take kept chunk
-    → items ++ unread_of following (place + kept) most file ≡ held ++ unread_of following place most file
-text_more file held chunk items following place most count kept unread all within reads is =
-    ap (λ bytes. bytes ++ unread_of following (place + kept) most file) is
-    ∙ ap (λ n. (held ++ take n chunk) ++ unread_of following (place + n) most file) all
+pub text_more : {file chunk : List ℕ} (held : List ℕ) {items : List ℕ} (following : Following) {place : ℕ} (most : ℕ)
+    {count : ℕ} → following ≡ Unread → place + count ≤ most → Reads file place chunk count
+    → items ≡ held ++ take count chunk
+    → items ++ unread_of following (place + count) most file ≡ held ++ unread_of following place most file
+text_more {file} {chunk} held following {place} most {count} unread within reads is =
+    ap (λ bytes. bytes ++ unread_of following (place + count) most file) is
     ∙ ap (λ b. (held ++ take count chunk) ++ unread_of b (place + count) most file) unread
     ∙ append_assoc held (take count chunk) (take (most - (place + count)) (drop (place + count) file))
     ∙ ap (λ bytes. held ++ bytes) (unread_more file chunk place most count within reads)

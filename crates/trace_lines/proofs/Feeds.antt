@@ -27,11 +27,17 @@ line_more held searched count before next =
     rw (take-add searched count held)
     (All-append (λ (byte : ℕ). byte ≢ line_feed) (take searched held) (take count (drop searched held)) before next)
 
-pub feed_found : (bytes rest : List ℕ) (at searched place : ℕ) → rest ≡ drop (at + searched) bytes
-    → at + searched ≤ length bytes → IsLine (take searched (drop at bytes))
+-- so many of the bytes from a place on have no line feed, and these are the rest of them
+pub record IsSearched (bytes : List ℕ) (at searched : ℕ) (rest : List ℕ) : Type 0 where
+  pub rest_is : rest ≡ drop (at + searched) bytes
+  pub inside : at + searched ≤ length bytes
+  pub clear : IsLine (take searched (drop at bytes))
+
+pub feed_found : {bytes rest : List ℕ} {at searched : ℕ} (place : ℕ) → IsSearched bytes at searched rest
     → IsFirstByte (is_byte 10) rest (Some place) → IsBeforeFeed (drop at bytes) (searched + place)
-feed_found bytes rest at searched place is inside clear found =
-    let same : rest ≡ drop searched (drop at bytes) = is ∙ sym (drop-drop searched at bytes) in
+feed_found {bytes} {rest} {at} {searched} place is found =
+    let inside = is.inside in
+    let same : rest ≡ drop searched (drop at bytes) = is.rest_is ∙ sym (drop-drop searched at bytes) in
     let here = subst (λ (xs : List ℕ). IsFirstByte (is_byte 10) xs (Some place)) same found in
     let len : length (drop searched (drop at bytes)) + searched + at ≡ length bytes =
     omega (arith, length-drop searched (drop at bytes), length-drop at bytes) in
@@ -39,16 +45,16 @@ feed_found bytes rest at searched place is inside clear found =
     record {
       within = omega (arith, length-drop at bytes);
       line =
-          line_more (drop at bytes) searched place clear
+          line_more (drop at bytes) searched place is.clear
           (nowhere_line (drop searched (drop at bytes)) place (omega arith) here.0.before);
       feed = λ below. sym (get_or-drop searched (drop at bytes) place 0) ∙ eqb-true _ 10 here.1;
     }
 
-pub feed_nowhere : (bytes rest : List ℕ) (at searched held : ℕ) → rest ≡ drop (at + searched) bytes
-    → at + searched ≤ length bytes → at + held ≡ length bytes → IsLine (take searched (drop at bytes))
-    → IsFirstByte (is_byte 10) rest None → IsBeforeFeed (drop at bytes) held
-feed_nowhere bytes rest at searched held is inside all clear nowhere =
-    let same : rest ≡ drop searched (drop at bytes) = is ∙ sym (drop-drop searched at bytes) in
+pub feed_nowhere : {bytes rest : List ℕ} {at searched : ℕ} (held : ℕ) → IsSearched bytes at searched rest
+    → at + held ≡ length bytes → IsFirstByte (is_byte 10) rest None → IsBeforeFeed (drop at bytes) held
+feed_nowhere {bytes} {rest} {at} {searched} held is all nowhere =
+    let inside = is.inside in
+    let same : rest ≡ drop searched (drop at bytes) = is.rest_is ∙ sym (drop-drop searched at bytes) in
     let here = subst (λ (xs : List ℕ). IsFirstByte (is_byte 10) xs None) same nowhere in
     let size : length (drop at bytes) ≡ held = omega (arith, length-drop at bytes) in
     let len : searched + length (drop searched (drop at bytes)) ≡ held =
@@ -56,7 +62,7 @@ feed_nowhere bytes rest at searched held is inside all clear nowhere =
     record {
       within = omega arith;
       line =
-          rw len at (line_more (drop at bytes) searched (length (drop searched (drop at bytes))) clear
+          rw len at (line_more (drop at bytes) searched (length (drop searched (drop at bytes))) is.clear
           (nowhere_line (drop searched (drop at bytes)) (length (drop searched (drop at bytes))) (le_refl _) here));
       feed = λ below. absurd (omega arith);
     }

@@ -44,16 +44,16 @@ back_short asked lines ending rest all short none is =
     none ∙ rw (← whole) (rw gone refl)
 
 -- the same of the step that found the ending
-pub front_ended : (asked : ℕ) (lines now : List (List ℕ)) (ending : Ending) (left rest all : RemainingLines)
+pub front_ended : (asked : ℕ) {lines now : List (List ℕ)} {ending : Ending} {left rest all : RemainingLines}
     → length lines < asked → TakesNext lines left (Some ending) now rest → with_lines lines left ≡ all
     → record { lines = now; ending = ending } ≡ front_of asked all
-front_ended asked lines now ending left rest all short next is =
+front_ended asked {lines} {ending} {left} {all} short next is =
     rw next.2 (front_short asked lines ending left all short next.0 is)
 
-pub back_ended : (asked : ℕ) (lines now : List (List ℕ)) (ending : Ending) (left rest all : RemainingLines)
+pub back_ended : (asked : ℕ) {lines now : List (List ℕ)} {ending : Ending} {left rest all : RemainingLines}
     → length lines < asked → TakesNext lines left (Some ending) now rest → with_lines lines left ≡ all
     → rest ≡ back_of asked all
-back_ended asked lines now ending left rest all short next is =
+back_ended asked {lines} {ending} {left} {all} short next is =
     next.1 ∙ back_short asked lines ending left all short next.0 is
 
 -- an ending that nothing follows comes with fewer lines than were asked for

@@ -37,29 +37,32 @@ text_unmarked (a ∷ b ∷ []) unread plain (inl enough) = absurd (omega (arith,
 text_unmarked (a ∷ b ∷ c ∷ bytes) unread plain (inl enough) =
     ap (λ (test : Bool). if test then bytes ++ unread else a ∷ b ∷ c ∷ (bytes ++ unread)) plain
 
--- the lines of a file of which nothing was taken
-left_first : (most number : ℕ) (more : Bool) (file text whole : List ℕ) → number ≡ 1
-    → more ≡ nat_lt most (length file) → whole ≡ take most file → without_mark whole ≡ text
+-- the text, the number of its first line and whether more follows are those of a file of which nothing was taken
+pub record IsAtFront (most : ℕ) (file : List ℕ) (more : Bool) (number : ℕ) (text : List ℕ) : Type 0 where
+  pub first : number ≡ 1
+  pub more_is : more ≡ nat_lt most (length file)
+  pub text_is : text ≡ take most file
+
+-- its lines
+left_first : {most : ℕ} {file : List ℕ} {more : Bool} {number : ℕ} {whole text : List ℕ}
+    → IsAtFront most file more number whole → without_mark whole ≡ text
     → lines_from more number (parts_of text) ≡ file_lines most file
 unfolding file_lines
-left_first most number more file text whole first is all passed =
-    ap (λ n. lines_from more n (parts_of text)) first
-    ∙ ap (λ (m : Bool). lines_from m 1 (parts_of text)) is
-    ∙ ap (λ bytes. lines_from (nat_lt most (length file)) 1 (parts_of bytes)) (sym passed ∙ ap without_mark all)
+left_first {most} {file} {more} {number} {whole} {text} front passed =
+    ap (λ n. lines_from more n (parts_of text)) front.first
+    ∙ ap (λ (m : Bool). lines_from m 1 (parts_of text)) front.more_is
+    ∙ ap (λ bytes. lines_from (nat_lt most (length file)) 1 (parts_of bytes))
+    (sym passed ∙ ap without_mark front.text_is)
 
-pub left_marked : (most number : ℕ) (more : Bool) (file bytes unread : List ℕ) → number ≡ 1
-    → more ≡ nat_lt most (length file) → bytes ++ unread ≡ take most file → true ≡ has_mark bytes
+pub left_marked : {most : ℕ} {file : List ℕ} {more : Bool} {number : ℕ} (bytes unread : List ℕ)
+    → IsAtFront most file more number (bytes ++ unread) → true ≡ has_mark bytes
     → lines_from more number (parts_of (drop 3 bytes ++ unread)) ≡ file_lines most file
-left_marked most number more file bytes unread first is all marked =
-    left_first most number more file (drop 3 bytes ++ unread) (bytes ++ unread) first is all
-    (text_marked bytes unread (sym marked))
+left_marked bytes unread front marked = left_first front (text_marked bytes unread (sym marked))
 
-pub left_unmarked : (most number : ℕ) (more : Bool) (file bytes unread : List ℕ) → number ≡ 1
-    → more ≡ nat_lt most (length file) → bytes ++ unread ≡ take most file → false ≡ has_mark bytes
+pub left_unmarked : {most : ℕ} {file : List ℕ} {more : Bool} {number : ℕ} (bytes unread : List ℕ)
+    → IsAtFront most file more number (bytes ++ unread) → false ≡ has_mark bytes
     → (3 ≤ length bytes) ⊎ (unread ≡ []) → lines_from more number (parts_of (bytes ++ unread)) ≡ file_lines most file
-left_unmarked most number more file bytes unread first is all plain enough =
-    left_first most number more file (bytes ++ unread) (bytes ++ unread) first is all
-    (text_unmarked bytes unread (sym plain) enough)
+left_unmarked bytes unread front plain enough = left_first front (text_unmarked bytes unread (sym plain) enough)
 
 -- three bytes were read, or all
 pub enough_read : (following : Following) (place most : ℕ) (file bytes : List ℕ)

@@ -148,13 +148,13 @@ unfolding parts_of lines_from
 left_none number [] none = refl
 left_none number (byte ∷ held) none = absurd (omega (arith, none))
 
-pub left_last : (number place len : ℕ) (held : List ℕ) → IsBeforeFeed held place → length held ≤ place
+pub left_last : (number : ℕ) {place : ℕ} (len : ℕ) (held : List ℕ) → IsBeforeFeed held place → length held ≤ place
     → place ≤ LONGEST → 0 < len → len ≡ length held
     → lines_from false number (parts_of (held ++ []))
     ≡ with_line (line_in (take len held)) (lines_from false (number + 1) (parts_of (drop len held ++ [])))
 unfolding parts_of
-left_last number place len [] is all short some same = absurd (omega (arith, some, same))
-left_last number place len (byte ∷ held) is all short some same =
+left_last number len [] is all short some same = absurd (omega (arith, some, same))
+left_last number {place} len (byte ∷ held) is all short some same =
     let whole : take len (byte ∷ held) ≡ byte ∷ held = take_all len (byte ∷ held) (omega (arith, same)) in
     let none : drop len (byte ∷ held) ≡ [] = drop_all len (byte ∷ held) (omega (arith, same)) in
     ap (λ bytes. lines_from false number (parts_of bytes)) (append-nil (byte ∷ held))

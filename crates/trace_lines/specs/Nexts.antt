@@ -18,7 +18,7 @@ pub record IsBeforeFeed (bytes : List ℕ) (place : ℕ) : Type 0 where
 -- a line is held, with its line feed or without one
 pub record IsHeld (bytes : List ℕ) (len used : ℕ) : Type 0 where
   pub line : IsLine (take len bytes)
-  pub some : 0 < used
+  pub positive : 0 < used
   pub ordered : len ≤ used
   pub within : used ≤ length bytes
 

@@ -5,8 +5,8 @@ ghost use Rattle.std.specs.Prelude.{◌≡◌, [], IfOk, length};
 use line_text::Lines;
 use std::alloc::{AllocError, Global};
 
-/// The lines and the bytes that a piece is likely to have. Their memory is taken at once: a text that
-/// grows by doubling takes up to twice what it needs, and leaves holes that fit nothing else.
+/// The lines and the bytes that a piece is likely to have. Their memory is taken at once: a text
+/// that grows by doubling takes up to twice what it needs, and leaves holes that fit nothing else.
 #[derive(Clone, Copy)]
 pub struct Capacity {
     pub lines: usize,

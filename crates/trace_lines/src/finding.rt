@@ -83,7 +83,8 @@ impl LineCursor {
     pub fn pass(&mut self, used: usize)
         requires positive { 0 < used }
         requires within { used ≤ length (buffered_bytes self.old) }
-        ensures left { (file : List ℕ) → lines_from_cursor file self.new ≡ lines_after_next file self.old used }
+        ensures left { (file : List ℕ)
+            → lines_from_cursor file self.new ≡ lines_after_next file self.old used }
         ensures room { room_in self.new + used ≡ room_in self.old }
     {
         self.at += used;

@@ -47,7 +47,7 @@ pub struct LineCursor {
     ghost within: { place ≤ most },
     ghost bounded: { most < 2 ^ 62 },
     ghost counted: { number + vec_len bytes ≤ place + at + 1 },
-    ghost some: { 0 < vec_len chunk },
+    ghost nonempty: { 0 < vec_len chunk },
     ghost small: { vec_len bytes ≤ LONGEST + vec_len chunk },
 }
 
@@ -104,7 +104,8 @@ impl LineCursor {
         ensures piece { IfOk result (λ piece. ForFile (file_of (H.known_files shelf.old) name.now)
             (λ file. piece_view piece ≡ front_of asked (lines_from_cursor file self.old))) }
         ensures rest { OnOk result (ForFile (file_of (H.known_files shelf.old) name.now)
-            (λ file. lines_from_cursor file self.new ≡ back_of asked (lines_from_cursor file self.old))) }
+            (λ file. lines_from_cursor file self.new
+            ≡ back_of asked (lines_from_cursor file self.old))) }
         ensures counts { IfOk result (FitsAsked asked) }
         ensures room { let before = room_in self.old in let now = room_in self.new in
             IfOk result (λ piece. length piece.lines + now ≤ before) }

@@ -65,8 +65,9 @@ impl LineTaker {
             IfOk result (λ taken. length taken.0.lines + room_of taken.1 ≤ before) }
         ensures faults { let before = H.faults shelf.old in let now = H.faults shelf.new in
             CountsFault is_read_fault result before now }
-        ensures misses { let known_files = H.known_files shelf.old in let name = string_bytes self.name in
-            CountsMiss is_read_fault result known_files name (H.misses shelf.old) (H.misses shelf.new) }
+        ensures misses { let known_files = H.known_files shelf.old in
+            let name = string_bytes self.name in let before = H.misses shelf.old in
+            CountsMiss is_read_fault result known_files name before (H.misses shelf.new) }
     {
         let LineTaker {
             name,

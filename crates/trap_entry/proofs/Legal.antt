@@ -28,14 +28,14 @@ is_a_mode Machine two = differs 3 2 refl two
 into_machine : (status : ℕ) (mode : Mode) → IsLegalStatus status → IsLegalStatus (status_into_machine status mode)
 unfolding status_into_machine
 into_machine status mode legal =
-    status_with_mpp machine_stack status _ (lit< tt) refl refl refl
+    status_with_mpp machine_stack _ (lit< tt) refl refl refl
     (λ two. is_a_mode mode
     (sym (machine_mpp (bit_at status MIE) (mode_number mode) (bit_at-lt status MIE) (number_fits mode)) ∙ two))
     legal
 
 into_supervisor : (status : ℕ) (mode : Mode) → IsLegalStatus status → IsLegalStatus (status_into_supervisor status mode)
 unfolding status_into_supervisor
-into_supervisor status mode legal = status_without_mpp supervisor_stack status _ (lit< tt) refl refl refl legal
+into_supervisor status mode legal = status_without_mpp supervisor_stack _ (lit< tt) refl refl refl legal
 
 none_is_not_2 : (n : ℕ) → n ≡ 0 → n ≢ 2
 none_is_not_2 n none two = omega arith
@@ -50,18 +50,18 @@ by_mret status legal =
           (λ b. IsLegalStatus
           (masked_update (if b then machine_stack else machine_stack_and_mprv) status
           (2 ^ MIE * bit_at status MPIE + 2 ^ MPIE))) (sym machine)
-          (status_with_mpp machine_stack status _ (lit< tt) refl refl refl user legal)
+          (status_with_mpp machine_stack _ (lit< tt) refl refl refl user legal)
       | inr other ↦
           subst
           (λ b. IsLegalStatus
           (masked_update (if b then machine_stack else machine_stack_and_mprv) status
           (2 ^ MIE * bit_at status MPIE + 2 ^ MPIE))) (sym other)
-          (status_with_mpp machine_stack_and_mprv status _ (lit< tt) refl refl refl user legal)
+          (status_with_mpp machine_stack_and_mprv _ (lit< tt) refl refl refl user legal)
     ]
 
 by_sret : (status : ℕ) → IsLegalStatus status → IsLegalStatus (status_by_sret status)
 unfolding status_by_sret
-by_sret status legal = status_without_mpp supervisor_stack_and_mprv status _ (lit< tt) refl refl refl legal
+by_sret status legal = status_without_mpp supervisor_stack_and_mprv _ (lit< tt) refl refl refl legal
 
 pub machine_legal : (csrs : Csrs) (mode : Mode) (value tval pc : ℕ) → IsLegal csrs → pc % 2 ≡ 0
     → IsLegal (enter_machine_of csrs mode value tval pc)

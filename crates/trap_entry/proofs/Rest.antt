@@ -14,24 +14,26 @@ use Rattle.trap_entry.specs.Laws.{ChangesOnly, EntersOnly, is_of_machine, is_of_
 never : true ≡ false → ⊥
 never wrong = cc
 
-apart : (some : StoredCsr → Bool) (stored named : StoredCsr) → some named ≡ true → some stored ≡ false
-    → stored_index_of stored ≢ stored_index_of named
-apart some stored named is out same = never (sym is ∙ ap some (sym (same_index stored named same)) ∙ out)
+apart : (named : StoredCsr → Bool) (stored written : StoredCsr) → named written ≡ true → named stored ≡ false
+    → stored_index_of stored ≢ stored_index_of written
+apart named stored written is out same = never (sym is ∙ ap named (sym (same_index stored written same)) ∙ out)
 
-four : (csrs : Csrs) (some : StoredCsr → Bool) (a b c d stored : StoredCsr) (v w x y : ℕ) → some a ≡ true
-    → some b ≡ true → some c ≡ true → some d ≡ true → some stored ≡ false
-    → value_at (with_at (with_at (with_at (with_at csrs a v) b w) c x) d y) stored ≡ value_at csrs stored
-four csrs some a b c d stored v w x y is_a is_b is_c is_d out =
-    at_other (with_at (with_at (with_at csrs a v) b w) c x) d stored y (apart some stored d is_d out)
-    ∙ at_other (with_at (with_at csrs a v) b w) c stored x (apart some stored c is_c out)
-    ∙ at_other (with_at csrs a v) b stored w (apart some stored b is_b out)
-    ∙ at_other csrs a stored v (apart some stored a is_a out)
+-- a write of a register that is named leaves one that is not
+unnamed : (named : StoredCsr → Bool) (csrs : Csrs) (written : StoredCsr) (value : ℕ) (stored : StoredCsr)
+    → named written ≡ true → named stored ≡ false
+    → value_at (with_at csrs written value) stored ≡ value_at csrs stored
+unnamed named csrs written value stored is out =
+    at_other csrs written stored value (apart named stored written is out)
 
 machine_only : (csrs : Csrs) (mode : Mode) (interrupt : Bool) (cause tval pc : ℕ)
     → ChangesOnly is_of_machine csrs (enter_machine_of csrs mode (cause_value interrupt cause) tval pc)
 unfolding enter_machine_of with_at
 machine_only csrs mode interrupt cause tval pc = record {
-  registers = λ stored out. four csrs is_of_machine Mepc Mcause Mtval Mstatus stored _ _ _ _ refl refl refl refl out;
+  registers = λ stored out.
+      unnamed is_of_machine _ Mstatus _ stored refl out
+      ∙ unnamed is_of_machine _ Mtval _ stored refl out
+      ∙ unnamed is_of_machine _ Mcause _ stored refl out
+      ∙ unnamed is_of_machine csrs Mepc _ stored refl out;
   entries = refl;
 }
 
@@ -39,7 +41,11 @@ supervisor_only : (csrs : Csrs) (mode : Mode) (interrupt : Bool) (cause tval pc 
     → ChangesOnly is_of_supervisor csrs (enter_supervisor_of csrs mode (cause_value interrupt cause) tval pc)
 unfolding enter_supervisor_of with_at
 supervisor_only csrs mode interrupt cause tval pc = record {
-  registers = λ stored out. four csrs is_of_supervisor Sepc Scause Stval Mstatus stored _ _ _ _ refl refl refl refl out;
+  registers = λ stored out.
+      unnamed is_of_supervisor _ Mstatus _ stored refl out
+      ∙ unnamed is_of_supervisor _ Stval _ stored refl out
+      ∙ unnamed is_of_supervisor _ Scause _ stored refl out
+      ∙ unnamed is_of_supervisor csrs Sepc _ stored refl out;
   entries = refl;
 }
 
@@ -59,13 +65,13 @@ enters_only csrs mode interrupt cause tval pc =
 pub mret_only : (csrs : Csrs) → ChangesOnly is_status csrs (mret_of csrs)
 unfolding mret_of with_at
 mret_only csrs = record {
-  registers = λ stored out. at_other csrs Mstatus stored _ (apart is_status stored Mstatus refl out);
+  registers = λ stored out. unnamed is_status csrs Mstatus _ stored refl out;
   entries = refl;
 }
 
 pub sret_only : (csrs : Csrs) → ChangesOnly is_status csrs (sret_of csrs)
 unfolding sret_of with_at
 sret_only csrs = record {
-  registers = λ stored out. at_other csrs Mstatus stored _ (apart is_status stored Mstatus refl out);
+  registers = λ stored out. unnamed is_status csrs Mstatus _ stored refl out;
   entries = refl;
 }

@@ -26,21 +26,6 @@ whole_with : (csrs : Csrs) (stored : StoredCsr) (value : ℕ) → length csrs.va
 unfolding with_at
 whole_with csrs stored value whole = length-set csrs.values (stored_index_of stored) value ∙ whole
 
--- the last of four, and the first, which the other three leave
-last : (csrs : Csrs) (a b c d : StoredCsr) (v w x y : ℕ) → length csrs.values ≡ STORED_CSRS
-    → value_at (with_at (with_at (with_at (with_at csrs a v) b w) c x) d y) d ≡ y
-last csrs a b c d v w x y whole = at_same _ d y (whole_with _ c x (whole_with _ b w (whole_with csrs a v whole)))
-
-first : (csrs : Csrs) (a b c d : StoredCsr) (v w x y : ℕ) → length csrs.values ≡ STORED_CSRS
-    → stored_index_of a ≢ stored_index_of b → stored_index_of a ≢ stored_index_of c
-    → stored_index_of a ≢ stored_index_of d
-    → value_at (with_at (with_at (with_at (with_at csrs a v) b w) c x) d y) a ≡ v
-first csrs a b c d v w x y whole nb nc nd =
-    at_other (with_at (with_at (with_at csrs a v) b w) c x) d a y nd
-    ∙ at_other (with_at (with_at csrs a v) b w) c a x nc
-    ∙ at_other (with_at csrs a v) b a w nb
-    ∙ at_same csrs a v whole
-
 whole_machine : (csrs : Csrs) (mode : Mode) (interrupt : Bool) (cause tval pc : ℕ) → length csrs.values ≡ STORED_CSRS
     → length (enter_machine_of csrs mode (cause_value interrupt cause) tval pc).values ≡ STORED_CSRS
 unfolding enter_machine_of
@@ -59,7 +44,7 @@ status_machine : (csrs : Csrs) (mode : Mode) (interrupt : Bool) (cause tval pc :
     ≡ status_into_machine (value_at csrs Mstatus) mode
 unfolding enter_machine_of
 status_machine csrs mode interrupt cause tval pc whole =
-    last csrs Mepc Mcause Mtval Mstatus pc (cause_value interrupt cause) tval _ whole
+    at_same _ Mstatus _ (whole_with _ Mtval tval (whole_with _ Mcause _ (whole_with csrs Mepc pc whole)))
 
 status_supervisor : (csrs : Csrs) (mode : Mode) (interrupt : Bool) (cause tval pc : ℕ)
     → length csrs.values ≡ STORED_CSRS
@@ -67,21 +52,25 @@ status_supervisor : (csrs : Csrs) (mode : Mode) (interrupt : Bool) (cause tval p
     ≡ status_into_supervisor (value_at csrs Mstatus) mode
 unfolding enter_supervisor_of
 status_supervisor csrs mode interrupt cause tval pc whole =
-    last csrs Sepc Scause Stval Mstatus pc (cause_value interrupt cause) tval _ whole
+    at_same _ Mstatus _ (whole_with _ Stval tval (whole_with _ Scause _ (whole_with csrs Sepc pc whole)))
 
 pc_machine : (csrs : Csrs) (mode : Mode) (interrupt : Bool) (cause tval pc : ℕ) → length csrs.values ≡ STORED_CSRS
     → value_at (enter_machine_of csrs mode (cause_value interrupt cause) tval pc) Mepc ≡ pc
 unfolding enter_machine_of
 pc_machine csrs mode interrupt cause tval pc whole =
-    first csrs Mepc Mcause Mtval Mstatus pc (cause_value interrupt cause) tval _ whole (differs 9 10 refl)
-    (differs 9 11 refl) (differs 9 0 refl)
+    at_other _ Mstatus Mepc _ (differs 9 0 refl)
+    ∙ at_other _ Mtval Mepc tval (differs 9 11 refl)
+    ∙ at_other _ Mcause Mepc _ (differs 9 10 refl)
+    ∙ at_same csrs Mepc pc whole
 
 pc_supervisor : (csrs : Csrs) (mode : Mode) (interrupt : Bool) (cause tval pc : ℕ) → length csrs.values ≡ STORED_CSRS
     → value_at (enter_supervisor_of csrs mode (cause_value interrupt cause) tval pc) Sepc ≡ pc
 unfolding enter_supervisor_of
 pc_supervisor csrs mode interrupt cause tval pc whole =
-    first csrs Sepc Scause Stval Mstatus pc (cause_value interrupt cause) tval _ whole (differs 17 18 refl)
-    (differs 17 19 refl) (differs 17 0 refl)
+    at_other _ Mstatus Sepc _ (differs 17 0 refl)
+    ∙ at_other _ Stval Sepc tval (differs 17 19 refl)
+    ∙ at_other _ Scause Sepc _ (differs 17 18 refl)
+    ∙ at_same csrs Sepc pc whole
 
 numbered : (mode : Mode) → mode_of_encoding (mode_number mode) ≡ mode
 numbered User = refl

@@ -1,9 +1,10 @@
-use Rattle.std.proofs.Common.{◌≡◌, ◌<◌, ◌+◌, ◌∙◌, ap, arith, length, refl, sym}
+use Rattle.std.proofs.Common.{◌≡◌, ◌<◌, ◌+◌, ◌++◌, ◌∙◌, ap, arith, drop, length, map, refl, sym}
 use Rattle.std.proofs.lemmas.Bool.{eqb-true}
 use Rattle.std.proofs.lemmas.Option.{slice_get_read}
 use Rattle.rvfi_rows.specs.Rows.{rows_of}
-use Rattle.boundary_guess.specs.Guesses.{CanStep, guess_after, state_of}
-use Rattle.boundary_guess.proofs.Passed.{all_push, can_copy, hart_end, hart_turn, is_some_length, no_segment}
+use Rattle.rvfi_rows.specs.Segments.{segment_lines}
+use Rattle.boundary_guess.specs.Guesses.{CanStep, guess_after, guesses_of, state_of}
+use Rattle.boundary_guess.proofs.Passed.{PassesSegment, all_push, can_copy, hart_end, hart_turn, is_some_length, no_segment}
 use Rattle.boundary_guess.proofs.Passed.{same_state}
 use Rattle.boundary_guess.proofs.guessing.guesses.Goals as goal
 
@@ -31,9 +32,11 @@ loop-index-preserved g c =
     ≡ guess_after (state_of g.M.PhysMem.bytes before) (rows_of c.args.columns.now segment.lines) =
     c.in_ok-pass_segment.ensures.guess
     ∙ ap (λ state. guess_after state (rows_of c.args.columns.now segment.lines)) is_next in
-    let turn =
-    hart_turn g.M.PhysMem.bytes c.args.columns.now segments index segment (state_of g.M.PhysMem.bytes before) kept
-    now c.loop-index.guesses.items _ here is_kept went c.loop-index.invariant.whole in
+    let passes : PassesSegment g.M.PhysMem.bytes c.args.columns.now segments index before kept now =
+    record { segment = segment; segment_is = here; copied = is_kept; passed = went } in
+    let whole =
+    guesses_of (state_of g.M.PhysMem.bytes c.args.start.now) c.args.columns.now (map segment_lines segments) in
+    let turn = hart_turn c.loop-index.guesses.items {whole = whole} passes c.loop-index.invariant.whole in
     let can_step =
     can_copy g.M.PhysMem.ram before kept c.in_ok-kept.ensures.core c.in_ok-kept.ensures.ram
     c.loop-index.invariant.can_step in
@@ -48,15 +51,23 @@ loop-index-preserved g c =
 pub returns-clause-guesses : goal.returns-clause-guesses
 returns-clause-guesses g c =
     let segments = c.args.segments.now in
-    let before = c.loop-index.hart in
+    let index = c.loop-index.index in
+    let items = c.loop-index.guesses.items in
     let kept = c.in_ok-copy.field-0 in
     let some = is_some_length (length segments) (sym c.if-is_empty.ensures) in
-    let last : length segments ≡ c.loop-index.index + 1 =
+    let last : length segments ≡ index + 1 =
     omega (arith, some, c.loop-index-test.false, c.loop-index.auto.index-end) in
-    let is_kept = same_state g.M.PhysMem.bytes kept before c.in_ok-copy.ensures.core c.in_ok-copy.ensures.bytes in
+    let is_kept =
+    same_state g.M.PhysMem.bytes kept c.loop-index.hart c.in_ok-copy.ensures.core c.in_ok-copy.ensures.bytes in
+    let columns = c.args.columns.now in
+    let left = drop index (map segment_lines segments) in
+    let whole = guesses_of (state_of g.M.PhysMem.bytes c.args.start.now) columns (map segment_lines segments) in
+    let so_far : map (state_of g.M.PhysMem.bytes) items ++ guesses_of (state_of g.M.PhysMem.bytes kept) columns left
+    ≡ whole =
+    ap (λ state. map (state_of g.M.PhysMem.bytes) items ++ guesses_of state columns left) is_kept
+    ∙ c.loop-index.invariant.whole in
     rw c.in_ok-push-2.ensures.items
-    (hart_end g.M.PhysMem.bytes c.args.columns.now segments c.loop-index.index (state_of g.M.PhysMem.bytes before)
-    kept c.loop-index.guesses.items _ last is_kept c.loop-index.invariant.whole)
+    (hart_end g.M.PhysMem.bytes columns segments index kept items {whole = whole} last so_far)
 
 pub returns-clause-can_step : goal.returns-clause-can_step
 returns-clause-can_step g c =

@@ -1,6 +1,5 @@
 use Rattle.std.proofs.Common.{arith}
-use Rattle.rvfi_rows.specs.Cells.{shown_in}
-use Rattle.rvfi_rows.specs.Readings.{reading_of, readings_in}
+use Rattle.rvfi_rows.specs.Readings.{readings_in}
 use Rattle.boundary_guess.specs.Guesses.{state_of}
 use Rattle.boundary_guess.proofs.Passed.{row_stops, row_turn, rows_end}
 use Rattle.boundary_guess.proofs.guessing.pass_rows.Goals as goal
@@ -9,21 +8,17 @@ pub returns-then-not-branch-clause-guess : goal.returns-then-not-branch-clause-g
 returns-then-not-branch-clause-guess g c =
     let before = state_of g.M.PhysMem.bytes c.loop-place.hart in
     let now = state_of g.M.PhysMem.bytes c.pass_reading.new.hart in
-    let row = reading_of c.in-Some.reading (shown_in c.get.new.row) in
-    row_stops before now (readings_in c.args.rows.now) c.loop-place.place row _ c.in-Some.ensures
-    c.in_ok-pass_reading.field-0 c.if-not-branch.true c.in_ok-pass_reading.ensures.passes
-    c.loop-place.invariant.whole
+    row_stops before now (readings_in c.args.rows.now) c.loop-place.place c.in-Some.ensures
+    c.if-not-branch.true c.in_ok-pass_reading.ensures.passes c.loop-place.invariant.whole
 
 pub loop-place-preserved : goal.loop-place-preserved
 loop-place-preserved g c =
     let before = state_of g.M.PhysMem.bytes c.loop-place.hart in
     let now = state_of g.M.PhysMem.bytes c.pass_reading.new.hart in
-    let row = reading_of c.in-Some.reading (shown_in c.get.new.row) in
     record {
       whole =
-          row_turn before now (readings_in c.args.rows.now) c.loop-place.place row _ c.in-Some.ensures
-          c.in_ok-pass_reading.field-0 c.if-not-branch.false c.in_ok-pass_reading.ensures.passes
-          c.loop-place.invariant.whole;
+          row_turn before now (readings_in c.args.rows.now) c.loop-place.place c.in-Some.ensures
+          c.if-not-branch.false c.in_ok-pass_reading.ensures.passes c.loop-place.invariant.whole;
       can_step = c.in_ok-pass_reading.ensures.can_step;
     }
 

@@ -10,7 +10,8 @@ loop-entry-preserved c =
     let P : PmpEntry → Type 0 = λ entry. entry.cfg < 2 ^ 8 in
     let one_more : suc c.loop-entry.entry-index ≡ c.loop-entry.entry-index + 1 = omega arith in
     let front = take-suc c.args.entries.now c.loop-entry.entry-index _ c.loop-entry-test.true in
-    let all = All-push P (take c.loop-entry.entry-index c.args.entries.now) _ c.loop-entry.invariant c.is_byte.ensures in
+    let all =
+    All-push P (take c.loop-entry.entry-index c.args.entries.now) _ c.loop-entry.invariant c.is_byte.ensures in
     subst (λ count. All P (take count c.args.entries.now)) one_more (subst (All P) (sym front) all)
 
 pub returns : goal.returns

@@ -10,8 +10,7 @@ returns c =
     (λ found same yes text line rest stands shared.
     let is = same ∙ ap Ok yes in
     let read = c.read_byte_record.ensures in
-    stands_on text line rest (fields_of c.read_byte_record.new.row) c.args.reader.now c.read_byte_record.new.self
-    stands shared
+    stands_on (fields_of c.read_byte_record.new.row) c.args.reader.now c.read_byte_record.new.self stands shared
     (rw is at read.reads stands.trim stands.ready)
     (rw is at read.flexible)
     (rw is at read.ready stands.trim))

@@ -8,38 +8,38 @@ use Rattle.judge_words.proofs.command_line.judge_command.Goals as goal
 pub with_sharing-requires : goal.with_sharing-requires
 with_sharing-requires c =
     let image =
-    adds_rule _ _ _ _ _ c.in_ok-arg.ensures c.new.ensures.app c.new.ensures.local c.required_word.ensures.rule
+    adds_rule c.in_ok-arg.ensures c.new.ensures.app c.new.ensures.local c.required_word.ensures.rule
     c.required_word.ensures.local in
     let trace =
-    adds_rule _ _ _ _ _ c.in_ok-arg-2.ensures image.0 image.1 c.required_word-2.ensures.rule
+    adds_rule c.in_ok-arg-2.ensures image.0 image.1 c.required_word-2.ensures.rule
     c.required_word-2.ensures.local in
     let pc =
-    adds_rule _ _ _ _ _ c.in_ok-arg-3.ensures trace.0 trace.1 c.option.ensures.rule c.option.ensures.local in
+    adds_rule c.in_ok-arg-3.ensures trace.0 trace.1 c.option.ensures.rule c.option.ensures.local in
     let ram =
-    adds_rule _ _ _ _ _ c.in_ok-arg-4.ensures pc.0 pc.1 c.option_or.ensures.rule c.option_or.ensures.local in
-    let io = adds_rule _ _ _ _ _ c.in_ok-arg-5.ensures ram.0 ram.1 c.option-2.ensures.rule c.option-2.ensures.local in
+    adds_rule c.in_ok-arg-4.ensures pc.0 pc.1 c.option_or.ensures.rule c.option_or.ensures.local in
+    let io = adds_rule c.in_ok-arg-5.ensures ram.0 ram.1 c.option-2.ensures.rule c.option-2.ensures.local in
     let max_image =
-    adds_rule _ _ _ _ _ c.in_ok-arg-6.ensures io.0 io.1 c.option_or-2.ensures.rule c.option_or-2.ensures.local in
-    (adds_rule _ _ _ _ _ c.in_ok-judge.ensures max_image.0 max_image.1 c.option_or-3.ensures.rule
+    adds_rule c.in_ok-arg-6.ensures io.0 io.1 c.option_or-2.ensures.rule c.option_or-2.ensures.local in
+    (adds_rule c.in_ok-judge.ensures max_image.0 max_image.1 c.option_or-3.ensures.rule
     c.option_or-3.ensures.local).1
 
 pub returns : goal.returns
 returns c =
     let image =
-    adds_rule _ _ _ _ _ c.in_ok-arg.ensures c.new.ensures.app c.new.ensures.local c.required_word.ensures.rule
+    adds_rule c.in_ok-arg.ensures c.new.ensures.app c.new.ensures.local c.required_word.ensures.rule
     c.required_word.ensures.local in
     let trace =
-    adds_rule _ _ _ _ _ c.in_ok-arg-2.ensures image.0 image.1 c.required_word-2.ensures.rule
+    adds_rule c.in_ok-arg-2.ensures image.0 image.1 c.required_word-2.ensures.rule
     c.required_word-2.ensures.local in
     let pc =
-    adds_rule _ _ _ _ _ c.in_ok-arg-3.ensures trace.0 trace.1 c.option.ensures.rule c.option.ensures.local in
+    adds_rule c.in_ok-arg-3.ensures trace.0 trace.1 c.option.ensures.rule c.option.ensures.local in
     let ram =
-    adds_rule _ _ _ _ _ c.in_ok-arg-4.ensures pc.0 pc.1 c.option_or.ensures.rule c.option_or.ensures.local in
-    let io = adds_rule _ _ _ _ _ c.in_ok-arg-5.ensures ram.0 ram.1 c.option-2.ensures.rule c.option-2.ensures.local in
+    adds_rule c.in_ok-arg-4.ensures pc.0 pc.1 c.option_or.ensures.rule c.option_or.ensures.local in
+    let io = adds_rule c.in_ok-arg-5.ensures ram.0 ram.1 c.option-2.ensures.rule c.option-2.ensures.local in
     let max_image =
-    adds_rule _ _ _ _ _ c.in_ok-arg-6.ensures io.0 io.1 c.option_or-2.ensures.rule c.option_or-2.ensures.local in
+    adds_rule c.in_ok-arg-6.ensures io.0 io.1 c.option_or-2.ensures.rule c.option_or-2.ensures.local in
     let max_trace =
-    adds_rule _ _ _ _ _ c.in_ok-judge.ensures max_image.0 max_image.1 c.option_or-3.ensures.rule
+    adds_rule c.in_ok-judge.ensures max_image.0 max_image.1 c.option_or-3.ensures.rule
     c.option_or-3.ensures.local in
     IfOk-weaker c.with_sharing.result _ _
     (λ command h. (h.0 ∙ ap (λ (app : App). with_rules app sharing_rules) max_trace.0, h.1))

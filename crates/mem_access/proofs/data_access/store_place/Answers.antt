@@ -1,20 +1,19 @@
-use Rattle.std.proofs.Common.{Ok, Err}
 use Rattle.mem_access.proofs.Looks.{store_misaligned, store_at}
 use Rattle.mem_access.proofs.data_access.store_place.Goals as goal
 
 pub returns-then-va-from-ne0-clause-looked : goal.returns-then-va-from-ne0-clause-looked
 returns-then-va-from-ne0-clause-looked g c =
-    store_misaligned c.args.csrs.now c.args.map.now c.args.mode c.args.va c.args.len c.args.atomic c.args.seen.now
-    (g.M.PhysMem.bytes c.args.mem.now) (rw c.from.ensures at c.if-va-from-ne0.true)
+    store_misaligned c.args.csrs.now c.args.map.now c.args.mode c.args.va c.args.len c.args.atomic
+    (rw c.from.ensures at c.if-va-from-ne0.true)
 
 pub returns-in-Err-clause-looked : goal.returns-in-Err-clause-looked
 returns-in-Err-clause-looked g c =
-    store_at c.args.csrs.now c.args.map.now c.args.mode c.args.va c.args.len c.args.atomic (Err c.in-Err.cause)
-    c.args.seen.now c.reach.new.seen (g.M.PhysMem.bytes c.args.mem.now) (rw c.from.ensures at c.if-va-from-ne0.false)
+    store_at c.args.csrs.now c.args.map.now c.args.mode c.args.va c.args.len c.args.atomic
+    (rw c.from.ensures at c.if-va-from-ne0.false)
     (rw c.data_request-request.ensures at c.in-Err.ensures.reached)
 
 pub returns-in-Ok-clause-looked : goal.returns-in-Ok-clause-looked
 returns-in-Ok-clause-looked g c =
-    store_at c.args.csrs.now c.args.map.now c.args.mode c.args.va c.args.len c.args.atomic (Ok c.in-Ok.place)
-    c.args.seen.now c.reach.new.seen (g.M.PhysMem.bytes c.args.mem.now) (rw c.from.ensures at c.if-va-from-ne0.false)
+    store_at c.args.csrs.now c.args.map.now c.args.mode c.args.va c.args.len c.args.atomic
+    (rw c.from.ensures at c.if-va-from-ne0.false)
     (rw c.data_request-request.ensures at c.in-Ok.ensures.reached)

@@ -1,5 +1,5 @@
 use Rattle.std.proofs.Common.{◌∙◌, ◌++◌, ◌∷◌, [], ap}
-use Rattle.page_layers.proofs.Stacks.{stacked_first, stacked_next, stacked_all}
+use Rattle.page_layers.proofs.Stacks.{PutsCopy, stacked_first, stacked_next, stacked_all}
 use Rattle.page_layers.proofs.layers.stacked.Goals as goal
 
 pub loop-layer-init : goal.loop-layer-init
@@ -10,10 +10,14 @@ loop-layer-init c =
 
 pub loop-layer-preserved : goal.loop-layer-preserved
 loop-layer-preserved c = λ number.
-    stacked_next c.loop-layer.layers.items c.push-in-loop-layer.new.self.items c.in_ok-clone.field-0 c.args.older.now
-    c.loop-layer.layer-index c.layer-item.result number _ c.loop-layer-test.true
-    c.in_ok-push-2.ensures.items (c.in_ok-clone.ensures.cases ∙ ap (λ layer. layer.blocks.value) c.layer-item.is)
-    (c.loop-layer.invariant number)
+    let put : PutsCopy c.loop-layer.layers.items c.push-in-loop-layer.new.self.items c.in_ok-clone.field-0
+    c.args.older.now c.loop-layer.layer-index c.layer-item.result =
+    record {
+      within = c.loop-layer-test.true;
+      pushed = c.in_ok-push-2.ensures.items;
+      same = c.in_ok-clone.ensures.cases ∙ ap (λ layer. layer.blocks.value) c.layer-item.is;
+    } in
+    stacked_next number put (c.loop-layer.invariant number)
 
 pub returns : goal.returns
 returns c =

@@ -13,9 +13,8 @@ returns-in-None c =
 
 pub loop-index-preserved : goal.loop-index-preserved
 loop-index-preserved c =
-    cells-next c.args.columns.now c.args.fields.now c.loop-index.index c.in-Some.field.now (shown_in c.loop-index.row)
-    (shown_in c.add.new.self) _ c.loop-index-test.true c.in-Some.ensures c.in_ok-add-in-Some.ensures
-    c.loop-index.invariant
+    cells-next c.args.columns.now c.args.fields.now c.loop-index.index (shown_in c.loop-index.row)
+    c.loop-index-test.true c.in-Some.ensures c.in_ok-add-in-Some.ensures c.loop-index.invariant
 
 pub returns : goal.returns
 returns c =
@@ -26,6 +25,5 @@ pub returns-in_err-add-in-Some : goal.returns-in_err-add-in-Some
 returns-in_err-add-in-Some c =
     let p = err_from_is_err_and c.from_residual.result c.from_residual.ensures.1 in
     rw (p.1, p.2)
-    (cells-fail c.args.columns.now c.args.fields.now c.loop-index.index c.in-Some.field.now
-    (shown_in c.loop-index.row) _ _ c.loop-index-test.true c.in-Some.ensures c.in_err-add-in-Some.ensures
-    c.loop-index.invariant)
+    (cells-fail c.args.columns.now c.args.fields.now c.loop-index.index (shown_in c.loop-index.row)
+    c.loop-index-test.true c.in-Some.ensures c.in_err-add-in-Some.ensures c.loop-index.invariant)

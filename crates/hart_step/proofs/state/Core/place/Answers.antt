@@ -1,6 +1,5 @@
 use Rattle.std.proofs.Common.{Ok, Err, true, false}
 use Rattle.hart_words.proofs.Runs.{Observes-mapped}
-use Rattle.rv_integer.specs.declared.int_result.MemoryOp.TheVariants.{Store, StoreConditional, Amo}
 use Rattle.mem_access.specs.Accesses.{store_place_of}
 use Rattle.hart_step.specs.MemoryAccess.{found_without_value}
 use Rattle.hart_step.proofs.Ways.{placed_as, exchange_refused, exchange_placed}
@@ -11,8 +10,7 @@ returns-in-Ok-clause-placed g c =
     let core = c.args.self.now in
     let request = c.args.request.now in
     let found = store_place_of core.csrs core.map core.mode request.address c.bytes-len.result false in
-    placed_as core request (Store c.in-Store.value) c.bytes-len.result (Ok (c.in-Ok.place, 0)) c.args.seen.now
-    c.store_place.new.seen (g.M.PhysMem.bytes c.args.mem.now) c.in-Store.is c.bytes-len.ensures.value
+    placed_as core request c.in-Store.is c.bytes-len.ensures.value
     (Observes-mapped found_without_value found (Ok c.in-Ok.place) c.args.seen.now c.store_place.new.seen
     (g.M.PhysMem.bytes c.args.mem.now) c.in-Ok.ensures.looked)
 
@@ -21,8 +19,7 @@ returns-in-Err-clause-placed g c =
     let core = c.args.self.now in
     let request = c.args.request.now in
     let found = store_place_of core.csrs core.map core.mode request.address c.bytes-len.result false in
-    placed_as core request (Store c.in-Store.value) c.bytes-len.result (Err c.in-Err.exception) c.args.seen.now
-    c.store_place.new.seen (g.M.PhysMem.bytes c.args.mem.now) c.in-Store.is c.bytes-len.ensures.value
+    placed_as core request c.in-Store.is c.bytes-len.ensures.value
     (Observes-mapped found_without_value found (Err c.in-Err.exception) c.args.seen.now c.store_place.new.seen
     (g.M.PhysMem.bytes c.args.mem.now) c.in-Err.ensures.looked)
 
@@ -32,9 +29,7 @@ returns-in-Ok-store_place-clause-placed g c =
     let request = c.args.request.now in
     let seen = c.store_place-in-StoreConditional.new.seen in
     let found = store_place_of core.csrs core.map core.mode request.address c.bytes-len.result true in
-    placed_as core request (StoreConditional c.in-StoreConditional.value) c.bytes-len.result
-    (Ok (c.in-Ok-store_place.place, 0)) c.args.seen.now seen (g.M.PhysMem.bytes c.args.mem.now)
-    c.in-StoreConditional.is c.bytes-len.ensures.value
+    placed_as core request c.in-StoreConditional.is c.bytes-len.ensures.value
     (Observes-mapped found_without_value found (Ok c.in-Ok-store_place.place) c.args.seen.now seen
     (g.M.PhysMem.bytes c.args.mem.now) c.in-Ok-store_place.ensures.looked)
 
@@ -44,9 +39,7 @@ returns-in-Err-store_place-clause-placed g c =
     let request = c.args.request.now in
     let seen = c.store_place-in-StoreConditional.new.seen in
     let found = store_place_of core.csrs core.map core.mode request.address c.bytes-len.result true in
-    placed_as core request (StoreConditional c.in-StoreConditional.value) c.bytes-len.result
-    (Err c.in-Err-store_place.exception) c.args.seen.now seen (g.M.PhysMem.bytes c.args.mem.now)
-    c.in-StoreConditional.is c.bytes-len.ensures.value
+    placed_as core request c.in-StoreConditional.is c.bytes-len.ensures.value
     (Observes-mapped found_without_value found (Err c.in-Err-store_place.exception) c.args.seen.now seen
     (g.M.PhysMem.bytes c.args.mem.now) c.in-Err-store_place.ensures.looked)
 
@@ -54,19 +47,14 @@ pub returns-in-Ok-store_place-2-clause-placed : goal.returns-in-Ok-store_place-2
 returns-in-Ok-store_place-2-clause-placed g c =
     let core = c.args.self.now in
     let request = c.args.request.now in
-    let amo = Amo c.in-Amo.op c.in-Amo.width c.in-Amo.b in
-    placed_as core request amo c.bytes-len.result (Ok (c.in-Ok-store_place-2.place, c.read.result)) c.args.seen.now
-    c.put.new.self (g.M.PhysMem.bytes c.args.mem.now) c.in-Amo.is c.bytes-len.ensures.value
-    (exchange_placed core request.address c.bytes-len.result c.in-Ok-store_place-2.place c.read.result c.args.seen.now
-    c.store_place-in-Amo.new.seen c.put.new.self (g.M.PhysMem.bytes c.args.mem.now)
-    c.in-Ok-store_place-2.ensures.looked c.read.ensures.value c.put.ensures)
+    placed_as core request c.in-Amo.is c.bytes-len.ensures.value
+    (exchange_placed core request.address c.bytes-len.result c.in-Ok-store_place-2.ensures.looked c.read.ensures.value
+    c.put.ensures)
 
 pub returns-in-Err-store_place-2-clause-placed : goal.returns-in-Err-store_place-2-clause-placed
 returns-in-Err-store_place-2-clause-placed g c =
     let core = c.args.self.now in
     let request = c.args.request.now in
-    let amo = Amo c.in-Amo.op c.in-Amo.width c.in-Amo.b in
-    placed_as core request amo c.bytes-len.result (Err c.in-Err-store_place-2.exception) c.args.seen.now
-    c.store_place-in-Amo.new.seen (g.M.PhysMem.bytes c.args.mem.now) c.in-Amo.is c.bytes-len.ensures.value
+    placed_as core request c.in-Amo.is c.bytes-len.ensures.value
     (exchange_refused core request.address c.bytes-len.result c.in-Err-store_place-2.exception c.args.seen.now
     c.store_place-in-Amo.new.seen (g.M.PhysMem.bytes c.args.mem.now) c.in-Err-store_place-2.ensures.looked)

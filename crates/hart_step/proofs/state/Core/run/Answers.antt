@@ -1,4 +1,4 @@
-use Rattle.std.proofs.Common.{◌≡◌, ap, Some, None, Ok, Err}
+use Rattle.std.proofs.Common.{◌≡◌, ap, Some, Ok, Err}
 use Rattle.rvfi_rows.specs.Cells.{shown_in}
 use Rattle.hart_words.specs.declared.privilege.Cause.TheVariants.{IllegalInstruction}
 use Rattle.hart_step.specs.Instructions.{run_of_exception, completion_with}
@@ -16,10 +16,7 @@ returns-in-None-clause-ran g c =
     let word = c.in-Ok.word in
     let bytes = g.M.PhysMem.bytes c.args.mem.now in
     let bits = c.from-bits.result in
-    ran_decoded core (shown_in c.args.row.now) word.0 word.1 None
-    (run_of_exception core (Some bits) (IllegalInstruction, bits)) c.args.accesses.now.seen
-    c.fetch-fetched.new.seen c.fetch-fetched.new.seen c.args.accesses.now.wrote c.args.accesses.now.wrote bytes
-    bytes c.in-Ok.ensures.looked c.in-None.ensures.meaning
+    ran_decoded core (shown_in c.args.row.now) word.0 word.1 c.in-Ok.ensures.looked c.in-None.ensures.meaning
     (executed_pure (run_of_exception core (Some word.0) (IllegalInstruction, word.0))
     (run_of_exception core (Some bits) (IllegalInstruction, bits)) c.fetch-fetched.new.seen
     c.args.accesses.now.wrote bytes
@@ -29,35 +26,21 @@ pub returns-in-Ok-2-clause-ran : goal.returns-in-Ok-2-clause-ran
 returns-in-Ok-2-clause-ran g c =
     let core = c.args.self.now in
     let shown = shown_in c.args.row.now in
-    let s1 = c.fetch-fetched.new.seen in
-    let accesses = c.execute.new.accesses in
-    let w0 = c.args.accesses.now.wrote in
-    let b0 = g.M.PhysMem.bytes c.args.mem.now in
-    let b1 = g.M.PhysMem.bytes c.execute.new.mem in
     let chosen = rw c.operands.ensures at c.choices_of-choices.ensures in
-    ran_decoded core shown c.in-Ok.word.0 c.in-Ok.word.1 (Some c.in-Some.op) _ c.args.accesses.now.seen s1
-    accesses.seen w0 accesses.wrote b0 b1 c.in-Ok.ensures.looked c.in-Some.ensures.meaning
+    ran_decoded core shown c.in-Ok.word.0 c.in-Ok.word.1 c.in-Ok.ensures.looked c.in-Some.ensures.meaning
     (rw (← c.from-bits.ensures, ← c.from.ensures)
-    (ran_executed core shown c.from-bits.result c.from.result c.in-Some.op c.choices_of-choices.result
-    (completion_with c.execute.new.self (Ok c.in-Ok-2.access)) s1 accesses.seen w0 accesses.wrote b0 b1 chosen
+    (ran_executed core shown c.from-bits.result c.from.result c.in-Some.op
+    (completion_with c.execute.new.self (Ok c.in-Ok-2.access)) chosen
     (rw c.in-Ok-2.is at c.in_ok-access.ensures.executed)))
 
 pub returns-in-Err-2-clause-ran : goal.returns-in-Err-2-clause-ran
 returns-in-Err-2-clause-ran g c =
     let core = c.args.self.now in
     let shown = shown_in c.args.row.now in
-    let s1 = c.fetch-fetched.new.seen in
-    let accesses = c.execute.new.accesses in
-    let w0 = c.args.accesses.now.wrote in
-    let b0 = g.M.PhysMem.bytes c.args.mem.now in
-    let b1 = g.M.PhysMem.bytes c.execute.new.mem in
     let chosen = rw c.operands.ensures at c.choices_of-choices.ensures in
     let same : c.execute.new.self ≡ core = rw c.in-Err-2.is at c.in_ok-access.ensures.trapped in
-    ran_raised core c.execute.new.self shown (Some c.from-bits.result) c.in-Err-2.exception c.args.accesses.now.seen
-    accesses.seen w0 accesses.wrote b0 b1 same
-    (ran_decoded core shown c.in-Ok.word.0 c.in-Ok.word.1 (Some c.in-Some.op) _ c.args.accesses.now.seen s1
-    accesses.seen w0 accesses.wrote b0 b1 c.in-Ok.ensures.looked c.in-Some.ensures.meaning
+    ran_raised core shown (Some c.from-bits.result) c.in-Err-2.exception same
+    (ran_decoded core shown c.in-Ok.word.0 c.in-Ok.word.1 c.in-Ok.ensures.looked c.in-Some.ensures.meaning
     (rw (← c.from-bits.ensures, ← c.from.ensures)
-    (ran_executed core shown c.from-bits.result c.from.result c.in-Some.op c.choices_of-choices.result
-    (Err c.in-Err-2.exception) s1 accesses.seen w0 accesses.wrote b0 b1 chosen
+    (ran_executed core shown c.from-bits.result c.from.result c.in-Some.op (Err c.in-Err-2.exception) chosen
     (rw c.in-Err-2.is at c.in_ok-access.ensures.executed))))

@@ -1,6 +1,6 @@
 use Rattle.rvfi_rows.specs.Cells.{shown_in}
 use Rattle.hart_step.specs.Instructions.{InstructionRun}
-use Rattle.hart_step.proofs.Ways.{step_halted, step_done, gave_parts, began}
+use Rattle.hart_step.proofs.Ways.{StepParts, step_halted, step_done, gave_parts, began}
 use Rattle.hart_step.proofs.state.Core.step.Goals as goal
 
 pub returns-then-self-clause-stepped : goal.returns-then-self-clause-stepped
@@ -16,11 +16,21 @@ returns-clause-stepped g c =
     let done : InstructionRun = record { core = c.run.new.self; executed = c.in_ok-executed.executed } in
     let began_so =
     began core c.count.new.self before shown c.count.ensures.state c.take_interrupt-lacks_interrupt.ensures.state in
-    step_done core shown done _ _ c.run.new.accesses.seen _ c.run.new.accesses.wrote
-    (g.M.PhysMem.bytes c.args.mem.now) (g.M.PhysMem.bytes c.run.new.mem) c.if-self.false
-    (gave_parts core c.count.new.self before c.finish.new.self shown done c.take_interrupt-lacks_interrupt.result
-    c.insn.result c.effects_of-effects.result c.lines_of.result
-    c.count.ensures.state c.take_interrupt-lacks_interrupt.ensures.state
-    c.take_interrupt-lacks_interrupt.ensures.lacks c.insn.ensures c.effects_of-effects.ensures
-    c.finish.ensures.state c.lines_of.ensures)
+    let parts : StepParts core shown done = record {
+      counts = c.count.new.self;
+      before = before;
+      next = c.finish.new.self;
+      lacks = c.take_interrupt-lacks_interrupt.result;
+      insn = c.insn.result;
+      effects = c.effects_of-effects.result;
+      lines = c.lines_of.result;
+      counts_is = c.count.ensures.state;
+      before_is = c.take_interrupt-lacks_interrupt.ensures.state;
+      lacks_is = c.take_interrupt-lacks_interrupt.ensures.lacks;
+      insn_is = c.insn.ensures;
+      effects_are = c.effects_of-effects.ensures;
+      next_is = c.finish.ensures.state;
+      lines_are = c.lines_of.ensures;
+    } in
+    step_done core shown done c.if-self.false (gave_parts core shown done parts)
     (rw (c.nothing-accesses.ensures.seen, c.nothing-accesses.ensures.wrote, began_so) at c.in_ok-executed.ensures.ran)

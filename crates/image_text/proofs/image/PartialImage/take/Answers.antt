@@ -12,7 +12,7 @@ returns-then-not-contains c = λ others.
     let word = rw c.in-Ok-Byte.field-0-is at (sym c.in-Ok-Byte.ensures) in
     let outside = sym c.contains.ensures.value ∙ c.if-not-contains.true in
     rw c.fault_in-then-not-contains.ensures
-    (after_refused _ _ _ _ others _ _ word (put_outside _ _ _ c.in-Ok-Byte.value outside))
+    (after_refused _ _ _ _ others word (put_outside _ _ _ c.in-Ok-Byte.value outside))
 
 pub returns-then-is_some : goal.returns-then-is_some
 returns-then-is_some c = λ others.
@@ -21,12 +21,12 @@ returns-then-is_some c = λ others.
     let taken : is_some (byte_at c.args.self.now.pieces c.args.self.now.address) ≡ true =
     ap is_some (sym c.byte.ensures) ∙ sym c.is_some.ensures ∙ c.if-is_some.true in
     rw c.fault_in-then-is_some.ensures
-    (after_refused _ _ _ _ others _ _ word (put_overlap _ _ _ c.in-Ok-Byte.value inside taken))
+    (after_refused _ _ _ _ others word (put_overlap _ _ _ c.in-Ok-Byte.value inside taken))
 
 pub returns-in-Ok-Address : goal.returns-in-Ok-Address
 returns-in-Ok-Address c = λ others.
     let word = rw c.in-Ok-Address.field-0-is at (sym c.in-Ok-Address.ensures) in
-    after_put _ _ _ _ others _ _ _ word (put_address _ _ _ _)
+    after_put _ _ _ _ others word (put_address _ _ _ _)
 
 pub returns-in_ok-put-in-Ok-Byte : goal.returns-in_ok-put-in-Ok-Byte
 returns-in_ok-put-in-Ok-Byte c = λ others.
@@ -35,4 +35,4 @@ returns-in_ok-put-in-Ok-Byte c = λ others.
     let free : is_some (byte_at c.args.self.now.pieces c.args.self.now.address) ≡ false =
     ap is_some (sym c.byte.ensures) ∙ sym c.is_some.ensures ∙ c.if-is_some.false in
     rw c.in_ok-put-in-Ok-Byte.ensures.put
-    (after_put _ _ _ _ others _ _ _ word (put_byte _ _ _ c.in-Ok-Byte.value inside free))
+    (after_put _ _ _ _ others word (put_byte _ _ _ c.in-Ok-Byte.value inside free))

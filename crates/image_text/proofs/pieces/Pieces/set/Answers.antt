@@ -17,5 +17,5 @@ returns c =
     omega (arith, c.in-Some.page.now.value.full) in
     let was = sym c.get_mut.ensures.value ∙ ap option_copied_mut c.in-Some.is in
     let updates = (c.get_mut.follows.holds _).3 (rw was refl) in
-    written_page _ _ c.args.address c.args.value c.in-Some.page.now _ updates.0 was
+    written_page _ _ c.args.address c.args.value (record { updates = updates.0 }) was
     (λ k. rw c.deref_mut.ensures.value (set_at c.in-Some.page.now.value.bytes (c.args.address % 4096) k _ _ below))

@@ -23,9 +23,8 @@ found : (c : After-deref-2)
     c.index-end.result.now
 found c =
     let inside : c.args.number < length c.self.inside.ends.items = omega (arith, c.self.inside.ends.ok.0) in
-    is_cut c.self.inside.text.items c.self.inside.ends.items c.args.number c.start_of-start.result
-    c.index-end.result.now c.self.invariant inside (rw c.deref.ensures.value at c.start_of-start.ensures)
-    c.index-end.ensures
+    is_cut c.args.number c.start_of-start.result c.index-end.result.now c.self.invariant inside
+    (rw c.deref.ensures.value at c.start_of-start.ensures) c.index-end.ensures
 
 pub cut-requires-clause-ordered : goal.cut-requires-clause-ordered
 cut-requires-clause-ordered c = (found c).ordered

@@ -1,7 +1,7 @@
 use Rattle.std.proofs.Common.{◌/◌, ◌^◌, ◌<◌, ◌∙◌, arith, sym, ap, refl, is_some}
 use Rattle.std.specs.Option.{option_copied_mut}
 use Rattle.page_layers.specs.Blocks.{block_at}
-use Rattle.page_layers.proofs.BlockMaps.{block_set, found_there, none_there, number_put, numbers_stay}
+use Rattle.page_layers.proofs.BlockMaps.{SetsBlock, block_set, found_there, none_there, number_put, numbers_stay}
 use Rattle.page_layers.proofs.blocks.Blocks.put.Goals as goal
 
 pub returns-in-Some-clause-was_there : goal.returns-in-Some-clause-was_there
@@ -23,8 +23,9 @@ returns-in-Some-clause-bytes c = λ base.
     let found = sym c.get_mut.ensures.value ∙ ap option_copied_mut c.in-Some.is in
     let small : c.args.pa / 64 < 2 ^ 64 = omega (arith, c.ranges.pa.fits) in
     let updates = (c.get_mut.follows.holds c.put.new.self).3 (rw found refl) in
-    number_put (block_at c.args.self.now) _ _ c.put.new.self base c.args.pa c.args.len c.args.value c.requires.block
-    (block_set c.args.self.now _ (c.args.pa / 64) c.put.new.self small updates.0)
+    let set : SetsBlock (block_at c.args.self.now) _ (c.args.pa / 64) c.put.new.self =
+    record { sets = block_set c.args.self.now _ (c.args.pa / 64) c.put.new.self small updates.0 } in
+    number_put base c.args.pa c.args.len c.args.value c.requires.block set
     (found_there c.args.self.now (c.args.pa / 64) _ small found) c.put.ensures
 
 pub returns-in-None-clause-was_there : goal.returns-in-None-clause-was_there

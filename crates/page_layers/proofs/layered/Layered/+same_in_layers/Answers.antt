@@ -9,8 +9,7 @@ returns-in-None-clause-known_files t c =
 
 pub returns-then-same_in_blocks-clause-known_files : goal.returns-then-same_in_blocks-clause-known_files
 returns-then-same_in_blocks-clause-known_files t c =
-    λ known_files number there. in_layers (IsSameBlock c.args.self.now c.args.other.now number)
-    c.blocks-in-Some.result.now c.in-Some.layer.now c.args.layers.now c.in-Some.older.now number
+    λ known_files number there. in_layers (IsSameBlock c.args.self.now c.args.other.now number) number
     c.in-Some.ensures.cases.0 c.blocks-in-Some.ensures there
     (c.same_in_blocks.ensures.known_files c.if-same_in_blocks.true number)
     (c.same_in_layers.ensures.known_files known_files number)

@@ -1,8 +1,6 @@
-use Rattle.page_layers.specs.Memories.{layered_bytes}
 use Rattle.page_layers.proofs.SameBlocks.{block_decided}
 use Rattle.page_layers.proofs.layered.Layered.same_block.Goals as goal
 
 pub returns : goal.returns
 returns c =
-    block_decided (layered_bytes c.args.self.now) (layered_bytes c.args.other.now) c.value.result c.value-2.result
-    c.args.number _ c.value.ensures c.value-2.ensures c.same_as.ensures
+    block_decided c.value.result c.value-2.result c.args.number _ c.value.ensures c.value-2.ensures c.same_as.ensures

@@ -1,4 +1,4 @@
-use Rattle.std.proofs.Common.{refl, ◌∙◌, length-set}
+use Rattle.std.proofs.Common.{refl, ap, ◌∙◌, length-set, slice_set}
 use Rattle.rvfi_rows.proofs.ShownBits.{shows_more}
 use Rattle.rvfi_rows.proofs.CsrBits.{stays_within}
 use Rattle.rvfi_rows.proofs.row.Row.show.Goals as goal
@@ -11,5 +11,5 @@ invariant_of-self c = record {
 
 pub returns : goal.returns
 returns c =
-    shows_more c.args.self.now _ c.args.signal c.index-index.result c.from.result c.args.value
-    c.index-index.ensures.value c.from.ensures c.index-index.ensures.below refl refl
+    shows_more c.args.self.now _ c.args.signal c.args.value c.index-index.ensures.value c.index-index.ensures.below
+    refl (ap (λ place. slice_set c.args.self.now.values place c.args.value) c.from.ensures)

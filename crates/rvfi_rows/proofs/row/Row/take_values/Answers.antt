@@ -6,8 +6,8 @@ pub loop-index-preserved : goal.loop-index-preserved
 loop-index-preserved c =
     let within : c.loop-index.index < length c.args.values.now = omega (arith, c.requires.as_many) in (
       c.loop-index.invariant.0,
-      placed-next c.args.signals.now c.args.values.now _ c.loop-index.index _ c.from.result c.loop-index-test.true
-          within (c.from.ensures ∙ c.index.ensures.value) ∙ c.loop-index.invariant.1,
+      placed-next c.args.signals.now c.args.values.now _ c.loop-index.index _ c.loop-index-test.true within
+          (c.from.ensures ∙ c.index.ensures.value) ∙ c.loop-index.invariant.1,
     )
 
 pub returns : goal.returns
@@ -15,5 +15,5 @@ returns c =
     let taken =
     placed-end c.args.signals.now c.args.values.now c.loop-index.self.values _ c.loop-index.index
     c.loop-index-test.false c.loop-index.invariant.1 in
-    shows_taken c.args.self.now c.loop-index.self c.args.signals.now c.args.values.now c.args.bits c.requires.theirs
-    c.requires.as_many c.loop-index.invariant.0 taken
+    shows_taken c.args.self.now c.loop-index.self c.args.values.now c.requires.theirs c.requires.as_many
+    c.loop-index.invariant.0 taken

@@ -32,5 +32,5 @@ pub returns-in-End-2-clause-next : goal.returns-in-End-2-clause-next
 returns-in-End-2-clause-next c file =
     let self = c.args.self.now in
     last_at_end file self _ (c.len.result - self.at) c.in-End-2.is
-    (left_last self.number self.searched (c.len.result - self.at) (buffered_bytes self) c.requires
+    (left_last self.number (c.len.result - self.at) (buffered_bytes self) c.requires
     (omega (arith, length-held self)) c.if-place-gt-LONGEST.false (omega arith) (omega (arith, length-held self)))

@@ -8,7 +8,7 @@ invariant-marking g l = record {
   known_files : g.H.Shelf.known_files l.shelf ≡ g.H.Shelf.known_files l.fn.shelf;
   faults : g.H.Shelf.faults l.shelf ≡ g.H.Shelf.faults l.fn.shelf;
   misses : g.H.Shelf.misses l.shelf ≡ g.H.Shelf.misses l.fn.shelf;
-  there : IsThere (g.H.Shelf.known_files l.fn.shelf) l.name;
+  exists : IsThere (g.H.Shelf.known_files l.fn.shelf) l.name;
   holds : ForFile (file_of (g.H.Shelf.known_files l.fn.shelf) l.name) (Holds l.most l.cursor);
   at : l.cursor.at ≡ 0;
   number : l.cursor.number ≡ 1;

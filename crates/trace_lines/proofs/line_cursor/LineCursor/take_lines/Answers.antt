@@ -8,19 +8,13 @@ pub returns-in-Some-clause-piece : goal.returns-in-Some-clause-piece
 returns-in-Some-clause-piece g c file known_files =
     let takes = rw c.in-Some.is at c.in_ok-end.ensures.takes in
     let here = ap (λ files. file_of files c.args.name.now) c.taking.invariant.known_files ∙ known_files in
-    front_ended c.args.asked c.taking.lines c.take_next.new.lines c.in-Some.ending
-    (lines_from_cursor file c.taking.self) (lines_from_cursor file c.take_next.new.self)
-    (lines_from_cursor file c.args.self.now) (omega arith) (takes file here)
-    (c.taking.invariant.left file known_files)
+    front_ended c.args.asked (omega arith) (takes file here) (c.taking.invariant.left file known_files)
 
 pub returns-in-Some-clause-rest : goal.returns-in-Some-clause-rest
 returns-in-Some-clause-rest g c file known_files =
     let takes = rw c.in-Some.is at c.in_ok-end.ensures.takes in
     let here = ap (λ files. file_of files c.args.name.now) c.taking.invariant.known_files ∙ known_files in
-    back_ended c.args.asked c.taking.lines c.take_next.new.lines c.in-Some.ending
-    (lines_from_cursor file c.taking.self) (lines_from_cursor file c.take_next.new.self)
-    (lines_from_cursor file c.args.self.now) (omega arith) (takes file here)
-    (c.taking.invariant.left file known_files)
+    back_ended c.args.asked (omega arith) (takes file here) (c.taking.invariant.left file known_files)
 
 pub returns-clause-piece : goal.returns-clause-piece
 returns-clause-piece g c file known_files =
