@@ -38,8 +38,8 @@ struct Words {
     trace: String,
     workers: u32,
     passes: u32,
-    ghost some: { 1 ≤ workers },
-    ghost few: { workers ≤ 64 },
+    ghost at_least_1: { 1 ≤ workers },
+    ghost at_most_64: { workers ≤ 64 },
 }
 
 /// The words of the command line after the program's name.

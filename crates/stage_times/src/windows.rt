@@ -36,7 +36,7 @@ const WINDOW: usize = 64;
 pub(crate) struct Window {
     pub segments: Vec<Segment>,
     pub is_last: bool,
-    ghost few: { length segments.items ≤ 64 },
+    ghost at_most_64: { length segments.items ≤ 64 },
     ghost lines: { length (flat_map segment_lines segments.items) ≤ 64 * 4096 },
 }
 
@@ -55,8 +55,8 @@ pub(crate) struct Workers<'a, R> {
     pub rt: &'a R,
     pub alloc: Global,
     pub count: u32,
-    ghost some: { 1 ≤ count },
-    ghost few: { count ≤ 64 },
+    ghost at_least_1: { 1 ≤ count },
+    ghost at_most_64: { count ≤ 64 },
 }
 
 /// The microseconds since a time.
@@ -144,7 +144,8 @@ fn read<R: Threads + Sync>(
     segments: Vec<Segment>,
     judged: Vec<Segment>,
 ) -> Result<Vec<Segment>, NoMemory>
-    ensures { IfOk result (λ read. map segment_lines read.items ≡ map segment_lines segments.items) }
+    ensures { IfOk result (λ read. map segment_lines read.items
+        ≡ map segment_lines segments.items) }
 {
     let count = workers.count as usize;
     let mut segments = segments;

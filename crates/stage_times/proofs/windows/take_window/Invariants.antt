@@ -6,6 +6,6 @@ use Rattle.stage_times.proofs.windows.take_window.Given as goal
 -- so many segments, each with so many lines at most
 abbrev pub invariant-segments : goal.invariant-segments
 invariant-segments g l = record {
-  few : length l.segments.items ≤ l.counter;
+  one_each : length l.segments.items ≤ l.counter;
   lines : length (flat_map segment_lines l.segments.items) ≤ l.counter * 4096;
 }
