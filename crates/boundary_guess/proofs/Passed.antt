@@ -49,8 +49,8 @@ rows_end state rows place whole past so_far =
 
 -- a segment is passed
 pub segment_turn : (columns : ColumnList) (before : HartState) (segments : List (List (List ℕ))) (index : ℕ)
-    (done : List HartState) {now : HartState} {lines : List (List ℕ)} {whole : List HartState} → Some lines ≡ slice_get segments index
-    → now ≡ guess_after before (rows_of columns lines)
+    (done : List HartState) {now : HartState} {lines : List (List ℕ)} {whole : List HartState}
+    → Some lines ≡ slice_get segments index → now ≡ guess_after before (rows_of columns lines)
     → done ++ guesses_of before columns (drop index segments) ≡ whole
     → (done ++ before ∷ []) ++ guesses_of now columns (drop (index + 1) segments) ≡ whole
 unfolding guesses_of

@@ -4,8 +4,8 @@ use Rattle.std.proofs.lemmas.Option.{slice_get_read}
 use Rattle.rvfi_rows.specs.Rows.{rows_of}
 use Rattle.rvfi_rows.specs.Segments.{segment_lines}
 use Rattle.boundary_guess.specs.Guesses.{CanStep, guess_after, guesses_of, state_of}
-use Rattle.boundary_guess.proofs.Passed.{PassesSegment, all_push, can_copy, hart_end, hart_turn, is_some_length, no_segment}
-use Rattle.boundary_guess.proofs.Passed.{same_state}
+use Rattle.boundary_guess.proofs.Passed.{PassesSegment, all_push, can_copy, hart_end, hart_turn, is_some_length}
+use Rattle.boundary_guess.proofs.Passed.{no_segment, same_state}
 use Rattle.boundary_guess.proofs.guessing.guesses.Goals as goal
 
 pub returns-then-is_empty-clause-guesses : goal.returns-then-is_empty-clause-guesses
