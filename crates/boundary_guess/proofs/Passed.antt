@@ -49,8 +49,8 @@ rows_end state rows place whole past so_far =
 
 -- a segment is passed
 pub segment_turn : (columns : ColumnList) (before : HartState) (segments : List (List (List ℕ))) (index : ℕ)
-    (done : List HartState) {now : HartState} {lines : List (List ℕ)} {whole : List HartState} → Some lines ≡ slice_get segments index
-    → now ≡ guess_after before (rows_of columns lines)
+    (done : List HartState) {now : HartState} {lines : List (List ℕ)} {whole : List HartState}
+    → Some lines ≡ slice_get segments index → now ≡ guess_after before (rows_of columns lines)
     → done ++ guesses_of before columns (drop index segments) ≡ whole
     → (done ++ before ∷ []) ++ guesses_of now columns (drop (index + 1) segments) ≡ whole
 unfolding guesses_of
@@ -119,15 +119,23 @@ hart_turn {bytes} {columns} {segments} {index} {before} {kept} {now} items turn 
     ∙ segment_turn columns (state_of bytes before) (map segment_lines segments) index (map (state_of bytes) items)
     (lines_at segments index turn.segment turn.segment_is) turn.passed so_far
 
-pub hart_end : {M : Type 0} (bytes : M → Bytes) (columns : ColumnList) (segments : List Segment) (index : ℕ)
-    (last : Hart M) (items : List (Hart M)) {whole : List HartState} → length segments ≡ index + 1
-    → map (state_of bytes) items ++ guesses_of (state_of bytes last) columns (drop index (map segment_lines segments))
+-- where one segment is left, a copy of the hart before it is kept
+pub record EndsAtSegment {M : Type 0} (bytes : M → Bytes) (segments : List Segment) (index : ℕ)
+    (before kept : Hart M) : Type 0 where
+  pub one_left : length segments ≡ index + 1
+  pub copied : state_of bytes kept ≡ state_of bytes before
+
+pub hart_end : {M : Type 0} {bytes : M → Bytes} {segments : List Segment} {index : ℕ} {before kept : Hart M}
+    (columns : ColumnList) (items : List (Hart M)) {whole : List HartState}
+    → EndsAtSegment bytes segments index before kept
+    → map (state_of bytes) items ++ guesses_of (state_of bytes before) columns (drop index (map segment_lines segments))
     ≡ whole
-    → map (state_of bytes) (items ++ last ∷ []) ≡ whole
-hart_end bytes columns segments index last items {whole} all so_far =
-    kept_last bytes items last
-    ∙ segments_end columns (state_of bytes last) (map segment_lines segments) index (map (state_of bytes) items) whole
-    (length-map segments segment_lines ∙ all) so_far
+    → map (state_of bytes) (items ++ kept ∷ []) ≡ whole
+hart_end {bytes} {segments} {index} {before} {kept} columns items {whole} ends so_far =
+    kept_last bytes items kept
+    ∙ ap (λ state. map (state_of bytes) items ++ state ∷ []) ends.copied
+    ∙ segments_end columns (state_of bytes before) (map segment_lines segments) index (map (state_of bytes) items) whole
+    (length-map segments segment_lines ∙ ends.one_left) so_far
 
 pub no_segment : {M : Type 0} (bytes : M → Bytes) (columns : ColumnList) (segments : List Segment) (state : HartState)
     (items : List (Hart M)) → items ≡ [] → length segments ≡ 0

@@ -70,7 +70,8 @@ use Rattle.boundary_guess.proofs.PlainRuns.{accessed_value, answer_from}
 use Rattle.boundary_guess.proofs.PlainSteps.{fetched_fits}
 use Rattle.boundary_guess.proofs.StepWords.{FitsFound, RaisesWords, answer_word, fetch_raises, found_fits}
 use Rattle.boundary_guess.proofs.StepWords.{placed_raises}
-use Rattle.boundary_guess.proofs.ResultWords.{AreOperands, AsksWords, HasOperands, IsOfWords, computed_words, operands_by_form}
+use Rattle.boundary_guess.proofs.ResultWords.{AreOperands, AsksWords, HasOperands, IsOfWords, computed_words}
+use Rattle.boundary_guess.proofs.ResultWords.{operands_by_form}
 
 -- ---- registers
 

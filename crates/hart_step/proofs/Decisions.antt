@@ -185,7 +185,8 @@ found_by one other request false held same = refl
 
 found_same : (one other : Shown) (rd : ℕ) (request : MemoryRequest) (found : LocatedValue) (signed : Bool)
     → AgreeOnAccess (Ok found) (memory.Load signed) one other
-    → value_found (choices_of other rd) request found.0 found.1 ≡ value_found (choices_of one rd) request found.0 found.1
+    → value_found (choices_of other rd) request found.0 found.1
+    ≡ value_found (choices_of one rd) request found.0 found.1
 unfolding choices_of
 found_same one other rd request found signed agree =
     found_by (choices_of one rd) (choices_of other rd) request found.0.io found.1 (λ io.

@@ -89,7 +89,8 @@ same_bytes cfg addr one other a same =
   where
     by : (off top four : Bool) → (top ≡ true → other ≡ one)
         → CoversAs (if off then Off else if top then TopOfRange else if four then FourBytes else PowerOfTwo) one addr a
-        → CoversAs (if off then Off else if top then TopOfRange else if four then FourBytes else PowerOfTwo) other addr a
+        → CoversAs (if off then Off else if top then TopOfRange else if four then FourBytes else PowerOfTwo)
+        other addr a
     by true top four is covers = covers
     by false true four is covers = subst (λ (b : ℕ). CoversAs TopOfRange b addr a) (sym (is refl)) covers
     by false false true is covers = covers

@@ -1,11 +1,11 @@
-use Rattle.std.proofs.Common.{◌≡◌, ◌<◌, ◌+◌, ◌++◌, ◌∙◌, ap, arith, drop, length, map, refl, sym}
+use Rattle.std.proofs.Common.{◌≡◌, ◌<◌, ◌+◌, ◌∙◌, ap, arith, length, map, refl, sym}
 use Rattle.std.proofs.lemmas.Bool.{eqb-true}
 use Rattle.std.proofs.lemmas.Option.{slice_get_read}
 use Rattle.rvfi_rows.specs.Rows.{rows_of}
 use Rattle.rvfi_rows.specs.Segments.{segment_lines}
 use Rattle.boundary_guess.specs.Guesses.{CanStep, guess_after, guesses_of, state_of}
-use Rattle.boundary_guess.proofs.Passed.{PassesSegment, all_push, can_copy, hart_end, hart_turn, is_some_length, no_segment}
-use Rattle.boundary_guess.proofs.Passed.{same_state}
+use Rattle.boundary_guess.proofs.Passed.{EndsAtSegment, PassesSegment, all_push, can_copy, hart_end, hart_turn}
+use Rattle.boundary_guess.proofs.Passed.{is_some_length, no_segment, same_state}
 use Rattle.boundary_guess.proofs.guessing.guesses.Goals as goal
 
 pub returns-then-is_empty-clause-guesses : goal.returns-then-is_empty-clause-guesses
@@ -52,22 +52,18 @@ pub returns-clause-guesses : goal.returns-clause-guesses
 returns-clause-guesses g c =
     let segments = c.args.segments.now in
     let index = c.loop-index.index in
-    let items = c.loop-index.guesses.items in
+    let before = c.loop-index.hart in
     let kept = c.in_ok-copy.field-0 in
     let some = is_some_length (length segments) (sym c.if-is_empty.ensures) in
     let last : length segments ≡ index + 1 =
     omega (arith, some, c.loop-index-test.false, c.loop-index.auto.index-end) in
-    let is_kept =
-    same_state g.M.PhysMem.bytes kept c.loop-index.hart c.in_ok-copy.ensures.core c.in_ok-copy.ensures.bytes in
-    let columns = c.args.columns.now in
-    let left = drop index (map segment_lines segments) in
-    let whole = guesses_of (state_of g.M.PhysMem.bytes c.args.start.now) columns (map segment_lines segments) in
-    let so_far : map (state_of g.M.PhysMem.bytes) items ++ guesses_of (state_of g.M.PhysMem.bytes kept) columns left
-    ≡ whole =
-    ap (λ state. map (state_of g.M.PhysMem.bytes) items ++ guesses_of state columns left) is_kept
-    ∙ c.loop-index.invariant.whole in
+    let is_kept = same_state g.M.PhysMem.bytes kept before c.in_ok-copy.ensures.core c.in_ok-copy.ensures.bytes in
+    let ends : EndsAtSegment g.M.PhysMem.bytes segments index before kept =
+    record { one_left = last; copied = is_kept } in
+    let whole =
+    guesses_of (state_of g.M.PhysMem.bytes c.args.start.now) c.args.columns.now (map segment_lines segments) in
     rw c.in_ok-push-2.ensures.items
-    (hart_end g.M.PhysMem.bytes columns segments index kept items {whole = whole} last so_far)
+    (hart_end c.args.columns.now c.loop-index.guesses.items {whole = whole} ends c.loop-index.invariant.whole)
 
 pub returns-clause-can_step : goal.returns-clause-can_step
 returns-clause-can_step g c =
