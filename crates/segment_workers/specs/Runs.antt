@@ -16,8 +16,8 @@ use Rattle.verdict_board.specs.Seats.{AreOpened}
 -- all the seats of a board for n segments, just as it was opened with them
 pub record AreAllSeats (n : ℕ) (board : Board) (seats : List Seat) : Type 0 where
   pub count : ℕ
-  pub some : 1 ≤ count
-  pub few : count ≤ 64
+  pub at_least_one : 1 ≤ count
+  pub at_most_64 : count ≤ 64
   pub opened : AreOpened n count board seats
 
 -- it was found of the segment of this number

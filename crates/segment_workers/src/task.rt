@@ -23,7 +23,7 @@ pub(crate) struct Task<'a, M: PhysMem, G> {
     pub gate: &'a G,
     ghost theirs: { board.now.segments ≡ length segments.now },
     ghost one_each: { length guesses.now ≡ length segments.now },
-    ghost few: { length segments.now < 2 ^ 32 },
+    ghost below_2_to_32: { length segments.now < 2 ^ 32 },
 }
 
 impl<'a, M: PhysMem + Drop, G: Gate> Task<'a, M, G> {

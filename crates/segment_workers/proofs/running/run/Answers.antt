@@ -14,7 +14,7 @@ workers_at-requires g c =
       arith,
       c.args.seats.ok,
       count_is (length c.args.segments.now) c.args.board.now c.args.seats.items c.requires.seats,
-      c.requires.seats.few,
+      c.requires.seats.at_most_64,
     )
 
 pub call_each-requires-after_bounds : goal.call_each-requires-after_bounds
@@ -33,7 +33,7 @@ gather-requires-clause-nonempty g c κs within =
     let all = c.requires.seats in
     let count = count_is (length c.args.segments.now) c.args.board.now c.args.seats.items all in
     let many = workers_many c.in_ok-workers.workers.items c.args.seats.items c.in_ok-workers.ensures in
-    omega (arith, c.in_ok-works.works.ok, c.in_ok-works.ensures.len, many, count, all.some)
+    omega (arith, c.in_ok-works.works.ok, c.in_ok-works.ensures.len, many, count, all.at_least_one)
 
 pub gather-requires-clause-done : goal.gather-requires-clause-done
 gather-requires-clause-done g c κs within k d low =
