@@ -573,8 +573,8 @@ come_to bytes_of columns segments start before now joined settles =
     record {
       verdict = settles.verdict ∙ ap (λ (conclusion : Conclusion Core). conclusion.verdict) whole;
       end = settles.end ∙ ap (λ (conclusion : Conclusion Core). conclusion.end) whole;
-      few = omega (arith, settles.counted, all.few, count);
-      some = λ some. let rounds = all.some (omega (arith, count, some)) in omega (arith, settles.counted, rounds);
+      few = omega (arith, settles.counted, all.at_most_pieces, count);
+      some = λ some. let rounds = all.at_least_one (omega (arith, count, some)) in omega (arith, settles.counted, rounds);
       count = by all.count;
     }
   where

@@ -2,7 +2,8 @@
 //!
 //! In comes a line of bytes. Out goes what the header names (`specs/Columns.antt`) or what the row
 //! shows (`specs/Rows.antt`), or the first fault; and for the crates above what the reference hart
-//! did at a row (`Expected`, `Stepped`), and the verdict on rows (`Verdict`).
+//! did at a row (`Expected`, `Stepped`), how many rows there are (`RowCounts`), and the verdict on
+//! them (`Verdict`).
 #![tactic(auto)]
 
 mod cells;
@@ -12,6 +13,7 @@ mod fault;
 mod lines;
 mod reading;
 mod row;
+mod row_counts;
 mod rows;
 mod rows_read;
 mod segment;
@@ -27,6 +29,7 @@ pub use fault::{HeaderError, HeaderFault, RowError, RowFault};
 pub use lines::read_rows;
 pub use reading::Reading;
 pub use row::{FIRST_CSR, Row};
+pub use row_counts::RowCounts;
 pub use rows::Rows;
 pub use segment::Segment;
 pub use segments::{read_segments, reuse_rows};

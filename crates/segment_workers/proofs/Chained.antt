@@ -20,9 +20,9 @@ module _ {F J R : Type 0} (g : Shared F (J × Unit {0}) R) (f : F) where
         call = subst (FnReturns g f (gives.job, tt)) is gives.call;
       }
 
-  behind_each_other : (js ks : List J) (xs ys : List R) → GivesFor g f js xs → GivesFor g f ks ys
+  after_each_other : (js ks : List J) (xs ys : List R) → GivesFor g f js xs → GivesFor g f ks ys
       → GivesFor g f (js ++ ks) (xs ++ ys)
-  behind_each_other js ks xs ys front back =
+  after_each_other js ks xs ys front back =
       record {
         len = omega (arith, front.len, back.len, length-append xs ys, length-append js ks);
         each = λ i d less. ⊎_elim
@@ -42,4 +42,4 @@ module _ {F J R : Type 0} (g : Shared F (J × Unit {0}) R) (f : F) where
       let whole : js ++ ks ≡ all =
       ap (λ l. l ++ ks) first ∙ ap (λ l. take at all ++ l) rest ∙ take-append-drop at all in
       subst (λ l. GivesFor g f l zs) whole
-      (subst (GivesFor g f (js ++ ks)) (sym is) (behind_each_other js ks xs ys front back))
+      (subst (GivesFor g f (js ++ ks)) (sym is) (after_each_other js ks xs ys front back))

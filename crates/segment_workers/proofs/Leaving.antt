@@ -1,6 +1,6 @@
 -- What was found, as events leave it.
 use Rattle.std.proofs.Common.{◌≡◌, ℕ, ◌<◌, List, length, map, slice_get, Option, Some, None, refl, sym, ap, ◌∙◌, arith}
-use Rattle.std.proofs.Common.{unwrap_or, inl, inr}
+use Rattle.std.proofs.Common.{inl, inr}
 use Rattle.std.proofs.lemmas.List.{length-map}
 use Rattle.std.proofs.lemmas.List.Elements.{All-map, All-weaker}
 use Rattle.std.proofs.lemmas.Option.{slice_get_cases}
@@ -16,10 +16,11 @@ use Rattle.segment_judge.specs.declared.found.What.{What}
 use Rattle.segment_judge.specs.declared.found.What.TheVariants.{Judged, Skipped}
 use Rattle.segment_judge.specs.declared.judged.Judged.{Judged as JudgedSegment}
 use Rattle.segment_judge.specs.Judgements.{by_hart}
-use Rattle.segment_judge.specs.Laws.{judgement_from}
 use Rattle.verdict_board.specs.declared.view.View.{View}
 use Rattle.verdict_join.specs.Founds.{IsLeftBy, WasFoundSo}
 use Rattle.verdict_join.specs.Joining.{finding, found_of, rows_of_segment}
+use Rattle.verdict_join.proofs.Findings.{found_theirs}
+use Rattle.verdict_join.proofs.Lawful.{IsTheirFinding}
 use Rattle.segment_workers.specs.Laws.{EventsLeaveFounds, IsPromised, LeavesFounds, WorkerRun, view_by_events}
 use Rattle.segment_workers.specs.Runs.{HasReason, IsFoundBy, IsSeenSo, IsSkippedFor}
 use Rattle.segment_workers.proofs.Accounts.{found_stays}
@@ -38,21 +39,21 @@ module _ {M : Type 0} (rows : List (List RowReading)) (states : List HartState) 
     (looks_same : SameBag (looks (machine_at_start n) events) view.looks) where
   found_so : (worker number : ℕ) (what : What (JudgedSegment M)) → number < length rows → number < length states
       → IsSeenSo view worker number what
+      → IsTheirFinding by_hart rows states number (finding (slice_get rows number) (slice_get states number) what)
       → WasFoundSo by_hart rows states n events worker number
       (finding (slice_get rows number) (slice_get states number) what)
-  found_so worker number (Skipped least) row state seen =
+  found_so worker number (Skipped least) row state seen theirs =
       (seen.0, has_same (looks (machine_at_start n) events) view.looks looks_same (worker, least) seen.1)
-  found_so worker number (Judged judged) row state seen = by (slice_get rows number) (slice_get states number) refl refl
+  found_so worker number (Judged judged) row state seen theirs =
+      by (slice_get rows number) (slice_get states number) refl refl theirs
     where
       by : (mine : Option (List RowReading)) (guess : Option HartState) → slice_get rows number ≡ mine
           → slice_get states number ≡ guess
+          → IsTheirFinding by_hart rows states number (finding mine guess (Judged judged))
           → WasFoundSo by_hart rows states n events worker number (finding mine guess (Judged judged))
-      by None guess no_row at = absurd (no_none rows number row no_row)
-      by (Some mine) None here no_state = absurd (no_none states number state no_state)
-      by (Some mine) (Some guess) here at = λ theirs start is_theirs is_start.
-          let same_rows : mine ≡ theirs = ap (λ some. unwrap_or some mine) (sym here ∙ is_theirs) in
-          let same_start : guess ≡ start = ap (λ some. unwrap_or some guess) (sym at ∙ is_start) in
-          ap (λ one. judgement_from by_hart one mine) same_start ∙ ap (judgement_from by_hart start) same_rows
+      by None guess no_row at theirs = absurd (no_none rows number row no_row)
+      by (Some mine) None here no_state theirs = absurd (no_none states number state no_state)
+      by (Some mine) (Some guess) here at theirs = theirs
 
 -- what run promises of a view holds of the events that have its draws, posts and looks
 by_events : {M : Type 0} (bytes_of : M → Bytes) (ram_of : M → Span) (ran : WorkerRun M) (events : List Event)
@@ -103,7 +104,8 @@ leaves_founds {M} bytes_of ram_of ran events draws_are looks_are promised =
       drew = has_same (machine_after_events (machine_at_start n) events).draws ran.view.draws draws_are _ by.drew;
       so =
           found_so rows states ran.view n events looks_are by.worker _ _ (omega (arith, lawful.below, rows_many))
-          (omega (arith, lawful.below, states_many)) by.so;
+          (omega (arith, lawful.below, states_many)) by.so
+          (found_theirs bytes_of ram_of ran.columns ran.segments ran.guesses _ lawful);
     })
 
 pub events_leave_founds : {M : Type 0} (bytes_of : M → Bytes) (ram_of : M → Span) (ran : WorkerRun M)

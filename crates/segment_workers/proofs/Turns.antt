@@ -33,7 +33,7 @@ use Rattle.verdict_join.specs.Walks.{judged_segment_by, judged_segment_in}
 use Rattle.verdict_join.proofs.Guessed.{judged_in_turn}
 use Rattle.verdict_join.proofs.Looped.{some_at}
 use Rattle.verdict_join.proofs.Passed.{EndsWhereAgrees, judgement_ends}
-use Rattle.verdict_join.proofs.Turns.{found_is}
+use Rattle.verdict_join.proofs.Findings.{found_is, founds_theirs}
 use Rattle.segment_workers.specs.Laws.{IsPromised, WorkerRun}
 use Rattle.segment_workers.specs.Runs.{HasReason, IsFoundBy, IsSeenSo, IsSkippedFor, ends_trace, is_end, is_end_of}
 use Rattle.segment_workers.specs.Runs.{is_found_of}
@@ -190,6 +190,8 @@ segments_judged_in_turn bytes_of ram_of ran promised =
     let some =
     mapped_some (λ any. judgement_from by_hart guess rows) (judged_segment_in ran.founds index)
     (judged_at bytes_of ram_of ran promised index below agree) in
-    let found = found_is mine theirs ran.founds index rows guess here there in
+    let found =
+    found_is mine theirs ran.founds index
+    (founds_theirs bytes_of ram_of ran.columns ran.segments ran.guesses ran.founds promised.lawful) here there in
     subst (λ n. is_some (found_judgement founds n) ≡ true) number
     (subst (λ found. is_some found ≡ true) (sym found) some))

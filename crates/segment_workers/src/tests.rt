@@ -213,7 +213,7 @@ fn hold_counted<R: Threads + Sync + Abort, G: Gate, L: Ledger>(
 
 /// The second segment differs from its guess or cannot be read, and those after it are skipped.
 #[test]
-fn skips_behind_what_was_posted(rt: HostRuntime) -> Result<(), Fail> {
+fn skips_after_what_was_posted(rt: HostRuntime) -> Result<(), Fail> {
     let skipped = Told::Skipped(1);
     let differs = Case {
         rows: &FOUR,

@@ -16,13 +16,13 @@ use Rattle.verdict_join.specs.Joins.{Sameness, adopted_judgement_from, adopted_j
 use Rattle.verdict_join.specs.Laws.{miss}
 use Rattle.verdict_join.specs.Walks.{IsMissedAs}
 
-pub none_missed : {M : Type 0} (bytes_of : M → Bytes) (same : Sameness Core) (guess now : HartState)
-    (rows : List RowReading) (found : Option (Bor (JudgedSegment M))) (judged : Bor (JudgedSegment M)) (met : Bool)
-    → found ≡ Some judged → met ≡ true → IsJudgement bytes_of guess rows judged.now
+pub none_missed : {M : Type 0} {rows : List RowReading} {found : Option (Bor (JudgedSegment M))}
+    {judged : Bor (JudgedSegment M)} {met : Bool} (bytes_of : M → Bytes) (same : Sameness Core)
+    (guess now : HartState) → found ≡ Some judged → met ≡ true → IsJudgement bytes_of guess rows judged.now
     → ((accesses : List Accesses) → IsFootprintOf judged.now.footprint accesses
     → met ≡ (same guess.core now.core && agree guess.bytes now.bytes (footprint_of accesses)))
     → IsMissedAs same guess now rows found (Some judged)
-none_missed bytes_of same guess now rows found judged met is holds judgement meets =
+none_missed {rows = rows} bytes_of same guess now is holds judgement meets =
     let theirs = judgement_from by_hart guess rows in
     let same_test = sym (meets theirs.accesses judgement.footprint) ∙ holds in
     let none : miss (adopted_judgement_from same guess now (Some theirs)) ≡ 0 =

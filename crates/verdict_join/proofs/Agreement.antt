@@ -31,8 +31,8 @@ use Rattle.verdict_join.proofs.Guessed.{all_met, guessed_from, rows_split}
 -- ---- the verdict on rows that agree
 
 -- a conclusion after so many rows
-abbrev behind_rows : ℕ → ℕ → Conclusion Core → Conclusion Core
-behind_rows rows valid rest = record { verdict = verdict_after_rows rows valid rest.verdict; end = rest.end }
+abbrev after_rows : ℕ → ℕ → Conclusion Core → Conclusion Core
+after_rows rows valid rest = record { verdict = verdict_after_rows rows valid rest.verdict; end = rest.end }
 
 abbrev agreement : ℕ → ℕ → Option HartState → Conclusion Core
 agreement rows valid end = record { verdict = Agrees rows valid; end = end }
@@ -48,7 +48,7 @@ valid_concludes : (start : HartState) (shown : Shown) (rows : List RowReading)
 unfolding by_hart mapped true_state_after valid_count_of
 valid_concludes start shown rows later agrees =
     by_valid by_hart start shown rows agrees
-    ∙ ap (behind_rows 1 1) later
+    ∙ ap (after_rows 1 1) later
     ∙ agrees_equal (1 + length rows) (length (Ok (Some shown) ∷ rows)) (1 + valid_count_of rows)
     (1 + valid_count_of rows) (Some (true_state_after (after_row start shown) rows)) (omega arith) refl
 
@@ -59,7 +59,7 @@ concludes [] start agree = refl
 concludes (Err fault ∷ rows) start agree = absurd agree
 concludes (Ok None ∷ rows) start agree =
     by_invalid by_hart start rows
-    ∙ ap (behind_rows 1 0) (concludes rows start agree)
+    ∙ ap (after_rows 1 0) (concludes rows start agree)
     ∙ agrees_equal (1 + length rows) (length (Ok None ∷ rows)) (0 + valid_count_of rows) (valid_count_of rows)
     (Some (true_state_after start rows)) (omega arith) (omega arith)
 concludes (Ok (Some shown) ∷ rows) start agree =
@@ -80,19 +80,19 @@ rest_agrees rows more count valid (Agrees n m) is = record { count = n; valid = 
 rest_agrees rows more count valid (Differs row difference) is = cc
 rest_agrees rows more count valid (Refused row fault) is = cc
 
-valid_agrees : (start : HartState) (shown : Shown) (rows : List RowReading)
+valid_agrees : {count valid : ℕ} (start : HartState) (shown : Shown) (rows : List RowReading)
     → ((count valid : ℕ) → (conclusion_from by_hart (after_row start shown) rows).verdict ≡ Agrees count valid
     → Agree (after_row start shown) rows)
     → (difference : Option Difference) → ((by_hart start.core shown).run start.bytes).value.difference ≡ difference
-    → (count valid : ℕ) → (conclusion_from by_hart start (Ok (Some shown) ∷ rows)).verdict ≡ Agrees count valid
+    → (conclusion_from by_hart start (Ok (Some shown) ∷ rows)).verdict ≡ Agrees count valid
     → Agree start (Ok (Some shown) ∷ rows)
 unfolding by_hart mapped Agree
-valid_agrees start shown rows later None agrees count valid is =
+valid_agrees {count = count} {valid = valid} start shown rows later None agrees is =
     let rest = rest_agrees 1 1 count valid (conclusion_from by_hart (after_row start shown) rows).verdict
     (sym (ap (λ (conclusion : Conclusion Core). conclusion.verdict) (by_valid by_hart start shown rows agrees))
     ∙ is) in
     (agrees, later rest.count rest.valid rest.agrees)
-valid_agrees start shown rows later (Some difference) differs count valid is =
+valid_agrees {count = count} {valid = valid} start shown rows later (Some difference) differs is =
     let never : Differs 1 difference ≡ Agrees count valid = sym
     (ap (λ (conclusion : Conclusion Core). conclusion.verdict)
     (by_different by_hart start shown rows difference differs)) ∙ is in
@@ -109,7 +109,7 @@ agrees_if_judged (Ok None ∷ rows) start count valid is =
     agrees_if_judged rows start rest.count rest.valid rest.agrees
 agrees_if_judged (Ok (Some shown) ∷ rows) start count valid is =
     valid_agrees start shown rows (agrees_if_judged rows (after_row start shown))
-    ((by_hart start.core shown).run start.bytes).value.difference refl count valid is
+    ((by_hart start.core shown).run start.bytes).value.difference refl is
 
 pub agree_as_judged : (start : HartState) (rows : List RowReading) → AgreeAsJudged start rows
 agree_as_judged start rows = record { conclusion = concludes rows start; agree = agrees_if_judged rows start }

@@ -10,7 +10,7 @@ use Rattle.hart_step.specs.declared.hart.Hart.{Hart}
 use Rattle.hart_step.specs.Cores.{IsSound}
 use Rattle.hart_step.specs.Harts.{CanStep, state_of}
 use Rattle.hart_step.specs.Rows.{HartState, after_row}
-use Rattle.boundary_guess.specs.Truth.{HoldsWords, true_state_after}
+use Rattle.boundary_guess.specs.Truth.{true_state_after}
 use Rattle.boundary_guess.proofs.TrueGuesses.{rows_stay}
 use Rattle.segment_judge.specs.declared.judged.Judged.{Judged}
 use Rattle.segment_judge.specs.Judgements.{by_hart}
@@ -34,28 +34,27 @@ end_is : (start following : HartState) (rows : List RowReading) → Some followi
 unfolding conclusion_from
 end_is start following rows is = (ends_truly rows start following (sym is)).true_state
 
-steps_on : {M : Type 0} (bytes_of : M → Bytes) (ram_of : M → Span) (start : HartState) (columns : ColumnList)
-    (lines : List (List ℕ)) (end : Option (Hart M))
-    → IsSound start.core → HoldsWords start
-    → option_map (state_of bytes_of) end ≡ end_from by_hart start (rows_of columns lines)
-    → IfSome end (λ hart. ram_of hart.mem ≡ start.core.map.ram) → IfSome end (CanStep ram_of)
-steps_on bytes_of ram_of start columns lines None sound words is same = tt
-steps_on bytes_of ram_of start columns lines (Some hart) sound words is same =
-    let rows = rows_of columns lines in
-    let after = end_is start (state_of bytes_of hart) rows is in
-    let map : hart.core.map ≡ start.core.map = ap (λ (state : HartState). state.core.map) after
-    ∙ map_after rows start in
-    record {
-      sound = subst (λ (state : HartState). IsSound state.core) (sym after)
-          (rows_stay start columns lines sound words).sound;
-      ram = same ∙ sym (ap (λ (map : Map). map.ram) map);
-    }
-
 pub usable_over_equal_ram : {M : Type 0} (bytes_of : M → Bytes) (ram_of : M → Span) (start : HartState)
     (columns : ColumnList) (lines : List (List ℕ)) (judged : Judged M)
     → IsUsableOverEqualRam bytes_of ram_of start columns lines judged
-usable_over_equal_ram bytes_of ram_of start columns lines judged sound words is same = record {
-  end = steps_on bytes_of ram_of start columns lines judged.end sound words is.end same;
+usable_over_equal_ram {M = M} bytes_of ram_of start columns lines judged sound words is same = record {
+  end = steps_on judged.end is.end same;
   same = same;
-  within = lies_in_ram bytes_of start (rows_of columns lines) judged is;
+  within = lies_in_ram bytes_of start rows judged is;
 }
+  where
+    rows : List RowReading
+    rows = rows_of columns lines
+
+    steps_on : (end : Option (Hart M)) → option_map (state_of bytes_of) end ≡ end_from by_hart start rows
+        → IfSome end (λ hart. ram_of hart.mem ≡ start.core.map.ram) → IfSome end (CanStep ram_of)
+    steps_on None is same = tt
+    steps_on (Some hart) is same =
+        let after = end_is start (state_of bytes_of hart) rows is in
+        let map : hart.core.map ≡ start.core.map = ap (λ (state : HartState). state.core.map) after
+        ∙ map_after rows start in
+        record {
+          sound = subst (λ (state : HartState). IsSound state.core) (sym after)
+              (rows_stay start columns lines sound words).sound;
+          ram = same ∙ sym (ap (λ (map : Map). map.ram) map);
+        }

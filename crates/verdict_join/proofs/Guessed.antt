@@ -135,12 +135,12 @@ all_met (lines ∷ pieces) from state columns founds shows judged =
           (all_met pieces (from + 1) following columns founds goes_on later),
     )
 
-pub none_rejudged : (start : HartState) (columns : ColumnList) (pieces : List (List (List ℕ)))
+pub none_rejudged : {start : HartState} {columns : ColumnList} {pieces : List (List (List ℕ))}
     (founds : List (Found (Judgement Core))) (same : Sameness Core) → ShowsFrom start columns pieces → TellsApart same
     → All (IsLawfulCandidate by_hart) (guessed_candidates start columns pieces founds)
     → AreJudgedInTurn by_hart (guessed_candidates start columns pieces founds)
     → (joined by_hart same (guessed_candidates start columns pieces founds) start).rejudged ≡ 0
-none_rejudged start columns pieces founds same shows tells lawful judged =
+none_rejudged {start = start} {columns = columns} {pieces = pieces} founds same shows tells lawful judged =
     let segments = guessed_candidates start columns pieces founds in
     counted by_hart same segments start tells lawful
     ∙ none_missed by_hart same segments start tells (all_met pieces 0 start columns founds shows judged)

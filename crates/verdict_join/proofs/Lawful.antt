@@ -5,7 +5,7 @@ use Rattle.std.specs.List.{flat_map}
 use Rattle.std.proofs.lemmas.Bool.{eqb-true}
 use Rattle.std.proofs.lemmas.List.{map-append}
 use Rattle.std.proofs.lemmas.List.Concat.{flat_map-cons}
-use Rattle.std.proofs.lemmas.List.Elements.{All-cons, All-head, All-nil, All-tail}
+use Rattle.std.proofs.lemmas.List.Elements.{All-cons, All-head, All-nil, All-tail, All-weaker}
 use Rattle.board_core.specs.declared.event.Event.{Event}
 use Rattle.hart_words.specs.States.{State}
 use Rattle.rvfi_rows.specs.Columns.{ColumnList}
@@ -18,7 +18,7 @@ use Rattle.segment_judge.specs.Laws.{judgement_from}
 use Rattle.hart_step.specs.Rows.{HartState}
 use Rattle.boundary_guess.specs.Cuts.{lines_of_pieces}
 use Rattle.boundary_guess.specs.Guesses.{guess_after, guesses_of}
-use Rattle.verdict_join.specs.Founds.{IsLeftBy, Leaves, WasFoundSo, candidates_from, found_judgement}
+use Rattle.verdict_join.specs.Founds.{IsLeftBy, IsTheirs, Leaves, WasFoundSo, candidates_from, found_judgement}
 use Rattle.verdict_join.specs.Founds.{judgement_of_segment}
 use Rattle.verdict_join.specs.Joins.{Candidate}
 use Rattle.verdict_join.specs.Laws.{IsLawfulCandidate, rows_through}
@@ -50,54 +50,65 @@ all_lawful judging from (rows ∷ segments) (guess ∷ guesses) founds theirs =
     let next : from + suc index ≡ from + 1 + index = omega arith in
     subst (λ n. Theirs judging founds n rows guess) next (theirs (suc index) rows guess here there)))
 
--- what a list of events leaves is lawful
-one_left : {C : Type 0} (judging : Judging C) (segments : List (List RowReading)) (guesses : List (State C)) (n : ℕ)
-    (events : List Event) (worker number segment : ℕ) (what : What (Judgement C)) (rest : Option (Judgement C))
-    (rows : List RowReading) (guess : State C) → slice_get segments number ≡ Some rows
-    → slice_get guesses number ≡ Some guess → WasFoundSo judging segments guesses n events worker segment what
-    → IfSome rest (λ judgement. judgement ≡ judgement_from judging guess rows) → (test : Bool)
-    → (segment == number) ≡ test
-    → IfSome (judgement_of_segment number segment what rest)
-    (λ judgement. judgement ≡ judgement_from judging guess rows)
-one_left judging segments guesses n events worker number segment (Skipped least) rest rows guess here there so later
-    test is = later
-one_left {C = C} judging segments guesses n events worker number segment (Judged judgement) rest rows guess here there
-    so later true is =
-    let same = eqb-true segment number is in
-    let mine : judgement ≡ judgement_from judging guess rows =
-    so rows guess (ap (slice_get segments) same ∙ here) (ap (slice_get guesses) same ∙ there) in
-    subst
-    (λ test. IfSome (if test then Some judgement else rest)
-    (λ judgement. judgement ≡ judgement_from judging guess rows)) (sym is) mine
-one_left judging segments guesses n events worker number segment (Judged judgement) rest rows guess here there so
-    later false is =
-    subst
-    (λ test. IfSome (if test then Some judgement else rest)
-    (λ judgement. judgement ≡ judgement_from judging guess rows)) (sym is) later
+-- a judgement that was found is that of its segment
+abbrev pub IsTheirFinding : {C : Type 0} → Judging C → List (List RowReading) → List (State C) → ℕ
+    → What (Judgement C) → Type 0
+IsTheirFinding judging segments guesses number (Judged judgement) = IsTheirs judging segments guesses number judgement
+IsTheirFinding judging segments guesses number (Skipped least) = Unit {0}
 
-pub left_theirs : {C : Type 0} (judging : Judging C) (segments : List (List RowReading)) (guesses : List (State C))
-    (n : ℕ) (events : List Event) (founds : List (Found (Judgement C))) (number : ℕ) (rows : List RowReading)
-    (guess : State C) → Leaves judging segments guesses n events founds → slice_get segments number ≡ Some rows
+abbrev pub IsFoundTheirs : {C : Type 0} → Judging C → List (List RowReading) → List (State C)
+    → Found (Judgement C) → Type 0
+IsFoundTheirs judging segments guesses found = IsTheirFinding judging segments guesses found.seg found.what
+
+theirs_found : {C : Type 0} {rows : List RowReading} {guess : State C} (judging : Judging C)
+    (segments : List (List RowReading)) (guesses : List (State C)) (founds : List (Found (Judgement C))) (number : ℕ)
+    → All (IsFoundTheirs judging segments guesses) founds → slice_get segments number ≡ Some rows
     → slice_get guesses number ≡ Some guess → Theirs judging founds number rows guess
 unfolding found_judgement
-left_theirs judging segments guesses n events [] number rows guess left here there = tt
-left_theirs judging segments guesses n events (found ∷ founds) number rows guess left here there =
-    let first = All-head (IsLeftBy judging segments guesses n events) found founds left in
-    let later =
-    left_theirs judging segments guesses n events founds number rows guess
-    (All-tail (IsLeftBy judging segments guesses n events) found founds left) here there in
-    one_left judging segments guesses n events first.worker number found.seg found.what
-    (found_judgement founds number) rows guess here there first.so later (found.seg == number) refl
+theirs_found judging segments guesses [] number theirs here there = tt
+theirs_found {C = C} {rows = rows} {guess = guess} judging segments guesses (found ∷ founds) number theirs here there =
+    by found.what (found.seg == number) refl (All-head (IsFoundTheirs judging segments guesses) found founds theirs)
+    (theirs_found judging segments guesses founds number
+    (All-tail (IsFoundTheirs judging segments guesses) found founds theirs) here there)
+  where
+    IsOf : Option (Judgement C) → Type 0
+    IsOf one = IfSome one (λ judgement. judgement ≡ judgement_from judging guess rows)
 
+    by : (what : What (Judgement C)) (test : Bool) → (found.seg == number) ≡ test
+        → IsTheirFinding judging segments guesses found.seg what → IsOf (found_judgement founds number)
+        → IsOf (judgement_of_segment number found.seg what (found_judgement founds number))
+    by (Skipped least) test is mine later = later
+    by (Judged judgement) true is mine later =
+        let same = eqb-true found.seg number is in
+        subst (λ test. IsOf (if test then Some judgement else found_judgement founds number)) (sym is)
+        (mine rows guess (ap (slice_get segments) same ∙ here) (ap (slice_get guesses) same ∙ there))
+    by (Judged judgement) false is mine later =
+        subst (λ test. IsOf (if test then Some judgement else found_judgement founds number)) (sym is) later
+
+pub found_lawful : {C : Type 0} (judging : Judging C) (segments : List (List RowReading)) (guesses : List (State C))
+    (founds : List (Found (Judgement C))) → All (IsFoundTheirs judging segments guesses) founds
+    → All (IsLawfulCandidate judging) (candidates_from 0 segments guesses founds)
+found_lawful judging segments guesses founds theirs =
+    all_lawful judging 0 segments guesses founds (λ index rows guess here there.
+    let number : index ≡ 0 + index = omega arith in
+    subst (λ n. Theirs judging founds n rows guess) number
+    (theirs_found judging segments guesses founds index theirs here there))
+
+-- what a list of events leaves is lawful
 pub left_lawful : {C : Type 0} (judging : Judging C) (segments : List (List RowReading)) (guesses : List (State C))
     (n : ℕ) (events : List Event) (founds : List (Found (Judgement C)))
     → Leaves judging segments guesses n events founds
     → All (IsLawfulCandidate judging) (candidates_from 0 segments guesses founds)
-left_lawful judging segments guesses n events founds left =
-    all_lawful judging 0 segments guesses founds (λ index rows guess here there.
-    let number : index ≡ 0 + index = omega arith in
-    subst (λ n. Theirs judging founds n rows guess) number
-    (left_theirs judging segments guesses n events founds index rows guess left here there))
+left_lawful {C = C} judging segments guesses n events founds left =
+    found_lawful judging segments guesses founds
+    (All-weaker (IsLeftBy judging segments guesses n events) (IsFoundTheirs judging segments guesses)
+    (λ found is. theirs is.worker found.seg found.what is.so) founds left)
+  where
+    theirs : (worker number : ℕ) (what : What (Judgement C))
+        → WasFoundSo judging segments guesses n events worker number what
+        → IsTheirFinding judging segments guesses number what
+    theirs worker number (Judged judgement) so = so
+    theirs worker number (Skipped least) so = tt
 
 -- the rows of all candidates
 abbrev all_rows : List (List RowReading) → List RowReading

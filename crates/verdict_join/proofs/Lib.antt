@@ -3,6 +3,7 @@ pub mod Passed
 pub mod Adopted
 pub mod Placed
 pub mod Turns
+pub mod Findings
 pub mod Rests
 pub mod Looped
 pub mod Sameness

@@ -3,6 +3,7 @@ use Rattle.std.proofs.Common.{◌≡◌, ℕ, suc, ◌+◌, ◌≤◌, true, Lis
 use Rattle.std.proofs.Common.{option_map, refl, sym, ap, ◌∙◌, subst, arith, add-one}
 use Rattle.hart_words.specs.declared.signal.Difference.{Difference}
 use Rattle.hart_words.specs.Memory.{Bytes, after_writes}
+use Rattle.rvfi_rows.specs.declared.row_counts.RowCounts.{RowCounts}
 use Rattle.rvfi_rows.specs.declared.verdict.Verdict.{Verdict}
 use Rattle.rvfi_rows.specs.declared.verdict.Verdict.TheVariants.{Agrees, Differs, Refused}
 use Rattle.std.proofs.lemmas.List.{length-map}
@@ -131,57 +132,61 @@ pub conclusion_within : (now : HartState) (rows : List RowReading)
 unfolding conclusion_from
 conclusion_within now rows = judgement_within by_hart now.core rows now.bytes
 
--- the walk passes rows whose verdict it counts, and goes on from the state after them
-leads_on : {M : Type 0} (bytes_of : M → Bytes) (now : Walk M) (state : Option HartState) (rows valid : ℕ)
-    → EndsWhereAgrees (Agrees rows valid) state → IsReached state (state_of bytes_of now.hart)
-    → state ≡ Some (state_of bytes_of now.hart)
-leads_on bytes_of now None rows valid ends reached = absurd ends
-leads_on bytes_of now (Some state) rows valid ends reached = ap Some (sym reached)
-
-leads_by : {M : Type 0} (bytes_of : M → Bytes) (before now : Walk M) (verdict : Verdict) (state : Option HartState)
-    (end : Option Verdict) → EndsWhereAgrees verdict state → CountsOn before now verdict end
-    → IsReached state (state_of bytes_of now.hart) → LeadsToState bytes_of now state end
-leads_by bytes_of before now (Agrees rows valid) state end ends counts reached =
-    subst (LeadsToState bytes_of now state) (sym counts.0) (leads_on bytes_of now state rows valid ends reached)
-leads_by bytes_of before now (Differs row difference) None end ends counts reached =
-    subst (LeadsToState bytes_of now None) (sym counts) refl
-leads_by bytes_of before now (Differs row difference) (Some state) end ends counts reached = absurd ends
-leads_by bytes_of before now (Refused row fault) None end ends counts reached =
-    subst (LeadsToState bytes_of now None) (sym counts) refl
-leads_by bytes_of before now (Refused row fault) (Some state) end ends counts reached = absurd ends
+-- a walk stands after rows from where it stood first, and has their verdict still to count
+pub record HasPassed {M : Type 0} (bytes_of : M → Bytes) (first before : Walk M) (rows : List RowReading)
+    (verdict : Verdict) : Type 0 where
+  pub verdict_is : verdict ≡ (conclusion_from by_hart (state_of bytes_of first.hart) rows).verdict
+  pub reached : IsReached (conclusion_from by_hart (state_of bytes_of first.hart) rows).end
+      (state_of bytes_of before.hart)
+  pub counts_are : before.counts ≡ first.counts
 
 -- counting alone looks at no hart
 counts_from : {M : Type 0} (first before now : Walk M) (verdict : Verdict) (end : Option Verdict)
-    → before.rows ≡ first.rows → before.valid ≡ first.valid → CountsOn before now verdict end
-    → CountsOn first now verdict end
-counts_from first before now (Agrees rows valid) end same_rows same_valid counts =
-    (counts.0, (counts.1.0 ∙ ap (λ n. n + rows) same_rows, counts.1.1 ∙ ap (λ n. n + valid) same_valid))
-counts_from first before now (Differs row difference) end same_rows same_valid counts =
-    counts ∙ ap (λ n. Some (Differs (n + row) difference)) same_rows
-counts_from first before now (Refused row fault) end same_rows same_valid counts =
-    counts ∙ ap (λ n. Some (Refused (n + row) fault)) same_rows
+    → before.counts ≡ first.counts → CountsOn before now verdict end → CountsOn first now verdict end
+counts_from first before now (Agrees rows valid) end same counts = (
+  counts.0,
+  (
+    counts.1.0 ∙ ap (λ (counts : RowCounts). counts.rows + rows) same,
+    counts.1.1 ∙ ap (λ (counts : RowCounts). counts.valid + valid) same,
+  ),
+)
+counts_from first before now (Differs row difference) end same counts =
+    counts ∙ ap (λ (counts : RowCounts). Some (Differs (counts.rows + row) difference)) same
+counts_from first before now (Refused row fault) end same counts =
+    counts ∙ ap (λ (counts : RowCounts). Some (Refused (counts.rows + row) fault)) same
 
-pub passes_by : {M : Type 0} (bytes_of : M → Bytes) (first before now : Walk M) (rows : List RowReading)
-    (verdict : Verdict) (state : Option HartState) (end : Option Verdict)
-    → verdict ≡ (conclusion_from by_hart (state_of bytes_of first.hart) rows).verdict
-    → (conclusion_from by_hart (state_of bytes_of first.hart) rows).end ≡ state → before.rows ≡ first.rows
-    → before.valid ≡ first.valid → CountsOn before now verdict end → now.hart ≡ before.hart
-    → IsReached state (state_of bytes_of before.hart) → PassesRows bytes_of first now rows end
-passes_by bytes_of first before now rows verdict state end is ends same_rows same_valid counts same_hart reached =
+-- it counts the verdict, and goes on from the state after the rows
+pub passes_by : {M : Type 0} {bytes_of : M → Bytes} {first : Walk M} {rows : List RowReading} (before now : Walk M)
+    (verdict : Verdict) (end : Option Verdict) → HasPassed bytes_of first before rows verdict
+    → CountsOn before now verdict end → now.hart ≡ before.hart → PassesRows bytes_of first now rows end
+passes_by {M = M} {bytes_of = bytes_of} {first = first} {rows = rows} before now verdict end passed counts same_hart =
     let conclusion = conclusion_from by_hart (state_of bytes_of first.hart) rows in
     let counted =
-    subst (λ verdict. CountsOn first now verdict end) is
-    (counts_from first before now verdict end same_rows same_valid counts) in
-    let here : IsReached state (state_of bytes_of now.hart) =
-    subst (λ hart. IsReached state (state_of bytes_of hart)) (sym same_hart) reached in
-    let there : IsReached conclusion.end (state_of bytes_of now.hart) =
-    subst (λ state. IsReached state (state_of bytes_of now.hart)) (sym ends) here in
+    subst (λ verdict. CountsOn first now verdict end) passed.verdict_is
+    (counts_from first before now verdict end passed.counts_are counts) in
     record {
       counts = counted;
       leads =
-          leads_by bytes_of first now conclusion.verdict conclusion.end end
-          (conclusion_ends by_hart (state_of bytes_of first.hart) rows) counted there;
+          leads conclusion.verdict conclusion.end
+          (conclusion_ends by_hart (state_of bytes_of first.hart) rows) counted
+          (subst (λ hart. IsReached conclusion.end (state_of bytes_of hart)) (sym same_hart) passed.reached);
     }
+  where
+    leads_on : (rows valid : ℕ) (state : Option HartState) → EndsWhereAgrees (Agrees rows valid) state
+        → IsReached state (state_of bytes_of now.hart) → state ≡ Some (state_of bytes_of now.hart)
+    leads_on rows valid None ends reached = absurd ends
+    leads_on rows valid (Some state) ends reached = ap Some (sym reached)
+
+    leads : (verdict : Verdict) (state : Option HartState) → EndsWhereAgrees verdict state
+        → CountsOn first now verdict end → IsReached state (state_of bytes_of now.hart)
+        → LeadsToState bytes_of now state end
+    leads (Agrees rows valid) state ends counts reached =
+        subst (LeadsToState bytes_of now state) (sym counts.0) (leads_on rows valid state ends reached)
+    leads (Differs row difference) None ends counts reached =
+        subst (LeadsToState bytes_of now None) (sym counts) refl
+    leads (Differs row difference) (Some state) ends counts reached = absurd ends
+    leads (Refused row fault) None ends counts reached = subst (LeadsToState bytes_of now None) (sym counts) refl
+    leads (Refused row fault) (Some state) ends counts reached = absurd ends
 
 -- a state after rows, where there is none, and where there is one
 pub reached_none : (end : Option HartState) (now : HartState) → end ≡ None → IsReached end now
@@ -197,6 +202,10 @@ fewer_within : (count more : ℕ) (verdict : Verdict) → count ≤ more → IsW
 fewer_within count more (Agrees rows valid) fewer within = (omega (arith, fewer, within.0), within.1)
 fewer_within count more (Differs row difference) fewer within = omega (arith, fewer, within)
 fewer_within count more (Refused row fault) fewer within = omega (arith, fewer, within)
+
+pub rows_within : {verdict : Verdict} (now : HartState) (rows : List RowReading)
+    → verdict ≡ (conclusion_from by_hart now rows).verdict → IsWithinRows (length rows) verdict
+rows_within now rows is = subst (IsWithinRows (length rows)) (sym is) (conclusion_within now rows)
 
 -- the verdict on lines counts no more rows than there are lines
 pub lines_within : (now : HartState) (columns : ColumnList) (lines : List (List ℕ)) (verdict : Verdict)

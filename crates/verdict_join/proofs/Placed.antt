@@ -12,7 +12,7 @@ use Rattle.segment_judge.specs.declared.found.What.TheVariants.{Judged, Skipped}
 use Rattle.segment_judge.specs.declared.judged.Judged.{Judged as JudgedSegment}
 use Rattle.verdict_join.specs.Walks.{judged_segment_by, judged_segment_in}
 
-or_none : {A : Type 0} (x : Option A) → option_or x None ≡ x
+pub or_none : {A : Type 0} (x : Option A) → option_or x None ≡ x
 or_none None = refl
 or_none (Some a) = refl
 
@@ -21,14 +21,14 @@ or_three None y z = refl
 or_three (Some a) y z = refl
 
 -- one found more
-pub judged_behind : {M : Type 0} (founds : List (Found (JudgedSegment M))) (found : Found (JudgedSegment M))
+pub judged_after : {M : Type 0} (founds : List (Found (JudgedSegment M))) (found : Found (JudgedSegment M))
     (number : ℕ)
     → judged_segment_in (founds ++ found ∷ []) number
     ≡ option_or (judged_segment_by number found.seg found.what) (judged_segment_in founds number)
 unfolding judged_segment_in
-judged_behind [] found number = sym (or_none (judged_segment_by number found.seg found.what))
-judged_behind (first ∷ founds) found number =
-    ap (λ last. option_or last (judged_segment_by number first.seg first.what)) (judged_behind founds found number)
+judged_after [] found number = sym (or_none (judged_segment_by number found.seg found.what))
+judged_after (first ∷ founds) found number =
+    ap (λ last. option_or last (judged_segment_by number first.seg first.what)) (judged_after founds found number)
     ∙ or_three (judged_segment_by number found.seg found.what) (judged_segment_in founds number)
     (judged_segment_by number first.seg first.what)
 
@@ -64,22 +64,27 @@ copied_or : {A : Type 0} (test : Bool) (x : Bor A) (y : Option (Bor A)) (z : Opt
 copied_or true x y z same = refl
 copied_or false x y z same = same
 
+-- at an index stands that a segment was judged so
+pub record IsJudgedAt {M : Type 0} (founds : List (Found (JudgedSegment M))) (index : ℕ)
+    (found : Found (JudgedSegment M)) (judged : Bor (JudgedSegment M)) : Type 0 where
+  pub here : Some found ≡ slice_get founds index
+  pub judged_so : found.what ≡ Judged judged.now
+
 -- a judged segment is placed
-pub placed_turn : {M : Type 0} (founds : List (Found (JudgedSegment M)))
-    (places : List (Option (Bor (JudgedSegment M)))) (index number : ℕ) (found : Found (JudgedSegment M))
-    (judged : Bor (JudgedSegment M)) → Some found ≡ slice_get founds index → found.what ≡ Judged judged.now
-    → found.seg < length places
+pub placed_turn : {M : Type 0} {founds : List (Found (JudgedSegment M))} {index : ℕ} {found : Found (JudgedSegment M)}
+    {judged : Bor (JudgedSegment M)} (places : List (Option (Bor (JudgedSegment M)))) (number : ℕ)
+    → IsJudgedAt founds index found judged → found.seg < length places
     → option_copied (slice_index_or places number None) ≡ judged_segment_in (take index founds) number
     → option_copied (slice_index_or (slice_set places found.seg (Some judged)) number None)
     ≡ judged_segment_in (take (index + 1) founds) number
-placed_turn founds places index number found judged here is within so_far =
+placed_turn {founds = founds} {index = index} {found = found} {judged = judged} places number at within so_far =
     ap option_copied (placed_at places found.seg judged number within)
     ∙ copied_or (found.seg == number) judged (slice_index_or places number None)
     (judged_segment_in (take index founds) number) so_far
     ∙ ap (λ what. option_or (judged_segment_by number found.seg what) (judged_segment_in (take index founds) number))
-    (sym is)
-    ∙ sym (judged_behind (take index founds) found number)
-    ∙ ap (λ looked. judged_segment_in looked number) (sym (take_more founds index found here))
+    (sym at.judged_so)
+    ∙ sym (judged_after (take index founds) found number)
+    ∙ ap (λ looked. judged_segment_in looked number) (sym (take_more founds index found at.here))
 
 -- a skipped one is passed by
 pub passed_turn : {M : Type 0} (founds : List (Found (JudgedSegment M))) (index number least : ℕ)
@@ -87,5 +92,5 @@ pub passed_turn : {M : Type 0} (founds : List (Found (JudgedSegment M))) (index 
     → judged_segment_in (take (index + 1) founds) number ≡ judged_segment_in (take index founds) number
 passed_turn founds index number least found here is =
     ap (λ looked. judged_segment_in looked number) (take_more founds index found here)
-    ∙ judged_behind (take index founds) found number
+    ∙ judged_after (take index founds) found number
     ∙ ap (λ what. option_or (judged_segment_by number found.seg what) (judged_segment_in (take index founds) number)) is

@@ -9,18 +9,27 @@ use Rattle.hart_step.specs.Rows.{HartState}
 use Rattle.segment_judge.specs.Judgements.{by_hart, verdict_after_rows}
 use Rattle.segment_judge.specs.Laws.{conclusion_from, verdict_of_both}
 use Rattle.segment_judge.proofs.Parts.{counted_twice, uncounted}
+use Rattle.verdict_join.specs.declared.joined.Round.{Round}
 use Rattle.verdict_join.specs.declared.walk.Walk.{Walk}
 use Rattle.verdict_join.specs.Joining.{round_of}
 use Rattle.verdict_join.specs.Joins.{Candidate, Joined, Sameness, adopted_judgement, joined_by, nothing_from, walk}
 use Rattle.verdict_join.specs.Laws.{IsLawfulCandidate, TellsApart, miss}
 use Rattle.verdict_join.specs.Walks.{CountsOn, IsRest, PassesRows}
-use Rattle.verdict_join.proofs.Walks.{behind_segment, walked_segment_once}
+use Rattle.verdict_join.proofs.Walks.{after_segment, walked_segment_once}
+
+-- a candidate is passed: its rows are, and it was judged again just where none is adopted of it
+pub record IsPassed {M : Type 0} (bytes_of : M → Bytes) (same : Sameness Core) (before now : Walk M)
+    (candidate : Candidate Core) (end : Option Verdict) : Type 0 where
+  pub lawful : IsLawfulCandidate by_hart candidate
+  pub passes : PassesRows bytes_of before now candidate.rows end
+  pub misses : now.rejudged
+      ≡ before.rejudged + miss (adopted_judgement same candidate (state_of bytes_of before.hart))
 
 -- what is left after a segment
-abbrev pub left_behind : Sameness Core → Bool → Candidate Core → List (Candidate Core) → HartState → HartState
+abbrev pub left_after : Sameness Core → Bool → Candidate Core → List (Candidate Core) → HartState → HartState
     → Joined Core
-left_behind same once candidate later now following =
-    behind_segment once (adopted_judgement same candidate now) (λ following. walk by_hart same once later following)
+left_after same once candidate later now following =
+    after_segment once (adopted_judgement same candidate now) (λ following. walk by_hart same once later following)
     following
 
 -- the walk over a segment and those after it
@@ -29,41 +38,50 @@ one_and_rest : (same : Sameness Core) → TellsApart same
     → IsLawfulCandidate by_hart candidate
     → walk by_hart same once (candidate ∷ later) now
     ≡ joined_by (conclusion_from by_hart now candidate.rows).end (conclusion_from by_hart now candidate.rows).verdict
-    (miss (adopted_judgement same candidate now)) (left_behind same once candidate later now)
+    (miss (adopted_judgement same candidate now)) (left_after same once candidate later now)
 unfolding walk
 one_and_rest same tells once candidate later now lawful =
     walked_segment_once by_hart same once candidate now (λ following. walk by_hart same once later following) tells
     lawful
 
 counts_rest : {M : Type 0} (before now : Walk M) (verdict rest : Verdict) → CountsOn before now verdict None
-    → verdict_after_rows before.rows before.valid (verdict_of_both verdict rest)
-    ≡ verdict_after_rows now.rows now.valid rest
+    → verdict_after_rows before.counts.rows before.counts.valid (verdict_of_both verdict rest)
+    ≡ verdict_after_rows now.counts.rows now.counts.valid rest
 counts_rest before now (Agrees rows valid) rest counts =
-    counted_twice before.rows before.valid rows valid rest ∙ rw (counts.1.0, counts.1.1) refl
+    counted_twice before.counts.rows before.counts.valid rows valid rest ∙ rw (counts.1.0, counts.1.1) refl
 counts_rest before now (Differs row difference) rest counts = cc
 counts_rest before now (Refused row fault) rest counts = cc
 
--- the walk goes on
-goes_on : {M : Type 0} (bytes_of : M → Bytes) (before now : Walk M) (walked : ℕ) (verdict : Verdict)
-    (end : Option HartState) (again : ℕ) (next : HartState → Joined Core) (whole : Joined Core)
-    → CountsOn before now verdict None → end ≡ Some (state_of bytes_of now.hart)
-    → now.rejudged ≡ before.rejudged + again → IsRest before walked (joined_by end verdict again next) whole
-    → IsRest now (walked + 1) (next (state_of bytes_of now.hart)) whole
-goes_on bytes_of before now walked verdict end again next whole counts leads misses so_far =
+-- the walk goes on after one segment more
+pub turn_on : {M : Type 0} {bytes_of : M → Bytes} {before now : Walk M} {walked : ℕ} {whole : Joined Core}
+    (same : Sameness Core) → TellsApart same
+    → (once : Bool) (candidate : Candidate Core) (later : List (Candidate Core))
+    → IsPassed bytes_of same before now candidate None
+    → IsRest before walked (walk by_hart same once (candidate ∷ later) (state_of bytes_of before.hart)) whole
+    → IsRest now (walked + 1)
+    (left_after same once candidate later (state_of bytes_of before.hart) (state_of bytes_of now.hart)) whole
+turn_on {bytes_of = bytes_of} {before = before} {now = now} {walked = walked} {whole = whole} same tells once candidate
+    later passed so_far =
+    let start = state_of bytes_of before.hart in
     let state = state_of bytes_of now.hart in
-    let here : IsRest before walked (joined_by (Some state) verdict again next) whole =
-    subst (λ end. IsRest before walked (joined_by end verdict again next) whole) leads so_far in
+    let first = conclusion_from by_hart start candidate.rows in
+    let again = miss (adopted_judgement same candidate start) in
+    let next = left_after same once candidate later start in
+    let here : IsRest before walked (joined_by (Some state) first.verdict again next) whole =
+    subst (λ end. IsRest before walked (joined_by end first.verdict again next) whole) passed.passes.leads
+    (subst (λ rest. IsRest before walked rest whole)
+    (one_and_rest same tells once candidate later start passed.lawful) so_far) in
     let count : before.rejudged + (again + (next state).rejudged) ≡ whole.rejudged = here.rejudged in
     let settled : walked + (1 + (next state).settled) ≡ whole.settled = here.settled in
     record {
-      verdict = sym (counts_rest before now verdict (next state).verdict counts) ∙ here.verdict;
+      verdict = sym (counts_rest before now first.verdict (next state).verdict passed.passes.counts) ∙ here.verdict;
       end = here.end;
       settled = omega (arith, settled);
-      rejudged = omega (arith, misses, count);
+      rejudged = omega (arith, passed.misses, count);
     }
 
 counts_end : {M : Type 0} (before now : Walk M) (verdict end : Verdict) → CountsOn before now verdict (Some end)
-    → verdict_after_rows before.rows before.valid verdict ≡ end
+    → verdict_after_rows before.counts.rows before.counts.valid verdict ≡ end
 counts_end before now (Agrees rows valid) end counts = cc
 counts_end before now (Differs row difference) end counts = cc
 counts_end before now (Refused row fault) end counts = cc
@@ -76,50 +94,29 @@ same_join one other verdict end settled rejudged =
     rw (verdict, end, settled, rejudged) refl in
     whole
 
--- or ends
-ends_so : {M : Type 0} (bytes_of : M → Bytes) (before now : Walk M) (walked : ℕ) (verdict last : Verdict)
-    (end : Option HartState) (again : ℕ) (next : HartState → Joined Core) (whole : Joined Core)
-    → CountsOn before now verdict (Some last) → end ≡ None → now.rejudged ≡ before.rejudged + again
-    → IsRest before walked (joined_by end verdict again next) whole
-    → round_of bytes_of (record { verdict = last; end = None; settled = walked + 1; rejudged = now.rejudged }) ≡ whole
-ends_so bytes_of before now walked verdict last end again next whole counts leads misses so_far =
-    let here : IsRest before walked (joined_by None verdict again next) whole =
-    subst (λ end. IsRest before walked (joined_by end verdict again next) whole) leads so_far in
-    same_join _ whole (sym (counts_end before now verdict last counts) ∙ here.verdict) here.end here.settled
-    (misses ∙ here.rejudged)
-
--- one segment more
-pub turn_on : {M : Type 0} (bytes_of : M → Bytes) (same : Sameness Core) → TellsApart same
-    → (once : Bool) (before now : Walk M) (walked : ℕ) (candidate : Candidate Core) (later : List (Candidate Core))
-    (whole : Joined Core) → IsLawfulCandidate by_hart candidate
-    → now.rejudged ≡ before.rejudged + miss (adopted_judgement same candidate (state_of bytes_of before.hart))
-    → PassesRows bytes_of before now candidate.rows None
-    → IsRest before walked (walk by_hart same once (candidate ∷ later) (state_of bytes_of before.hart)) whole
-    → IsRest now (walked + 1)
-    (left_behind same once candidate later (state_of bytes_of before.hart) (state_of bytes_of now.hart)) whole
-turn_on bytes_of same tells once before now walked candidate later whole lawful misses passes so_far =
-    let state = state_of bytes_of before.hart in
-    let first = conclusion_from by_hart state candidate.rows in
-    goes_on bytes_of before now walked first.verdict first.end (miss (adopted_judgement same candidate state))
-    (left_behind same once candidate later state) whole passes.counts passes.leads misses
-    (subst (λ rest. IsRest before walked rest whole) (one_and_rest same tells once candidate later state lawful) so_far)
-
-pub turn_ends : {M : Type 0} (bytes_of : M → Bytes) (same : Sameness Core) → TellsApart same
-    → (once : Bool) (before now : Walk M) (walked : ℕ) (candidate : Candidate Core) (later : List (Candidate Core))
-    (whole : Joined Core) (last : Verdict) → IsLawfulCandidate by_hart candidate
-    → now.rejudged ≡ before.rejudged + miss (adopted_judgement same candidate (state_of bytes_of before.hart))
-    → PassesRows bytes_of before now candidate.rows (Some last)
+-- or it ends with the verdict on it
+pub turn_ends : {M : Type 0} {bytes_of : M → Bytes} {before now : Walk M} {walked : ℕ} {last : Verdict}
+    {whole : Joined Core} (same : Sameness Core) → TellsApart same
+    → (once : Bool) (candidate : Candidate Core) (later : List (Candidate Core))
+    → IsPassed bytes_of same before now candidate (Some last)
     → IsRest before walked (walk by_hart same once (candidate ∷ later) (state_of bytes_of before.hart)) whole
     → round_of bytes_of (record { verdict = last; end = None; settled = walked + 1; rejudged = now.rejudged }) ≡ whole
-turn_ends bytes_of same tells once before now walked candidate later whole last lawful misses passes so_far =
-    let state = state_of bytes_of before.hart in
-    let first = conclusion_from by_hart state candidate.rows in
-    ends_so bytes_of before now walked first.verdict last first.end (miss (adopted_judgement same candidate state))
-    (left_behind same once candidate later state) whole passes.counts passes.leads misses
-    (subst (λ rest. IsRest before walked rest whole) (one_and_rest same tells once candidate later state lawful) so_far)
+turn_ends {bytes_of = bytes_of} {before = before} {now = now} {walked = walked} {last = last} {whole = whole} same
+    tells once candidate later passed so_far =
+    let start = state_of bytes_of before.hart in
+    let first = conclusion_from by_hart start candidate.rows in
+    let again = miss (adopted_judgement same candidate start) in
+    let next = left_after same once candidate later start in
+    let here : IsRest before walked (joined_by None first.verdict again next) whole =
+    subst (λ end. IsRest before walked (joined_by end first.verdict again next) whole) passed.passes.leads
+    (subst (λ rest. IsRest before walked rest whole)
+    (one_and_rest same tells once candidate later start passed.lawful) so_far) in
+    same_join _ whole (sym (counts_end before now first.verdict last passed.passes.counts) ∙ here.verdict) here.end
+    here.settled (passed.misses ∙ here.rejudged)
 
 -- nothing was walked yet
-pub rest_begins : {M : Type 0} (begun : Walk M) (whole : Joined Core) → begun.rows ≡ 0 → begun.valid ≡ 0
+pub rest_begins : {M : Type 0} (begun : Walk M) (whole : Joined Core) → begun.counts.rows ≡ 0
+    → begun.counts.valid ≡ 0
     → begun.rejudged ≡ 0 → IsRest begun 0 whole whole
 rest_begins begun whole rows valid again = record {
   verdict = rw (rows, valid) (uncounted whole.verdict);
@@ -128,52 +125,40 @@ rest_begins begun whole rows valid again = record {
   rejudged = omega (arith, again);
 }
 
+-- the round of a walk that ends after so many segments, which agree
+abbrev pub agreed_round : {M : Type 0} → Walk M → ℕ → Round M
+agreed_round now settled = record {
+  verdict = Agrees now.counts.rows now.counts.valid;
+  end = Some now.hart;
+  settled = settled;
+  rejudged = now.rejudged;
+}
+
 -- nothing is left
 pub nothing_left : {M : Type 0} (bytes_of : M → Bytes) (now : Walk M) (walked : ℕ) (whole : Joined Core)
     → IsRest now walked (nothing_from (state_of bytes_of now.hart)) whole
-    → round_of bytes_of
-    (record { verdict = Agrees now.rows now.valid; end = Some now.hart; settled = walked; rejudged = now.rejudged })
-    ≡ whole
+    → round_of bytes_of (agreed_round now walked) ≡ whole
 nothing_left bytes_of now walked whole here =
-    let rows : now.rows + 0 ≡ now.rows = omega arith in
-    let valid : now.valid + 0 ≡ now.valid = omega arith in
+    let rows : now.counts.rows + 0 ≡ now.counts.rows = omega arith in
+    let valid : now.counts.valid + 0 ≡ now.counts.valid = omega arith in
     let again : now.rejudged + 0 ≡ whole.rejudged = here.rejudged in
     let settled : walked + 0 ≡ whole.settled = here.settled in
-    let verdict : Agrees (now.rows + 0) (now.valid + 0) ≡ whole.verdict = here.verdict in
+    let verdict : Agrees (now.counts.rows + 0) (now.counts.valid + 0) ≡ whole.verdict = here.verdict in
     same_join _ whole (rw (rows, valid) at verdict) here.end (omega (arith, settled)) (omega (arith, again))
 
 -- no segment is left
-pub rest_ends : {M : Type 0} (bytes_of : M → Bytes) (same : Sameness Core) (once : Bool) (walked : Walk M) (count : ℕ)
-    (left : List (Candidate Core)) (whole : Joined Core) → left ≡ []
+pub rest_ends : {M : Type 0} {count : ℕ} {left : List (Candidate Core)} {whole : Joined Core} (bytes_of : M → Bytes)
+    (same : Sameness Core) (once : Bool) (walked : Walk M) → left ≡ []
     → IsRest walked count (walk by_hart same once left (state_of bytes_of walked.hart)) whole
-    → round_of bytes_of
-    (record {
-      verdict =
-          Agrees walked.rows walked.valid;
-      end = Some walked.hart;
-      settled = count;
-      rejudged = walked.rejudged;
-    }) ≡ whole
+    → round_of bytes_of (agreed_round walked count) ≡ whole
 unfolding walk
-rest_ends bytes_of same once walked count left whole none so_far =
+rest_ends {count = count} {whole = whole} bytes_of same once walked none so_far =
     nothing_left bytes_of walked count whole
     (subst (λ left. IsRest walked count (walk by_hart same once left (state_of bytes_of walked.hart)) whole) none
     so_far)
 
 pub settled_is : {M : Type 0} (bytes_of : M → Bytes) (now : Walk M) (count other : ℕ) (whole : Joined Core)
-    → count ≡ other
-    → round_of bytes_of
-    (record { verdict = Agrees now.rows now.valid; end = Some now.hart; settled = count; rejudged = now.rejudged })
-    ≡ whole → round_of bytes_of (record {
-      verdict = Agrees now.rows now.valid;
-      end = Some now.hart;
-      settled =
-          other;
-      rejudged = now.rejudged;
-    }) ≡ whole
+    → count ≡ other → round_of bytes_of (agreed_round now count) ≡ whole
+    → round_of bytes_of (agreed_round now other) ≡ whole
 settled_is bytes_of now count other whole same is =
-    subst
-    (λ settled. round_of bytes_of
-    (record
-    { verdict = Agrees now.rows now.valid; end = Some now.hart; settled = settled; rejudged = now.rejudged })
-    ≡ whole) same is
+    subst (λ settled. round_of bytes_of (agreed_round now settled) ≡ whole) same is

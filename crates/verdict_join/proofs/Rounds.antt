@@ -28,7 +28,7 @@ use Rattle.verdict_join.specs.Rounds.{AreRounds, GoOn, IsRound, SettleAll, Settl
 use Rattle.verdict_join.proofs.Guessed.{none_rejudged}
 use Rattle.verdict_join.proofs.Lawful.{guess_for_each, left_lawful, pieces_read}
 use Rattle.verdict_join.proofs.Sameness.{core_sameness, core_tells}
-use Rattle.verdict_join.proofs.Walks.{behind_segment, conclusion_of, walked_segment, walked_segment_once}
+use Rattle.verdict_join.proofs.Walks.{after_segment, conclusion_of, walked_segment, walked_segment_once}
 
 -- ---- one walk
 
@@ -37,7 +37,7 @@ once_step : {C : Type 0} (judging : Judging C) (same : Sameness C) (segment : Ca
     → walk judging same true (segment ∷ segments) now
     ≡ joined_by (conclusion_from judging now segment.rows).end (conclusion_from judging now segment.rows).verdict
     (miss (adopted_judgement same segment now))
-    (behind_segment true (adopted_judgement same segment now) (λ following. walk judging same true segments following))
+    (after_segment true (adopted_judgement same segment now) (λ following. walk judging same true segments following))
 unfolding walk
 once_step judging same segment segments now tells lawful =
     walked_segment_once judging same true segment now (λ following. walk judging same true segments following) tells
@@ -53,12 +53,12 @@ nothing_concludes : {C : Type 0} (judging : Judging C) (segments : List (Candida
 unfolding conclusion_from judgement_of after_writes
 nothing_concludes judging segments now = refl
 
-behind_concludes : {C : Type 0} (judging : Judging C) (segments : List (Candidate C)) (next : State C → Joined C)
+after_concludes : {C : Type 0} (judging : Judging C) (segments : List (Candidate C)) (next : State C → Joined C)
     → ((state : State C) → Concludes judging segments state (next state))
     → (found : Option (Judgement C)) (state : State C)
-    → Concludes judging segments state (behind_segment true found next state)
-behind_concludes judging segments next later (Some judgement) state = later state
-behind_concludes judging segments next later None state = nothing_concludes judging segments state
+    → Concludes judging segments state (after_segment true found next state)
+after_concludes judging segments next later (Some judgement) state = later state
+after_concludes judging segments next later None state = nothing_concludes judging segments state
 
 first_rows : {C : Type 0} (segment : Candidate C) (segments : List (Candidate C)) (count : ℕ)
     → rows_through (take (1 + count) (segment ∷ segments)) ≡ segment.rows ++ rows_through (take count segments)
@@ -69,32 +69,37 @@ first_rows {C = C} segment segments count =
 
 joined_concludes : {C : Type 0} (judging : Judging C) (segment : Candidate C) (segments : List (Candidate C))
     (now : State C) (again : ℕ) (next : State C → Joined C)
-    → ((state : State C) → Concludes judging segments state (next state)) → (end : Option (State C))
-    → (conclusion_from judging now segment.rows).end ≡ end
+    → ((state : State C) → Concludes judging segments state (next state))
     → Concludes judging (segment ∷ segments) now
-    (joined_by end (conclusion_from judging now segment.rows).verdict again next)
-joined_concludes {C = C} judging segment segments now again next later None is =
-    let first = conclusion_from judging now segment.rows in
-    let alone : conclusion_then first
-    (λ following. conclusion_from judging following (rows_through (take 0 segments))) ≡ first = rw is refl in
-    let whole : first ≡ record { verdict = first.verdict; end = None } = rw (← is) refl in
-    sym whole ∙ sym alone ∙ sym (in_parts judging now segment.rows (rows_through (take 0 segments)))
-    ∙ ap (conclusion_from judging now) (sym (first_rows segment segments 0))
-joined_concludes {C = C} judging segment segments now again next later (Some state) is =
-    let first = conclusion_from judging now segment.rows in
-    let rest = next state in
-    let others = rows_through (take rest.settled segments) in
-    let whole : conclusion_then first (λ following. conclusion_from judging following others)
-    ≡ record {
-      verdict =
-          verdict_of_both first.verdict (conclusion_from judging state others).verdict;
-      end =
-          (conclusion_from judging state others).end;
-    } = rw is refl in
-    ap (λ following. record { verdict = verdict_of_both first.verdict following.verdict; end = following.end })
-    (later state)
-    ∙ sym whole ∙ sym (in_parts judging now segment.rows others)
-    ∙ ap (conclusion_from judging now) (sym (first_rows segment segments rest.settled))
+    (joined_by (conclusion_from judging now segment.rows).end (conclusion_from judging now segment.rows).verdict again
+    next)
+joined_concludes {C = C} judging segment segments now again next later = by first.end refl
+  where
+    first : Conclusion C
+    first = conclusion_from judging now segment.rows
+
+    by : (end : Option (State C)) → first.end ≡ end
+        → Concludes judging (segment ∷ segments) now (joined_by end first.verdict again next)
+    by None is =
+        let alone : conclusion_then first
+        (λ following. conclusion_from judging following (rows_through (take 0 segments))) ≡ first = rw is refl in
+        let whole : first ≡ record { verdict = first.verdict; end = None } = rw (← is) refl in
+        sym whole ∙ sym alone ∙ sym (in_parts judging now segment.rows (rows_through (take 0 segments)))
+        ∙ ap (conclusion_from judging now) (sym (first_rows segment segments 0))
+    by (Some state) is =
+        let rest = next state in
+        let others = rows_through (take rest.settled segments) in
+        let whole : conclusion_then first (λ following. conclusion_from judging following others)
+        ≡ record {
+          verdict =
+              verdict_of_both first.verdict (conclusion_from judging state others).verdict;
+          end =
+              (conclusion_from judging state others).end;
+        } = rw is refl in
+        ap (λ following. record { verdict = verdict_of_both first.verdict following.verdict; end = following.end })
+        (later state)
+        ∙ sym whole ∙ sym (in_parts judging now segment.rows others)
+        ∙ ap (conclusion_from judging now) (sym (first_rows segment segments rest.settled))
 
 once_concludes : {C : Type 0} (judging : Judging C) (same : Sameness C) (segments : List (Candidate C))
     (now : State C) → TellsApart same → All (IsLawfulCandidate judging) segments
@@ -104,7 +109,7 @@ once_concludes judging same [] now tells lawful = refl
 once_concludes judging same (segment ∷ segments) now tells lawful =
     let found = adopted_judgement same segment now in
     let later =
-    behind_concludes judging segments (λ following. walk judging same true segments following)
+    after_concludes judging segments (λ following. walk judging same true segments following)
     (λ following. once_concludes judging same segments following tells
     (All-tail (IsLawfulCandidate judging) segment segments lawful)) found in
     subst (Concludes judging (segment ∷ segments) now)
@@ -112,8 +117,7 @@ once_concludes judging same (segment ∷ segments) now tells lawful =
     (once_step judging same segment segments now tells
     (All-head (IsLawfulCandidate judging) segment segments lawful)))
     (joined_concludes judging segment segments now (miss found)
-    (behind_segment true found (λ following. walk judging same true segments following)) later
-    (conclusion_from judging now segment.rows).end refl)
+    (after_segment true found (λ following. walk judging same true segments following)) later)
 
 -- how many were walked, and how many of them judged again
 abbrev Again : {C : Type 0} → ℕ → Joined C → Type 0
@@ -123,16 +127,16 @@ record Counts {C : Type 0} (count : ℕ) (walked : Joined C) : Type 0 where
   within : walked.settled ≤ count
   again : Again count walked
 
-again_behind : {C : Type 0} (count : ℕ) (walked : Joined C) (verdict : Verdict) → Again count walked
+again_after : {C : Type 0} (count : ℕ) (walked : Joined C) (verdict : Verdict) → Again count walked
     → Again (suc count)
     (record { verdict = verdict; end = walked.end; settled = 1 + walked.settled; rejudged = 0 + walked.rejudged })
-again_behind count walked verdict (inl one) = inl (omega (arith, one))
-again_behind count walked verdict (inr (none, inl end)) = inr (omega (arith, none), inl end)
-again_behind count walked verdict (inr (none, inr all)) = inr (omega (arith, none), inr (omega (arith, all)))
+again_after count walked verdict (inl one) = inl (omega (arith, one))
+again_after count walked verdict (inr (none, inl end)) = inr (omega (arith, none), inl end)
+again_after count walked verdict (inr (none, inr all)) = inr (omega (arith, none), inr (omega (arith, all)))
 
 joined_counts : {C : Type 0} (count : ℕ) (verdict : Verdict) (found : Option (Judgement C))
     (next : State C → Joined C) → ((state : State C) → Counts count (next state)) → (end : Option (State C))
-    → Counts (suc count) (joined_by end verdict (miss found) (behind_segment true found next))
+    → Counts (suc count) (joined_by end verdict (miss found) (after_segment true found next))
 joined_counts count verdict None next later None = record { within = omega arith; again = inl refl }
 joined_counts count verdict None next later (Some state) = record { within = omega arith; again = inl (omega arith) }
 joined_counts count verdict (Some judgement) next later None =
@@ -143,7 +147,7 @@ joined_counts count verdict (Some judgement) next later (Some state) =
       within =
           omega (arith, rest.within);
       again =
-          again_behind count (next state) (verdict_of_both verdict (next state).verdict) rest.again;
+          again_after count (next state) (verdict_of_both verdict (next state).verdict) rest.again;
     }
 
 once_counts : {C : Type 0} (judging : Judging C) (same : Sameness C) (segments : List (Candidate C)) (now : State C)
@@ -177,7 +181,7 @@ once_some {C = C} judging same (segment ∷ segments) now tells lawful some =
     (All-head (IsLawfulCandidate judging) segment segments lawful)))
     (some_settled (conclusion_from judging now segment.rows).end (conclusion_from judging now segment.rows).verdict
     (miss (adopted_judgement same segment now))
-    (behind_segment true (adopted_judgement same segment now)
+    (after_segment true (adopted_judgement same segment now)
     (λ following. walk judging same true segments following)))
 
 pub settles_some : {C : Type 0} (judging : Judging C) (same : Sameness C) (segments : List (Candidate C))
@@ -187,7 +191,7 @@ settles_some judging same segments now tells lawful =
     let concludes = once_concludes judging same segments now tells lawful in
     let counts = once_counts judging same segments now tells lawful in
     record {
-      some = once_some judging same segments now tells lawful;
+      at_least_one = once_some judging same segments now tells lawful;
       within = counts.within;
       has_verdict =
           record {
@@ -202,7 +206,7 @@ settles_some judging same segments now tells lawful =
 rest_again : {C : Type 0} (verdict : Verdict) (found : Option (Judgement C)) (all once : State C → Joined C)
     → ((state : State C) → (all state).rejudged ≡ 0 → (once state).rejudged ≡ 0) → (end : Option (State C))
     → (joined_by end verdict (miss found) all).rejudged ≡ 0
-    → (joined_by end verdict (miss found) (behind_segment true found once)).rejudged ≡ 0
+    → (joined_by end verdict (miss found) (after_segment true found once)).rejudged ≡ 0
 rest_again verdict None all once later None none = absurd (omega (arith, none))
 rest_again verdict None all once later (Some state) none = absurd (omega (arith, none))
 rest_again verdict (Some judgement) all once later None none = refl
@@ -262,7 +266,7 @@ take_mapped f (suc count) (x ∷ xs) = ap (λ rest. f x ∷ rest) (take_mapped f
 -- what a round comes to
 record Settled (start : HartState) (columns : ColumnList) (pieces : List (List (List ℕ))) (round : Joined Core) : Type
     0 where
-  some : 0 < length pieces → 0 < round.settled
+  at_least_one : 0 < length pieces → 0 < round.settled
   within : round.settled ≤ length pieces
   concludes : record { verdict = round.verdict; end = round.end }
       ≡ conclusion_from by_hart start (rows_of columns (lines_of_pieces (take round.settled pieces)))
@@ -297,7 +301,7 @@ round_settles start columns pieces round is =
     let whole : record { verdict = round.verdict; end = round.end } ≡ conclusion =
     rw (settles.has_verdict.verdict, settles.has_verdict.end) refl in
     record {
-      some = λ some. settles.some (omega (arith, count, some));
+      at_least_one = λ some. settles.at_least_one (omega (arith, count, some));
       within = omega (arith, count, settles.within);
       concludes = whole ∙ ap (conclusion_from by_hart start) front;
       again = subst (λ n. Again n round) count settles.again;
@@ -335,11 +339,11 @@ followed_alike first one other alike = by first.end refl
         (alike following is)
 
 -- the rounds after one
-behind_round : (columns : ColumnList) (pieces : List (List (List ℕ))) (round : Joined Core)
+after_round : (columns : ColumnList) (pieces : List (List (List ℕ))) (round : Joined Core)
     (rounds : List (Joined Core)) (following : HartState)
     → GoOn round.end rounds (λ following. AreRounds following columns (drop round.settled pieces) rounds)
     → round.end ≡ Some following → AreRounds following columns (drop round.settled pieces) rounds
-behind_round columns pieces round rounds following on is =
+after_round columns pieces round rounds following on is =
     subst (λ end. GoOn end rounds (λ following. AreRounds following columns (drop round.settled pieces) rounds)) is on
 
 no_more : (columns : ColumnList) (pieces : List (List (List ℕ))) (round : Joined Core) (rounds : List (Joined Core))
@@ -358,15 +362,15 @@ conclude (round ∷ rounds) start columns pieces are =
     (λ following. rounds_conclude following rounds)
     (λ following. lines_conclude following columns (drop round.settled pieces))
     (λ following is. conclude rounds following columns (drop round.settled pieces)
-    (behind_round columns pieces round rounds following are.1.1 is))
+    (after_round columns pieces round rounds following are.1.1 is))
     ∙ ap (λ first. conclusion_then first (λ following. lines_conclude following columns (drop round.settled pieces)))
     settled.concludes
     ∙ sym (pieces_in_parts start columns round.settled pieces)
 
 -- how many they are
 record Numbers (pieces : List (List (List ℕ))) (rounds : List (Joined Core)) : Type 0 where
-  few : length rounds ≤ length pieces
-  some : 0 < length pieces → 0 < length rounds
+  at_most_pieces : length rounds ≤ length pieces
+  at_least_one : 0 < length pieces → 0 < length rounds
   count : (length rounds ≡ rejudged_in rounds) ⊎ (length rounds ≡ rejudged_in rounds + 1)
 
 drop_nothing : {A : Type 0} (count : ℕ) (xs : List A) → count ≡ length xs → drop count xs ≡ []
@@ -386,9 +390,17 @@ one_alone : (round : Joined Core) (rounds : List (Joined Core)) (pieces : List (
     → (round.rejudged ≡ 0) ⊎ (round.rejudged ≡ 1) → rounds ≡ [] → Numbers pieces (round ∷ rounds)
 unfolding rejudged_in
 one_alone round [] pieces some (inl none) alone =
-    record { few = omega (arith, some); some = λ any. omega arith; count = inr (omega (arith, none)) }
+    record {
+      at_most_pieces = omega (arith, some);
+      at_least_one = λ any. omega arith;
+      count = inr (omega (arith, none));
+    }
 one_alone round [] pieces some (inr one) alone =
-    record { few = omega (arith, some); some = λ any. omega arith; count = inl (omega (arith, one)) }
+    record {
+      at_most_pieces = omega (arith, some);
+      at_least_one = λ any. omega arith;
+      count = inl (omega (arith, one));
+    }
 one_alone round (other ∷ rounds) pieces some again alone = cc
 
 one_and_more : (round : Joined Core) (rounds : List (Joined Core)) (pieces : List (List (List ℕ))) → 0 < length pieces
@@ -397,7 +409,11 @@ one_and_more : (round : Joined Core) (rounds : List (Joined Core)) (pieces : Lis
 unfolding rejudged_in
 one_and_more round rounds pieces some settled within one rest =
     let left = length-drop round.settled pieces in
-    record { few = omega (arith, settled, within, left, rest.few); some = λ any. omega arith; count = by rest.count }
+    record {
+      at_most_pieces = omega (arith, settled, within, left, rest.at_most_pieces);
+      at_least_one = λ any. omega arith;
+      count = by rest.count;
+    }
   where
     by : (length rounds ≡ rejudged_in rounds) ⊎ (length rounds ≡ rejudged_in rounds + 1)
         → (suc (length rounds) ≡ round.rejudged + rejudged_in rounds)
@@ -410,7 +426,11 @@ numbers : (rounds : List (Joined Core)) (start : HartState) (columns : ColumnLis
 unfolding AreRounds rejudged_in
 numbers [] start columns pieces none =
     let empty = ap length none in
-    record { few = omega arith; some = λ some. absurd (omega (arith, empty, some)); count = inl refl }
+    record {
+      at_most_pieces = omega arith;
+      at_least_one = λ some. absurd (omega (arith, empty, some));
+      count = inl refl;
+    }
 numbers (round ∷ rounds) start columns pieces are =
     by (λ following later. numbers rounds following columns (drop round.settled pieces) later) round.end refl
     settled.again
@@ -428,11 +448,11 @@ numbers (round ∷ rounds) start columns pieces are =
     by more None is again =
         one_alone round rounds pieces are.0 (either again) (no_more columns pieces round rounds are.1.1 is)
     by more (Some following) is (inl one) =
-        one_and_more round rounds pieces are.0 (settled.some are.0) settled.within one
-        (more following (behind_round columns pieces round rounds following are.1.1 is))
+        one_and_more round rounds pieces are.0 (settled.at_least_one are.0) settled.within one
+        (more following (after_round columns pieces round rounds following are.1.1 is))
     by more (Some following) is (inr (none, inl end)) = let never : Some following ≡ None = sym is ∙ end in cc
     by more (Some following) is (inr (none, inr all)) =
-        let later = behind_round columns pieces round rounds following are.1.1 is in
+        let later = after_round columns pieces round rounds following are.1.1 is in
         one_alone round rounds pieces are.0 (inl none)
         (none_left rounds following columns (drop round.settled pieces) later
         (drop_nothing round.settled pieces all))
@@ -444,8 +464,8 @@ settle_all start columns pieces rounds are =
     record {
       conclude =
           conclude rounds start columns pieces are;
-      few = counted.few;
-      some = counted.some;
+      at_most_pieces = counted.at_most_pieces;
+      at_least_one = counted.at_least_one;
       count = counted.count;
     }
 
@@ -457,7 +477,7 @@ first_none start columns pieces round is shows =
     let lawful = settled_lawful start columns pieces round is in
     ap (λ (round : Joined Core). round.rejudged) (is.walked core_sameness core_tells)
     ∙ none_once by_hart core_sameness segments start core_tells lawful
-    (none_rejudged start columns pieces is.founds core_sameness shows core_tells lawful is.judged)
+    (none_rejudged is.founds core_sameness shows core_tells lawful is.judged)
 
 none_in_all : (round : Joined Core) (rounds : List (Joined Core)) → round.rejudged ≡ 0 → rounds ≡ []
     → rejudged_in (round ∷ rounds) ≡ 0
@@ -485,4 +505,4 @@ none_again start columns pieces (round ∷ rounds) are shows =
     by (Some following) is (inr (zero_is, inl end)) = let never : Some following ≡ None = sym is ∙ end in cc
     by (Some following) is (inr (zero_is, inr all)) =
         none_left rounds following columns (drop round.settled pieces)
-        (behind_round columns pieces round rounds following are.1.1 is) (drop_nothing round.settled pieces all)
+        (after_round columns pieces round rounds following are.1.1 is) (drop_nothing round.settled pieces all)

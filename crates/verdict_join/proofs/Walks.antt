@@ -103,21 +103,21 @@ walked_segment {C = C} judging same segment now next tells lawful = by (adopted_
         ap (λ first. joined_with first 0 next) (adopted_conclusion judging same segment now judgement tells lawful is)
 
 -- what comes after a segment: with `once` nothing, where it had to be judged again
-abbrev pub behind_segment : {C : Type 0} → Bool → Option (Judgement C) → (State C → Joined C) → State C → Joined C
-behind_segment once (Some judgement) next = next
-behind_segment once None next = if once then nothing_from else next
+abbrev pub after_segment : {C : Type 0} → Bool → Option (Judgement C) → (State C → Joined C) → State C → Joined C
+after_segment once (Some judgement) next = next
+after_segment once None next = if once then nothing_from else next
 
 pub walked_segment_once : {C : Type 0} (judging : Judging C) (same : Sameness C) (once : Bool) (segment : Candidate C)
     (now : State C) (next : State C → Joined C) → TellsApart same → IsLawfulCandidate judging segment
     → walk_on judging (adopted_judgement same segment now) once segment now next
     ≡ joined_with (conclusion_from judging now segment.rows) (miss (adopted_judgement same segment now))
-    (behind_segment once (adopted_judgement same segment now) next)
+    (after_segment once (adopted_judgement same segment now) next)
 walked_segment_once {C = C} judging same once segment now next tells lawful =
     by (adopted_judgement same segment now) refl
   where
     by : (found : Option (Judgement C)) → adopted_judgement same segment now ≡ found
         → walk_on judging found once segment now next
-        ≡ joined_with (conclusion_from judging now segment.rows) (miss found) (behind_segment once found next)
+        ≡ joined_with (conclusion_from judging now segment.rows) (miss found) (after_segment once found next)
     by None is = refl
     by (Some judgement) is =
         ap (λ first. joined_with first 0 next) (adopted_conclusion judging same segment now judgement tells lawful is)
@@ -198,10 +198,10 @@ adopted_itself same tells now None is = cc
 adopted_itself same tells now (Some judgement) is =
     ap (λ met. miss (adopted_judgement_if met judgement)) (met_itself same tells now judgement)
 
-no_misses_behind : {C : Type 0} (end : Option (State C)) (next : State C → ℕ)
+no_misses_after : {C : Type 0} (end : Option (State C)) (next : State C → ℕ)
     → ((following : State C) → end ≡ Some following → next following ≡ 0) → misses_after_end end next ≡ 0
-no_misses_behind None next none = refl
-no_misses_behind (Some following) next none = none following refl
+no_misses_after None next none = refl
+no_misses_after (Some following) next none = none following refl
 
 pub none_missed : {C : Type 0} (judging : Judging C) (same : Sameness C) (segments : List (Candidate C))
     (now : State C) → TellsApart same → AllMet judging segments now → misses judging same segments now ≡ 0
@@ -212,7 +212,7 @@ none_missed judging same (segment ∷ segments) now tells met =
     subst (λ guess. miss (adopted_judgement_from same guess now segment.found) ≡ 0) (sym met.0.0)
     (adopted_itself same tells now segment.found met.0.1) in
     let later =
-    no_misses_behind (conclusion_from judging now segment.rows).end
+    no_misses_after (conclusion_from judging now segment.rows).end
     (λ following. misses judging same segments following)
     (λ following is. none_missed judging same segments following tells (met.1 following is)) in
     rw (here, later) refl

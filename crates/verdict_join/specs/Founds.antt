@@ -44,8 +44,7 @@ IsTheirs {C = C} judging segments guesses number judgement =
     → judgement ≡ judgement_from judging guess rows
 
 -- what was found of a segment by a worker that drew it, in a run of events: a judgement is lawful, and a skipped
--- segment
--- has a higher number than a look of the worker's was answered
+-- segment has a higher number than a look of the worker's was answered
 abbrev pub WasFoundSo : {C : Type 0} → Judging C → List (List RowReading) → List (State C) → ℕ → List Event → ℕ → ℕ
     → What (Judgement C) → Type 0
 WasFoundSo judging segments guesses n events worker number (Judged judgement) =

@@ -24,11 +24,20 @@ use Rattle.verdict_join.specs.Founds.{candidates}
 abbrev pub rows_of_segment : ColumnList → Segment → List RowReading
 rows_of_segment columns segment = rows_of columns segment.lines
 
--- what was found of a segment, as the definitions have it: its judgement from its guess, where there is such a segment
+-- a judgement that was made, as the definitions have one: its verdict and its end are as they were found. Of what the
+-- rows touched the code keeps a footprint and no list, so the list is that of the rows from the guess
+abbrev pub judgement_as_judged : {M : Type 0} → List RowReading → HartState → JudgedSegment M → Judgement Core
+judgement_as_judged rows guess judged = record {
+  verdict = judged.verdict;
+  end = option_map (λ hart. hart.core) judged.end;
+  accesses = (judgement_from by_hart guess rows).accesses;
+}
+
+-- what was found of a segment, as the definitions have it, where there is such a segment
 abbrev pub finding : {M : Type 0} → Option (List RowReading) → Option HartState → What (JudgedSegment M)
     → What (Judgement Core)
 finding rows guess (Skipped least) = Skipped least
-finding (Some rows) (Some guess) (Judged judged) = Judged (judgement_from by_hart guess rows)
+finding (Some rows) (Some guess) (Judged judged) = Judged (judgement_as_judged rows guess judged)
 finding rows guess (Judged judged) = Skipped 0
 
 abbrev pub found_of : {M : Type 0} → List (List RowReading) → List HartState → Found (JudgedSegment M)

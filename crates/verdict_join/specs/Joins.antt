@@ -9,9 +9,7 @@ use Rattle.read_footprint.specs.Footprints.{agree, footprint_of, moved, writes_o
 use Rattle.segment_judge.specs.Judgements.{Judgement, Judging}
 use Rattle.segment_judge.specs.Laws.{Conclusion, bytes_after_judgement, conclusion_from, verdict_of_both}
 
--- a segment: what its lines read as, the guess of the state before it, and its judgement from that guess, where there
--- is
--- one
+-- a segment: what its lines read as, the guess of the state before it, and its judgement from that guess, if it has one
 pub record Candidate (C : Type 0) : Type 0 where
   pub rows : List RowReading
   pub guess : State C

@@ -23,14 +23,13 @@ use Rattle.verdict_join.specs.Laws.{AreJudgedInTurn, HasVerdict, TellsApart, row
 -- it judged none itself, none is left, or they do not agree
 pub record SettlesSome {C : Type 0} (judging : Judging C) (segments : List (Candidate C)) (now : State C)
     (round : Joined C) : Type 0 where
-  pub some : 0 < length segments → 0 < round.settled
+  pub at_least_one : 0 < length segments → 0 < round.settled
   pub within : round.settled ≤ length segments
   pub has_verdict : HasVerdict judging now (rows_through (take round.settled segments)) round
   pub again : (round.rejudged ≡ 1) ⊎ ((round.rejudged ≡ 0) × ((round.end ≡ None) ⊎ (round.settled ≡ length segments)))
 
 -- pieces of lines are guessed from a state; whatever some list of events on a board for them leaves found, each judged
--- in
--- turn, is walked so from that state, whichever test tells states apart
+-- in turn, is walked so from that state, whichever test tells states apart
 pub record IsRound (start : HartState) (columns : ColumnList) (pieces : List (List (List ℕ)))
     (round : Joined Core) : Type 0 where
   pub events : List Event
@@ -68,6 +67,6 @@ rejudged_in (round ∷ rounds) = round.rejudged + rejudged_in rounds
 pub record SettleAll (start : HartState) (columns : ColumnList) (pieces : List (List (List ℕ)))
     (rounds : List (Joined Core)) : Type 0 where
   pub conclude : rounds_conclude start rounds ≡ conclusion_from by_hart start (rows_of columns (lines_of_pieces pieces))
-  pub few : length rounds ≤ length pieces
-  pub some : 0 < length pieces → 0 < length rounds
+  pub at_most_pieces : length rounds ≤ length pieces
+  pub at_least_one : 0 < length pieces → 0 < length rounds
   pub count : (length rounds ≡ rejudged_in rounds) ⊎ (length rounds ≡ rejudged_in rounds + 1)

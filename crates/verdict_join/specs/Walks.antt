@@ -43,16 +43,13 @@ abbrev pub IsReached : Option HartState → HartState → Type 0
 IsReached None now = Unit {0}
 IsReached (Some state) now = now ≡ state
 
--- as many rows and valid rows were walked
-abbrev pub IsCountedAlike : {M : Type 0} → Walk M → Walk M → Type 0
-IsCountedAlike before now = (now.rows ≡ before.rows) × (now.valid ≡ before.valid)
-
 -- a verdict is counted: the rows of one that agrees are added to those that were walked, any other ends the walk
 abbrev pub CountsOn : {M : Type 0} → Walk M → Walk M → Verdict → Option Verdict → Type 0
 CountsOn before now (Agrees rows valid) end =
-    (end ≡ None) × ((now.rows ≡ before.rows + rows) × (now.valid ≡ before.valid + valid))
-CountsOn before now (Differs row difference) end = end ≡ Some (Differs (before.rows + row) difference)
-CountsOn before now (Refused row fault) end = end ≡ Some (Refused (before.rows + row) fault)
+    (end ≡ None)
+    × ((now.counts.rows ≡ before.counts.rows + rows) × (now.counts.valid ≡ before.counts.valid + valid))
+CountsOn before now (Differs row difference) end = end ≡ Some (Differs (before.counts.rows + row) difference)
+CountsOn before now (Refused row fault) end = end ≡ Some (Refused (before.counts.rows + row) fault)
 
 -- and after the rows is the true state, or none
 abbrev pub LeadsToState : {M : Type 0} → (M → Bytes) → Walk M → Option HartState → Option Verdict → Type 0
@@ -87,7 +84,7 @@ pub record ArePlaced {M : Type 0} (count : ℕ) (founds : List (Found (JudgedSeg
 
 -- the rest of a join or of a round, after so many segments that were walked
 pub record IsRest {M : Type 0} (walk : Walk M) (walked : ℕ) (rest whole : Joined Core) : Type 0 where
-  pub verdict : verdict_after_rows walk.rows walk.valid rest.verdict ≡ whole.verdict
+  pub verdict : verdict_after_rows walk.counts.rows walk.counts.valid rest.verdict ≡ whole.verdict
   pub end : rest.end ≡ whole.end
   pub settled : walked + rest.settled ≡ whole.settled
   pub rejudged : walk.rejudged + rest.rejudged ≡ whole.rejudged

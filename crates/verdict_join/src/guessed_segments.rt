@@ -2,8 +2,8 @@
 
 ghost use Rattle.std.specs.Prelude.{◌≡◌, ◌<◌, ◌^◌, ◌&&◌, IfOk, length};
 ghost use Rattle.std.specs.Option.{is_none};
-ghost use Rattle.std.specs.List.{All, flat_map};
-ghost use Rattle.rvfi_rows.specs.Segments.{segment_lines};
+ghost use Rattle.std.specs.List.{All};
+ghost use Rattle.rvfi_rows.specs.Segments.{row_count_of};
 ghost use Rattle.verdict_join.specs.Walks.{ArePlaced};
 
 use crate::adoption::adopted;
@@ -11,7 +11,7 @@ use crate::joined::Round;
 use crate::walk::Walk;
 use hart_step::Hart;
 use hart_words::{NoMemory, PhysMem};
-use rvfi_rows::{Columns, Segment};
+use rvfi_rows::{Columns, RowCounts, Segment};
 use segment_judge::{Found, Judged, What};
 use std::alloc::Global;
 
@@ -22,8 +22,8 @@ pub(crate) struct GuessedSegments<'a, M: PhysMem> {
     pub segments: &'a [Segment],
     pub guesses: &'a [Hart<M>],
     ghost one_each: { length guesses.now ≡ length segments.now },
-    ghost few: { length segments.now < 2 ^ 32 },
-    ghost lines: { length (flat_map segment_lines segments.now) < 2 ^ 60 },
+    ghost below_2_to_32: { length segments.now < 2 ^ 32 },
+    ghost rows: { row_count_of columns.now segments.now < 2 ^ 60 },
 }
 
 impl<'a, M: PhysMem + Drop> GuessedSegments<'a, M> {
@@ -58,8 +58,7 @@ impl<'a, M: PhysMem + Drop> GuessedSegments<'a, M> {
         let places = judged_segments(alloc, segments.len(), &founds)?;
         let mut walk = Walk {
             hart: start,
-            rows: 0,
-            valid: 0,
+            counts: RowCounts::zero(),
             rejudged: 0,
         };
         for number in 0..segments.len() {

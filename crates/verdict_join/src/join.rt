@@ -4,7 +4,7 @@ ghost use Rattle.std.specs.Prelude.{◌≡◌, ◌≤◌, ◌<◌, ◌^◌, IfOk
 ghost use Rattle.std.specs.List.{All, flat_map};
 ghost use Rattle.hart_step.specs.Harts.{CanStep, state_of};
 ghost use Rattle.rvfi_rows.specs.Rows.{rows_of};
-ghost use Rattle.rvfi_rows.specs.Segments.{segment_lines};
+ghost use Rattle.rvfi_rows.specs.Segments.{row_count_of, segment_lines};
 ghost use Rattle.segment_judge.specs.Founds.{IsLawfulFound};
 ghost use Rattle.segment_judge.specs.Judgements.{by_hart};
 ghost use Rattle.segment_judge.specs.Laws.{conclusion_from};
@@ -35,7 +35,7 @@ pub fn join_all<M: PhysMem + Drop>(
     requires lawful { All
         (IsLawfulFound M.bytes M.ram columns.now segments.now guesses.now) founds.items }
     requires segments { length segments.now < 2 ^ 32 }
-    requires lines { length (flat_map segment_lines segments.now) < 2 ^ 60 }
+    requires rows { row_count_of columns.now segments.now < 2 ^ 60 }
     ensures joined { IfOk result (λ joined. JoinsThem M.bytes
         (candidates_of M.bytes columns.now segments.now guesses.now founds.items)
         (state_of M.bytes start) joined) }
@@ -78,7 +78,7 @@ pub fn join_round<M: PhysMem + Drop>(
     requires lawful { All
         (IsLawfulFound M.bytes M.ram columns.now segments.now guesses.now) founds.items }
     requires segments { length segments.now < 2 ^ 32 }
-    requires lines { length (flat_map segment_lines segments.now) < 2 ^ 60 }
+    requires rows { row_count_of columns.now segments.now < 2 ^ 60 }
     ensures round { IfOk result (λ round. WalksThem M.bytes true
         (candidates_of M.bytes columns.now segments.now guesses.now founds.items)
         (state_of M.bytes start) round) }

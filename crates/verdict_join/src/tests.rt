@@ -1,12 +1,12 @@
 //! Joins of small traces, each beside the judging of all its lines as one segment.
 
 ghost use Rattle.std.specs.Prelude.{◌≡◌, ◌<◌, ◌^◌, IfOk, IfSome, IsTrue, length};
-ghost use Rattle.std.specs.List.{All, flat_map};
+ghost use Rattle.std.specs.List.{All};
 ghost use Rattle.hart_step.specs.Cores.{IsSound};
 ghost use Rattle.hart_step.specs.Harts.{CanStep};
 ghost use Rattle.line_text.specs.Lines.{IsLine};
 ghost use Rattle.page_layers.specs.Memories.{map_bytes};
-ghost use Rattle.rvfi_rows.specs.Segments.{segment_lines};
+ghost use Rattle.rvfi_rows.specs.Segments.{line_count_of, row_count_of};
 ghost use Rattle.segment_judge.specs.Founds.{IsLawfulFound};
 
 use super::*;
@@ -200,7 +200,7 @@ fn are_short(segments: &[Segment]) -> bool
 /// Whether there are few segments, and few lines in them.
 fn are_few(segments: &[Segment]) -> bool
     ensures segments { IsTrue result → length segments.now < 2 ^ 32 }
-    ensures lines { IsTrue result → length (flat_map segment_lines segments.now) < 2 ^ 60 }
+    ensures lines { IsTrue result → line_count_of segments.now < 2 ^ 60 }
 {
     segments.len() < 1000 && are_short(segments)
 }
@@ -214,8 +214,8 @@ pub(crate) struct Trial {
     pub segments: Vec<Segment>,
     pub guesses: Vec<Hart<MapMem>>,
     ghost one_each: { length guesses.items ≡ length segments.items },
-    ghost few: { length segments.items < 2 ^ 32 },
-    ghost few_lines: { length (flat_map segment_lines segments.items) < 2 ^ 60 },
+    ghost below_2_to_32: { length segments.items < 2 ^ 32 },
+    ghost rows: { row_count_of columns segments.items < 2 ^ 60 },
 }
 
 /// A header and lines, and how many of these make a segment.
@@ -244,7 +244,8 @@ impl Trial {
     ) -> Result<Trial, Fail>
         requires { CanStep (λ mem. mem.ram) start }
         ensures start { IfOk result (λ trial. CanStep (λ mem. mem.ram) trial.start) }
-        ensures guesses { IfOk result (λ trial. All (CanStep (λ mem. mem.ram)) trial.guesses.items) }
+        ensures guesses { IfOk result (λ trial.
+            All (CanStep (λ mem. mem.ram)) trial.guesses.items) }
     {
         let CutLines { whole, segments } = lines;
         let mut guesses = guesses(alloc, &start, &columns, &segments)?;

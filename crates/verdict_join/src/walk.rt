@@ -8,12 +8,12 @@ ghost use Rattle.rvfi_rows.specs.Rows.{rows_of};
 ghost use Rattle.segment_judge.specs.Judged.{IsUsable, moved_end};
 ghost use Rattle.segment_judge.specs.Judgements.{by_hart};
 ghost use Rattle.segment_judge.specs.Laws.{conclusion_from};
-ghost use Rattle.verdict_join.specs.Walks.{Concludes, CountsOn, IsCountedAlike, IsReached, IsWithinRows, PassesRows};
+ghost use Rattle.verdict_join.specs.Walks.{Concludes, CountsOn, IsReached, IsWithinRows, PassesRows};
 
 use crate::joined::Round;
 use hart_step::Hart;
 use hart_words::{NoMemory, PhysMem};
-use rvfi_rows::{Columns, Segment, Verdict};
+use rvfi_rows::{Columns, RowCounts, Segment, Verdict};
 use segment_judge::{Judged, judge};
 use std::alloc::Global;
 
@@ -22,8 +22,7 @@ use std::alloc::Global;
 #[derive(Drop)]
 pub(crate) struct Walk<M> {
     pub hart: Hart<M>,
-    pub rows: u64,
-    pub valid: u64,
+    pub counts: RowCounts,
     pub rejudged: u32,
 }
 
@@ -31,7 +30,7 @@ impl<M: PhysMem + Drop> Walk<M> {
     /// So many segments that were walked, and agree.
     pub fn agreed(self, settled: usize) -> Round<M>
         ensures { result ≡ record {
-          verdict = Agrees self.rows self.valid;
+          verdict = Agrees self.counts.rows self.counts.valid;
           end = Some self.hart;
           settled = settled;
           rejudged = self.rejudged;
@@ -39,8 +38,8 @@ impl<M: PhysMem + Drop> Walk<M> {
     {
         Round {
             verdict: Verdict::Agrees {
-                rows: self.rows,
-                valid: self.valid,
+                rows: self.counts.rows,
+                valid: self.counts.valid,
             },
             end: Some(self.hart),
             settled,
@@ -75,20 +74,21 @@ impl<M: PhysMem + Drop> Walk<M> {
         adopted: Option<&Judged<M>>,
     ) -> Result<Option<Verdict>, NoMemory>
         requires can_step { CanStep M.ram self.old.hart }
-        requires below_2_to_60 { self.old.rows + length segment.now.lines < 2 ^ 60 }
-        requires valid { self.old.valid ≤ self.old.rows }
+        requires below_2_to_60 { self.old.counts.rows
+            + length (rows_of columns.now segment.now.lines) < 2 ^ 60 }
         requires again { self.old.rejudged + 1 < 2 ^ 32 }
         requires adopted { IfSome adopted (λ judged. Concludes M.bytes
             (state_of M.bytes self.old.hart) (rows_of columns.now segment.now.lines) judged.now) }
-        requires usable { IfSome adopted (λ judged. IsUsable M.ram (M.ram self.old.hart.mem) judged.now) }
+        requires usable { IfSome adopted (λ judged.
+            IsUsable M.ram (M.ram self.old.hart.mem) judged.now) }
         ensures passes { IfOk result (λ end. PassesRows M.bytes self.old self.new
             (rows_of columns.now segment.now.lines) end) }
         ensures again { IfOk result (λ end. self.new.rejudged
             ≡ self.old.rejudged + (if is_none adopted.entry then 1 else 0)) }
         ensures can_step { IfOk result (λ end. CanStep M.ram self.new.hart) }
         ensures ram { IfOk result (λ end. M.ram self.new.hart.mem ≡ M.ram self.old.hart.mem) }
-        ensures rows { IfOk result (λ end. self.new.rows ≤ self.old.rows + length segment.now.lines) }
-        ensures valid { IfOk result (λ end. self.new.valid ≤ self.new.rows) }
+        ensures rows { IfOk result (λ end. self.new.counts.rows
+            ≤ self.old.counts.rows + length (rows_of columns.now segment.now.lines)) }
     {
         match adopted {
             Some(judged) => {
@@ -108,7 +108,7 @@ impl<M: PhysMem + Drop> Walk<M> {
         requires usable { IsUsable M.ram (M.ram self.old.hart.mem) judged.now }
         ensures reached { OnOk result (IsReached (moved_end M.bytes judged.now
             (M.bytes self.old.hart.mem)) (state_of M.bytes self.new.hart)) }
-        ensures counts { IsCountedAlike self.old self.new }
+        ensures counts { self.new.counts ≡ self.old.counts }
         ensures again { self.new.rejudged ≡ self.old.rejudged }
         ensures can_step { OnOk result (CanStep M.ram self.new.hart) }
         ensures ram { M.ram self.new.hart.mem ≡ M.ram self.old.hart.mem }
@@ -134,7 +134,7 @@ impl<M: PhysMem + Drop> Walk<M> {
         ensures reached { OnOk result (IsReached (conclusion_from by_hart
             (state_of M.bytes self.old.hart) (rows_of columns.now segment.now.lines)).end
             (state_of M.bytes self.new.hart)) }
-        ensures counts { IsCountedAlike self.old self.new }
+        ensures counts { self.new.counts ≡ self.old.counts }
         ensures again { OnOk result (self.new.rejudged ≡ self.old.rejudged + 1) }
         ensures can_step { CanStep M.ram self.new.hart }
         ensures ram { M.ram self.new.hart.mem ≡ M.ram self.old.hart.mem }
@@ -152,27 +152,25 @@ impl<M: PhysMem + Drop> Walk<M> {
 
     /// Counts the rows of a verdict. `Some` where the walk ends with it.
     fn count(&mut self, verdict: Verdict) -> Option<Verdict>
-        requires below_2_to_62 { self.old.rows < 2 ^ 62 }
-        requires valid { self.old.valid ≤ self.old.rows }
+        requires below_2_to_62 { self.old.counts.rows < 2 ^ 62 }
         requires within { IsWithinRows (2 ^ 62) verdict }
         ensures counts { CountsOn self.old self.new verdict result }
         ensures hart { self.new.hart ≡ self.old.hart }
         ensures again { self.new.rejudged ≡ self.old.rejudged }
-        ensures rows { (count : ℕ) → IsWithinRows count verdict → self.new.rows ≤ self.old.rows + count }
-        ensures valid { self.new.valid ≤ self.new.rows }
+        ensures rows { (count : ℕ) → IsWithinRows count verdict
+            → self.new.counts.rows ≤ self.old.counts.rows + count }
     {
         match verdict {
             Verdict::Agrees { rows, valid } => {
-                self.rows += rows;
-                self.valid += valid;
+                self.counts = self.counts.plus(RowCounts { rows, valid });
                 None
             }
             Verdict::Differs { row, difference } => Some(Verdict::Differs {
-                row: self.rows + row,
+                row: self.counts.rows + row,
                 difference,
             }),
             Verdict::Refused { row, fault } => Some(Verdict::Refused {
-                row: self.rows + row,
+                row: self.counts.rows + row,
                 fault,
             }),
         }

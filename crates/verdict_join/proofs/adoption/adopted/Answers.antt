@@ -6,9 +6,8 @@ use Rattle.verdict_join.proofs.adoption.adopted.Goals as goal
 pub returns-then-is_met-clause-misses : goal.returns-then-is_met-clause-misses
 returns-then-is_met-clause-misses g c = λ same tells rows judgement.
     let bytes_of = g.M.PhysMem.bytes in
-    none_missed bytes_of same (state_of bytes_of c.args.guess.now) (state_of bytes_of c.args.now.now) rows
-    c.args.judged c.in-Some.judged c.is_met.result c.in-Some.is c.if-is_met.true (rw c.in-Some.is at judgement)
-    (c.is_met.ensures.met same tells)
+    none_missed bytes_of same (state_of bytes_of c.args.guess.now) (state_of bytes_of c.args.now.now) c.in-Some.is
+    c.if-is_met.true (rw c.in-Some.is at judgement) (c.is_met.ensures.met same tells)
 
 pub returns-then-is_met-clause-concludes : goal.returns-then-is_met-clause-concludes
 returns-then-is_met-clause-concludes g c = λ rows judgement.

@@ -38,7 +38,7 @@ loop-found-preserved g c =
       | in-Judged w ↦ record {
         all = ap (λ places. length places.items) w.places-is ∙ length-set _ _ _ ∙ c.loop-found.invariant.all;
         each = λ number within. ap (λ places. option_copied (slice_index_or places.items number None)) w.places-is
-            ∙ placed_turn founds c.loop-found.places.items index number found _ here w.in-Judged.is
+            ∙ placed_turn c.loop-found.places.items number (record { here = here; judged_so = w.in-Judged.is })
             (omega (arith, below, seg, c.loop-found.invariant.all)) (c.loop-found.invariant.each number within);
       }
       | in_default w ↦ record {

@@ -1,8 +1,7 @@
-use Rattle.std.proofs.Common.{◌≡◌, ◌≤◌, ◌+◌, drop, length}
-use Rattle.std.specs.List.{flat_map}
+use Rattle.std.proofs.Common.{◌≡◌, ◌≤◌, ◌+◌, drop}
 use Rattle.hart_step.specs.declared.state.Core.{Core}
 use Rattle.hart_step.specs.Harts.{CanStep, state_of}
-use Rattle.rvfi_rows.specs.Segments.{segment_lines}
+use Rattle.rvfi_rows.specs.Segments.{row_count_of}
 use Rattle.segment_judge.specs.Judgements.{by_hart}
 use Rattle.verdict_join.specs.Joining.{candidates_of}
 use Rattle.verdict_join.specs.Joins.{Sameness, walk}
@@ -24,9 +23,8 @@ invariant-loop-number g l = record {
       l.fn.founds.items) (state_of g.M.PhysMem.bytes l.fn.start));
   can_step : CanStep g.M.PhysMem.ram l.walk.hart;
   ram : g.M.PhysMem.ram l.walk.hart.mem ≡ g.M.PhysMem.ram l.fn.start.mem;
-  rows : l.walk.rows
-      + length (flat_map segment_lines (drop l.number l.self.segments.now)) ≤ length
-      (flat_map segment_lines l.self.segments.now);
-  valid : l.walk.valid ≤ l.walk.rows;
+  rows : l.walk.counts.rows
+      + row_count_of l.self.columns.now (drop l.number l.self.segments.now)
+      ≤ row_count_of l.self.columns.now l.self.segments.now;
   again : l.walk.rejudged ≤ l.number;
 }
