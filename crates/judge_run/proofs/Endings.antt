@@ -25,7 +25,7 @@ use Rattle.hart_step.specs.declared.hart.Hart.{Hart}
 use Rattle.hart_step.specs.Harts.{state_of}
 use Rattle.hart_step.specs.Rows.{HartState}
 use Rattle.segment_judge.specs.Laws.{conclusion_from}
-use Rattle.judge_run.specs.declared.progress.Rest.{Rest}
+use Rattle.judge_run.specs.declared.progress.Progress.{Progress}
 use Rattle.judge_run.specs.declared.progress.TraceEnd.{TraceEnd}
 use Rattle.judge_run.specs.Parts.{IsEndTold, RowsEnd, end_after, end_in, end_of, position_of}
 use Rattle.judge_run.proofs.Passing.{counted_from_none}
@@ -48,17 +48,25 @@ first_columns : (job : JobView) (left first : RemainingLines) → first ≡ fron
 first_columns job left first front =
     sym (columns_of_front job left.lines left.ending) ∙ ap (λ view. columns_in job view) (sym front)
 
+-- no row was judged yet, and the hart is at reset over this memory
+pub record IsAtReset {M : Type 0} (bytes_of : M → Bytes) (job : JobView) (memory : ℕ → ℕ) (progress : Progress M)
+    : Type 0 where
+  pub core : progress.hart.core ≡ core_at_reset (first_pc_of job) job.map
+  pub bytes : bytes_of progress.hart.mem ≡ memory
+  pub rows : progress.counts.rows ≡ 0
+  pub valid : progress.counts.valid ≡ 0
+
 -- what the first line and then the others come to, from a hart at reset
-lines_give : (job : JobView) (memory : ℕ → ℕ) (left first : RemainingLines) (columns : ColumnList) (state : HartState)
-    → first ≡ front_of 1 left → columns_in job first ≡ Ok columns
-    → state.core ≡ core_at_reset (first_pc_of job) job.map → state.bytes ≡ memory
+lines_give : {M : Type 0} {bytes_of : M → Bytes} {memory : ℕ → ℕ} {first : RemainingLines} {columns : ColumnList}
+    (job : JobView) (left : RemainingLines) (progress : Progress M) → first ≡ front_of 1 left
+    → columns_in job first ≡ Ok columns → IsAtReset bytes_of job memory progress
     → lines_outcome job memory left
-    ≡ Ok (end_after job columns (record { rows = 0; valid = 0; state = state }) (back_of 1 left)).outcome
+    ≡ Ok (end_after job columns (position_of bytes_of progress) (back_of 1 left)).outcome
 unfolding lines_outcome end_after back_of conclusion_from
-lines_give job memory left first columns state front named core bytes =
+lines_give {M} {bytes_of} {memory} {first} {columns} job left progress front named reset =
     let here : columns_in job left ≡ Ok columns = first_columns job left first front ∙ named in
     let verdict = verdict_on job memory (rows_of columns (drop 1 left.lines)) in
-    rw (here, core, bytes)
+    rw (here, reset.core, reset.bytes, reset.rows, reset.valid)
     (ap (λ whole. Ok (outcome_of job (ruling_at_end job left.ending whole))) (sym (counted_from_none verdict)))
 
 lines_stop : (job : JobView) (memory : ℕ → ℕ) (left first : RemainingLines) (stop : Option Outcome)
@@ -81,63 +89,64 @@ all_left : (job : JobView) (name file : List ℕ) (taker : LineTaker) → Opens 
 all_left job name file taker opens =
     ap (λ cursor. lines_left_after taker.most file cursor) opens.cursor ∙ ap (λ most. file_lines most file) opens.most
 
+-- the first line of a trace was taken, by a taker that was opened
+pub record TakesHeader (files : Option Files) (name : List ℕ) (job : JobView) (taker : LineTaker) (first : Piece)
+    (after : LineTaker) : Type 0 where
+  pub opens : Opens name job.max_trace taker
+  pub file_exists : IsThere files (string_bytes taker.name)
+  pub takes : TakesWhereKnown (file_of files (string_bytes taker.name)) 1 taker first after
+
 -- what the rest of a told file comes to, after its first line
-pub trace_told : {M : Type 0} (bytes_of : M → Bytes) (known_files : Option Files) (name : List ℕ) (job : JobView)
-    (memory : ℕ → ℕ) (taker middle : LineTaker) (first : Piece) (columns : ColumnList) (hart : Hart M)
-    (end : TraceEnd M) → Opens name job.max_trace taker → IsThere known_files (string_bytes taker.name)
-    → TakesWhereKnown (file_of known_files (string_bytes taker.name)) 1 taker first middle
-    → columns_in job (piece_view first) ≡ Ok columns → hart.core ≡ core_at_reset (first_pc_of job) job.map
-    → bytes_of hart.mem ≡ memory
-    → IsEndTold job columns bytes_of (file_of known_files (string_bytes middle.name))
-    (record { taker = middle; hart = hart; rows = 0; valid = 0 }) end
-    → MeantWhereKnown known_files (λ outcome. outcome) (Ok (end_of job bytes_of end).outcome)
+pub trace_told : {M : Type 0} {bytes_of : M → Bytes} {name : List ℕ} {job : JobView} {memory : ℕ → ℕ}
+    {taker : LineTaker} {first : Piece} {columns : ColumnList} (files : Option Files) (progress : Progress M)
+    (end : TraceEnd M) → TakesHeader files name job taker first progress.taker
+    → columns_in job (piece_view first) ≡ Ok columns → IsAtReset bytes_of job memory progress
+    → IsEndTold job columns bytes_of (file_of files (string_bytes progress.taker.name)) progress end
+    → MeantWhereKnown files (λ outcome. outcome) (Ok (end_of job bytes_of end).outcome)
     (λ files. trace_outcome job memory (files name))
-trace_told bytes_of None name job memory taker middle first columns hart end opens is one named core bytes gives = tt
-trace_told bytes_of (Some files) name job memory taker middle first columns hart end opens is one named core bytes
-    gives = of (files (string_bytes taker.name)) refl is one
+trace_told None progress end header named reset gives = tt
+trace_told {M} {bytes_of} {name} {job} {memory} {taker} {first} {columns} (Some files) progress end header named reset
+    gives = of (files (string_bytes taker.name)) refl header.file_exists header.takes
   where
     of : (file : Option (List ℕ)) → files (string_bytes taker.name) ≡ file → IsSome file
-        → TakesWhereKnown file 1 taker first middle
+        → TakesWhereKnown file 1 taker first progress.taker
         → trace_outcome job memory (files name) ≡ Ok (end_of job bytes_of end).outcome
     of None e is one = absurd cc
     of (Some file) e is one =
-        let here : files name ≡ Some file = ap files (sym opens.name) ∙ e in
-        let again : files (string_bytes middle.name) ≡ Some file =
+        let here : files name ≡ Some file = ap files (sym header.opens.name) ∙ e in
+        let again : files (string_bytes progress.taker.name) ≡ Some file =
         ap (λ text. files (string_bytes text)) one.name ∙ e in
-        let rest : Rest _ = record { taker = middle; hart = hart; rows = 0; valid = 0 } in
-        let whole : end_of job bytes_of end ≡ end_in job columns bytes_of file rest =
-        subst (λ known_files. IsEndTold job columns bytes_of known_files rest end) again gives in
-        let all : remaining_lines_of file taker ≡ file_lines job.max_trace file = all_left job name file taker opens in
+        let whole : end_of job bytes_of end ≡ end_in job columns bytes_of file progress =
+        subst (λ file. IsEndTold job columns bytes_of file progress end) again gives in
+        let all : remaining_lines_of file taker ≡ file_lines job.max_trace file =
+        all_left job name file taker header.opens in
         let front : piece_view first ≡ front_of 1 (file_lines job.max_trace file) = one.taken ∙ ap (front_of 1) all in
-        let back : remaining_lines_of file middle ≡ back_of 1 (file_lines job.max_trace file) =
+        let back : remaining_lines_of file progress.taker ≡ back_of 1 (file_lines job.max_trace file) =
         one.left ∙ ap (back_of 1) all in
         text_decides job memory (files name) file (Ok (end_of job bytes_of end).outcome) here
-        (lines_give job memory (file_lines job.max_trace file) (piece_view first) columns (state_of bytes_of hart)
-        front named core bytes
-        ∙ ap (λ left. Ok (end_after job columns (position_of bytes_of rest) left).outcome) (sym back)
+        (lines_give job (file_lines job.max_trace file) progress front named reset
+        ∙ ap (λ left. Ok (end_after job columns (position_of bytes_of progress) left).outcome) (sym back)
         ∙ ap (λ (end : RowsEnd). Ok end.outcome) (sym whole))
 
 -- a header that stops the run
-pub trace_stops : (known_files : Option Files) (name : List ℕ) (job : JobView) (memory : ℕ → ℕ)
-    (taker middle : LineTaker) (first : Piece) (stop : Stop) → Opens name job.max_trace taker
-    → IsThere known_files (string_bytes taker.name)
-    → TakesWhereKnown (file_of known_files (string_bytes taker.name)) 1 taker first middle
+pub trace_stops : {name : List ℕ} {job : JobView} {taker after : LineTaker} {first : Piece} (files : Option Files)
+    (memory : ℕ → ℕ) (stop : Stop) → TakesHeader files name job taker first after
     → MeantBy {X = ColumnList} {Y = ColumnList} (λ columns. columns) (Err stop) (columns_in job (piece_view first))
-    → MeantWhereKnown {X = Outcome} known_files (λ outcome. outcome) (Err stop)
+    → MeantWhereKnown {X = Outcome} files (λ outcome. outcome) (Err stop)
     (λ files. trace_outcome job memory (files name))
-trace_stops None name job memory taker middle first stop opens is one meant = tt
-trace_stops (Some files) name job memory taker middle first ReadFault opens is one meant = tt
-trace_stops (Some files) name job memory taker middle first NoMemory opens is one meant = tt
-trace_stops (Some files) name job memory taker middle first (Known outcome) opens is one meant =
-    of (files (string_bytes taker.name)) refl is one
+trace_stops None memory stop header meant = tt
+trace_stops (Some files) memory ReadFault header meant = tt
+trace_stops (Some files) memory NoMemory header meant = tt
+trace_stops {name} {job} {taker} {after} {first} (Some files) memory (Known outcome) header meant =
+    of (files (string_bytes taker.name)) refl header.file_exists header.takes
   where
     of : (file : Option (List ℕ)) → files (string_bytes taker.name) ≡ file → IsSome file
-        → TakesWhereKnown file 1 taker first middle → trace_outcome job memory (files name) ≡ Err (Some outcome)
+        → TakesWhereKnown file 1 taker first after → trace_outcome job memory (files name) ≡ Err (Some outcome)
     of None e is one = absurd cc
     of (Some file) e is one =
-        let here : files name ≡ Some file = ap files (sym opens.name) ∙ e in
+        let here : files name ≡ Some file = ap files (sym header.opens.name) ∙ e in
         let front : piece_view first ≡ front_of 1 (file_lines job.max_trace file) =
-        one.taken ∙ ap (front_of 1) (all_left job name file taker opens) in
+        one.taken ∙ ap (front_of 1) (all_left job name file taker header.opens) in
         text_decides job memory (files name) file (Err (Some outcome)) here
         (lines_stop job memory (file_lines job.max_trace file) (piece_view first) (Some outcome) front meant)
 

@@ -26,14 +26,18 @@ unfolding text_memory
 too_large job file front is more =
     let over : nat_lt job.max_image (length file) ≡ true = sym is.more ∙ more in rw over refl
 
--- a file that was read whole
-whole : (job : JobView) (file : List ℕ) (front : Front) → HasFront file job.max_image front → front.more ≡ false
+-- a file was read whole
+pub record IsReadWhole (job : JobView) (file : List ℕ) (front : Front) : Type 0 where
+  pub has_front : HasFront file job.max_image front
+  pub whole : front.more ≡ false
+
+whole : {job : JobView} {file : List ℕ} {front : Front} → IsReadWhole job file front
     → text_memory job file ≡ as_memory job (image_of job.map.ram front.bytes.items)
 unfolding text_memory
-whole job file front is more =
-    let under : nat_lt job.max_image (length file) ≡ false = sym is.more ∙ more in
+whole {job} {file} {front} is =
+    let under : nat_lt job.max_image (length file) ≡ false = sym is.has_front.more ∙ is.whole in
     let all : front.bytes.items ≡ file =
-    is.bytes ∙ take_all job.max_image file (ltb-false job.max_image (length file) under) in
+    is.has_front.bytes ∙ take_all job.max_image file (ltb-false job.max_image (length file) under) in
     rw under (ap (λ text. as_memory job (image_of job.map.ram text)) (sym all))
 
 -- what the text describes is the memory
@@ -49,30 +53,33 @@ pieces_refused job view (errors.Fault fault) read refused = ap (as_memory job) r
 pieces_refused job view errors.NoMemory read refused = tt
 
 -- what stops the reading of a whole file stops the run
-pub whole_refused : {X Y : Type 0} (pieces : Y → ℕ → ℕ) (view : X → ℕ → ℕ) (job : JobView) (file : List ℕ)
-    (front : Front) (stop : Stop) → HasFront file job.max_image front → front.more ≡ false
+pub whole_refused : {X Y : Type 0} {job : JobView} {file : List ℕ} {front : Front} (pieces : Y → ℕ → ℕ)
+    (view : X → ℕ → ℕ) (stop : Stop) → IsReadWhole job file front
     → MeantBy pieces (Err stop) (as_memory job (image_of job.map.ram front.bytes.items))
     → MeantBy view (Err stop) (text_memory job file)
-whole_refused pieces view job file front (Known outcome) is more meant = whole job file front is more ∙ meant
-whole_refused pieces view job file front ReadFault is more meant = tt
-whole_refused pieces view job file front NoMemory is more meant = tt
+whole_refused pieces view (Known outcome) is meant = whole is ∙ meant
+whole_refused pieces view ReadFault is meant = tt
+whole_refused pieces view NoMemory is meant = tt
 
-pub whole_built : (job : JobView) (file : List ℕ) (front : Front) (read memory : ℕ → ℕ)
-    → HasFront file job.max_image front → front.more ≡ false
+pub whole_built : {job : JobView} {file : List ℕ} {front : Front} {read memory : ℕ → ℕ} → IsReadWhole job file front
     → as_memory job (image_of job.map.ram front.bytes.items) ≡ Ok read → memory ≡ read
     → text_memory job file ≡ Ok memory
-whole_built job file front read memory is more meant same =
-    whole job file front is more ∙ meant ∙ ap (λ m. Ok m) (sym same)
+whole_built is meant same = whole is ∙ meant ∙ ap (λ m. Ok m) (sym same)
+
+-- the front of a file that is there was read
+pub record ReadsFront (files : Option Files) (name : List ℕ) (job : JobView) (front : Front) : Type 0 where
+  pub file_exists : IsThere files name
+  pub is_front : IsFront (file_of files name) job.max_image front
 
 -- the memory of a told file by its front
-pub memory_told : {X : Type 0} (view : X → ℕ → ℕ) (known_files : Option Files) (name : List ℕ) (job : JobView)
-    (front : Front) (result : Result X Stop) → IsThere known_files name
-    → IsFront (file_of known_files name) job.max_image front
+pub memory_told : {X : Type 0} {name : List ℕ} {job : JobView} {front : Front} (view : X → ℕ → ℕ)
+    (files : Option Files) (result : Result X Stop) → ReadsFront files name job front
     → ((file : List ℕ) → HasFront file job.max_image front → MeantBy view result (text_memory job file))
-    → MeantWhereKnown known_files view result (λ files. memory_of job (files name))
+    → MeantWhereKnown files view result (λ files. memory_of job (files name))
 unfolding memory_of
-memory_told view None name job front result is front_is meant = tt
-memory_told view (Some files) name job front result is front_is meant = of (files name) refl is front_is
+memory_told view None result reads meant = tt
+memory_told {X} {name} {job} {front} view (Some files) result reads meant =
+    of (files name) refl reads.file_exists reads.is_front
   where
     of : (file : Option (List ℕ)) → files name ≡ file → IsSome file → IsFront file job.max_image front
         → MeantBy view result (required_text (files name) >>= λ text. text_memory job text)

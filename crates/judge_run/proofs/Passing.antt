@@ -13,7 +13,7 @@ use Rattle.trace_lines.specs.declared.piece.Ending.{Ending}
 use Rattle.trace_lines.specs.declared.piece.Ending.TheVariants as endings
 use Rattle.trace_lines.specs.declared.line_taker.LineTaker.{LineTaker}
 use Rattle.trace_lines.specs.Lines.{RemainingLines}
-use Rattle.trace_lines.specs.Takers.{remaining_lines_of}
+use Rattle.trace_lines.specs.Takers.{remaining_lines_of, room_of}
 use Rattle.rvfi_rows.specs.declared.columns.Columns.{Columns}
 use Rattle.rvfi_rows.specs.declared.fault.RowFault.{RowFault}
 use Rattle.rvfi_rows.specs.declared.segment.Segment.{Segment}
@@ -21,7 +21,7 @@ use Rattle.rvfi_rows.specs.declared.verdict.Verdict.{Verdict}
 use Rattle.rvfi_rows.specs.declared.verdict.Verdict.TheVariants.{Agrees, Differs, Refused}
 use Rattle.rvfi_rows.specs.Columns.{ColumnList}
 use Rattle.rvfi_rows.specs.Rows.{row_of_line, rows_of}
-use Rattle.rvfi_rows.specs.Segments.{segment_lines}
+use Rattle.rvfi_rows.specs.Segments.{line_count_of, segment_lines}
 use Rattle.hart_step.specs.declared.hart.Hart.{Hart}
 use Rattle.hart_step.specs.declared.state.Core.{Core}
 use Rattle.hart_step.specs.Harts.{CanStep, state_of}
@@ -29,24 +29,27 @@ use Rattle.hart_step.specs.Rows.{HartState}
 use Rattle.segment_judge.specs.Judgements.{by_hart, verdict_after_rows, judgement_of}
 use Rattle.segment_judge.specs.Laws.{Conclusion, conclusion_from, conclusion_then}
 use Rattle.segment_judge.proofs.Parts.{counted_twice, in_parts}
-use Rattle.verdict_join.specs.declared.joined.Joined.{Joined as JoinedSegments}
 use Rattle.verdict_join.specs.Walks.{IsWithinRows}
-use Rattle.verdict_join.proofs.Passed.{EndsWhereAgrees, conclusion_ends}
+use Rattle.verdict_join.proofs.Passed.{EndsWhereAgrees, conclusion_ends, lines_within}
 use Rattle.judge_run.specs.declared.taken.Asked.{Asked}
-use Rattle.judge_run.specs.declared.progress.Held.{Held}
-use Rattle.judge_run.specs.declared.progress.Left.{Left as LeftOf}
-use Rattle.judge_run.specs.declared.progress.Passed.TheVariants.{Ends, On}
-use Rattle.judge_run.specs.declared.progress.Rest.{Rest}
+use Rattle.judge_run.specs.declared.progress.Lookahead.{Lookahead}
+use Rattle.judge_run.specs.declared.progress.Remaining.{Remaining}
+use Rattle.judge_run.specs.declared.parts.Settled.{Settled}
+use Rattle.judge_run.specs.declared.progress.Passed.{Passed}
+use Rattle.judge_run.specs.declared.progress.Passed.TheVariants.{Continue, Ends}
+use Rattle.judge_run.specs.declared.progress.Progress.{Progress}
+use Rattle.judge_run.specs.declared.progress.TraceEnd.{TraceEnd}
 use Rattle.trace_report.specs.declared.outcome.Outcome.{Outcome}
 use Rattle.judge_run.specs.Answer.{ruling_at_end, outcome_of}
 use Rattle.judge_run.specs.Settling.{IsReadPart, IsSettled}
 use Rattle.judge_run.specs.Taking.{TakesSegments, TakesAfter, TakesAfterWhereKnown, remaining_after, with_lines_before}
 use Rattle.judge_run.specs.Taking.{more_turns}
-use Rattle.judge_run.specs.Parts.{CanGoOnWith, HoldsAfter, IsNearerEnd, IsOver, LeadsFromWhereKnown, PassesPart}
-use Rattle.judge_run.specs.Parts.{PassesWhereKnown, TracePosition, RowsEnd, held_lines, end_after, end_with}
-use Rattle.judge_run.specs.Parts.{continuation_with, position_of, rows_left}
+use Rattle.judge_run.specs.Parts.{CanContinueWith, FollowsPart, FollowsPartBy, HoldsAfter, IsNearerEnd, IsOver}
+use Rattle.judge_run.specs.Parts.{IsPartCounted, LeadsFromWhereKnown, PassesPart}
+use Rattle.judge_run.specs.Parts.{PassesWhereKnown, TracePosition, RowsEnd, lookahead_lines, end_after, end_with}
+use Rattle.judge_run.specs.Parts.{end_of, position_of, remaining_rows, segments_ahead}
 use Rattle.judge_run.proofs.AnyEvents.{same_lines}
-use Rattle.judge_run.proofs.Taking.{few_turns}
+use Rattle.judge_run.proofs.Taking.{at_most_one_turn}
 
 -- after no row a verdict is as it is
 pub counted_from_none : (verdict : Verdict) → verdict_after_rows 0 0 verdict ≡ verdict
@@ -74,8 +77,8 @@ parts_come_to state columns first rest =
     ∙ in_parts by_hart state (rows_of columns first) (rows_of columns rest)
 
 -- a part whose rows agree: all rows come to what those after it do
-on_with : (job : JobView) (reached : TracePosition) (ending : Ending) (first : Conclusion Core)
-    (next : HartState → Conclusion Core) (rows valid : ℕ) (state : HartState) → first.verdict ≡ Agrees rows valid
+on_with : {rows valid : ℕ} {state : HartState} (job : JobView) (reached : TracePosition) (ending : Ending)
+    (first : Conclusion Core) (next : HartState → Conclusion Core) → first.verdict ≡ Agrees rows valid
     → first.end ≡ Some state
     → rows_end
     (outcome_of job
@@ -86,22 +89,22 @@ on_with : (job : JobView) (reached : TracePosition) (ending : Ending) (first : C
     (ruling_at_end job ending
     (verdict_after_rows reached.rows reached.valid (conclusion_then first next).verdict)))
     (conclusion_then first next).end
-on_with job reached ending first next rows valid state agrees ends =
+on_with {rows} {valid} {state} job reached ending first next agrees ends =
     rw (ends, agrees)
     (ap (λ verdict. rows_end (outcome_of job (ruling_at_end job ending verdict)) (next state).end)
     (sym (counted_twice reached.rows reached.valid rows valid (next state).verdict)))
 
-goes_on : (job : JobView) (columns : ColumnList) (reached : TracePosition) (lines : List (List ℕ))
-    (left : RemainingLines) (rows valid : ℕ) (state : HartState)
+goes_on : {rows valid : ℕ} {state : HartState} (job : JobView) (columns : ColumnList) (reached : TracePosition)
+    (lines : List (List ℕ)) (left : RemainingLines)
     → (concluded columns reached.state lines).verdict ≡ Agrees rows valid
     → (concluded columns reached.state lines).end ≡ Some state
     → end_after job columns (record { rows = reached.rows + rows; valid = reached.valid + valid; state = state }) left
     ≡ end_after job columns reached (with_lines_before lines left)
 unfolding end_after
-goes_on job columns reached lines left rows valid state agrees ends =
+goes_on job columns reached lines left agrees ends =
     rw (parts_come_to reached.state columns lines left.lines)
     (on_with job reached left.ending (concluded columns reached.state lines) (λ now. concluded columns now left.lines)
-    rows valid state agrees ends)
+    agrees ends)
 
 -- a verdict that ends a trace does so however that ends
 however : (job : JobView) (one other : Ending) (rows valid : ℕ) (first : Conclusion Core)
@@ -179,19 +182,25 @@ over_with job columns reached endings.End left none = ends_with job columns reac
 over_with job columns reached (endings.TooLong line) left none = ends_with job columns reached (endings.TooLong line)
 over_with job columns reached endings.TooLarge left none = ends_with job columns reached endings.TooLarge
 
-no_lines_held : (held : Held) → held.part.items ≡ [] → held.next.items ≡ [] → held_lines held ≡ []
-no_lines_held held part next = ap₂ (λ one other. flat_map segment_lines one ++ flat_map segment_lines other) part next
+no_lines_ahead : (ahead : Lookahead) → ahead.part.items ≡ [] → ahead.next.items ≡ [] → lookahead_lines ahead ≡ []
+no_lines_ahead ahead part next = ap₂ (λ one other. flat_map segment_lines one ++ flat_map segment_lines other) part next
 
-pub over_passes : {M : Type 0} (bytes_of : M → Bytes) (known_files : Option (List ℕ)) (job : JobView)
-    (columns : ColumnList) (rest : Rest M) (held : Held) → IsOver held
-    → PassesWhereKnown job columns bytes_of known_files rest held
-    (Ends (record { verdict = Agrees rest.rows rest.valid; ending = held.ending; hart = Some rest.hart }))
-over_passes bytes_of None job columns rest held over = tt
-over_passes bytes_of (Some file) job columns rest held over =
-    let left = remaining_after held.ending (remaining_lines_of file rest.taker) in
-    over_with job columns (position_of bytes_of rest) held.ending (remaining_lines_of file rest.taker) over.ending
-    ∙ ap (λ lines. end_after job columns (position_of bytes_of rest) (with_lines_before lines left))
-    (sym (no_lines_held held over.part over.next))
+pub over_passes : {M : Type 0} (bytes_of : M → Bytes) (file : Option (List ℕ)) (job : JobView)
+    (columns : ColumnList) (remaining : Remaining M) → IsOver remaining.lookahead
+    → PassesWhereKnown job columns bytes_of file remaining
+    (Ends (record {
+      verdict = Agrees remaining.progress.counts.rows remaining.progress.counts.valid;
+      ending = remaining.lookahead.ending;
+      hart = Some remaining.progress.hart;
+    }))
+over_passes bytes_of None job columns remaining over = tt
+over_passes bytes_of (Some file) job columns remaining over =
+    let reached = position_of bytes_of remaining.progress in
+    let ahead = remaining.lookahead in
+    let lines = remaining_lines_of file remaining.progress.taker in
+    over_with job columns reached ahead.ending lines over.ending
+    ∙ ap (λ text. end_after job columns reached (with_lines_before text (remaining_after ahead.ending lines)))
+    (sym (no_lines_ahead ahead over.part over.next))
 
 -- no state is after rows that do not agree
 none_where_it_differs : (first : Conclusion Core) (row : ℕ) (difference : Difference)
@@ -211,56 +220,15 @@ none_where_refused first row fault is fits = by first.end (subst (λ verdict. En
     by None fits = refl
     by (Some state) fits = absurd fits
 
--- where a part leads, of what was counted
-leads_on : {M : Type 0} (bytes_of : M → Bytes) (job : JobView) (columns : ColumnList) (file : List ℕ) (rest : Rest M)
-    (held now : Held) (taker : LineTaker) (lines : List (List ℕ)) (verdict : Verdict) (end : Option (Hart M))
-    → with_lines_before lines (rows_left file now taker) ≡ rows_left file held rest.taker → taker.name ≡ rest.taker.name
-    → (concluded columns (state_of bytes_of rest.hart) lines).verdict ≡ verdict
-    → (concluded columns (state_of bytes_of rest.hart) lines).end ≡ option_map (state_of bytes_of) end
-    → PassesPart job columns bytes_of file rest held
-    (continuation_with (verdict_after_rows rest.rows rest.valid verdict) end now taker)
-leads_on bytes_of job columns file rest held now taker lines (Agrees rows valid) (Some hart) left name is ends =
-    let reached = position_of bytes_of rest in (
-      goes_on job columns reached lines (rows_left file now taker) rows valid (state_of bytes_of hart) is ends
-          ∙ ap (end_after job columns reached) left,
-      name,
-    )
-leads_on bytes_of job columns file rest held now taker lines (Agrees rows valid) None left name is ends =
-    let reached = position_of bytes_of rest in
-    subst
-    (λ verdict. rows_end
-    (outcome_of job (ruling_at_end job endings.More (verdict_after_rows rest.rows rest.valid verdict))) None
-    ≡ end_with job columns bytes_of file rest held) is
-    (ends_here job columns reached lines (rows_left file now taker) ends ∙ ap (end_after job columns reached) left)
-leads_on bytes_of job columns file rest held now taker lines (Differs row difference) end left name is ends =
-    let reached = position_of bytes_of rest in
-    let none =
-    none_where_it_differs (concluded columns reached.state lines) row difference is
-    (conclusion_ends by_hart reached.state (rows_of columns lines)) in
-    subst
-    (λ verdict. rows_end
-    (outcome_of job (ruling_at_end job endings.More (verdict_after_rows rest.rows rest.valid verdict))) None
-    ≡ end_with job columns bytes_of file rest held) is
-    (ends_here job columns reached lines (rows_left file now taker) none ∙ ap (end_after job columns reached) left)
-leads_on bytes_of job columns file rest held now taker lines (Refused row fault) end left name is ends =
-    let reached = position_of bytes_of rest in
-    let none =
-    none_where_refused (concluded columns reached.state lines) row fault is
-    (conclusion_ends by_hart reached.state (rows_of columns lines)) in
-    subst
-    (λ verdict. rows_end
-    (outcome_of job (ruling_at_end job endings.More (verdict_after_rows rest.rows rest.valid verdict))) None
-    ≡ end_with job columns bytes_of file rest held) is
-    (ends_here job columns reached lines (rows_left file now taker) none ∙ ap (end_after job columns reached) left)
-
 -- what is left after a part, with the part before it, is what was left
-left_moves : (file : List ℕ) (held now : Held) (before after : LineTaker)
-    → flat_map segment_lines now.part.items ≡ flat_map segment_lines held.next.items
-    → TakesAfter file held.ending before (flat_map segment_lines now.next.items) now.ending after
-    → with_lines_before (flat_map segment_lines held.part.items) (rows_left file now after) ≡ rows_left file held before
-left_moves file held now before after read takes =
-    let first = flat_map segment_lines held.part.items in
-    let next = flat_map segment_lines held.next.items in
+remaining_moves : (file : List ℕ) (ahead now : Lookahead) (before after : LineTaker)
+    → flat_map segment_lines now.part.items ≡ flat_map segment_lines ahead.next.items
+    → TakesAfter file ahead.ending before (flat_map segment_lines now.next.items) now.ending after
+    → with_lines_before (flat_map segment_lines ahead.part.items) (remaining_rows file now after)
+    ≡ remaining_rows file ahead before
+remaining_moves file ahead now before after read takes =
+    let first = flat_map segment_lines ahead.part.items in
+    let next = flat_map segment_lines ahead.next.items in
     let more = flat_map segment_lines now.next.items in
     let left = remaining_after now.ending (remaining_lines_of file after) in
     let lines : first ++ ((flat_map segment_lines now.part.items ++ more) ++ left.lines) ≡ (first ++ next)
@@ -270,124 +238,225 @@ left_moves file held now before after read takes =
     ∙ sym (append_assoc first next (more ++ left.lines)) in
     ap (λ text. record { lines = text; ending = left.ending }) lines ∙ ap (with_lines_before (first ++ next)) takes.left
 
+-- a part was settled, the next one read, and lines were taken after them
+pub record PartIsDone {M : Type 0} (bytes_of : M → Bytes) (ram_of : M → Span) (columns : Columns) (window : ℕ)
+    (file : Option (List ℕ)) (remaining : Remaining M) (done : Settled M) : Type 0 where
+  pub settled : IsSettled bytes_of ram_of columns remaining.lookahead.part.items
+      (state_of bytes_of remaining.progress.hart) done.joined
+  pub read : IsReadPart columns remaining.lookahead.next.items done.lookahead.part
+  pub takes : TakesAfterWhereKnown file remaining.lookahead.ending remaining.progress.taker
+      (flat_map segment_lines done.lookahead.next.items) done.lookahead.ending done.taker
+  pub holds : HoldsAfter window remaining.progress.taker remaining.lookahead done.taker done.lookahead
+
 -- where the file is told
-pub part_passes : {M : Type 0} (bytes_of : M → Bytes) (ram_of : M → Span) (known_files : Option (List ℕ))
-    (job : JobView) (columns : Columns) (rest : Rest M) (held now : Held) (taker : LineTaker)
-    (joined : JoinedSegments M)
-    → IsSettled bytes_of ram_of columns held.part.items (state_of bytes_of rest.hart) joined
-    → IsReadPart columns held.next.items now.part
-    → TakesAfterWhereKnown known_files held.ending rest.taker (flat_map segment_lines now.next.items) now.ending taker
-    → PassesWhereKnown job columns bytes_of known_files rest held
-    (continuation_with (verdict_after_rows rest.rows rest.valid joined.verdict) joined.end now taker)
-part_passes bytes_of ram_of None job columns rest held now taker joined settled read takes = tt
-part_passes bytes_of ram_of (Some file) job columns rest held now taker joined settled read takes =
-    leads_on bytes_of job columns file rest held now taker (flat_map segment_lines held.part.items) joined.verdict
-    joined.end
-    (left_moves file held now rest.taker taker (same_lines now.part.items held.next.items read.lines) takes)
-    takes.name (sym settled.verdict) (sym settled.end)
+pub part_passes : {M : Type 0} {bytes_of : M → Bytes} {ram_of : M → Span} {columns : Columns} {window : ℕ}
+    (file : Option (List ℕ)) (job : JobView) (remaining : Remaining M) (done : Settled M) (passed : Passed M)
+    → PartIsDone bytes_of ram_of columns window file remaining done
+    → FollowsPart remaining.progress.counts done passed
+    → PassesWhereKnown job columns bytes_of file remaining passed
+part_passes None job remaining done passed is follows = tt
+part_passes {M} {bytes_of} {ram_of} {columns} (Some file) job remaining done passed is follows =
+    by done.joined.verdict done.joined.end passed (sym is.settled.verdict) (sym is.settled.end) follows
+  where
+    reached : TracePosition
+    reached = position_of bytes_of remaining.progress
+
+    lines : List (List ℕ)
+    lines = flat_map segment_lines remaining.lookahead.part.items
+
+    after : RemainingLines
+    after = remaining_rows file done.lookahead done.taker
+
+    whole : RowsEnd
+    whole = end_with job columns bytes_of file remaining
+
+    moves : with_lines_before lines after ≡ remaining_rows file remaining.lookahead remaining.progress.taker
+    moves =
+        remaining_moves file remaining.lookahead done.lookahead remaining.progress.taker done.taker
+        (same_lines done.lookahead.part.items remaining.lookahead.next.items is.read.lines) is.takes
+
+    fits : EndsWhereAgrees (concluded columns reached.state lines).verdict (concluded columns reached.state lines).end
+    fits = conclusion_ends by_hart reached.state (rows_of columns lines)
+
+    continues : (rows valid : ℕ) (hart : Hart M) (next : Remaining M)
+        → IsPartCounted remaining.progress.counts done rows valid hart next
+        → (concluded columns reached.state lines).verdict ≡ Agrees rows valid
+        → (concluded columns reached.state lines).end ≡ Some (state_of bytes_of hart)
+        → end_with job columns bytes_of file next ≡ whole
+    continues rows valid hart next counted agrees state =
+        let position : position_of bytes_of next.progress
+        ≡ record { rows = reached.rows + rows; valid = reached.valid + valid; state = state_of bytes_of hart } =
+        rw (counted.rows_are, counted.valid_are, counted.hart_is) refl in
+        let left : remaining_rows file next.lookahead next.progress.taker ≡ after =
+        ap₂ (λ lookahead taker. remaining_rows file lookahead taker) counted.lookahead counted.taker in
+        ap₂ (end_after job columns) position left
+        ∙ goes_on job columns reached lines after agrees state ∙ ap (end_after job columns reached) moves
+
+    ends : (verdict : Verdict) (end : TraceEnd M) → (concluded columns reached.state lines).verdict ≡ verdict
+        → (concluded columns reached.state lines).end ≡ None
+        → end
+        ≡ record {
+          verdict = verdict_after_rows reached.rows reached.valid verdict;
+          ending = endings.More;
+          hart = None;
+        }
+        → end_of job bytes_of end ≡ whole
+    ends verdict end concludes none is =
+        ap (end_of job bytes_of) is
+        ∙ subst
+        (λ verdict. rows_end
+        (outcome_of job (ruling_at_end job endings.More (verdict_after_rows reached.rows reached.valid verdict))) None
+        ≡ whole) concludes
+        (ends_here job columns reached lines after none ∙ ap (end_after job columns reached) moves)
+
+    by : (verdict : Verdict) (end : Option (Hart M)) (passed : Passed M)
+        → (concluded columns reached.state lines).verdict ≡ verdict
+        → (concluded columns reached.state lines).end ≡ option_map (state_of bytes_of) end
+        → FollowsPartBy remaining.progress.counts done verdict end passed
+        → PassesPart job columns bytes_of file remaining passed
+    by (Agrees rows valid) (Some hart) (Continue next) agrees state counted =
+        (continues rows valid hart next counted agrees state, ap (λ (taker : LineTaker). taker.name) counted.taker ∙ is.takes.name)
+    by (Agrees rows valid) (Some hart) (Ends end) agrees state follows = absurd follows
+    by (Agrees rows valid) None (Continue next) agrees none follows = absurd follows
+    by (Agrees rows valid) None (Ends end) agrees none follows = ends (Agrees rows valid) end agrees none follows
+    by (Differs row difference) hart (Continue next) differs state follows = absurd follows
+    by (Differs row difference) hart (Ends end) differs state follows =
+        ends (Differs row difference) end differs
+        (none_where_it_differs (concluded columns reached.state lines) row difference differs fits) follows
+    by (Refused row fault) hart (Continue next) refused state follows = absurd follows
+    by (Refused row fault) hart (Ends end) refused state follows =
+        ends (Refused row fault) end refused
+        (none_where_refused (concluded columns reached.state lines) row fault refused fits) follows
 
 -- ---- how far it is to the end
 
 -- a part has no more lines than bytes are left
-pub part_lines : {M : Type 0} (window : ℕ) (ram_of : M → Span) (rest : Rest M) (held : Held)
-    → CanGoOnWith window ram_of rest held → length (flat_map segment_lines held.part.items) ≤ 4611686018427387904
-part_lines window ram_of rest held going =
-    let lines = length-append (flat_map segment_lines held.part.items) (flat_map segment_lines held.next.items) in
+pub part_lines : {M : Type 0} (window : ℕ) (ram_of : M → Span) (remaining : Remaining M)
+    → CanContinueWith window ram_of remaining
+    → line_count_of remaining.lookahead.part.items ≤ 4611686018427387904
+part_lines window ram_of remaining going =
+    let ahead = remaining.lookahead in
+    let lines = length-append (flat_map segment_lines ahead.part.items) (flat_map segment_lines ahead.next.items) in
     omega (arith, lines, going.room)
 
 -- what was taken after a part and a next one
-pub holds_behind : (window : ℕ) (taker after : LineTaker) (asked : Asked) (held now : Held)
-    → length held.part.items + length held.next.items + asked.segments ≤ window
-    → (length held.part.items + length held.next.items ≡ 0 → 0 < asked.segments) → asked.ending ≡ held.ending
-    → TakesSegments asked taker now.next.items now.ending after → HoldsAfter window taker held after now
-holds_behind window taker after asked held now few some ending taken = record {
-  few = omega (arith, taken.few, few);
+pub holds_after : {window : ℕ} {taker after : LineTaker} {asked : Asked} (ahead now : Lookahead)
+    → segments_ahead ahead + asked.segments ≤ window → (segments_ahead ahead ≡ 0 → 0 < asked.segments)
+    → asked.ending ≡ ahead.ending → TakesSegments asked taker now.next.items now.ending after
+    → HoldsAfter window taker ahead after now
+holds_after {window} {taker} {after} {asked} ahead now within asks ending taken = record {
+  within_window = omega (arith, taken.at_most_asked, within);
   full = taken.full;
   room = taken.room;
   ending =
-      let same : more_turns asked.ending ≡ more_turns held.ending = ap more_turns ending in
+      let same : more_turns asked.ending ≡ more_turns ahead.ending = ap more_turns ending in
       omega (arith, taken.ending, same);
-  some = by (length held.part.items + length held.next.items) refl;
+  nonempty_where_more = by (segments_ahead ahead) refl;
 }
   where
-    by : (count : ℕ) → length held.part.items + length held.next.items ≡ count
-        → more_turns now.ending ≤ length held.part.items + length held.next.items + length now.next.items
-    by zero is = let turns = taken.some (some is) in omega (arith, turns)
-    by (suc count) is = let most = few_turns now.ending in omega (arith, most, is)
+    by : (count : ℕ) → segments_ahead ahead ≡ count
+        → more_turns now.ending ≤ segments_ahead ahead + length now.next.items
+    by zero is = let turns = taken.nonempty_where_more (asks is) in omega (arith, turns)
+    by (suc count) is = let most = at_most_one_turn now.ending in omega (arith, most, is)
 
 -- the same segments were taken
-pub same_taken : (asked : Asked) (before after : LineTaker) (one other : List Segment) (now ending : Ending)
+pub same_taken : {asked : Asked} {before after : LineTaker} {one other : List Segment} {now ending : Ending}
     → other ≡ one → ending ≡ now → TakesSegments asked before one now after
     → TakesSegments asked before other ending after
-same_taken asked before after one other now ending segments endings taken = rw (segments, endings) taken
+same_taken segments endings taken = rw (segments, endings) taken
 
 -- as many segments
 as_many : (one other : List Segment) → map segment_lines one ≡ map segment_lines other → length one ≡ length other
 as_many one other same = sym (length-map one segment_lines) ∙ ap length same ∙ length-map other segment_lines
 
-pub part_nears : {M : Type 0} (window : ℕ) (ram_of : M → Span) (columns : Columns) (rest : Rest M) (held now : Held)
-    (taker : LineTaker) (verdict : Verdict) (end : Option (Hart M))
-    → CanGoOnWith window ram_of rest held → (IsOver held → ⊥) → IsReadPart columns held.next.items now.part
-    → HoldsAfter window rest.taker held taker now
-    → IsWithinRows (length (flat_map segment_lines held.part.items)) verdict → IfSome end (CanStep ram_of)
-    → IsNearerEnd window ram_of rest held
-    (continuation_with (verdict_after_rows rest.rows rest.valid verdict) end now taker)
-part_nears {M = M} window ram_of columns rest held now taker verdict end going left read holds within can_step =
-    by verdict end within can_step
+pub part_nears : {M : Type 0} {bytes_of : M → Bytes} {ram_of : M → Span} {columns : Columns} {window : ℕ}
+    {file : Option (List ℕ)} (remaining : Remaining M) (done : Settled M) (passed : Passed M)
+    → CanContinueWith window ram_of remaining
+    → (IsOver remaining.lookahead → ⊥) → PartIsDone bytes_of ram_of columns window file remaining done
+    → FollowsPart remaining.progress.counts done passed → IsNearerEnd window ram_of remaining passed
+part_nears {M} {bytes_of} {ram_of} {columns} {window} remaining done passed going left is follows =
+    by done.joined.verdict done.joined.end passed
+    (lines_within (state_of bytes_of remaining.progress.hart) columns first done.joined.verdict is.settled.verdict)
+    is.settled.can_step follows
   where
+    ahead : Lookahead
+    ahead = remaining.lookahead
+
+    now : Lookahead
+    now = done.lookahead
+
     first : List (List ℕ)
-    first = flat_map segment_lines held.part.items
+    first = flat_map segment_lines ahead.part.items
 
     next : List (List ℕ)
-    next = flat_map segment_lines held.next.items
+    next = flat_map segment_lines ahead.next.items
 
     more : List (List ℕ)
     more = flat_map segment_lines now.next.items
 
-    before : length (held_lines held) ≡ length first + length next
+    before : length (lookahead_lines ahead) ≡ length first + length next
     before = length-append first next
 
-    following : length (held_lines now) ≡ length next + length more
+    following : length (lookahead_lines now) ≡ length next + length more
     following =
         length-append (flat_map segment_lines now.part.items) more
-        ∙ ap (λ text. length text + length more) (same_lines now.part.items held.next.items read.lines)
+        ∙ ap (λ text. length text + length more) (same_lines now.part.items ahead.next.items is.read.lines)
 
-    many : length now.part.items ≡ length held.next.items
-    many = as_many now.part.items held.next.items read.lines
+    many : length now.part.items ≡ length ahead.next.items
+    many = as_many now.part.items ahead.next.items is.read.lines
 
-    not_over : 0 < length held.part.items + length held.next.items + more_turns held.ending
-    not_over = some (length held.part.items + length held.next.items + more_turns held.ending) refl
+    not_over : 0 < segments_ahead ahead + more_turns ahead.ending
+    not_over = some (segments_ahead ahead + more_turns ahead.ending) refl
       where
         none_in : {A : Type 0} (xs : List A) → length xs ≡ 0 → xs ≡ []
         none_in [] none = refl
         none_in (x ∷ xs) none = absurd (omega (arith, none))
 
-        some : (count : ℕ) → length held.part.items + length held.next.items + more_turns held.ending ≡ count
-            → 0 < count
+        some : (count : ℕ) → segments_ahead ahead + more_turns ahead.ending ≡ count → 0 < count
         some (suc count) is = omega arith
         some zero is =
             absurd (left (record {
-              part = none_in held.part.items (omega (arith, is));
-              next = none_in held.next.items (omega (arith, is));
+              part = none_in ahead.part.items (omega (arith, is));
+              next = none_in ahead.next.items (omega (arith, is));
               ending = omega (arith, is);
             }))
 
-    by : (verdict : Verdict) (end : Option (Hart M)) → IsWithinRows (length first) verdict
-        → IfSome end (CanStep ram_of)
-        → IsNearerEnd window ram_of rest held
-        (continuation_with (verdict_after_rows rest.rows rest.valid verdict) end now taker)
-    by (Agrees rows valid) (Some hart) within can_step = (
-      record {
-        can_step = can_step;
-        valid = omega (arith, going.valid, within.1);
-        room = omega (arith, going.room, within.0, before, following, holds.room);
-        few = omega (arith, many, holds.few);
-      },
-      omega (arith, many, holds.room, holds.full, holds.ending, holds.some, not_over),
-    )
-    by (Agrees rows valid) None within can_step = tt
-    by (Differs row difference) end within can_step = tt
-    by (Refused row fault) end within can_step = tt
+    by : (verdict : Verdict) (end : Option (Hart M)) (passed : Passed M) → IsWithinRows (length first) verdict
+        → IfSome end (CanStep ram_of) → FollowsPartBy remaining.progress.counts done verdict end passed
+        → IsNearerEnd window ram_of remaining passed
+    by (Agrees rows valid) (Some hart) (Continue next) within can_step counted =
+        let part = ap (λ (lookahead : Lookahead). length lookahead.part.items) counted.lookahead in
+        let more_ahead = ap (λ (lookahead : Lookahead). length lookahead.next.items) counted.lookahead in
+        let lines = ap (λ lookahead. length (lookahead_lines lookahead)) counted.lookahead in
+        let turns = ap (λ (lookahead : Lookahead). more_turns lookahead.ending) counted.lookahead in
+        let room = ap room_of counted.taker in (
+          record {
+            can_step = subst (CanStep ram_of) (sym counted.hart_is) can_step;
+            room =
+                omega (arith, going.room, within.0, before, following, is.holds.room, counted.rows_are, lines, room);
+            within_window = omega (arith, many, is.holds.within_window, part, more_ahead);
+          },
+          omega (
+            arith,
+            many,
+            is.holds.room,
+            is.holds.full,
+            is.holds.ending,
+            is.holds.nonempty_where_more,
+            not_over,
+            part,
+            more_ahead,
+            turns,
+            room,
+          ),
+        )
+    by (Agrees rows valid) (Some hart) (Ends end) within can_step follows = tt
+    by (Agrees rows valid) None (Continue next) within can_step follows = absurd follows
+    by (Agrees rows valid) None (Ends end) within can_step follows = tt
+    by (Differs row difference) hart (Continue next) within can_step follows = absurd follows
+    by (Differs row difference) hart (Ends end) within can_step follows = tt
+    by (Refused row fault) hart (Continue next) within can_step follows = absurd follows
+    by (Refused row fault) hart (Ends end) within can_step follows = tt
 
 -- a copy of a hart has its state
 pub same_state : {M : Type 0} (bytes_of : M → Bytes) (one other : Hart M) → one.core ≡ other.core
@@ -396,42 +465,48 @@ same_state bytes_of one other core bytes = rw (core, bytes) refl
 
 -- ---- parts, one after the other
 
+-- parts lead from these first rows to what remains, and the file that they are of is there
+pub record LeadsInFile {M : Type 0} (bytes_of : M → Bytes) (files : Option Files) (job : JobView)
+    (columns : ColumnList) (first : Progress M) (remaining : Remaining M) : Type 0 where
+  pub file_exists : IsThere files (string_bytes first.taker.name)
+  pub leads : LeadsFromWhereKnown job columns bytes_of (file_of files (string_bytes first.taker.name)) first remaining
+
 -- a part more, or the end
-pub parts_lead : {M : Type 0} (bytes_of : M → Bytes) (known_files : Option Files) (job : JobView)
-    (columns : ColumnList) (first rest : Rest M) (held : Held) (next : LeftOf M)
-    → IsThere known_files (string_bytes first.taker.name)
-    → LeadsFromWhereKnown job columns bytes_of (file_of known_files (string_bytes first.taker.name)) first rest held
-    → PassesWhereKnown job columns bytes_of (file_of known_files (string_bytes rest.taker.name)) rest held (On next)
-    → LeadsFromWhereKnown job columns bytes_of (file_of known_files (string_bytes first.taker.name)) first next.rest
-    next.held
-parts_lead bytes_of None job columns first rest held next there leads passes = tt
-parts_lead bytes_of (Some files) job columns first rest held next there leads passes =
-    by (files (string_bytes first.taker.name)) refl there leads
+pub parts_lead : {M : Type 0} {bytes_of : M → Bytes} {job : JobView} {columns : ColumnList} {first : Progress M}
+    (files : Option Files) (remaining next : Remaining M)
+    → LeadsInFile bytes_of files job columns first remaining
+    → PassesWhereKnown job columns bytes_of (file_of files (string_bytes remaining.progress.taker.name)) remaining
+    (Continue next) → LeadsInFile bytes_of files job columns first next
+parts_lead None remaining next is passes = record { file_exists = is.file_exists; leads = tt }
+parts_lead {M} {bytes_of} {job} {columns} {first} (Some files) remaining next is passes = record {
+  file_exists = is.file_exists;
+  leads = by (files (string_bytes first.taker.name)) refl is.file_exists is.leads;
+}
   where
     by : (file : Option (List ℕ)) → files (string_bytes first.taker.name) ≡ file → IsSome file
-        → LeadsFromWhereKnown job columns bytes_of file first rest held
-        → LeadsFromWhereKnown job columns bytes_of file first next.rest next.held
-    by None e there leads = absurd cc
-    by (Some file) e there leads =
-        let again : files (string_bytes rest.taker.name) ≡ Some file =
+        → LeadsFromWhereKnown job columns bytes_of file first remaining
+        → LeadsFromWhereKnown job columns bytes_of file first next
+    by None e exists leads = absurd cc
+    by (Some file) e exists leads =
+        let again : files (string_bytes remaining.progress.taker.name) ≡ Some file =
         ap (λ text. files (string_bytes text)) leads.name ∙ e in
         let here =
-        subst (λ known_files. PassesWhereKnown job columns bytes_of known_files rest held (On next)) again passes in
+        subst (λ file. PassesWhereKnown job columns bytes_of file remaining (Continue next)) again passes in
         record { end = here.0 ∙ leads.end; name = here.1 ∙ leads.name }
 
 -- the file that is there stays there
-pub there_behind_part : {M : Type 0} (bytes_of : M → Bytes) (known_files : Option Files) (job : JobView)
-    (columns : ColumnList) (first rest : Rest M) (held : Held) → IsThere known_files (string_bytes first.taker.name)
-    → LeadsFromWhereKnown job columns bytes_of (file_of known_files (string_bytes first.taker.name)) first rest held
-    → IsThere known_files (string_bytes rest.taker.name)
-there_behind_part bytes_of None job columns first rest held there leads = tt
-there_behind_part bytes_of (Some files) job columns first rest held there leads =
-    by (files (string_bytes first.taker.name)) refl there leads
+pub exists_after_part : {M : Type 0} {bytes_of : M → Bytes} {job : JobView} {columns : ColumnList} {first : Progress M}
+    (files : Option Files) (remaining : Remaining M) → LeadsInFile bytes_of files job columns first remaining
+    → IsThere files (string_bytes remaining.progress.taker.name)
+exists_after_part None remaining is = tt
+exists_after_part {M} {bytes_of} {job} {columns} {first} (Some files) remaining is =
+    by (files (string_bytes first.taker.name)) refl is.file_exists is.leads
   where
     by : (file : Option (List ℕ)) → files (string_bytes first.taker.name) ≡ file → IsSome file
-        → LeadsFromWhereKnown job columns bytes_of file first rest held → IsSome (files (string_bytes rest.taker.name))
-    by None e there leads = absurd cc
-    by (Some file) e there leads =
-        let again : files (string_bytes rest.taker.name) ≡ Some file =
+        → LeadsFromWhereKnown job columns bytes_of file first remaining
+        → IsSome (files (string_bytes remaining.progress.taker.name))
+    by None e exists leads = absurd cc
+    by (Some file) e exists leads =
+        let again : files (string_bytes remaining.progress.taker.name) ≡ Some file =
         ap (λ text. files (string_bytes text)) leads.name ∙ e in
-        subst IsSome (sym again) there
+        subst IsSome (sym again) exists

@@ -61,11 +61,11 @@ known known_files words outcome meant made tell =
     of None meant files is = cc
     of (Some here) meant files is = let same : here ≡ files = cc in rw (← same) (ap outcome_of_step meant)
 
-pub ends_written : (known_files : Option Files) (words : List (List ℕ)) (outcome : Outcome)
+pub ends_written : {known_files : Option Files} {words : List (List ℕ)} (outcome : Outcome)
     (before now : OutsideState) (status : ℕ) → IsOutcome known_files words outcome → now.faults ≡ before.faults
     → now.misses ≡ before.misses → Writes outcome status before.held now.held before.sink_faults now.sink_faults
     → Ends known_files words before now status
-ends_written known_files words outcome before now status is faults misses (inl all) =
+ends_written outcome before now status is faults misses (inl all) =
     inl
     (record {
       outcome =
@@ -75,9 +75,9 @@ ends_written known_files words outcome before now status is faults misses (inl a
       held = all.held;
       faults = faults;
       misses = misses;
-      sink_faults = all.calm;
+      sink_faults = all.no_fault;
     })
-ends_written known_files words outcome before now status is faults misses (inr front) =
+ends_written outcome before now status is faults misses (inr front) =
     inr
     (inl
     (record {
@@ -101,12 +101,12 @@ unfolding answer
 lacking None words lacks = absurd lacks
 lacking (Some files) words lacks = (files, refl, ap outcome_of_step lacks)
 
-pub ends_unread : (known_files : Option Files) (words : List (List ℕ)) (before now : OutsideState)
+pub ends_unread : {before now : OutsideState} (known_files : Option Files) (words : List (List ℕ))
     → now.held ≡ before.held → now.sink_faults ≡ before.sink_faults → Rose before.faults now.faults
     → (is_made words ≡ true → ⊥)
     → (before.misses < now.misses → LacksFile known_files (λ files. outcome_step_of words files))
     → Ends known_files words before now 5
-ends_unread known_files words before now held calm rose made misses =
+ends_unread known_files words held calm rose made misses =
     inr
     (inr
     (inl
@@ -147,44 +147,44 @@ ruling_small (rulings.Verdict verdict) = verdict_small verdict
 small : (outcome : Outcome) → status_of outcome ≤ 4
 small outcome = ruling_small outcome.ruling
 
-pub headline : (known_files : Option Files) (words : List (List ℕ)) (before now : OutsideState) (status : ℕ)
+pub headline : {known_files : Option Files} {words : List (List ℕ)} {before now : OutsideState} {status : ℕ}
     → Ends known_files words before now status → (files : Files) → known_files ≡ Some files
     → ¬ Rose before.faults now.faults → ¬ Rose before.sink_faults now.sink_faults
     → IsAnswer (answer words files) status before.held now.held ⊎ ((status ≡ 6) × (now.held ≡ before.held))
-headline known_files words before now status (inl wrote) files is calm quiet =
+headline (inl wrote) files is calm quiet =
     inl (rw (wrote.is.answered files is) (wrote.own, wrote.held))
-headline known_files words before now status (inr (inl cut)) files is calm quiet = absurd (quiet cut.rose)
-headline known_files words before now status (inr (inr (inl unread))) files is calm quiet = absurd (calm unread.rose)
-headline known_files words before now status (inr (inr (inr memory))) files is calm quiet =
+headline (inr (inl cut)) files is calm quiet = absurd (quiet cut.rose)
+headline (inr (inr (inl unread))) files is calm quiet = absurd (calm unread.rose)
+headline (inr (inr (inr memory))) files is calm quiet =
     inr (memory.own, ap (λ moment. moment.held) memory.same)
 
-pub counted : (known_files : Option Files) (words : List (List ℕ)) (before now : OutsideState) (status : ℕ)
+pub counted : {known_files : Option Files} {words : List (List ℕ)} {before now : OutsideState} {status : ℕ}
     → Ends known_files words before now status → (before.faults < now.faults) ⊎ (before.sink_faults < now.sink_faults)
     → status ≡ 5
-counted known_files words before now status (inl wrote) (inl more) = absurd (omega (arith, wrote.faults))
-counted known_files words before now status (inl wrote) (inr more) = absurd (omega (arith, wrote.sink_faults))
-counted known_files words before now status (inr (inl cut)) more = cut.own
-counted known_files words before now status (inr (inr (inl unread))) more = unread.own
-counted known_files words before now status (inr (inr (inr memory))) (inl more) =
+counted (inl wrote) (inl more) = absurd (omega (arith, wrote.faults))
+counted (inl wrote) (inr more) = absurd (omega (arith, wrote.sink_faults))
+counted (inr (inl cut)) more = cut.own
+counted (inr (inr (inl unread))) more = unread.own
+counted (inr (inr (inr memory))) (inl more) =
     absurd (omega (arith, ap (λ moment. moment.faults) memory.same))
-counted known_files words before now status (inr (inr (inr memory))) (inr more) =
+counted (inr (inr (inr memory))) (inr more) =
     absurd (omega (arith, ap (λ moment. moment.sink_faults) memory.same))
 
-pub fault : (known_files : Option Files) (words : List (List ℕ)) (before now : OutsideState) (status : ℕ)
+pub fault : {known_files : Option Files} {words : List (List ℕ)} {before now : OutsideState} {status : ℕ}
     → Ends known_files words before now status → status ≡ 5
     → Rose before.faults now.faults ⊎ Rose before.sink_faults now.sink_faults
-fault known_files words before now status (inl wrote) five = absurd (omega (arith, wrote.own, small wrote.outcome))
-fault known_files words before now status (inr (inl cut)) five = inr cut.rose
-fault known_files words before now status (inr (inr (inl unread))) five = inl unread.rose
-fault known_files words before now status (inr (inr (inr memory))) five = absurd (omega (arith, memory.own))
+fault (inl wrote) five = absurd (omega (arith, wrote.own, small wrote.outcome))
+fault (inr (inl cut)) five = inr cut.rose
+fault (inr (inr (inl unread))) five = inl unread.rose
+fault (inr (inr (inr memory))) five = absurd (omega (arith, memory.own))
 
-pub misses : (known_files : Option Files) (words : List (List ℕ)) (before now : OutsideState) (status : ℕ)
+pub misses : {known_files : Option Files} {words : List (List ℕ)} {before now : OutsideState} {status : ℕ}
     → Ends known_files words before now status → before.misses < now.misses
     → (files : Files) × (known_files ≡ Some files) × (answer words files ≡ None)
-misses known_files words before now status (inl wrote) more = absurd (omega (arith, wrote.misses))
-misses known_files words before now status (inr (inl cut)) more = absurd (omega (arith, cut.misses))
-misses known_files words before now status (inr (inr (inl unread))) more = unread.lacks more
-misses known_files words before now status (inr (inr (inr memory))) more =
+misses (inl wrote) more = absurd (omega (arith, wrote.misses))
+misses (inr (inl cut)) more = absurd (omega (arith, cut.misses))
+misses (inr (inr (inl unread))) more = unread.lacks more
+misses (inr (inr (inr memory))) more =
     absurd (omega (arith, ap (λ moment. moment.misses) memory.same))
 
 -- only the outcome of words that ask for no job has status 2
@@ -210,49 +210,49 @@ refused (rulings.TraceTooLarge most) job same = (λ two. absurd (omega arith), �
 refused (rulings.Verdict verdict) job same =
     (λ two. absurd (refused_verdict verdict two), λ none. absurd (apart job same none))
 
-pub words_decide : (known_files : Option Files) (words : List (List ℕ)) (before now : OutsideState) (status : ℕ)
+pub words_decide : {known_files : Option Files} {words : List (List ℕ)} {before now : OutsideState} {status : ℕ}
     → Ends known_files words before now status → status ≤ 4 → (status ≡ 2) ↔ (job_of words ≡ None)
-words_decide known_files words before now status (inl wrote) few =
+words_decide {known_files} {words} (inl wrote) at_most_4 =
     let both = refused wrote.outcome.ruling (job_of words) wrote.is.job in
     (λ two. both.0 (sym wrote.own ∙ two), λ none. wrote.own ∙ both.1 none)
-words_decide known_files words before now status (inr (inl cut)) few = absurd (omega (arith, cut.own))
-words_decide known_files words before now status (inr (inr (inl unread))) few = absurd (omega (arith, unread.own))
-words_decide known_files words before now status (inr (inr (inr memory))) few = absurd (omega (arith, memory.own))
+words_decide (inr (inl cut)) at_most_4 = absurd (omega (arith, cut.own))
+words_decide (inr (inr (inl unread))) at_most_4 = absurd (omega (arith, unread.own))
+words_decide (inr (inr (inr memory))) at_most_4 = absurd (omega (arith, memory.own))
 
-pub out_of_memory : (known_files : Option Files) (words : List (List ℕ)) (before now : OutsideState) (status : ℕ)
+pub out_of_memory : {known_files : Option Files} {words : List (List ℕ)} {before now : OutsideState} {status : ℕ}
     → Ends known_files words before now status → status ≡ 6 → now.held ≡ before.held
-out_of_memory known_files words before now status (inl wrote) six =
+out_of_memory (inl wrote) six =
     absurd (omega (arith, wrote.own, small wrote.outcome))
-out_of_memory known_files words before now status (inr (inl cut)) six = absurd (omega (arith, cut.own))
-out_of_memory known_files words before now status (inr (inr (inl unread))) six = absurd (omega (arith, unread.own))
-out_of_memory known_files words before now status (inr (inr (inr memory))) six = ap (λ moment. moment.held) memory.same
+out_of_memory (inr (inl cut)) six = absurd (omega (arith, cut.own))
+out_of_memory (inr (inr (inl unread))) six = absurd (omega (arith, unread.own))
+out_of_memory (inr (inr (inr memory))) six = ap (λ moment. moment.held) memory.same
 
-pub range : (known_files : Option Files) (words : List (List ℕ)) (before now : OutsideState) (status : ℕ)
+pub range : {known_files : Option Files} {words : List (List ℕ)} {before now : OutsideState} {status : ℕ}
     → Ends known_files words before now status → status ≤ 6
-range known_files words before now status (inl wrote) = omega (arith, wrote.own, small wrote.outcome)
-range known_files words before now status (inr (inl cut)) = omega (arith, cut.own)
-range known_files words before now status (inr (inr (inl unread))) = omega (arith, unread.own)
-range known_files words before now status (inr (inr (inr memory))) = omega (arith, memory.own)
+range (inl wrote) = omega (arith, wrote.own, small wrote.outcome)
+range (inr (inl cut)) = omega (arith, cut.own)
+range (inr (inr (inl unread))) = omega (arith, unread.own)
+range (inr (inr (inr memory))) = omega (arith, memory.own)
 
 -- what is made takes no file
-pub made_counts : (known_files : Option Files) (words : List (List ℕ)) (before now : OutsideState) (status : ℕ)
+pub made_counts : {known_files : Option Files} {words : List (List ℕ)} {before now : OutsideState} {status : ℕ}
     → Ends known_files words before now status → is_made words ≡ true
     → (now.faults ≡ before.faults) × (now.misses ≡ before.misses)
-made_counts known_files words before now status (inl wrote) made = (wrote.faults, wrote.misses)
-made_counts known_files words before now status (inr (inl cut)) made = (cut.faults, cut.misses)
-made_counts known_files words before now status (inr (inr (inl unread))) made =
+made_counts (inl wrote) made = (wrote.faults, wrote.misses)
+made_counts (inr (inl cut)) made = (cut.faults, cut.misses)
+made_counts (inr (inr (inl unread))) made =
     let never : true ≡ false = sym made ∙ unread.files in cc
-made_counts known_files words before now status (inr (inr (inr memory))) made =
+made_counts (inr (inr (inr memory))) made =
     (ap (λ moment. moment.faults) memory.same, ap (λ moment. moment.misses) memory.same)
 
-pub made_answer : (known_files : Option Files) (words : List (List ℕ)) (before now : OutsideState) (status : ℕ)
+pub made_answer : {known_files : Option Files} {words : List (List ℕ)} {before now : OutsideState} {status : ℕ}
     → Ends known_files words before now status → is_made words ≡ true → (files : Files)
     → ¬ Rose before.sink_faults now.sink_faults
     → IsAnswer (answer words files) status before.held now.held ⊎ ((status ≡ 6) × (now.held ≡ before.held))
-made_answer known_files words before now status (inl wrote) made files quiet =
+made_answer (inl wrote) made files quiet =
     inl (rw (wrote.is.made made files) (wrote.own, wrote.held))
-made_answer known_files words before now status (inr (inl cut)) made files quiet = absurd (quiet cut.rose)
-made_answer known_files words before now status (inr (inr (inl unread))) made files quiet =
+made_answer (inr (inl cut)) made files quiet = absurd (quiet cut.rose)
+made_answer (inr (inr (inl unread))) made files quiet =
     let never : true ≡ false = sym made ∙ unread.files in absurd cc
-made_answer known_files words before now status (inr (inr (inr memory))) made files quiet =
+made_answer (inr (inr (inr memory))) made files quiet =
     inr (memory.own, ap (λ moment. moment.held) memory.same)

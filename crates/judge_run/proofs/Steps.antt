@@ -65,106 +65,104 @@ along : {X Y : Type 0} (view : X → Y) (result : Result X Stop) (one other : St
 along view result one other same meant =
     let P : Step _ → Type 0 = λ step. MeantBy view result step in subst P same meant
 
-pub job_trace : {X : Type 0} (view : X → ℕ → ℕ) (known_files : Option Files) (job : JobView) (name trace : List ℕ)
-    (image : X) (result : Result Outcome Stop)
-    → MeantWhereKnown known_files view (Ok image) (λ files. memory_of job (files name))
-    → MeantWhereKnown known_files (λ outcome. outcome) result (λ files. trace_outcome job (view image) (files trace))
-    → MeantWhereKnown known_files (λ outcome. outcome) result (λ files. job_outcome job (files name) (files trace))
-job_trace view None job name trace image result read meant = tt
-job_trace view (Some files) job name trace image result read meant =
-    along (λ outcome. outcome) result (trace_outcome job (view image) (files trace))
-    (job_outcome job (files name) (files trace)) (sym (goes_on job (files name) (files trace) (view image) read))
-    meant
+-- the image of a job was read, and its memory is what this shows
+pub record ReadsImage {X : Type 0} (view : X → ℕ → ℕ) (files : Option Files) (job : JobView) (name : List ℕ)
+    (image : X) : Type 0 where
+  pub read : MeantWhereKnown files view (Ok image) (λ files. memory_of job (files name))
 
-lacks_trace : {X : Type 0} (view : X → ℕ → ℕ) (known_files : Option Files) (job : JobView) (name trace : List ℕ)
-    (image : X) → MeantWhereKnown known_files view (Ok image) (λ files. memory_of job (files name))
-    → LacksFile known_files (λ files. trace_outcome job (view image) (files trace))
-    → LacksFile known_files (λ files. job_outcome job (files name) (files trace))
-lacks_trace view None job name trace image read lacks = lacks
-lacks_trace view (Some files) job name trace image read lacks =
-    goes_on job (files name) (files trace) (view image) read ∙ lacks
+pub job_trace : {X : Type 0} {view : X → ℕ → ℕ} {job : JobView} {name : List ℕ} {image : X} (files : Option Files)
+    (trace : List ℕ) (result : Result Outcome Stop) → ReadsImage view files job name image
+    → MeantWhereKnown files (λ outcome. outcome) result (λ files. trace_outcome job (view image) (files trace))
+    → MeantWhereKnown files (λ outcome. outcome) result (λ files. job_outcome job (files name) (files trace))
+job_trace None trace result image_is meant = tt
+job_trace {X} {view} {job} {name} {image} (Some files) trace result image_is meant =
+    along (λ outcome. outcome) result (trace_outcome job (view image) (files trace))
+    (job_outcome job (files name) (files trace))
+    (sym (goes_on job (files name) (files trace) (view image) image_is.read)) meant
+
+lacks_trace : {X : Type 0} {view : X → ℕ → ℕ} {job : JobView} {name : List ℕ} {image : X} (files : Option Files)
+    (trace : List ℕ) → ReadsImage view files job name image
+    → LacksFile files (λ files. trace_outcome job (view image) (files trace))
+    → LacksFile files (λ files. job_outcome job (files name) (files trace))
+lacks_trace None trace image_is lacks = lacks
+lacks_trace {X} {view} {job} {name} {image} (Some files) trace image_is lacks =
+    goes_on job (files name) (files trace) (view image) image_is.read ∙ lacks
 
 -- the misses
-pub missed_memory : (X : Type 0) (known_files : Option Files) (job : JobView) (image trace : List ℕ) (stop : Stop)
-    (before now : ℕ) → MissesStop {X = X} (Err stop) known_files (λ files. memory_of job (files image)) before now
-    → MissesStop {X = Outcome} (Err stop) known_files (λ files. job_outcome job (files image) (files trace)) before now
-missed_memory X known_files job image trace (Known outcome) before now misses = misses
-missed_memory X known_files job image trace NoMemory before now misses = misses
-missed_memory X known_files job image trace ReadFault before now misses =
-    λ rise. lacks_memory known_files job image trace (misses rise)
+pub missed_memory : {X : Type 0} (files : Option Files) (job : JobView) (image trace : List ℕ) (stop : Stop)
+    (before now : ℕ) → MissesStop {X = X} (Err stop) files (λ files. memory_of job (files image)) before now
+    → MissesStop {X = Outcome} (Err stop) files (λ files. job_outcome job (files image) (files trace)) before now
+missed_memory files job image trace (Known outcome) before now misses = misses
+missed_memory files job image trace NoMemory before now misses = misses
+missed_memory files job image trace ReadFault before now misses =
+    λ rise. lacks_memory files job image trace (misses rise)
 
-pub missed_trace : {X : Type 0} (view : X → ℕ → ℕ) (known_files : Option Files) (job : JobView) (name trace : List ℕ)
-    (image : X) (result : Result Outcome Stop) (before mid now : ℕ)
-    → MeantWhereKnown known_files view (Ok image) (λ files. memory_of job (files name)) → mid ≡ before
-    → MissesStop result known_files (λ files. trace_outcome job (view image) (files trace)) mid now
-    → MissesStop result known_files (λ files. job_outcome job (files name) (files trace)) before now
-missed_trace view known_files job name trace image (Ok outcome) before mid now read same misses = misses ∙ same
-missed_trace view known_files job name trace image (Err (Known outcome)) before mid now read same misses = misses ∙ same
-missed_trace view known_files job name trace image (Err NoMemory) before mid now read same misses = misses ∙ same
-missed_trace view known_files job name trace image (Err ReadFault) before mid now read same misses =
-    λ rise. lacks_trace view known_files job name trace image read (misses (rw same rise))
+pub missed_trace : {X : Type 0} {view : X → ℕ → ℕ} {job : JobView} {name : List ℕ} {image : X} {before mid : ℕ}
+    (files : Option Files) (trace : List ℕ) (result : Result Outcome Stop) (now : ℕ)
+    → ReadsImage view files job name image → mid ≡ before
+    → MissesStop result files (λ files. trace_outcome job (view image) (files trace)) mid now
+    → MissesStop result files (λ files. job_outcome job (files name) (files trace)) before now
+missed_trace files trace (Ok outcome) now image_is same misses = misses ∙ same
+missed_trace files trace (Err (Known outcome)) now image_is same misses = misses ∙ same
+missed_trace files trace (Err NoMemory) now image_is same misses = misses ∙ same
+missed_trace files trace (Err ReadFault) now image_is same misses =
+    λ rise. lacks_trace files trace image_is (misses (rw same rise))
 
 -- ---- the words, then image and trace
 
-judged_as : (words : List (List ℕ)) (files : Files) (job : Job) (command : Command _)
-    → job_of words ≡ Some (job_view job) → job.command ≡ command
-    → outcome_step_of words files
-    ≡ job_outcome (job_view job) (image_in (command_by string_bytes command) files)
-    (trace_in (command_by string_bytes command) files)
+judged_as : (words : List (List ℕ)) (files : Files) (job : Job) (command : Command (List ℕ))
+    → job_of words ≡ Some (job_view job) → command_by string_bytes job.command ≡ command
+    → outcome_step_of words files ≡ job_outcome (job_view job) (image_in command files) (trace_in command files)
 unfolding outcome_step_of
 judged_as words files job command is from =
     (let whole : outcome_step_of words files
     ≡ job_outcome (job_view job) (image_in (command_by string_bytes job.command) files)
     (trace_in (command_by string_bytes job.command) files) = rw is refl in whole)
-    ∙ ap (λ command. job_outcome (job_view job) (image_in (command_by string_bytes command) files)
-    (trace_in (command_by string_bytes command) files)) from
+    ∙ ap (λ command. job_outcome (job_view job) (image_in command files) (trace_in command files)) from
 
-named_as : (words : List (List ℕ)) (files : Files) (job : Job) (image trace : _) (one other : List ℕ)
-    → job_of words ≡ Some (job_view job) → job.command ≡ Judge image trace → one ≡ string_bytes image
-    → other ≡ string_bytes trace → outcome_step_of words files ≡ job_outcome (job_view job) (files one) (files other)
-named_as words files job image trace one other is from first second =
-    judged_as words files job (Judge image trace) is from
-    ∙ ap₂ (λ one other. job_outcome (job_view job) (files one) (files other)) (sym first) (sym second)
+-- the words ask for a job over files of these names
+pub record AsksForFiles (words : List (List ℕ)) (job : Job) (image trace : List ℕ) : Type 0 where
+  pub job_is : job_of words ≡ Some (job_view job)
+  pub command_is : command_by string_bytes job.command ≡ Judge image trace
 
-pub judged_files : (known_files : Option Files) (words : List (List ℕ)) (job : Job) (image trace : _)
-    (one other : List ℕ) (result : Result Outcome Stop) → job_of words ≡ Some (job_view job)
-    → job.command ≡ Judge image trace → one ≡ string_bytes image → other ≡ string_bytes trace
-    → MeantWhereKnown known_files (λ outcome. outcome) result
-    (λ files. job_outcome (job_view job) (files one) (files other))
-    → MeantWhereKnown known_files (λ outcome. outcome) result (λ files. outcome_step_of words files)
-judged_files None words job image trace one other result is from first second meant = tt
-judged_files (Some files) words job image trace one other result is from first second meant =
-    along (λ outcome. outcome) result (job_outcome (job_view job) (files one) (files other))
-    (outcome_step_of words files) (sym (named_as words files job image trace one other is from first second)) meant
+pub judged_files : {words : List (List ℕ)} {job : Job} {image trace : List ℕ} (files : Option Files)
+    (result : Result Outcome Stop) → AsksForFiles words job image trace
+    → MeantWhereKnown files (λ outcome. outcome) result
+    (λ files. job_outcome (job_view job) (files image) (files trace))
+    → MeantWhereKnown files (λ outcome. outcome) result (λ files. outcome_step_of words files)
+judged_files None result asks meant = tt
+judged_files {words} {job} {image} {trace} (Some files) result asks meant =
+    along (λ outcome. outcome) result (job_outcome (job_view job) (files image) (files trace))
+    (outcome_step_of words files)
+    (sym (judged_as words files job (Judge image trace) asks.job_is asks.command_is)) meant
 
-pub missed_files : (known_files : Option Files) (words : List (List ℕ)) (job : Job) (image trace : _)
-    (one other : List ℕ) (result : Result Outcome Stop) (before now : ℕ) → job_of words ≡ Some (job_view job)
-    → job.command ≡ Judge image trace → one ≡ string_bytes image → other ≡ string_bytes trace
-    → MissesStop result known_files (λ files. job_outcome (job_view job) (files one) (files other)) before now
-    → MissesStop result known_files (λ files. outcome_step_of words files) before now
-missed_files known_files words job image trace one other (Ok outcome) before now is from first second misses = misses
-missed_files known_files words job image trace one other (Err (Known outcome)) before now is from first second
-    misses = misses
-missed_files known_files words job image trace one other (Err NoMemory) before now is from first second misses = misses
-missed_files known_files words job image trace one other (Err ReadFault) before now is from first second misses =
-    λ rise. by known_files (misses rise)
+pub missed_files : {words : List (List ℕ)} {job : Job} {image trace : List ℕ} (files : Option Files)
+    (result : Result Outcome Stop) (before now : ℕ) → AsksForFiles words job image trace
+    → MissesStop result files (λ files. job_outcome (job_view job) (files image) (files trace)) before now
+    → MissesStop result files (λ files. outcome_step_of words files) before now
+missed_files files (Ok outcome) before now asks misses = misses
+missed_files files (Err (Known outcome)) before now asks misses = misses
+missed_files files (Err NoMemory) before now asks misses = misses
+missed_files {words} {job} {image} {trace} files (Err ReadFault) before now asks misses =
+    λ rise. by files (misses rise)
   where
-    by : (known_files : Option Files)
-        → LacksFile known_files (λ files. job_outcome (job_view job) (files one) (files other))
-        → LacksFile known_files (λ files. outcome_step_of words files)
+    by : (files : Option Files) → LacksFile files (λ files. job_outcome (job_view job) (files image) (files trace))
+        → LacksFile files (λ files. outcome_step_of words files)
     by None lacks = lacks
-    by (Some files) lacks = named_as words files job image trace one other is from first second ∙ lacks
+    by (Some files) lacks =
+        judged_as words files job (Judge image trace) asks.job_is asks.command_is ∙ lacks
 
 -- what is made is judged whatever files there are
-pub judged_made : (words : List (List ℕ)) (job : Job) (number rows : ℕ) (result : Result Outcome Stop)
+pub judged_made : {number rows : ℕ} (words : List (List ℕ)) (job : Job) (result : Result Outcome Stop)
     → job_of words ≡ Some (job_view job) → job.command ≡ Make number rows
     → MeantBy (λ outcome. outcome) result
     (job_outcome (job_view job) (Some (made_image number)) (Some (made_trace number rows))) → (files : Files)
     → MeantBy (λ outcome. outcome) result (outcome_step_of words files)
-judged_made words job number rows result is from meant files =
+judged_made {number} {rows} words job result is from meant files =
     along (λ outcome. outcome) result
     (job_outcome (job_view job) (Some (made_image number)) (Some (made_trace number rows)))
-    (outcome_step_of words files) (sym (judged_as words files job (Make number rows) is from)) meant
+    (outcome_step_of words files)
+    (sym (judged_as words files job (Make number rows) is (ap (command_by string_bytes) from))) meant
 
 pub told_anyway : {X Y : Type 0} (view : X → Y) (known_files : Option Files) (result : Result X Stop)
     (meant : Files → Step Y) → ((files : Files) → MeantBy view result (meant files))

@@ -14,13 +14,15 @@ use Rattle.rvfi_rows.specs.Segments.{segment_lines}
 use Rattle.trace_lines.specs.declared.piece.Ending.{Ending}
 use Rattle.trace_lines.specs.declared.piece.Ending.TheVariants as endings
 use Rattle.trace_lines.specs.declared.line_taker.LineTaker.{LineTaker}
+use Rattle.trace_lines.specs.declared.piece.LineError.{LineError}
 use Rattle.trace_lines.specs.declared.piece.Piece.{Piece}
 use Rattle.trace_lines.specs.Lines.{RemainingLines}
-use Rattle.trace_lines.specs.Pieces.{FitsAsked, FitsEnding, back_of, front_of}
-use Rattle.trace_lines.specs.Takers.{TakesWhereKnown, remaining_lines_of, room_of}
+use Rattle.trace_lines.specs.Pieces.{FitsAsked, FitsEnding, back_of, front_of, piece_view}
+use Rattle.trace_lines.specs.Takers.{Takes, TakesWhereKnown, remaining_lines_of, room_of}
 use Rattle.judge_run.specs.declared.taken.Asked.{Asked}
+use Rattle.judge_run.specs.declared.taken.Taken.{Taken}
 use Rattle.judge_run.specs.Taking.{TakesSegments, TakesAfterWhereKnown, TakesLines, TakesLinesWhereKnown, TakesSoFar}
-use Rattle.judge_run.specs.Taking.{TakesSoFarWhereKnown, remaining_after, with_lines_before, more_turns}
+use Rattle.judge_run.specs.Taking.{TakesSoFarWhereKnown, more_turns, remaining_after, taken_lines, with_lines_before}
 
 -- before any call
 pub none_taken : (file : Option (List ℕ)) (taker : LineTaker) → TakesSoFarWhereKnown file 0 taker [] taker
@@ -76,14 +78,14 @@ unfolding back_of
 back_ending asked left = refl
 
 -- one more call, after which more may follow
-take_on : (file : List ℕ) (first next : ℕ) (before middle after : LineTaker) (lines more : List (List ℕ))
-    → TakesSoFar file first before lines middle
-    → record { lines = more; ending = endings.More } ≡ front_of next (remaining_lines_of file middle)
-    → remaining_lines_of file after ≡ back_of next (remaining_lines_of file middle) → after.name ≡ middle.name
-    → length more ≡ next → TakesSoFar file (first + next) before (lines ++ more) after
-take_on file first next before middle after lines more taken front back name count =
+take_on : {file : List ℕ} {first next : ℕ} {before middle after : LineTaker} {lines : List (List ℕ)} (piece : Piece)
+    → TakesSoFar file first before lines middle → Takes file next middle piece after → piece.ending ≡ endings.More
+    → FitsAsked next piece → TakesSoFar file (first + next) before (lines ++ piece.lines) after
+take_on {file} {first} {next} {before} {middle} {after} {lines} piece taken takes more fits =
+    let count : length piece.lines ≡ next = subst (λ ending. FitsEnding ending next (length piece.lines)) more fits in
+    let front = ap (λ ending. record { lines = piece.lines; ending = ending }) (sym more) ∙ takes.taken in
     let left = remaining_lines_of file before in
-    let found = front_more next (remaining_lines_of file middle) more front count in
+    let found = front_more next (remaining_lines_of file middle) piece.lines front count in
     let following : (remaining_lines_of file middle).lines ≡ drop first left.lines =
     ap (λ view. view.lines) taken.left ∙ back_lines first left in
     let room : length (remaining_lines_of file middle).lines ≡ length left.lines - first =
@@ -93,19 +95,16 @@ take_on file first next before middle after lines more taken front back name cou
       lines =
           ap₂ (λ one other. one ++ other) taken.lines (found.1 ∙ ap (take next) following)
           ∙ sym (take-add first next left.lines);
-      left = back ∙ ap (back_of next) taken.left ∙ back_twice first next left;
-      name = name ∙ taken.name;
+      left = takes.left ∙ ap (back_of next) taken.left ∙ back_twice first next left;
+      name = takes.name ∙ taken.name;
     }
 
-pub take_on_told : (file : Option (List ℕ)) (first next : ℕ) (before middle after : LineTaker) (lines : List (List ℕ))
-    (piece : Piece) → TakesSoFarWhereKnown file first before lines middle
+pub take_on_told : {first next : ℕ} {before middle after : LineTaker} {lines : List (List ℕ)}
+    (file : Option (List ℕ)) (piece : Piece) → TakesSoFarWhereKnown file first before lines middle
     → TakesWhereKnown file next middle piece after → piece.ending ≡ endings.More → FitsAsked next piece
     → TakesSoFarWhereKnown file (first + next) before (lines ++ piece.lines) after
-take_on_told None first next before middle after lines piece taken takes more fits = tt
-take_on_told (Some file) first next before middle after lines piece taken takes more fits =
-    let count : length piece.lines ≡ next = subst (λ ending. FitsEnding ending next (length piece.lines)) more fits in
-    let front = ap (λ ending. record { lines = piece.lines; ending = ending }) (sym more) ∙ takes.taken in
-    take_on file first next before middle after lines piece.lines taken front takes.left takes.name count
+take_on_told None piece taken takes more fits = tt
+take_on_told (Some file) piece taken takes more fits = take_on piece taken takes more fits
 
 -- as many as were asked for
 front_whole : (asked : ℕ) (left : RemainingLines) → asked ≤ length left.lines
@@ -136,37 +135,27 @@ front_fewer asked left fewer =
     not_enough true e = let enough = leb-true asked (length left.lines) e in absurd (omega (arith, enough, fewer))
     not_enough false e = e
 
-take_last : (file : List ℕ) (first next asked : ℕ) (before middle after : LineTaker) (lines more : List (List ℕ))
-    (ending : Ending) → TakesSoFar file first before lines middle
-    → record { lines = more; ending = ending } ≡ front_of next (remaining_lines_of file middle)
-    → after.name ≡ middle.name → length more < next → first + next ≤ asked → (ending ≡ endings.More → ⊥)
-    → TakesLines file asked before (lines ++ more) ending after
-take_last file first next asked before middle after lines more ending taken front name few within last =
+take_last : {file : List ℕ} {first next : ℕ} {before middle after : LineTaker} {lines : List (List ℕ)} (asked : ℕ)
+    (piece : Piece) → TakesSoFar file first before lines middle → Takes file next middle piece after
+    → FitsAsked next piece → (piece.ending ≡ endings.More → ⊥) → first + next ≤ asked
+    → TakesLines file asked before (lines ++ piece.lines) piece.ending after
+take_last {file} {first} {next} {before} {middle} {after} {lines} asked piece taken takes fits last within =
     let left = remaining_lines_of file before in
-    let all : record { lines = more; ending = ending } ≡ back_of first left =
-    front_last next (remaining_lines_of file middle) (record { lines = more; ending = ending }) front few
-    ∙ taken.left in
-    let rest : more ≡ drop first left.lines = ap (λ view. view.lines) all ∙ back_lines first left in
-    let same : ending ≡ left.ending = ap (λ view. view.ending) all ∙ back_ending first left in
-    let whole : lines ++ more ≡ left.lines =
+    let few = fewer piece.ending fits last in
+    let all : piece_view piece ≡ back_of first left =
+    front_last next (remaining_lines_of file middle) (piece_view piece) takes.taken few ∙ taken.left in
+    let rest : piece.lines ≡ drop first left.lines = ap (λ view. view.lines) all ∙ back_lines first left in
+    let same : piece.ending ≡ left.ending = ap (λ view. view.ending) all ∙ back_ending first left in
+    let whole : lines ++ piece.lines ≡ left.lines =
     ap₂ (λ one other. one ++ other) taken.lines rest ∙ take-append-drop first left.lines in
-    let count : length more ≡ length left.lines - first = ap length rest ∙ length-drop first left.lines in
+    let count : length piece.lines ≡ length left.lines - first = ap length rest ∙ length-drop first left.lines in
     record {
       taken =
           ap₂ (λ text end. record { lines = text; ending = end }) whole same
           ∙ front_fewer asked left (omega (arith, count, few, within, taken.enough));
       left = λ more. absurd (last more);
-      name = name ∙ taken.name;
+      name = takes.name ∙ taken.name;
     }
-
-pub take_last_told : (file : Option (List ℕ)) (first next asked : ℕ) (before middle after : LineTaker)
-    (lines : List (List ℕ)) (piece : Piece) → TakesSoFarWhereKnown file first before lines middle
-    → TakesWhereKnown file next middle piece after → FitsAsked next piece → (piece.ending ≡ endings.More → ⊥)
-    → first + next ≤ asked → TakesLinesWhereKnown file asked before (lines ++ piece.lines) piece.ending after
-take_last_told None first next asked before middle after lines piece taken takes fits last within = tt
-take_last_told (Some file) first next asked before middle after lines piece taken takes fits last within =
-    take_last file first next asked before middle after lines piece.lines piece.ending taken takes.taken takes.name
-    (fewer piece.ending fits last) within last
   where
     fewer : (ending : Ending) → FitsEnding ending next (length piece.lines) → (ending ≡ endings.More → ⊥)
         → length piece.lines < next
@@ -175,49 +164,60 @@ take_last_told (Some file) first next asked before middle after lines piece take
     fewer (endings.TooLong line) fits last = fits
     fewer endings.TooLarge fits last = fits
 
+pub take_last_told : {first next : ℕ} {before middle after : LineTaker} {lines : List (List ℕ)}
+    (file : Option (List ℕ)) (asked : ℕ) (piece : Piece) → TakesSoFarWhereKnown file first before lines middle
+    → TakesWhereKnown file next middle piece after → FitsAsked next piece → (piece.ending ≡ endings.More → ⊥)
+    → first + next ≤ asked → TakesLinesWhereKnown file asked before (lines ++ piece.lines) piece.ending after
+take_last_told None asked piece taken takes fits last within = tt
+take_last_told (Some file) asked piece taken takes fits last within =
+    take_last asked piece taken takes fits last within
+
 -- how many lines there are
-pub fits_last : (first next asked : ℕ) (ending : Ending) (count more : ℕ) → count ≡ first
+pub fits_last : {first next count more : ℕ} (asked : ℕ) (ending : Ending) → count ≡ first
     → FitsEnding ending next more → (ending ≡ endings.More → ⊥) → first + next ≤ asked
     → FitsEnding ending asked (count + more)
-fits_last first next asked endings.More count more so_far fits last within = absurd (last refl)
-fits_last first next asked endings.End count more so_far fits last within = omega (arith, so_far, fits, within)
-fits_last first next asked (endings.TooLong line) count more so_far fits last within =
-    omega (arith, so_far, fits, within)
-fits_last first next asked endings.TooLarge count more so_far fits last within = omega (arith, so_far, fits, within)
+fits_last asked endings.More so_far fits last within = absurd (last refl)
+fits_last asked endings.End so_far fits last within = omega (arith, so_far, fits, within)
+fits_last asked (endings.TooLong line) so_far fits last within = omega (arith, so_far, fits, within)
+fits_last asked endings.TooLarge so_far fits last within = omega (arith, so_far, fits, within)
 
--- a file that is there stays there, as calls go on
-pub there_behind : (known_files : Option Files) (before after : LineTaker) (asked : ℕ) (lines : List (List ℕ))
-    → IsThere known_files (string_bytes before.name)
-    → TakesSoFarWhereKnown (file_of known_files (string_bytes before.name)) asked before lines after
-    → IsThere known_files (string_bytes after.name)
-there_behind None before after asked lines there taken = tt
-there_behind (Some files) before after asked lines there taken = by (files (string_bytes before.name)) refl there taken
+-- so many lines were taken of a file that was there
+pub record TakesInFile (files : Option Files) (asked : ℕ) (before : LineTaker) (lines : List (List ℕ))
+    (after : LineTaker) : Type 0 where
+  pub file_exists : IsThere files (string_bytes before.name)
+  pub taken : TakesSoFarWhereKnown (file_of files (string_bytes before.name)) asked before lines after
+
+-- the file stays there, as calls go on
+pub exists_after : {asked : ℕ} {before after : LineTaker} {lines : List (List ℕ)} (files : Option Files)
+    → TakesInFile files asked before lines after → IsThere files (string_bytes after.name)
+exists_after None is = tt
+exists_after {asked} {before} {after} {lines} (Some files) is =
+    by (files (string_bytes before.name)) refl is.file_exists is.taken
   where
     by : (file : Option (List ℕ)) → files (string_bytes before.name) ≡ file → IsSome file
         → TakesSoFarWhereKnown file asked before lines after → IsSome (files (string_bytes after.name))
-    by None e there taken = absurd cc
-    by (Some file) e there taken =
+    by None e exists taken = absurd cc
+    by (Some file) e exists taken =
         let again : files (string_bytes after.name) ≡ Some file =
         ap (λ text. files (string_bytes text)) taken.name ∙ e in
         subst IsSome (sym again) refl
 
 -- a call of a taker that stands further on in the same file
-pub takes_on : (known_files : Option Files) (before middle after : LineTaker) (asked next : ℕ) (lines : List (List ℕ))
-    (piece : Piece) → IsThere known_files (string_bytes before.name)
-    → TakesSoFarWhereKnown (file_of known_files (string_bytes before.name)) asked before lines middle
-    → TakesWhereKnown (file_of known_files (string_bytes middle.name)) next middle piece after
-    → TakesWhereKnown (file_of known_files (string_bytes before.name)) next middle piece after
-takes_on None before middle after asked next lines piece there taken takes = tt
-takes_on (Some files) before middle after asked next lines piece there taken takes =
-    by (files (string_bytes before.name)) refl there taken
+pub takes_on : {asked next : ℕ} {before middle after : LineTaker} {lines : List (List ℕ)} {piece : Piece}
+    (files : Option Files) → TakesInFile files asked before lines middle
+    → TakesWhereKnown (file_of files (string_bytes middle.name)) next middle piece after
+    → TakesWhereKnown (file_of files (string_bytes before.name)) next middle piece after
+takes_on None is takes = tt
+takes_on {asked} {next} {before} {middle} {after} {lines} {piece} (Some files) is takes =
+    by (files (string_bytes before.name)) refl is.file_exists is.taken
   where
     by : (file : Option (List ℕ)) → files (string_bytes before.name) ≡ file → IsSome file
         → TakesSoFarWhereKnown file asked before lines middle → TakesWhereKnown file next middle piece after
-    by None e there taken = absurd cc
-    by (Some file) e there taken =
+    by None e exists taken = absurd cc
+    by (Some file) e exists taken =
         let again : files (string_bytes middle.name) ≡ Some file =
         ap (λ text. files (string_bytes text)) taken.name ∙ e in
-        subst (λ known_files. TakesWhereKnown known_files next middle piece after) again takes
+        subst (λ file. TakesWhereKnown file next middle piece after) again takes
 
 -- one segment more, where a piece has lines, and none where it has not
 pub one_segment_more : (segments : List Segment) (segment : Segment)
@@ -283,33 +283,24 @@ taken_is_left file asked before after lines endings.TooLarge takes fits =
     (front_last asked (remaining_lines_of file before) (record { lines = lines; ending = endings.TooLarge })
     takes.taken fits)
 
-pub taken_behind : (file : Option (List ℕ)) (asked : ℕ) (ending : Ending) (before after : LineTaker)
-    (lines : List (List ℕ)) (now : Ending) → ending ≡ endings.More
-    → TakesLinesWhereKnown file asked before lines now after → FitsEnding now asked (length lines)
-    → TakesAfterWhereKnown file ending before lines now after
-taken_behind None asked ending before after lines now more takes fits = tt
-taken_behind (Some file) asked ending before after lines now more takes fits = record {
+pub result_after : (file : Option (List ℕ)) (asked : ℕ) (ending : Ending) (before : LineTaker)
+    (result : Result (Taken × LineTaker) LineError) → ending ≡ endings.More
+    → IfOk result (λ taken. TakesLinesWhereKnown file asked before (taken_lines taken.0) taken.0.ending taken.1)
+    → IfOk result (λ taken. FitsEnding taken.0.ending asked (length (taken_lines taken.0)))
+    → IfOk result (λ taken. TakesAfterWhereKnown file ending before (taken_lines taken.0) taken.0.ending taken.1)
+result_after None asked ending before (Ok taken) more takes fits = tt
+result_after (Some file) asked ending before (Ok taken) more takes fits = record {
   left =
-      taken_is_left file asked before after lines now takes fits
+      taken_is_left file asked before taken.1 (taken_lines taken.0) taken.0.ending takes fits
       ∙ ap (λ ending. remaining_after ending (remaining_lines_of file before)) (sym more);
   name = takes.name;
 }
+result_after file asked ending before (Err error) more takes fits = tt
 
--- the same of a result
-pub result_behind : {A E : Type 0} (text : A → List (List ℕ)) (now : A → Ending) (after : A → LineTaker)
-    (file : Option (List ℕ)) (asked : ℕ) (ending : Ending) (before : LineTaker) (result : Result A E)
-    → ending ≡ endings.More
-    → IfOk result (λ taken. TakesLinesWhereKnown file asked before (text taken) (now taken) (after taken))
-    → IfOk result (λ taken. FitsEnding (now taken) asked (length (text taken)))
-    → IfOk result (λ taken. TakesAfterWhereKnown file ending before (text taken) (now taken) (after taken))
-result_behind text now after file asked ending before (Ok taken) more takes fits =
-    taken_behind file asked ending before (after taken) (text taken) (now taken) more takes fits
-result_behind text now after file asked ending before (Err error) more takes fits = tt
-
-pub none_behind : (file : Option (List ℕ)) (ending : Ending) (taker : LineTaker) (lines : List (List ℕ)) → lines ≡ []
+pub none_after : (file : Option (List ℕ)) (ending : Ending) (taker : LineTaker) (lines : List (List ℕ)) → lines ≡ []
     → TakesAfterWhereKnown file ending taker lines ending taker
-none_behind None ending taker lines none = tt
-none_behind (Some file) ending taker lines none = record {
+none_after None ending taker lines none = tt
+none_after (Some file) ending taker lines none = record {
   left = ap (λ text. with_lines_before text (remaining_after ending (remaining_lines_of file taker))) none;
   name = refl;
 }
@@ -332,11 +323,11 @@ some_taken asked segment endings.End segments some lines fits = omega arith
 some_taken asked segment (endings.TooLong line) segments some lines fits = omega arith
 some_taken asked segment endings.TooLarge segments some lines fits = omega arith
 
-pub few_turns : (ending : Ending) → more_turns ending ≤ 1
-few_turns endings.More = omega arith
-few_turns endings.End = omega arith
-few_turns (endings.TooLong line) = omega arith
-few_turns endings.TooLarge = omega arith
+pub at_most_one_turn : (ending : Ending) → more_turns ending ≤ 1
+at_most_one_turn endings.More = omega arith
+at_most_one_turn endings.End = omega arith
+at_most_one_turn (endings.TooLong line) = omega arith
+at_most_one_turn endings.TooLarge = omega arith
 
 pub no_turns : (ending : Ending) → (ending ≡ endings.More → ⊥) → more_turns ending ≡ 0
 no_turns endings.More last = absurd (last refl)
@@ -345,24 +336,24 @@ no_turns (endings.TooLong line) last = refl
 no_turns endings.TooLarge last = refl
 
 -- what is promised of segments that were taken, in one
-pub taken_are : {A E : Type 0} (segments : A → List Segment) (now : A → Ending) (after : A → LineTaker)
-    (asked : Asked) (segment : ℕ) (before : LineTaker) (result : Result A E) → 0 < segment → asked.ending ≡ endings.More
-    → IfOk result
-    (λ taken. FitsEnding (now taken) (asked.segments * segment) (length (flat_map segment_lines (segments taken))))
-    → IfOk result (λ taken. length (segments taken) ≤ asked.segments)
-    → IfOk result (λ taken. length (segments taken) ≤ length (flat_map segment_lines (segments taken)))
-    → IfOk result (λ taken. length (flat_map segment_lines (segments taken)) + room_of (after taken) ≤ room_of before)
-    → IfOk result (λ taken. TakesSegments asked before (segments taken) (now taken) (after taken))
-taken_are segments now after asked segment before (Ok taken) one more fits few full room = record {
-  few = few;
+pub taken_are : {segment : ℕ} {before : LineTaker} (asked : Asked) (result : Result (Taken × LineTaker) LineError)
+    → 0 < segment → asked.ending ≡ endings.More
+    → IfOk result (λ taken. FitsEnding taken.0.ending (asked.segments * segment) (length (taken_lines taken.0)))
+    → IfOk result (λ taken. length taken.0.segments.items ≤ asked.segments)
+    → IfOk result (λ taken. length taken.0.segments.items ≤ length (taken_lines taken.0))
+    → IfOk result (λ taken. length (taken_lines taken.0) + room_of taken.1 ≤ room_of before)
+    → IfOk result (λ taken. TakesSegments asked before taken.0.segments.items taken.0.ending taken.1)
+taken_are {segment} {before} asked (Ok taken) one more fits at_most full room = record {
+  at_most_asked = at_most;
   full = full;
   room = room;
   ending =
-      let most = few_turns (now taken) in
+      let most = at_most_one_turn taken.0.ending in
       let turns : more_turns asked.ending ≡ 1 = ap more_turns more in omega (arith, most, turns);
-  some = λ some. some_taken asked.segments segment (now taken) (segments taken) some one fits;
+  nonempty_where_more = λ some.
+      some_taken asked.segments segment taken.0.ending taken.0.segments.items some one fits;
 }
-taken_are segments now after asked segment before (Err error) one more fits few full room = tt
+taken_are asked (Err error) one more fits at_most full room = tt
 
 pub none_are : (asked : Asked) (taker : LineTaker) (segments : List Segment) → segments ≡ []
     → (asked.ending ≡ endings.More → ⊥) → TakesSegments asked taker segments asked.ending taker
@@ -372,9 +363,9 @@ none_are asked taker segments none last =
     ap (λ segments. length (flat_map segment_lines segments)) none in
     let turns = no_turns asked.ending last in
     record {
-      few = omega (arith, no);
+      at_most_asked = omega (arith, no);
       full = omega (arith, no);
       room = omega (arith, lines);
       ending = omega arith;
-      some = λ some. omega (arith, turns);
+      nonempty_where_more = λ some. omega (arith, turns);
     }

@@ -25,8 +25,7 @@ moment_of faults_of misses_of held_of sink_faults_of shelf out = record {
 }
 
 -- the outcome is the answer where files are told, and where the trace is made, whatever files there are; for every
--- shelf
--- the words alone decide whether there is a job
+-- shelf the words alone decide whether there is a job
 pub record IsOutcome (known_files : Option Files) (words : List (List ℕ)) (outcome : Outcome) : Type 0 where
   pub job : is_no_job outcome ≡ is_none (job_of words)
   pub answered : (files : Files) → known_files ≡ Some files → answer words files ≡ Some outcome
@@ -75,7 +74,7 @@ pub record OutOfMemory (before now : OutsideState) (status : ℕ) : Type 0 where
 pub record WritesAll (outcome : Outcome) (status : ℕ) (before now : Option (List ℕ)) (faults later : ℕ) : Type 0 where
   pub own : status ≡ status_of outcome
   pub held : now ≡ option_map (λ bytes. bytes ++ report_of outcome) before
-  pub calm : later ≡ faults
+  pub no_fault : later ≡ faults
 
 pub record WritesFront (outcome : Outcome) (status : ℕ) (before now : Option (List ℕ)) (faults later : ℕ) : Type 0 where
   pub count : ℕ

@@ -24,8 +24,7 @@ abbrev pub pieces_rows : ColumnList → List (List (List ℕ)) → List (List Ro
 pieces_rows columns pieces = map (rows_of columns) pieces
 
 -- lines that were cut in any way, with any guess before each piece: whatever a list of events on the board leaves found
--- of
--- the pieces, their join has the verdict on all lines from the true state, and the state after them
+-- of the pieces, their join has the verdict on all lines from the true state, and the state after them
 abbrev pub AnyEvents : HartState → ColumnList → List (List (List ℕ)) → List HartState → List Event
     → List (Found (Judgement Core)) → Type 0
 AnyEvents start columns pieces guesses events founds =

@@ -8,22 +8,25 @@ use Rattle.trace_lines.specs.declared.piece.Ending.TheVariants as endings
 use Rattle.trace_lines.specs.declared.line_taker.LineTaker.{LineTaker}
 use Rattle.trace_lines.specs.Lines.{RemainingLines}
 use Rattle.trace_lines.specs.Takers.{remaining_lines_of, room_of}
+use Rattle.rvfi_rows.specs.declared.row_counts.RowCounts.{RowCounts}
 use Rattle.rvfi_rows.specs.declared.verdict.Verdict.{Verdict}
 use Rattle.rvfi_rows.specs.declared.verdict.Verdict.TheVariants.{Agrees}
 use Rattle.rvfi_rows.specs.Columns.{ColumnList}
 use Rattle.rvfi_rows.specs.Rows.{rows_of}
-use Rattle.rvfi_rows.specs.Segments.{segment_lines}
+use Rattle.rvfi_rows.specs.Segments.{line_count_of, segment_lines}
 use Rattle.hart_step.specs.declared.hart.Hart.{Hart}
 use Rattle.hart_step.specs.Harts.{CanStep, state_of}
 use Rattle.hart_step.specs.Rows.{HartState}
 use Rattle.segment_judge.specs.Judgements.{by_hart, verdict_after_rows}
 use Rattle.segment_judge.specs.Laws.{conclusion_from}
 use Rattle.trace_report.specs.declared.outcome.Outcome.{Outcome}
-use Rattle.judge_run.specs.declared.progress.Held.{Held}
-use Rattle.judge_run.specs.declared.progress.Rest.{Rest}
+use Rattle.judge_run.specs.declared.parts.Settled.{Settled}
+use Rattle.judge_run.specs.declared.progress.Lookahead.{Lookahead}
+use Rattle.judge_run.specs.declared.progress.Progress.{Progress}
+use Rattle.judge_run.specs.declared.progress.Remaining.{Remaining}
 use Rattle.judge_run.specs.declared.progress.TraceEnd.{TraceEnd}
 use Rattle.judge_run.specs.declared.progress.Passed.{Passed}
-use Rattle.judge_run.specs.declared.progress.Passed.TheVariants.{On, Ends}
+use Rattle.judge_run.specs.declared.progress.Passed.TheVariants.{Continue, Ends}
 use Rattle.judge_run.specs.Answer.{ruling_at_end, outcome_of}
 use Rattle.judge_run.specs.Taking.{remaining_after, with_lines_before, more_turns}
 
@@ -55,108 +58,140 @@ end_of job bytes_of end = record {
   state = option_map (state_of bytes_of) end.hart;
 }
 
-abbrev pub position_of : {M : Type 0} → (M → Bytes) → Rest M → TracePosition
-position_of bytes_of rest = record { rows = rest.rows; valid = rest.valid; state = state_of bytes_of rest.hart }
+abbrev pub position_of : {M : Type 0} → (M → Bytes) → Progress M → TracePosition
+position_of bytes_of progress = record {
+  rows = progress.counts.rows;
+  valid = progress.counts.valid;
+  state = state_of bytes_of progress.hart;
+}
 
--- what all rows come to, by what was reached and the rest of a file
-abbrev pub end_in : {M : Type 0} → JobView → ColumnList → (M → Bytes) → List ℕ → Rest M → RowsEnd
-end_in job columns bytes_of file rest =
-    end_after job columns (position_of bytes_of rest) (remaining_lines_of file rest.taker)
+-- what all rows come to, by what was reached and what is left of a file
+abbrev pub end_in : {M : Type 0} → JobView → ColumnList → (M → Bytes) → List ℕ → Progress M → RowsEnd
+end_in job columns bytes_of file progress =
+    end_after job columns (position_of bytes_of progress) (remaining_lines_of file progress.taker)
 
--- the lines that are held
-abbrev pub held_lines : Held → List (List ℕ)
-held_lines held = flat_map segment_lines held.part.items ++ flat_map segment_lines held.next.items
+-- the lines that were taken ahead
+abbrev pub lookahead_lines : Lookahead → List (List ℕ)
+lookahead_lines lookahead = flat_map segment_lines lookahead.part.items ++ flat_map segment_lines lookahead.next.items
 
--- what is left of the rows of a file: those that are held, and what follows them
-abbrev pub rows_left : List ℕ → Held → LineTaker → RemainingLines
-rows_left file held taker =
-    with_lines_before (held_lines held) (remaining_after held.ending (remaining_lines_of file taker))
+-- what is left of the rows of a file: those that were taken ahead, and what follows them
+abbrev pub remaining_rows : List ℕ → Lookahead → LineTaker → RemainingLines
+remaining_rows file lookahead taker =
+    with_lines_before (lookahead_lines lookahead) (remaining_after lookahead.ending (remaining_lines_of file taker))
 
 -- what all rows come to, by what was reached and the rows that are left
-abbrev pub end_with : {M : Type 0} → JobView → ColumnList → (M → Bytes) → List ℕ → Rest M → Held → RowsEnd
-end_with job columns bytes_of file rest held =
-    end_after job columns (position_of bytes_of rest) (rows_left file held rest.taker)
+abbrev pub end_with : {M : Type 0} → JobView → ColumnList → (M → Bytes) → List ℕ → Remaining M → RowsEnd
+end_with job columns bytes_of file remaining =
+    end_after job columns (position_of bytes_of remaining.progress)
+    (remaining_rows file remaining.lookahead remaining.progress.taker)
 
 -- a part changes nothing of what all rows come to, or that is known after it
-abbrev pub PassesPart : {M : Type 0} → JobView → ColumnList → (M → Bytes) → List ℕ → Rest M → Held → Passed M → Type 0
-PassesPart job columns bytes_of file rest held (On next) =
-    (end_with job columns bytes_of file next.rest next.held ≡ end_with job columns bytes_of file rest held)
-    × (next.rest.taker.name ≡ rest.taker.name)
-PassesPart job columns bytes_of file rest held (Ends end) =
-    end_of job bytes_of end ≡ end_with job columns bytes_of file rest held
+abbrev pub PassesPart : {M : Type 0} → JobView → ColumnList → (M → Bytes) → List ℕ → Remaining M → Passed M → Type 0
+PassesPart job columns bytes_of file remaining (Continue next) =
+    (end_with job columns bytes_of file next ≡ end_with job columns bytes_of file remaining)
+    × (next.progress.taker.name ≡ remaining.progress.taker.name)
+PassesPart job columns bytes_of file remaining (Ends end) =
+    end_of job bytes_of end ≡ end_with job columns bytes_of file remaining
 
 -- where the file is told
-abbrev pub PassesWhereKnown : {M : Type 0} → JobView → ColumnList → (M → Bytes) → Option (List ℕ) → Rest M → Held
+abbrev pub PassesWhereKnown : {M : Type 0} → JobView → ColumnList → (M → Bytes) → Option (List ℕ) → Remaining M
     → Passed M → Type 0
-PassesWhereKnown job columns bytes_of None rest held passed = Unit {0}
-PassesWhereKnown job columns bytes_of (Some file) rest held passed =
-    PassesPart job columns bytes_of file rest held passed
+PassesWhereKnown job columns bytes_of None remaining passed = Unit {0}
+PassesWhereKnown job columns bytes_of (Some file) remaining passed =
+    PassesPart job columns bytes_of file remaining passed
 
--- parts lead from a rest of which nothing is held to another
+-- parts lead from where nothing was taken ahead to what remains
 pub record LeadsFrom {M : Type 0} (job : JobView) (columns : ColumnList) (bytes_of : M → Bytes) (file : List ℕ)
-    (first rest : Rest M) (held : Held) : Type 0 where
-  pub end : end_with job columns bytes_of file rest held ≡ end_in job columns bytes_of file first
-  pub name : rest.taker.name ≡ first.taker.name
+    (first : Progress M) (remaining : Remaining M) : Type 0 where
+  pub end : end_with job columns bytes_of file remaining ≡ end_in job columns bytes_of file first
+  pub name : remaining.progress.taker.name ≡ first.taker.name
 
-abbrev pub LeadsFromWhereKnown : {M : Type 0} → JobView → ColumnList → (M → Bytes) → Option (List ℕ) → Rest M → Rest M
-    → Held → Type 0
-LeadsFromWhereKnown job columns bytes_of None first rest held = Unit {0}
-LeadsFromWhereKnown job columns bytes_of (Some file) first rest held =
-    LeadsFrom job columns bytes_of file first rest held
+abbrev pub LeadsFromWhereKnown : {M : Type 0} → JobView → ColumnList → (M → Bytes) → Option (List ℕ) → Progress M
+    → Remaining M → Type 0
+LeadsFromWhereKnown job columns bytes_of None first remaining = Unit {0}
+LeadsFromWhereKnown job columns bytes_of (Some file) first remaining =
+    LeadsFrom job columns bytes_of file first remaining
 
 -- the end is what all rows come to, where the file is told
-abbrev pub IsEndTold : {M : Type 0} → JobView → ColumnList → (M → Bytes) → Option (List ℕ) → Rest M → TraceEnd M
+abbrev pub IsEndTold : {M : Type 0} → JobView → ColumnList → (M → Bytes) → Option (List ℕ) → Progress M → TraceEnd M
     → Type 0
-IsEndTold job columns bytes_of None rest end = Unit {0}
-IsEndTold job columns bytes_of (Some file) rest end = end_of job bytes_of end ≡ end_in job columns bytes_of file rest
+IsEndTold job columns bytes_of None progress end = Unit {0}
+IsEndTold job columns bytes_of (Some file) progress end =
+    end_of job bytes_of end ≡ end_in job columns bytes_of file progress
 
 -- the hart can be stepped on, and counts stay in 64 bits, for no more rows are left than bytes
-pub record CanGoOn {M : Type 0} (ram_of : M → Span) (rest : Rest M) : Type 0 where
-  pub can_step : CanStep ram_of rest.hart
-  pub valid : rest.valid ≤ rest.rows
-  pub room : rest.rows + room_of rest.taker < 2 ^ 60
+pub record CanContinue {M : Type 0} (ram_of : M → Span) (progress : Progress M) : Type 0 where
+  pub can_step : CanStep ram_of progress.hart
+  pub room : progress.counts.rows + room_of progress.taker < 2 ^ 60
 
--- no row is held, and more may follow
-pub record HoldsNone (held : Held) : Type 0 where
-  pub part : held.part.items ≡ []
-  pub next : held.next.items ≡ []
-  pub ending : held.ending ≡ endings.More
+-- no row was taken ahead, and more may follow
+pub record HoldsNone (lookahead : Lookahead) : Type 0 where
+  pub part : lookahead.part.items ≡ []
+  pub next : lookahead.next.items ≡ []
+  pub ending : lookahead.ending ≡ endings.More
 
--- no row is held, and none follows
-pub record IsOver (held : Held) : Type 0 where
-  pub part : held.part.items ≡ []
-  pub next : held.next.items ≡ []
-  pub ending : more_turns held.ending ≡ 0
+-- no row was taken ahead, and none follows
+pub record IsOver (lookahead : Lookahead) : Type 0 where
+  pub part : lookahead.part.items ≡ []
+  pub next : lookahead.next.items ≡ []
+  pub ending : more_turns lookahead.ending ≡ 0
 
--- the same of a rest and the rows that are held after it, of which no more than a window are
-pub record CanGoOnWith {M : Type 0} (window : ℕ) (ram_of : M → Span) (rest : Rest M) (held : Held) : Type 0 where
-  pub can_step : CanStep ram_of rest.hart
-  pub valid : rest.valid ≤ rest.rows
-  pub room : rest.rows + length (held_lines held) + room_of rest.taker < 2 ^ 60
-  pub few : length held.part.items + length held.next.items ≤ window
+-- how many segments were taken ahead
+abbrev pub segments_ahead : Lookahead → ℕ
+segments_ahead lookahead = length lookahead.part.items + length lookahead.next.items
+
+-- the same of all that remains, of which no more segments than a window were taken ahead
+pub record CanContinueWith {M : Type 0} (window : ℕ) (ram_of : M → Span) (remaining : Remaining M) : Type 0 where
+  pub can_step : CanStep ram_of remaining.progress.hart
+  pub room : remaining.progress.counts.rows + length (lookahead_lines remaining.lookahead)
+      + room_of remaining.progress.taker < 2 ^ 60
+  pub within_window : segments_ahead remaining.lookahead ≤ window
 
 -- what a taker leaves to be held after segments that are: with them no more than a window, each with a line, and some
 -- where there were none and more may follow
-pub record HoldsAfter (window : ℕ) (taker : LineTaker) (held : Held) (after : LineTaker) (now : Held) : Type 0 where
-  pub few : length held.part.items + length held.next.items + length now.next.items ≤ window
-  pub full : length now.next.items ≤ length (flat_map segment_lines now.next.items)
-  pub room : length (flat_map segment_lines now.next.items) + room_of after ≤ room_of taker
-  pub ending : more_turns now.ending ≤ more_turns held.ending
-  pub some : more_turns now.ending ≤ length held.part.items + length held.next.items + length now.next.items
+pub record HoldsAfter (window : ℕ) (taker : LineTaker) (lookahead : Lookahead) (after : LineTaker) (now : Lookahead)
+    : Type 0 where
+  pub within_window : segments_ahead lookahead + length now.next.items ≤ window
+  pub full : length now.next.items ≤ line_count_of now.next.items
+  pub room : line_count_of now.next.items + room_of after ≤ room_of taker
+  pub ending : more_turns now.ending ≤ more_turns lookahead.ending
+  pub nonempty_where_more : more_turns now.ending ≤ segments_ahead lookahead + length now.next.items
 
--- where a part leads, by the verdict on all rows up to its last, and the hart after them, if they agree
-abbrev pub continuation_with : {M : Type 0} → Verdict → Option (Hart M) → Held → LineTaker → Passed M
-continuation_with (Agrees rows valid) (Some hart) held taker =
-    On (record { rest = record { taker = taker; hart = hart; rows = rows; valid = valid }; held = held })
-continuation_with verdict end held taker = Ends (record { verdict = verdict; ending = endings.More; hart = None })
+-- a part of so many rows was counted on, with this hart after it and what was taken meanwhile
+pub record IsPartCounted {M : Type 0} (counts : RowCounts) (settled : Settled M) (rows valid : ℕ) (hart : Hart M)
+    (next : Remaining M) : Type 0 where
+  pub hart_is : next.progress.hart ≡ hart
+  pub rows_are : next.progress.counts.rows ≡ counts.rows + rows
+  pub valid_are : next.progress.counts.valid ≡ counts.valid + valid
+  pub taker : next.progress.taker ≡ settled.taker
+  pub lookahead : next.lookahead ≡ settled.lookahead
+
+-- where a part leads, after so many rows: on from the hart after it where its rows agree, else to the end of all
+abbrev pub FollowsPartBy : {M : Type 0} → RowCounts → Settled M → Verdict → Option (Hart M) → Passed M → Type 0
+FollowsPartBy counts settled (Agrees rows valid) (Some hart) (Continue next) =
+    IsPartCounted counts settled rows valid hart next
+FollowsPartBy counts settled (Agrees rows valid) (Some hart) (Ends end) = ⊥
+FollowsPartBy counts settled verdict hart (Continue next) = ⊥
+FollowsPartBy counts settled verdict hart (Ends end) =
+    end
+    ≡ record {
+      verdict =
+          verdict_after_rows counts.rows counts.valid verdict;
+      ending = endings.More;
+      hart = None;
+    }
+
+abbrev pub FollowsPart : {M : Type 0} → RowCounts → Settled M → Passed M → Type 0
+FollowsPart counts settled passed = FollowsPartBy counts settled settled.joined.verdict settled.joined.end passed
 
 -- how far it is to the end: a line that is left may be a segment, which is taken, read and settled in three turns
-abbrev pub distance_to_end : {M : Type 0} → Rest M → Held → ℕ
-distance_to_end rest held =
-    3 * room_of rest.taker + 2 * length held.next.items + length held.part.items + more_turns held.ending
+abbrev pub distance_to_end : {M : Type 0} → Remaining M → ℕ
+distance_to_end remaining =
+    3 * room_of remaining.progress.taker + 2 * length remaining.lookahead.next.items
+    + length remaining.lookahead.part.items + more_turns remaining.lookahead.ending
 
 -- after a part that is not the last it is less
-abbrev pub IsNearerEnd : {M : Type 0} → ℕ → (M → Span) → Rest M → Held → Passed M → Type 0
-IsNearerEnd window ram_of rest held (On next) =
-    CanGoOnWith window ram_of next.rest next.held × (distance_to_end next.rest next.held < distance_to_end rest held)
-IsNearerEnd window ram_of rest held (Ends end) = Unit {0}
+abbrev pub IsNearerEnd : {M : Type 0} → ℕ → (M → Span) → Remaining M → Passed M → Type 0
+IsNearerEnd window ram_of remaining (Continue next) =
+    CanContinueWith window ram_of next × (distance_to_end next < distance_to_end remaining)
+IsNearerEnd window ram_of remaining (Ends end) = Unit {0}

@@ -11,7 +11,7 @@ use Rattle.rvfi_rows.specs.declared.verdict.Verdict.TheVariants.{Agrees}
 use Rattle.rvfi_rows.specs.declared.columns.Columns.{Columns}
 use Rattle.rvfi_rows.specs.Columns.{ColumnList}
 use Rattle.rvfi_rows.specs.Rows.{rows_of}
-use Rattle.rvfi_rows.specs.Segments.{IsRead, segment_lines}
+use Rattle.rvfi_rows.specs.Segments.{IsRead, row_count_of, segment_lines}
 use Rattle.hart_step.specs.declared.hart.Hart.{Hart}
 use Rattle.hart_step.specs.declared.state.Core.{Core}
 use Rattle.hart_step.specs.Harts.{CanStep, state_of}
@@ -27,11 +27,10 @@ use Rattle.verdict_join.specs.Rounds.{AreRounds, IsRound, rejudged_in, rounds_co
 use Rattle.judge_run.specs.declared.tally.Settling.{Settling}
 use Rattle.judge_run.specs.declared.tally.Tally.{Tally}
 use Rattle.judge_run.specs.declared.tally.AfterRound.{AfterRound}
-use Rattle.judge_run.specs.declared.tally.AfterRound.TheVariants.{On, Ends}
+use Rattle.judge_run.specs.declared.tally.AfterRound.TheVariants.{Continue, Ends}
 
 -- segments come to what rounds come to that settle them, each made anew from where the one before ended, and each
--- counted
--- as a step
+-- counted as a step
 pub record SettlesInRounds {M : Type 0} (bytes_of : M → Bytes) (columns : ColumnList) (segments : List Segment)
     (start : HartState) (before now : ℕ) (joined : JoinedSegments M) : Type 0 where
   pub rounds : List (Joined Core)
@@ -41,27 +40,43 @@ pub record SettlesInRounds {M : Type 0} (bytes_of : M → Bytes) (columns : Colu
   pub end : option_map (state_of bytes_of) joined.end ≡ (rounds_conclude start rounds).end
   pub rejudged : joined.rejudged ≡ rejudged_in rounds
 
--- where a round leads, by the verdict on all rows up to its last and the hart after them, if they agree
-abbrev pub after_round_by : {M : Type 0} → Tally → ℕ → ℕ → Verdict → Option (Hart M) → AfterRound M
-after_round_by tally settled rejudged (Agrees rows valid) (Some hart) = On (record {
-  hart = hart;
-  tally =
-      record { rows = rows; valid = valid; settled = tally.settled + settled; rejudged = tally.rejudged + rejudged };
-})
-after_round_by tally settled rejudged verdict end =
-    Ends (record { verdict = verdict; end = None; rejudged = tally.rejudged + rejudged })
+-- a round of so many rows was counted on, with this hart after it
+pub record IsCountedOn {M : Type 0} (tally : Tally) (round : Round M) (rows valid : ℕ) (hart : Hart M)
+    (next : Settling M) : Type 0 where
+  pub hart_is : next.hart ≡ hart
+  pub rows_are : next.tally.counts.rows ≡ tally.counts.rows + rows
+  pub valid_are : next.tally.counts.valid ≡ tally.counts.valid + valid
+  pub settled : next.tally.settled ≡ tally.settled + round.settled
+  pub rejudged : next.tally.rejudged ≡ tally.rejudged + round.rejudged
 
-abbrev pub after_round : {M : Type 0} → Tally → Round M → AfterRound M
-after_round tally round =
-    after_round_by tally round.settled round.rejudged (verdict_after_rows tally.rows tally.valid round.verdict)
-    round.end
+-- where a round leads: to the hart after it where its rows agree, else to the end of all
+abbrev pub LeadsToBy : {M : Type 0} → Tally → Round M → Verdict → Option (Hart M) → AfterRound M → Type 0
+LeadsToBy tally round (Agrees rows valid) (Some hart) (Continue next) = IsCountedOn tally round rows valid hart next
+LeadsToBy tally round (Agrees rows valid) (Some hart) (Ends joined) = ⊥
+LeadsToBy tally round verdict end (Continue next) = ⊥
+LeadsToBy tally round verdict end (Ends joined) =
+    joined
+    ≡ record {
+      verdict =
+          verdict_after_rows tally.counts.rows tally.counts.valid verdict;
+      end = None;
+      rejudged = tally.rejudged + round.rejudged;
+    }
+
+abbrev pub LeadsTo : {M : Type 0} → Tally → Round M → AfterRound M → Type 0
+LeadsTo tally round next = LeadsToBy tally round round.verdict round.end next
+
+-- nothing was counted yet
+pub record IsNew (tally : Tally) : Type 0 where
+  pub rows : tally.counts.rows ≡ 0
+  pub valid : tally.counts.valid ≡ 0
+  pub settled : tally.settled ≡ 0
+  pub rejudged : tally.rejudged ≡ 0
 
 -- what was counted of the first segments is no more than they have
-pub record IsTallied (segments : List Segment) (tally : Tally) : Type 0 where
+pub record IsTallied (columns : ColumnList) (segments : List Segment) (tally : Tally) : Type 0 where
   pub within : tally.settled ≤ length segments
-  pub valid : tally.valid ≤ tally.rows
-  pub rows : tally.rows
-      + length (flat_map segment_lines (drop tally.settled segments)) ≤ length (flat_map segment_lines segments)
+  pub rows : tally.counts.rows + row_count_of columns (drop tally.settled segments) ≤ row_count_of columns segments
   pub again : tally.rejudged ≤ tally.settled
 
 -- a round over segments, from a hart before them
@@ -69,8 +84,8 @@ pub record IsRoundOver {M : Type 0} (bytes_of : M → Bytes) (ram_of : M → Spa
     (segments : List Segment) (start : HartState) (round : Round M) : Type 0 where
   pub is_round : IsRound start columns (map segment_lines segments) (round_of bytes_of round)
   pub within : round.settled ≤ length segments
-  pub some : 0 < length segments → 0 < round.settled
-  pub again : round.rejudged ≤ 1
+  pub settles_one : 0 < length segments → 0 < round.settled
+  pub at_most_1_again : round.rejudged ≤ 1
   pub verdict : round.verdict
       ≡ (conclusion_from by_hart start (rows_of columns (flat_map segment_lines (take round.settled segments)))).verdict
   pub end : option_map (state_of bytes_of) round.end
@@ -81,7 +96,7 @@ pub record IsRoundOver {M : Type 0} (bytes_of : M → Bytes) (ram_of : M → Spa
 pub record IsPartOver {M : Type 0} (bytes_of : M → Bytes) (ram_of : M → Span) (columns : ColumnList)
     (segments : List Segment) (start : HartState) (part : Round M) : Type 0 where
   pub within : part.settled ≤ length segments
-  pub some : 0 < part.settled
+  pub at_least_1 : 0 < part.settled
   pub again : part.rejudged ≤ part.settled
   pub verdict : part.verdict
       ≡ (conclusion_from by_hart start (rows_of columns (flat_map segment_lines (take part.settled segments)))).verdict
@@ -111,4 +126,4 @@ pub record LeadsBy {M : Type 0} (bytes_of : M → Bytes) (ram_of : M → Span) (
   pub round : Round M
   pub over : IsRoundOver bytes_of ram_of columns (drop settling.tally.settled segments)
       (state_of bytes_of settling.hart) round
-  pub leads : next ≡ after_round settling.tally round
+  pub leads : LeadsTo settling.tally round next

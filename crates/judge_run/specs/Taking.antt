@@ -3,7 +3,7 @@ use Rattle.std.specs.Prelude.{◌≡◌, ◌≤◌, ◌<◌, ℕ, ◌+◌, ◌*�
 use Rattle.std.specs.List.{flat_map}
 use Rattle.judge_words.specs.Job.{JobView}
 use Rattle.rvfi_rows.specs.declared.segment.Segment.{Segment}
-use Rattle.rvfi_rows.specs.Segments.{segment_lines}
+use Rattle.rvfi_rows.specs.Segments.{line_count_of, segment_lines}
 use Rattle.trace_lines.specs.declared.piece.Ending.{Ending}
 use Rattle.trace_lines.specs.declared.piece.Ending.TheVariants as endings
 use Rattle.trace_lines.specs.declared.line_taker.LineTaker.{LineTaker}
@@ -72,8 +72,8 @@ more_turns ending = 0
 -- segments that were taken: no more than were asked for, each with a line, and some where more may follow
 pub record TakesSegments (asked : Asked) (before : LineTaker) (segments : List Segment) (now : Ending)
     (after : LineTaker) : Type 0 where
-  pub few : length segments ≤ asked.segments
-  pub full : length segments ≤ length (flat_map segment_lines segments)
-  pub room : length (flat_map segment_lines segments) + room_of after ≤ room_of before
+  pub at_most_asked : length segments ≤ asked.segments
+  pub full : length segments ≤ line_count_of segments
+  pub room : line_count_of segments + room_of after ≤ room_of before
   pub ending : more_turns now ≤ more_turns asked.ending
-  pub some : 0 < asked.segments → more_turns now ≤ length segments
+  pub nonempty_where_more : 0 < asked.segments → more_turns now ≤ length segments

@@ -33,7 +33,8 @@ pub fn read_memory<H: Shelf>(
     ensures jobs { IsJobs result }
     ensures faults { CountsStop result (H.faults shelf.old) (H.faults shelf.new) }
     ensures misses { MissesStop result (H.known_files shelf.old)
-        (λ files. memory_of (job_view job.now) (files name.now)) (H.misses shelf.old) (H.misses shelf.new) }
+        (λ files. memory_of (job_view job.now) (files name.now))
+        (H.misses shelf.old) (H.misses shelf.new) }
 {
     match read_front(alloc, shelf, name, job.max_image) {
         Ok(front) => memory_in(alloc, job, &front),

@@ -35,7 +35,8 @@ where
     ensures meant { MeantWhereKnown (H.known_files shelf.old) (λ outcome. outcome) result
         (λ files. outcome_step_of (map string_bytes words.now.items) files) }
     ensures made { is_made (map string_bytes words.now.items) ≡ true → (files : Files)
-        → MeantBy (λ outcome. outcome) result (outcome_step_of (map string_bytes words.now.items) files) }
+        → MeantBy (λ outcome. outcome) result
+        (outcome_step_of (map string_bytes words.now.items) files) }
     ensures read { is_made (map string_bytes words.now.items) ≡ true → WasRead result }
     ensures words { WordsTell (job_of (map string_bytes words.now.items)) result }
     ensures faults { CountsStop result (H.faults shelf.old) (H.faults shelf.new) }

@@ -15,9 +15,9 @@ ghost use Rattle.trace_report.specs.declared.outcome.Ruling.TheVariants.{Verdict
 ghost use Rattle.judge_run.specs.Answer.{answer};
 ghost use Rattle.judge_run.specs.Events.{AnyEvents};
 
-/// However the lines are cut, whatever is guessed of the hart before each piece, and whatever claims,
-/// looks and posts the workers make in whichever order: the join of what these leave found has the
-/// verdict of one hart that is stepped by all rows in order, and the state after them.
+/// However the lines are cut, whatever is guessed of the hart before each piece, and whatever
+/// claims, looks and posts the workers make in whichever order: the join of what these leave found
+/// has the verdict of one hart that is stepped by all rows in order, and the state after them.
 pub fn any_events()
     ensures { (start : HartState) (columns : ColumnList) (pieces : List (List (List ℕ)))
         (guesses : List HartState) (events : List Event) (founds : List (Found (Judgement Core)))

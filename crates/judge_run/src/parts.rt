@@ -1,18 +1,18 @@
 //! Settling the segments of a part, while those after it are read and taken.
 
-ghost use Rattle.std.specs.Prelude.{◌≡◌, ◌≤◌, ◌<◌, ◌+◌, ◌^◌, IfOk, IfSome, length, string_bytes};
+ghost use Rattle.std.specs.Prelude.{◌≡◌, ◌≤◌, ◌<◌, ◌+◌, ◌^◌, IfOk, IfSome, IsSome, length, string_bytes};
 ghost use Rattle.std.specs.List.{flat_map};
 ghost use Rattle.hart_step.specs.Harts.{CanStep, state_of};
 ghost use Rattle.judge_words.specs.Job.{IsLawful, job_view};
 ghost use Rattle.outside_ports.specs.Faults.{CountsFault, CountsMiss};
 ghost use Rattle.outside_ports.specs.Ports.{IsThere, file_of};
-ghost use Rattle.rvfi_rows.specs.Segments.{segment_lines};
+ghost use Rattle.rvfi_rows.specs.Segments.{row_count_of, segment_lines};
 ghost use Rattle.trace_lines.specs.Errors.{is_read_fault};
 ghost use Rattle.judge_run.specs.Settling.{IsReadPart, IsSettled};
 ghost use Rattle.judge_run.specs.Taking.{TakesSegments, TakesAfterWhereKnown, taken_lines};
-ghost use Rattle.judge_run.specs.Parts.{CanGoOnWith, HoldsAfter};
+ghost use Rattle.judge_run.specs.Parts.{CanContinueWith, HoldsAfter, segments_ahead};
 
-use crate::progress::{Held, Left};
+use crate::progress::{Lookahead, Remaining};
 use crate::rounds::settle_in_rounds;
 use crate::taken::{Asked, Taken, take_after};
 use crate::workers::Workers;
@@ -32,55 +32,62 @@ use verdict_join::Joined;
 /// How many segments a part has at the default window.
 const SEGMENTS_OF_A_PART: usize = 12;
 
-/// What a part comes to, and what is held after it.
+/// What a part comes to, and what was taken ahead of it.
 #[derive(Drop)]
 pub(crate) struct Settled<M> {
     pub joined: Joined<M>,
-    pub held: Held,
+    pub lookahead: Lookahead,
     pub taker: LineTaker,
 }
 
-/// Settles the part that is held, reads the segments after it, and takes the lines of a further
+/// Settles the part that was read, reads the segments after it, and takes the lines of a further
 /// part. Several workers do so at once: one thread alone takes lines, guesses and joins, and the
 /// others read rows meanwhile.
 pub fn settle_and_take<R, G: Gate, H: Shelf, M: PhysMem + Drop + Send + Sync>(
     workers: &Workers<R, G>,
     job: &Job,
     columns: &Columns,
-    left: Left<M>,
+    remaining: Remaining<M>,
     shelf: &mut H,
 ) -> Result<Settled<M>, LineError>
 where
     R: Threads + Sync,
     requires lawful { IsLawful (job_view job.now) }
-    requires going { CanGoOnWith job.now.sharing.window M.ram left.rest left.held }
-    requires file_exists { IsThere (H.known_files shelf.old) (string_bytes left.rest.taker.name) }
+    requires going { CanContinueWith job.now.sharing.window M.ram remaining }
+    requires file_exists { IsThere (H.known_files shelf.old)
+        (string_bytes remaining.progress.taker.name) }
     ensures known_files { H.known_files shelf.new ≡ H.known_files shelf.old }
     ensures settled { IfOk result (λ settled. IsSettled M.bytes M.ram columns.now
-        left.held.part.items (state_of M.bytes left.rest.hart) settled.joined) }
+        remaining.lookahead.part.items (state_of M.bytes remaining.progress.hart) settled.joined) }
     ensures read { IfOk result
-        (λ settled. IsReadPart columns.now left.held.next.items settled.held.part) }
-    ensures takes { let file = file_of (H.known_files shelf.old) (string_bytes left.rest.taker.name) in
-        IfOk result (λ settled. TakesAfterWhereKnown file left.held.ending left.rest.taker
-        (flat_map segment_lines settled.held.next.items) settled.held.ending settled.taker) }
+        (λ settled. IsReadPart columns.now remaining.lookahead.next.items settled.lookahead.part) }
+    ensures takes { let file = file_of (H.known_files shelf.old)
+        (string_bytes remaining.progress.taker.name) in
+        IfOk result (λ settled.
+        TakesAfterWhereKnown file remaining.lookahead.ending remaining.progress.taker
+        (flat_map segment_lines settled.lookahead.next.items) settled.lookahead.ending
+        settled.taker) }
     ensures held { IfOk result (λ settled. HoldsAfter job.now.sharing.window
-        left.rest.taker left.held settled.taker settled.held) }
+        remaining.progress.taker remaining.lookahead settled.taker settled.lookahead) }
     ensures faults { CountsFault is_read_fault result (H.faults shelf.old) (H.faults shelf.new) }
     ensures misses { CountsMiss is_read_fault result (H.known_files shelf.old)
-        (string_bytes left.rest.taker.name) (H.misses shelf.old) (H.misses shelf.new) }
+        (string_bytes remaining.progress.taker.name) (H.misses shelf.old) (H.misses shelf.new) }
 {
-    let Left { rest, held } = left;
-    let asked = asked_after(workers, job, &held);
-    let is_unsure = held.is_unsure;
-    let Held { part, next, .. } = held;
+    let Remaining {
+        progress,
+        lookahead,
+    } = remaining;
+    let asked = asked_after(workers, job, &lookahead);
+    let is_unsure = lookahead.is_unsure;
+    let Lookahead { part, next, .. } = lookahead;
     let current: &[Segment] = &part;
     let mut unread = Some(next);
-    let mut start = Some(rest.hart);
-    let mut from = Some(rest.taker);
+    let mut start = Some(progress.hart);
+    let mut from = Some(progress.taker);
     let mut read = || read_from(workers, columns, &mut unread);
     let mut settle = || -> Result<Joined<M>, NoMemory>
-        requires { IfSome start (CanStep M.ram) × ((length current.now < 2 ^ 32)
-            × (length (flat_map segment_lines current.now) < 2 ^ 60)) }
+        requires { IsSome start × (IfSome start (CanStep M.ram) × ((length current.now < 2 ^ 32)
+            × (row_count_of columns.now current.now < 2 ^ 60))) }
     { settle_from(workers, columns, current, &mut start) };
     let mut take = || take_from(workers.alloc, job, asked, &mut from, shelf);
     let (read, settled, taken) = all_at_once(workers, &mut read, &mut settle, &mut take);
@@ -96,7 +103,7 @@ where
     };
     let is_unsure = 0 < joined.rejudged || is_unsure && part.is_empty();
     let Taken { segments, ending } = taken.in_memory_of(part);
-    let held = Held {
+    let lookahead = Lookahead {
         part: read,
         next: segments,
         ending,
@@ -104,7 +111,7 @@ where
     };
     Ok(Settled {
         joined,
-        held,
+        lookahead,
         taker,
     })
 }
@@ -114,29 +121,27 @@ where
 /// it, whatever the number of workers, so that what is held does not grow with them. Where guesses
 /// may be wrong it has one a worker, or three where these are fewer: enough for wrong ones to show,
 /// and no more, since those after the first wrong one are made in vain.
-fn asked_after<R, G>(workers: &Workers<R, G>, job: &Job, held: &Held) -> Asked
+fn asked_after<R, G>(workers: &Workers<R, G>, job: &Job, lookahead: &Lookahead) -> Asked
     requires lawful { IsLawful (job_view job.now) }
-    requires within_window { length held.now.part.items + length held.now.next.items
+    requires within_window { segments_ahead lookahead.now ≤ job.now.sharing.window }
+    ensures within_window { segments_ahead lookahead.now + result.segments
         ≤ job.now.sharing.window }
-    ensures within_window { length held.now.part.items + length held.now.next.items + result.segments
-        ≤ job.now.sharing.window }
-    ensures asks_one { length held.now.part.items + length held.now.next.items ≡ 0
-        → 0 < result.segments }
-    ensures ending { result.ending ≡ held.now.ending }
+    ensures asks_one { segments_ahead lookahead.now ≡ 0 → 0 < result.segments }
+    ensures ending { result.ending ≡ lookahead.now.ending }
 {
     let window = job.sharing.window;
     let whole = (window / 5).max(SEGMENTS_OF_A_PART).min((window + 2) / 3);
-    let part = if held.is_unsure {
+    let part = if lookahead.is_unsure {
         whole.min((workers.count as usize).max(3))
     } else {
         whole
     };
     let room = window
-        .saturating_sub(held.part.len())
-        .saturating_sub(held.next.len());
+        .saturating_sub(lookahead.part.len())
+        .saturating_sub(lookahead.next.len());
     Asked {
         segments: part.min(room),
-        ending: held.ending,
+        ending: lookahead.ending,
     }
 }
 
@@ -178,14 +183,15 @@ fn settle_from<R, G: Gate, M: PhysMem + Drop + Send + Sync>(
 ) -> Result<Joined<M>, NoMemory>
 where
     R: Threads + Sync,
+    requires is_some { IsSome start.old }
     requires can_step { IfSome start.old (CanStep M.ram) }
     requires below_2_to_32 { length part.now < 2 ^ 32 }
-    requires lines { length (flat_map segment_lines part.now) < 2 ^ 60 }
+    requires rows { row_count_of columns.now part.now < 2 ^ 60 }
     ensures { IfSome start.old (λ hart. IfOk result
         (IsSettled M.bytes M.ram columns.now part.now (state_of M.bytes hart))) }
 {
     match start.take() {
-        None => Err(NoMemory),
+        None => unreachable!(),
         Some(hart) => settle_part(workers, hart, columns, part),
     }
 }
@@ -196,11 +202,12 @@ fn read_from<R: Threads + Sync, G: Gate>(
     columns: &Columns,
     unread: &mut Option<Vec<Segment>>,
 ) -> Result<Vec<Segment>, NoMemory>
+    requires { IsSome unread.old }
     ensures { IfSome unread.old
         (λ part. IfOk result (IsReadPart columns.now part.items)) }
 {
     match unread.take() {
-        None => Err(NoMemory),
+        None => unreachable!(),
         Some(part) => read_part(workers, columns, part),
     }
 }
@@ -214,6 +221,7 @@ fn take_from<H: Shelf>(
     shelf: &mut H,
 ) -> Result<(Taken, LineTaker), LineError>
     requires lawful { IsLawful (job_view job.now) }
+    requires is_some { IsSome from.old }
     requires file_exists { IfSome from.old
         (λ taker. IsThere (H.known_files shelf.old) (string_bytes taker.name)) }
     ensures known_files { H.known_files shelf.new ≡ H.known_files shelf.old }
@@ -229,7 +237,7 @@ fn take_from<H: Shelf>(
         (H.misses shelf.old) (H.misses shelf.new)) }
 {
     match from.take() {
-        None => Err(LineError::NoMemory),
+        None => unreachable!(),
         Some(taker) => take_after(alloc, job, asked, taker, shelf),
     }
 }
@@ -259,7 +267,7 @@ where
     R: Threads + Sync,
     requires can_step { CanStep M.ram start }
     requires below_2_to_32 { length part.now < 2 ^ 32 }
-    requires lines { length (flat_map segment_lines part.now) < 2 ^ 60 }
+    requires rows { row_count_of columns.now part.now < 2 ^ 60 }
     ensures { IfOk result
         (IsSettled M.bytes M.ram columns.now part.now (state_of M.bytes start)) }
 {
@@ -278,7 +286,7 @@ where
     R: Threads + Sync,
     requires can_step { CanStep M.ram start }
     requires below_2_to_32 { length part.now < 2 ^ 32 }
-    requires lines { length (flat_map segment_lines part.now) < 2 ^ 60 }
+    requires rows { row_count_of columns.now part.now < 2 ^ 60 }
     requires name { blank.name ≡ L.name }
     requires parts { blank.parts ≡ L.parts }
     requires nonempty { 0 < blank.parts }

@@ -1,29 +1,27 @@
-//! How far the rows of a trace were judged, what of them is held, and how they end.
+//! How far the rows of a trace were judged, which were taken ahead, and how they end.
 
 ghost use Rattle.std.specs.Prelude.{Decides};
 ghost use Rattle.judge_run.specs.Parts.{HoldsNone, IsOver};
 
 use crate::taken::is_more;
 use hart_step::Hart;
-use rvfi_rows::{Segment, Verdict};
+use rvfi_rows::{RowCounts, Segment, Verdict};
 use std::alloc::Global;
 use trace_lines::{Ending, LineTaker};
 
 /// What is known after the rows of a trace that were judged, and where lines are taken from next.
 #[derive(Drop)]
-pub(crate) struct Rest<M> {
+pub(crate) struct Progress<M> {
     pub taker: LineTaker,
     /// The hart after the rows that were judged.
     pub hart: Hart<M>,
-    /// How many rows were judged.
-    pub rows: u64,
-    /// How many of these are valid.
-    pub valid: u64,
+    /// How many rows these are.
+    pub counts: RowCounts,
 }
 
-/// The rows that are held, in segments: those after the rows that were judged.
+/// The rows that were taken ahead, in segments: those after the rows that were judged.
 #[derive(Drop)]
-pub(crate) struct Held {
+pub(crate) struct Lookahead {
     /// The part that is settled next; its rows were read.
     pub part: Vec<Segment>,
     /// The part after it.
@@ -37,9 +35,9 @@ pub(crate) struct Held {
 
 /// What is left after the rows of a trace that were judged.
 #[derive(Drop)]
-pub(crate) struct Left<M> {
-    pub rest: Rest<M>,
-    pub held: Held,
+pub(crate) struct Remaining<M> {
+    pub progress: Progress<M>,
+    pub lookahead: Lookahead,
 }
 
 /// What all rows of a trace come to.
@@ -56,17 +54,17 @@ pub(crate) struct TraceEnd<M> {
 #[derive(Drop)]
 pub(crate) enum Passed<M> {
     /// Its rows agree, and this is left.
-    On(Left<M>),
+    Continue(Remaining<M>),
     /// All rows come to this.
     Ends(TraceEnd<M>),
 }
 
-impl Held {
+impl Lookahead {
     /// No row, and more may follow.
-    pub fn none(alloc: Global) -> Held
+    pub fn none(alloc: Global) -> Lookahead
         ensures { HoldsNone result }
     {
-        Held {
+        Lookahead {
             part: Vec::new(alloc),
             next: Vec::new(alloc),
             ending: Ending::More,
@@ -74,7 +72,7 @@ impl Held {
         }
     }
 
-    /// Whether no row is held, and none follows.
+    /// Whether no row was taken ahead, and none follows.
     pub fn is_over(&self) -> bool
         ensures { Decides result (IsOver self.now) }
     {

@@ -4,7 +4,7 @@ ghost use Rattle.std.specs.Prelude.{◌≡◌, ◌≤◌, ◌<◌, ◌+◌, ◌�
 ghost use Rattle.std.specs.List.{flat_map};
 ghost use Rattle.hart_step.specs.Harts.{CanStep, state_of};
 ghost use Rattle.rvfi_rows.specs.Rows.{rows_of};
-ghost use Rattle.rvfi_rows.specs.Segments.{segment_lines};
+ghost use Rattle.rvfi_rows.specs.Segments.{row_count_of, segment_lines};
 ghost use Rattle.boundary_guess.specs.Truth.{HoldsWords, ShowChanges};
 ghost use Rattle.segment_judge.specs.Judgements.{by_hart};
 ghost use Rattle.segment_judge.specs.Laws.{conclusion_from};
@@ -44,7 +44,7 @@ where
     requires can_step { CanStep M.ram start }
     requires workers { (1 ≤ workers) × (workers ≤ 64) }
     requires below_2_to_32 { length segments.now < 2 ^ 32 }
-    requires lines { length (flat_map segment_lines segments.now) < 2 ^ 60 }
+    requires rows { row_count_of columns.now segments.now < 2 ^ 60 }
     ensures verdict { IfOk result (λ joined. joined.verdict
         ≡ (conclusion_from by_hart (state_of M.bytes start)
         (rows_of columns.now (flat_map segment_lines segments.now))).verdict) }
@@ -84,7 +84,7 @@ where
     R: Threads + Sync,
     requires can_step { CanStep M.ram start }
     requires below_2_to_32 { length segments.now < 2 ^ 32 }
-    requires lines { length (flat_map segment_lines segments.now) < 2 ^ 60 }
+    requires rows { row_count_of columns.now segments.now < 2 ^ 60 }
     ensures rounds { IfOk result (SettlesInRounds M.bytes columns.now segments.now
         (state_of M.bytes start) steps.old steps.new) }
     ensures can_step { IfOk result (λ joined. IfSome joined.end (CanStep M.ram)) }
@@ -99,7 +99,7 @@ where
             return Ok(settling.tally.agreed(settling.hart));
         }
         match settle_some(workers, columns, segments, settling, steps) {
-            Ok(AfterRound::On(next)) => settling = next,
+            Ok(AfterRound::Continue(next)) => settling = next,
             Ok(AfterRound::Ends(joined)) => return Ok(joined),
             Err(NoMemory) => return Err(NoMemory),
         }
@@ -119,8 +119,8 @@ where
     requires can_step { CanStep M.ram settling.hart }
     requires left { settling.tally.settled < length segments.now }
     requires below_2_to_32 { length segments.now < 2 ^ 32 }
-    requires lines { length (flat_map segment_lines segments.now) < 2 ^ 60 }
-    requires tallied { IsTallied segments.now settling.tally }
+    requires rows { row_count_of columns.now segments.now < 2 ^ 60 }
+    requires tallied { IsTallied columns.now segments.now settling.tally }
     ensures leads { IfOk result (LeadsBy M.bytes M.ram columns.now segments.now settling) }
     ensures steps { IfOk result (λ following. steps.new ≡ steps.old + 1) }
     ensures at_most_one { steps.new ≤ steps.old + 1 }

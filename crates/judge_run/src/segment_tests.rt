@@ -2,11 +2,11 @@
 //! gate in how many rounds.
 
 ghost use Rattle.std.specs.Prelude.{◌≡◌, ◌≤◌, ◌<◌, ◌^◌, IsTrue, length};
-ghost use Rattle.std.specs.List.{All, flat_map};
+ghost use Rattle.std.specs.List.{All};
 ghost use Rattle.hart_step.specs.Harts.{CanStep};
 ghost use Rattle.line_text.specs.Lines.{IsLine};
 ghost use Rattle.page_layers.specs.Memories.{layered_ram};
-ghost use Rattle.rvfi_rows.specs.Segments.{segment_lines};
+ghost use Rattle.rvfi_rows.specs.Segments.{line_count_of};
 
 use crate::settle;
 use boundary_guess::cut;
@@ -169,7 +169,7 @@ fn are_short(segments: &[Segment]) -> bool
 /// Whether there are few segments, and few lines in them.
 fn are_few(segments: &[Segment]) -> bool
     ensures segments { IsTrue result → length segments.now < 2 ^ 32 }
-    ensures lines { IsTrue result → length (flat_map segment_lines segments.now) < 2 ^ 60 }
+    ensures lines { IsTrue result → line_count_of segments.now < 2 ^ 60 }
 {
     segments.len() < 1000 && are_short(segments)
 }
@@ -186,14 +186,11 @@ struct Told {
 /// The same of segments that each went out as often as in.
 type Wanted<'a> = (Verdict, u32, &'a [u64]);
 
-fn hold_told(rt: &impl Abort, known_files: &Told, wanted: Wanted) {
+fn hold_told(rt: &impl Abort, told: &Told, wanted: Wanted) {
     let (verdict, rejudged, passes) = wanted;
-    assert_eq!(rt;
-        (known_files.verdict, known_files.rejudged),
-        (verdict, rejudged)
-    );
-    assert_eq!(rt; known_files.passes.len(), passes.len().saturating_add(1));
-    'segments: for (number, found) in known_files.passes.iter().enumerate() {
+    assert_eq!(rt; (told.verdict, told.rejudged), (verdict, rejudged));
+    assert_eq!(rt; told.passes.len(), passes.len().saturating_add(1));
+    'segments: for (number, found) in told.passes.iter().enumerate() {
         let wanted = passes.get(number).copied().unwrap_or(0);
         assert_eq!(rt; *found, (wanted, wanted), "segment {number}");
     }
@@ -258,7 +255,7 @@ struct Settled<'a> {
     image: &'a [u8],
     trace: &'a Trace,
     cuts: (usize, u32),
-    known_files: Wanted<'a>,
+    told: Wanted<'a>,
 }
 
 /// No segment is judged again where rows show what changes. Where they do not, a round ends with
@@ -268,11 +265,11 @@ struct Settled<'a> {
 fn settles_in_rounds(rt: HostRuntime) -> Result<(), Fail> {
     let four = Verdict::Agrees { rows: 4, valid: 4 };
     let five = Verdict::Agrees { rows: 5, valid: 5 };
-    let of = |image, trace, cuts, known_files| Settled {
+    let of = |image, trace, cuts, told| Settled {
         image,
         trace,
         cuts,
-        known_files,
+        told,
     };
     let cases = [
         of(FOUR, &READ, (1, 2), (four, 2, &[2, 2, 1, 1])),
@@ -287,14 +284,14 @@ fn settles_in_rounds(rt: HostRuntime) -> Result<(), Fail> {
     let alloc = rt.alloc();
     'cases: for case in cases {
         let lines = lines_with(alloc, case.trace.rows)?;
-        let known_files = settle_cut(
+        let told = settle_cut(
             &rt,
             alloc,
             case.image,
             (case.trace.header, &lines),
             case.cuts,
         )?;
-        hold_told(&rt, &known_files, case.known_files);
+        hold_told(&rt, &told, case.told);
     }
     Ok(())
 }
@@ -303,7 +300,7 @@ fn settles_in_rounds(rt: HostRuntime) -> Result<(), Fail> {
 #[test]
 fn settles_nothing_without_a_round(rt: HostRuntime) -> Result<(), Fail> {
     let alloc = rt.alloc();
-    let known_files = settle_cut(
+    let told = settle_cut(
         &rt,
         alloc,
         IMAGE,
@@ -311,7 +308,7 @@ fn settles_nothing_without_a_round(rt: HostRuntime) -> Result<(), Fail> {
         (1, 2),
     )?;
     let agrees = Verdict::Agrees { rows: 0, valid: 0 };
-    hold_told(&rt, &known_files, (agrees, 0, &[]));
+    hold_told(&rt, &told, (agrees, 0, &[]));
     Ok(())
 }
 
@@ -336,8 +333,8 @@ fn settles_made_traces_in_one_round(rt: HostRuntime) -> Result<(), Fail> {
     };
     let once = [1; 143];
     for (most, segments) in [(7, 143), (64, 16), (1000, 1)] {
-        let known_files = settle_cut(&rt, alloc, &image, (header, &lines), (most, 2))?;
-        hold_told(&rt, &known_files, (agrees, 0, &once[..segments]));
+        let told = settle_cut(&rt, alloc, &image, (header, &lines), (most, 2))?;
+        hold_told(&rt, &told, (agrees, 0, &once[..segments]));
     }
     Ok(())
 }

@@ -1,10 +1,10 @@
 //! Judging a trace in segments.
 
 ghost use Rattle.std.specs.Prelude.{◌≡◌, ◌+◌, ◌<◌, ◌≤◌, ◌^◌, IfOk, IfSome, length, option_map};
-ghost use Rattle.std.specs.List.{All, flat_map};
+ghost use Rattle.std.specs.List.{All};
 ghost use Rattle.hart_step.specs.Harts.{CanStep, state_of};
 ghost use Rattle.rvfi_rows.specs.Rows.{rows_of};
-ghost use Rattle.rvfi_rows.specs.Segments.{segment_lines};
+ghost use Rattle.rvfi_rows.specs.Segments.{row_count_of};
 ghost use Rattle.segment_judge.specs.Founds.{IsLawfulFound};
 ghost use Rattle.segment_judge.specs.Judgements.{by_hart};
 ghost use Rattle.segment_judge.specs.Laws.{conclusion_from};
@@ -39,22 +39,22 @@ where
     R: Threads + Sync,
     requires can_step { CanStep M.ram start }
     requires below_2_to_32 { length segments.now < 2 ^ 32 }
-    requires lines { length (flat_map segment_lines segments.now) < 2 ^ 60 }
+    requires rows { row_count_of columns.now segments.now < 2 ^ 60 }
     ensures over { IfOk result
         (IsRoundOver M.bytes M.ram columns.now segments.now (state_of M.bytes start)) }
     ensures steps { IfOk result (λ round. steps.new ≡ steps.old + 1) }
     ensures at_most_one { steps.new ≤ steps.old + 1 }
 {
-    // Where much was written so far, it is a layer of memory from here on, which later copies share.
+    // Where much was written so far, it is a layer of memory from here on, which copies share.
     let start = start.copy()?;
     let guesses = guesses(workers.alloc, &start, columns, segments)?;
     let founds = find_by_workers(workers, &guesses, columns, segments, steps)?;
     join_round(workers.alloc, start, columns, segments, &guesses, founds)
 }
 
-/// What the workers find of segments, from the guesses before them. The events of the board that they
-/// worked at leave that, so that what is said of all such lists holds of it. Up to the first that
-/// does not agree from its guess, each is judged.
+/// What the workers find of segments, from the guesses before them. The events of the board that
+/// they worked at leave that, so that what is said of all such lists holds of it. Up to the first
+/// that does not agree from its guess, each is judged.
 fn find_by_workers<R, G: Gate, M: PhysMem + Drop + Send + Sync, L: Ledger>(
     workers: &Workers<R, G>,
     guesses: &[Hart<M>],

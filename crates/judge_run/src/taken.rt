@@ -63,8 +63,8 @@ pub fn take_after<H: Shelf>(
     ensures taken { IfOk result
         (λ taken. TakesSegments asked taker taken.0.segments.items taken.0.ending taken.1) }
     ensures faults { CountsFault is_read_fault result (H.faults shelf.old) (H.faults shelf.new) }
-    ensures misses { CountsMiss is_read_fault result (H.known_files shelf.old) (string_bytes taker.name)
-        (H.misses shelf.old) (H.misses shelf.new) }
+    ensures misses { CountsMiss is_read_fault result (H.known_files shelf.old)
+        (string_bytes taker.name) (H.misses shelf.old) (H.misses shelf.new) }
 {
     if is_more(asked.ending) {
         take_segments(alloc, job, asked.segments, taker, shelf)
@@ -98,8 +98,8 @@ fn take_segments<H: Shelf>(
     ensures room { IfOk result (λ taken.
         length (taken_lines taken.0) + room_of taken.1 ≤ room_of taker) }
     ensures faults { CountsFault is_read_fault result (H.faults shelf.old) (H.faults shelf.new) }
-    ensures misses { CountsMiss is_read_fault result (H.known_files shelf.old) (string_bytes taker.name)
-        (H.misses shelf.old) (H.misses shelf.new) }
+    ensures misses { CountsMiss is_read_fault result (H.known_files shelf.old)
+        (string_bytes taker.name) (H.misses shelf.old) (H.misses shelf.new) }
 {
     let mut taker = taker;
     let mut segments = Vec::new(alloc);
@@ -126,7 +126,8 @@ fn take_segments<H: Shelf>(
 fn push_lines(segments: &mut Vec<Segment>, lines: Lines) -> Result<(), LineError>
     ensures lines { OnOk result (flat_map segment_lines segments.new.items
         ≡ flat_map segment_lines segments.old.items ++ lines) }
-    ensures at_most_one_more { OnOk result (length segments.new.items ≤ length segments.old.items + 1) }
+    ensures at_most_one_more { OnOk result
+        (length segments.new.items ≤ length segments.old.items + 1) }
     ensures full { OnOk result (length segments.new.items
         ≤ length segments.old.items + length lines) }
     ensures memory { IfErr result (λ error. is_read_fault error ≡ false) }

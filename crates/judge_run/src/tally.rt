@@ -4,18 +4,16 @@ ghost use Rattle.std.specs.Prelude.{◌≡◌, ◌≤◌, ◌<◌, ◌+◌, ◌^
 ghost use Rattle.rvfi_rows.specs.declared.verdict.Verdict.TheVariants.{Agrees};
 ghost use Rattle.segment_judge.specs.Judgements.{verdict_after_rows};
 ghost use Rattle.verdict_join.specs.Walks.{IsWithinRows};
-ghost use Rattle.judge_run.specs.Settling.{after_round};
+ghost use Rattle.judge_run.specs.Settling.{IsNew, LeadsTo};
 
 use hart_step::Hart;
-use rvfi_rows::Verdict;
+use rvfi_rows::{RowCounts, Verdict};
 use verdict_join::{Joined, Round};
 
-/// How many segments were settled, how many of them were judged again, and how many rows and valid
-/// rows they have.
+/// How many segments were settled, how many of them were judged again, and how many rows they have.
 #[derive(Drop)]
 pub(crate) struct Tally {
-    pub rows: u64,
-    pub valid: u64,
+    pub counts: RowCounts,
     pub settled: usize,
     pub rejudged: u32,
 }
@@ -31,7 +29,7 @@ pub(crate) struct Settling<M> {
 #[derive(Drop)]
 pub(crate) enum AfterRound<M> {
     /// Its segments agree.
-    On(Settling<M>),
+    Continue(Settling<M>),
     /// All segments come to this.
     Ends(Joined<M>),
 }
@@ -39,11 +37,10 @@ pub(crate) enum AfterRound<M> {
 impl Tally {
     /// No segment was settled yet.
     pub fn new() -> Tally
-        ensures { result ≡ record { rows = 0; valid = 0; settled = 0; rejudged = 0 } }
+        ensures { IsNew result }
     {
         Tally {
-            rows: 0,
-            valid: 0,
+            counts: RowCounts::zero(),
             settled: 0,
             rejudged: 0,
         }
@@ -52,15 +49,15 @@ impl Tally {
     /// What segments come to that agree, with this hart after them.
     pub fn agreed<M>(self, hart: Hart<M>) -> Joined<M>
         ensures { result ≡ record {
-          verdict = Agrees self.rows self.valid;
+          verdict = Agrees self.counts.rows self.counts.valid;
           end = Some hart;
           rejudged = self.rejudged;
         } }
     {
         Joined {
             verdict: Verdict::Agrees {
-                rows: self.rows,
-                valid: self.valid,
+                rows: self.counts.rows,
+                valid: self.counts.valid,
             },
             end: Some(hart),
             rejudged: self.rejudged,
@@ -69,27 +66,25 @@ impl Tally {
 
     /// Where a round leads after these segments.
     pub fn following<M: Drop>(self, round: Round<M>) -> AfterRound<M>
-        requires below_2_to_62 { self.rows < 2 ^ 62 }
-        requires valid { self.valid ≤ self.rows }
+        requires below_2_to_62 { self.counts.rows < 2 ^ 62 }
         requires within { IsWithinRows (2 ^ 62) round.verdict }
         requires settled { self.settled + round.settled < 2 ^ 32 }
         requires rejudged { self.rejudged + round.rejudged < 2 ^ 32 }
-        ensures { result ≡ after_round self round }
+        ensures { LeadsTo self round result }
     {
-        let verdict = verdict_after_rows(self.rows, self.valid, round.verdict);
+        let settled = self.settled + round.settled;
         let rejudged = self.rejudged + round.rejudged;
-        match (verdict, round.end) {
+        match (round.verdict, round.end) {
             (Verdict::Agrees { rows, valid }, Some(hart)) => {
                 let tally = Tally {
-                    rows,
-                    valid,
-                    settled: self.settled + round.settled,
+                    counts: self.counts.plus(RowCounts { rows, valid }),
+                    settled,
                     rejudged,
                 };
-                AfterRound::On(Settling { hart, tally })
+                AfterRound::Continue(Settling { hart, tally })
             }
             (verdict, _) => AfterRound::Ends(Joined {
-                verdict,
+                verdict: verdict_after_rows(self.counts, verdict),
                 end: None,
                 rejudged,
             }),
@@ -97,27 +92,23 @@ impl Tally {
     }
 }
 
-/// A verdict after so many rows, and so many valid ones among these.
-pub(crate) fn verdict_after_rows(rows: u64, valid: u64, verdict: Verdict) -> Verdict
-    requires below_2_to_62 { rows < 2 ^ 62 }
-    requires valid { valid ≤ rows }
+/// A verdict after so many rows.
+pub(crate) fn verdict_after_rows(counts: RowCounts, verdict: Verdict) -> Verdict
+    requires below_2_to_62 { counts.rows < 2 ^ 62 }
     requires within { IsWithinRows (2 ^ 62) verdict }
-    ensures { result ≡ verdict_after_rows rows valid verdict }
+    ensures { result ≡ verdict_after_rows counts.rows counts.valid verdict }
 {
     match verdict {
-        Verdict::Agrees {
-            rows: more,
-            valid: others,
-        } => Verdict::Agrees {
-            rows: rows + more,
-            valid: valid + others,
+        Verdict::Agrees { rows, valid } => Verdict::Agrees {
+            rows: counts.rows + rows,
+            valid: counts.valid + valid,
         },
         Verdict::Differs { row, difference } => Verdict::Differs {
-            row: rows + row,
+            row: counts.rows + row,
             difference,
         },
         Verdict::Refused { row, fault } => Verdict::Refused {
-            row: rows + row,
+            row: counts.rows + row,
             fault,
         },
     }

@@ -116,6 +116,7 @@ fn judges_words_images_and_traces(rt: HostRuntime) -> Result<(), Fail> {
     let few: &[&str] = &["rvjudge", "judge", "i"];
     let none: &[&str] = &[];
     let six = b"insn,pc_rdata,rd_addr,rd_wdata\n0x00500093,0x80000000,1,6\n";
+    let halts = b"insn,pc_rdata,halt\n0x00500093,0x80000000,1\n";
     let halted = b"insn,pc_rdata,halt\n0x00500093,0x80000000,1\n0,0,0\n";
     let cases = [
         (row, IMAGE, TRACE, 0, b"agrees 1\n".as_slice()),
@@ -126,6 +127,7 @@ fn judges_words_images_and_traces(rt: HostRuntime) -> Result<(), Fail> {
             1,
             b"differs row 1: rd_wdata expected 0x0000000000000005 found 0x0000000000000006\n",
         ),
+        (row, IMAGE, halts, 0, b"agrees 1\n"),
         (
             row,
             IMAGE,

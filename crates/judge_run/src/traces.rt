@@ -7,9 +7,9 @@ ghost use Rattle.trace_lines.specs.Pieces.{piece_view};
 ghost use Rattle.judge_run.specs.Answer.{columns_in, first_pc_of, trace_outcome};
 ghost use Rattle.judge_run.specs.Stops.{MeantBy, MeantWhereKnown, CountsStop, MissesStop, IsJobs, IsJobsOutcome, WasRead};
 
-use crate::left::judge_rows;
 use crate::outcomes::{outcome_of, ruling_at_end, without_header};
-use crate::progress::Rest;
+use crate::progress::Progress;
+use crate::remaining::judge_rows;
 use crate::stop::{Stop, line_stop};
 use crate::workers::Workers;
 use hart_step::Hart;
@@ -17,7 +17,7 @@ use judge_words::{FIRST_PC, Job};
 use outside_ports::{Gate, Shelf};
 use page_image::PageImage;
 use page_layers::Layered;
-use rvfi_rows::{Columns, HeaderError, read_header};
+use rvfi_rows::{Columns, HeaderError, RowCounts, read_header};
 use std::alloc::Global;
 use std::thread::Threads;
 use trace_lines::{LineTaker, Piece};
@@ -54,13 +54,12 @@ where
         Ok(columns) => columns,
         Err(stop) => return Err(stop),
     };
-    let rest = Rest {
+    let progress = Progress {
         taker,
         hart: Hart::reset(Layered::over(workers.alloc, image), first_pc(job), job.map),
-        rows: 0,
-        valid: 0,
+        counts: RowCounts::zero(),
     };
-    match judge_rows(workers, job, &columns, rest, shelf) {
+    match judge_rows(workers, job, &columns, progress, shelf) {
         Ok(end) => Ok(outcome_of(job, ruling_at_end(job, end.ending, end.verdict))),
         Err(error) => Err(line_stop(error)),
     }

@@ -12,6 +12,6 @@ pub(crate) struct Workers<'a, R, G> {
     pub alloc: Global,
     pub gate: &'a G,
     pub count: u32,
-    ghost some: { 1 ≤ count },
-    ghost few: { count ≤ 64 },
+    ghost at_least_1: { 1 ≤ count },
+    ghost at_most_64: { count ≤ 64 },
 }

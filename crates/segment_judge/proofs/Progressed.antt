@@ -1,7 +1,7 @@
 -- Progress by one row.
 use Rattle.std.specs.Prelude.{◌||◌, ◌&&◌, not}
 use Rattle.std.proofs.Common.{◌≡◌, ℕ, ◌+◌, All, List, [], ◌∷◌, ◌++◌, Option, Some, None, Ok, Err, refl, sym, ap, ◌∙◌}
-use Rattle.std.proofs.Common.{subst, append-nil}
+use Rattle.std.proofs.Common.{subst, append-nil, arith}
 use Rattle.hart_words.specs.declared.accesses.Read.{Read}
 use Rattle.hart_words.specs.declared.accesses.Write.{Write}
 use Rattle.hart_words.specs.declared.map.Map.{Map}
@@ -12,6 +12,7 @@ use Rattle.hart_words.specs.Memory.{Bytes, after_writes}
 use Rattle.hart_words.specs.Signals.{Shown}
 use Rattle.rvfi_rows.specs.declared.expected.Expected.{Expected}
 use Rattle.rvfi_rows.specs.declared.fault.RowFault.{RowFault}
+use Rattle.rvfi_rows.specs.declared.row_counts.RowCounts.{RowCounts}
 use Rattle.rvfi_rows.specs.declared.verdict.Verdict.{Verdict}
 use Rattle.rvfi_rows.specs.declared.verdict.Verdict.TheVariants.{Differs, Refused}
 use Rattle.hart_step.specs.Cores.{IsSound}
@@ -29,7 +30,7 @@ use Rattle.segment_judge.proofs.Within.{IsAdded, ReadLies, WriteLies, within_add
 
 pub judges_refused : {M : Type 0} (bytes_of : M → Bytes) (before : Progress M) (fault : RowFault)
     (accesses : List Accesses)
-    → JudgesRow bytes_of before before (Err fault) (Some (Refused (before.rows + 1) fault)) accesses
+    → JudgesRow bytes_of before before (Err fault) (Some (Refused (before.counts.rows + 1) fault)) accesses
 unfolding after_writes
 judges_refused bytes_of before fault accesses = record {
   gives = refused_gives (standing bytes_of before accesses) fault;
@@ -37,14 +38,21 @@ judges_refused bytes_of before fault accesses = record {
   bytes = refl;
 }
 
-pub judges_invalid : {M : Type 0} (bytes_of : M → Bytes) (before : Progress M) (accesses : List Accesses)
-    → JudgesRow bytes_of before (record before { rows = before.rows + 1 }) (Ok None) None accesses
+pub judges_invalid : {M : Type 0} (bytes_of : M → Bytes) (before : Progress M) (counts : RowCounts)
+    (accesses : List Accesses) → counts.rows ≡ before.counts.rows + 1 → counts.valid ≡ before.counts.valid + 0
+    → JudgesRow bytes_of before (record before { counts = counts }) (Ok None) None accesses
 unfolding after_writes
-judges_invalid bytes_of before accesses = record {
-  gives = invalid_gives (standing bytes_of before accesses);
-  footprint = λ is. subst (IsFootprintOf before.footprint) (sym (append-nil accesses)) is;
-  bytes = refl;
-}
+judges_invalid bytes_of before counts accesses rows valid =
+    let start = standing bytes_of before accesses in
+    let valid_same : counts.valid ≡ before.counts.valid = omega (arith, valid) in
+    let now : record start { rows = start.rows + 1; accesses = accesses ++ [] }
+    ≡ standing bytes_of (record before { counts = counts }) (accesses ++ []) =
+    rw (rows, valid_same) refl in
+    record {
+      gives = subst (RowGives start (Ok None) None) now (invalid_gives start);
+      footprint = λ is. subst (IsFootprintOf before.footprint) (sym (append-nil accesses)) is;
+      bytes = refl;
+    }
 
 -- a valid row was stepped, and what it touched was added
 pub record Stepped {M : Type 0} (bytes_of : M → Bytes) (before now : Progress M) (shown : Shown) (expected : Expected)
@@ -53,12 +61,12 @@ pub record Stepped {M : Type 0} (bytes_of : M → Bytes) (before now : Progress 
       [] wrote (bytes_of before.hart.mem) (bytes_of now.hart.mem)
   pub added : (rows : List Accesses) → IsFootprintOf before.footprint rows
       → IsFootprintOf now.footprint (rows ++ record { reads = seen; wrote = wrote } ∷ [])
-  pub rows : now.rows ≡ before.rows + 1
+  pub rows : now.counts.rows ≡ before.counts.rows + 1
 
 following : {M : Type 0} (bytes_of : M → Bytes) (before now : Progress M) (shown : Shown) (expected : Expected)
     (seen : List Read) (wrote : List Write) (accesses : List Accesses)
     → Stepped bytes_of before now shown expected seen wrote
-    → behind_valid (standing bytes_of before accesses) shown now.valid
+    → behind_valid (standing bytes_of before accesses) shown now.counts.valid
     ≡ standing bytes_of now (accesses ++ accesses_at (state_of bytes_of before.hart) (Ok (Some shown)))
 following bytes_of before now shown expected seen wrote accesses step_of =
     rw (
@@ -71,7 +79,7 @@ judges_by : {M : Type 0} (bytes_of : M → Bytes) (before now : Progress M) (sho
     (seen : List Read) (wrote : List Write) (accesses : List Accesses) (end : Option Verdict)
     → Stepped bytes_of before now shown expected seen wrote
     → RowGives (standing bytes_of before accesses) (Ok (Some shown)) end
-    (behind_valid (standing bytes_of before accesses) shown now.valid)
+    (behind_valid (standing bytes_of before accesses) shown now.counts.valid)
     → JudgesRow bytes_of before now (Ok (Some shown)) end accesses
 judges_by bytes_of before now shown expected seen wrote accesses end step_of gives =
     let state = state_of bytes_of before.hart in
@@ -95,7 +103,7 @@ expected_is bytes_of before now shown expected seen wrote step_of = ap (λ gave.
 
 pub judges_agreed : {M : Type 0} (bytes_of : M → Bytes) (before now : Progress M) (shown : Shown)
     (expected : Expected) (seen : List Read) (wrote : List Write) (accesses : List Accesses)
-    → Stepped bytes_of before now shown expected seen wrote → now.valid ≡ before.valid + 1
+    → Stepped bytes_of before now shown expected seen wrote → now.counts.valid ≡ before.counts.valid + 1
     → difference_of expected shown ≡ None → JudgesRow bytes_of before now (Ok (Some shown)) None accesses
 judges_agreed bytes_of before now shown expected seen wrote accesses done valid agrees =
     let start = standing bytes_of before accesses in
@@ -109,19 +117,16 @@ judges_agreed bytes_of before now shown expected seen wrote accesses done valid 
 
 pub judges_differing : {M : Type 0} (bytes_of : M → Bytes) (before now : Progress M) (shown : Shown)
     (expected : Expected) (seen : List Read) (wrote : List Write) (accesses : List Accesses) (difference : Difference)
-    → Stepped bytes_of before now shown expected seen wrote → now.valid ≡ before.valid
-    → difference_of expected shown ≡ Some difference
-    → JudgesRow bytes_of before now (Ok (Some shown)) (Some (Differs (before.rows + 1) difference)) accesses
-judges_differing bytes_of before now shown expected seen wrote accesses difference done valid differs =
+    → Stepped bytes_of before now shown expected seen wrote → difference_of expected shown ≡ Some difference
+    → JudgesRow bytes_of before now (Ok (Some shown)) (Some (Differs now.counts.rows difference)) accesses
+judges_differing bytes_of before now shown expected seen wrote accesses difference done differs =
     let start = standing bytes_of before accesses in
     let some : difference_of ((step_of before.hart.core shown).run (bytes_of before.hart.mem)).value.expected shown
     ≡ Some difference =
     ap (λ did. difference_of did shown) (sym (expected_is bytes_of before now shown expected seen wrote done))
     ∙ differs in
-    let end = Some (Differs (before.rows + 1) difference) in
-    judges_by bytes_of before now shown expected seen wrote accesses end done
-    (subst (λ count. RowGives start (Ok (Some shown)) end (behind_valid start shown count)) (sym valid)
-    (differing_gives start shown difference some))
+    judges_by bytes_of before now shown expected seen wrote accesses (Some (Differs now.counts.rows difference)) done
+    (rw done.rows (differing_gives start shown difference some))
 
 -- the next row may be judged too
 pub still_judges : {M : Type 0} {before now : Progress M} {seen : List Read} {wrote : List Write} (ram_of : M → Span)

@@ -14,8 +14,8 @@ use Rattle.segment_judge.specs.Standings.{RowGives, Standing, accesses_at}
 abbrev pub standing : {M : Type 0} → (M → Bytes) → Progress M → List Accesses → Standing
 standing bytes progress accesses = record {
   state = state_of bytes progress.hart;
-  rows = progress.rows;
-  valid = progress.valid;
+  rows = progress.counts.rows;
+  valid = progress.counts.valid;
   accesses = accesses;
 }
 

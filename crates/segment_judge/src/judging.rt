@@ -86,8 +86,8 @@ fn judge_rows<M: PhysMem + Drop>(
     }
     Ok(Judged {
         verdict: Verdict::Agrees {
-            rows: progress.rows,
-            valid: progress.valid,
+            rows: progress.counts.rows,
+            valid: progress.counts.valid,
         },
         end: Some(progress.hart),
         footprint: progress.footprint,

@@ -11,17 +11,15 @@ use hart_step::Hart;
 use hart_words::{NoMemory, PhysMem};
 use read_footprint::Footprint;
 use row_compare::first_difference;
-use rvfi_rows::{Reading, Row, Stepped, Verdict};
+use rvfi_rows::{Reading, Row, RowCounts, Stepped, Verdict};
 use std::alloc::Global;
 
-/// How far a segment was judged: the hart, what the rows read and wrote, and how many rows and
-/// valid rows there were.
+/// How far a segment was judged: the hart, what the rows read and wrote, and how many there were.
 #[derive(Drop)]
 pub(crate) struct Progress<M> {
     pub hart: Hart<M>,
     pub footprint: Footprint,
-    pub rows: u64,
-    pub valid: u64,
+    pub counts: RowCounts,
 }
 
 impl<M: PhysMem + Drop> Progress<M> {
@@ -31,16 +29,15 @@ impl<M: PhysMem + Drop> Progress<M> {
     pub fn before(alloc: Global, hart: Hart<M>) -> Progress<M>
         requires { CanStep M.ram hart }
         ensures hart { result.hart ≡ hart }
-        ensures rows { result.rows ≡ 0 }
-        ensures valid { result.valid ≡ 0 }
+        ensures rows { result.counts.rows ≡ 0 }
+        ensures valid { result.counts.valid ≡ 0 }
         ensures footprint { IsFootprintOf result.footprint [] }
         ensures can_judge { CanJudge M.ram result }
     {
         Progress {
             hart,
             footprint: Footprint::empty(alloc),
-            rows: 0,
-            valid: 0,
+            counts: RowCounts::zero(),
         }
     }
 
@@ -48,22 +45,20 @@ impl<M: PhysMem + Drop> Progress<M> {
     /// the segment ends with it.
     pub fn judge_row(&mut self, reading: Reading, row: &Row) -> Result<Option<Verdict>, NoMemory>
         requires can_judge { CanJudge M.ram self.old }
-        requires below_2_to_63 { self.old.rows < 2 ^ 63 }
-        requires valid { self.old.valid ≤ self.old.rows }
+        requires below_2_to_63 { self.old.counts.rows < 2 ^ 63 }
         ensures judges { IfOk result (λ end. (accesses : List Accesses) → JudgesRow M.bytes self.old
             self.new (reading_of reading (shown_in row.now)) end accesses) }
         ensures can_judge { IfOk result (λ end. CanJudge M.ram self.new) }
         ensures ram { M.ram self.new.hart.mem ≡ M.ram self.old.hart.mem }
-        ensures rows { IfOk result (λ end. IfNone end (self.new.rows ≡ self.old.rows + 1)) }
-        ensures valid { IfOk result (λ end. self.new.valid ≤ self.new.rows) }
+        ensures rows { IfOk result (λ end. IfNone end (self.new.counts.rows ≡ self.old.counts.rows + 1)) }
     {
         match reading {
             Reading::Refused(fault) => Ok(Some(Verdict::Refused {
-                row: self.rows + 1,
+                row: self.counts.rows + 1,
                 fault,
             })),
             Reading::Invalid => {
-                self.rows += 1;
+                self.counts = self.counts.with_row(false);
                 Ok(None)
             }
             Reading::Valid => self.judge_valid(row),
@@ -73,14 +68,12 @@ impl<M: PhysMem + Drop> Progress<M> {
     /// Judges a valid row: the hart is stepped by it, and it is compared with what the hart did.
     fn judge_valid(&mut self, row: &Row) -> Result<Option<Verdict>, NoMemory>
         requires can_judge { CanJudge M.ram self.old }
-        requires below_2_to_63 { self.old.rows < 2 ^ 63 }
-        requires valid { self.old.valid ≤ self.old.rows }
+        requires below_2_to_63 { self.old.counts.rows < 2 ^ 63 }
         ensures judges { IfOk result (λ end. (accesses : List Accesses) → JudgesRow M.bytes self.old
             self.new (Ok (Some (shown_in row.now))) end accesses) }
         ensures can_judge { IfOk result (λ end. CanJudge M.ram self.new) }
         ensures ram { M.ram self.new.hart.mem ≡ M.ram self.old.hart.mem }
-        ensures rows { IfOk result (λ end. IfNone end (self.new.rows ≡ self.old.rows + 1)) }
-        ensures valid { IfOk result (λ end. self.new.valid ≤ self.new.rows) }
+        ensures rows { IfOk result (λ end. IfNone end (self.new.counts.rows ≡ self.old.counts.rows + 1)) }
     {
         // What a step gives is large, so it is looked at where it lies.
         let done = self.hart.step(row);
@@ -89,14 +82,16 @@ impl<M: PhysMem + Drop> Progress<M> {
             Ok(stepped) => stepped,
         };
         self.footprint.add(&stepped.seen, &stepped.wrote)?;
-        self.rows += 1;
         match first_difference(&stepped.expected, row) {
-            Some(difference) => Ok(Some(Verdict::Differs {
-                row: self.rows,
-                difference,
-            })),
+            Some(difference) => {
+                self.counts = self.counts.with_row(false);
+                Ok(Some(Verdict::Differs {
+                    row: self.counts.rows,
+                    difference,
+                }))
+            }
             None => {
-                self.valid += 1;
+                self.counts = self.counts.with_row(true);
                 Ok(None)
             }
         }

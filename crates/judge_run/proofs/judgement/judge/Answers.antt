@@ -1,49 +1,30 @@
-use Rattle.std.proofs.Common.{map, string_bytes}
 use Rattle.judge_run.proofs.Runs.{headline, counted, fault, made_answer, made_counts, misses, words_decide}
 use Rattle.judge_run.proofs.Runs.{out_of_memory, range}
 use Rattle.judge_run.proofs.judgement.judge.Goals as goal
 
 pub returns-clause-headline : goal.returns-clause-headline
-returns-clause-headline g c =
-    headline (g.H.Shelf.known_files c.args.shelf.now) (map string_bytes c.args.words.now.items) _ _ c.run.result
-    c.run.ensures.ends
+returns-clause-headline g c = headline c.run.ensures.ends
 
 pub returns-clause-counted : goal.returns-clause-counted
-returns-clause-counted g c =
-    counted (g.H.Shelf.known_files c.args.shelf.now) (map string_bytes c.args.words.now.items) _ _ c.run.result
-    c.run.ensures.ends
+returns-clause-counted g c = counted c.run.ensures.ends
 
 pub returns-clause-fault : goal.returns-clause-fault
-returns-clause-fault g c =
-    fault (g.H.Shelf.known_files c.args.shelf.now) (map string_bytes c.args.words.now.items) _ _ c.run.result
-    c.run.ensures.ends
+returns-clause-fault g c = fault c.run.ensures.ends
 
 pub returns-clause-misses : goal.returns-clause-misses
-returns-clause-misses g c =
-    misses (g.H.Shelf.known_files c.args.shelf.now) (map string_bytes c.args.words.now.items) _ _ c.run.result
-    c.run.ensures.ends
+returns-clause-misses g c = misses c.run.ensures.ends
 
 pub returns-clause-words : goal.returns-clause-words
-returns-clause-words g c =
-    words_decide (g.H.Shelf.known_files c.args.shelf.now) (map string_bytes c.args.words.now.items) _ _ c.run.result
-    c.run.ensures.ends
+returns-clause-words g c = words_decide c.run.ensures.ends
 
 pub returns-clause-out_of_memory : goal.returns-clause-out_of_memory
-returns-clause-out_of_memory g c =
-    out_of_memory (g.H.Shelf.known_files c.args.shelf.now) (map string_bytes c.args.words.now.items) _ _ c.run.result
-    c.run.ensures.ends
+returns-clause-out_of_memory g c = out_of_memory c.run.ensures.ends
 
 pub returns-clause-range : goal.returns-clause-range
-returns-clause-range g c =
-    range (g.H.Shelf.known_files c.args.shelf.now) (map string_bytes c.args.words.now.items) _ _ c.run.result
-    c.run.ensures.ends
+returns-clause-range g c = range c.run.ensures.ends
 
 pub returns-clause-made : goal.returns-clause-made
-returns-clause-made g c =
-    made_counts (g.H.Shelf.known_files c.args.shelf.now) (map string_bytes c.args.words.now.items) _ _ c.run.result
-    c.run.ensures.ends
+returns-clause-made g c = made_counts c.run.ensures.ends
 
 pub returns-clause-made_answer : goal.returns-clause-made_answer
-returns-clause-made_answer g c =
-    made_answer (g.H.Shelf.known_files c.args.shelf.now) (map string_bytes c.args.words.now.items) _ _ c.run.result
-    c.run.ensures.ends
+returns-clause-made_answer g c = made_answer c.run.ensures.ends

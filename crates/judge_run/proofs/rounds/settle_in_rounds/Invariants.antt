@@ -8,8 +8,8 @@ use Rattle.judge_run.proofs.rounds.settle_in_rounds.Given as goal
 abbrev pub invariant-rounds : goal.invariant-rounds
 invariant-rounds g l = record {
   can_step : CanStep g.M.PhysMem.ram l.settling.hart;
-  tallied : IsTallied l.segments l.settling.tally;
-  few : l.steps ≤ l.initial.steps + l.settling.tally.settled;
+  tallied : IsTallied l.columns l.segments l.settling.tally;
+  at_most_settled : l.steps ≤ l.initial.steps + l.settling.tally.settled;
   so_far : SoFar g.M.PhysMem.bytes l.columns l.segments (state_of g.M.PhysMem.bytes l.initial.settling.hart)
       l.initial.steps l.steps l.settling;
 }

@@ -4,7 +4,7 @@ use Rattle.std.proofs.lemmas.List.{length-append}
 use Rattle.std.proofs.lemmas.List.Concat.{flat_map-cons}
 use Rattle.std.proofs.lemmas.List.Elements.{All-head, All-tail}
 use Rattle.rvfi_rows.specs.declared.segment.Segment.{Segment}
-use Rattle.rvfi_rows.specs.Segments.{segment_lines}
+use Rattle.rvfi_rows.specs.Segments.{line_count_of, segment_lines}
 use Rattle.judge_run.proofs.segment_tests.are_few.Goals as goal
 
 abbrev IsShort : Segment → Type 0
@@ -12,7 +12,7 @@ IsShort segment = length segment.lines < 2000
 
 -- segments of few lines each have few lines
 few_lines : (segments : List Segment) → All (λ segment. length segment.lines < 2000) segments
-    → length (flat_map segment_lines segments) ≤ 2000 * length segments
+    → line_count_of segments ≤ 2000 * length segments
 few_lines [] short = omega arith
 few_lines (segment ∷ segments) short =
     let here : length segment.lines < 2000 = All-head IsShort segment segments short in

@@ -10,7 +10,7 @@ use Rattle.judge_run.specs.Events.{AreLeft}
 use Rattle.judge_run.specs.Settling.{IsRoundOver}
 use Rattle.judge_run.proofs.AnyEvents.{guesses_for_each}
 use Rattle.judge_run.proofs.Passing.{same_state}
-use Rattle.judge_run.proofs.Settled.{round_over}
+use Rattle.judge_run.proofs.Settled.{PromisesRound, round_over}
 use Rattle.judge_run.proofs.segments.judge_round.Goals as goal
 
 pub find_by_workers-requires-clause-one_each : goal.find_by_workers-requires-clause-one_each
@@ -63,6 +63,16 @@ returns-clause-over g c =
     subst (λ guesses. AreJudgedInTurn by_hart (candidates_of bytes_of columns segments guesses founds)) alike
     c.in_ok-founds.ensures.judged in
     let round = c.join_round.ensures in
+    let promised : PromisesRound bytes_of g.M.PhysMem.ram columns segments c.deref-2.result.now founds start
+    c.join_round.result =
+    record {
+      walks = round.round;
+      within = round.settled;
+      settles_one = round.settles_one;
+      at_most_1_again = round.again;
+      verdict = round.verdict;
+      end = round.end;
+      can_step = round.can_step;
+    } in
     subst (λ start. IfOk c.join_round.result (IsRoundOver bytes_of g.M.PhysMem.ram columns segments start)) same
-    (round_over bytes_of g.M.PhysMem.ram columns segments c.deref-2.result.now founds start c.join_round.result
-    guessed left judged round.round round.settled round.settles_one round.again round.verdict round.end round.can_step)
+    (round_over c.join_round.result guessed left judged promised)

@@ -1,14 +1,13 @@
 use Rattle.std.proofs.Common.{◌≡◌, ◌∙◌, false, true, sym, string_bytes}
 use Rattle.judge_words.specs.Job.{job_view}
 use Rattle.outside_ports.specs.Ports.{file_of}
-use Rattle.judge_run.specs.Taking.{most_lines, taken_lines}
-use Rattle.judge_run.proofs.Taking.{none_are, result_behind, taken_are}
+use Rattle.judge_run.specs.Taking.{most_lines}
+use Rattle.judge_run.proofs.Taking.{none_are, result_after, taken_are}
 use Rattle.judge_run.proofs.taken.take_after.Goals as goal
 
 pub returns-then-is_more-clause-takes : goal.returns-then-is_more-clause-takes
 returns-then-is_more-clause-takes g c =
-    result_behind (λ taken. taken_lines taken.0) (λ taken. taken.0.ending) (λ taken. taken.1)
-    (file_of (g.H.Shelf.known_files c.args.shelf.now) (string_bytes c.args.taker.name))
+    result_after (file_of (g.H.Shelf.known_files c.args.shelf.now) (string_bytes c.args.taker.name))
     (most_lines (job_view c.args.job.now) c.args.asked.segments) c.args.asked.ending c.args.taker
     c.take_segments.result (c.is_more.ensures.0 c.if-is_more.true) c.take_segments.ensures.takes
     c.take_segments.ensures.counts
@@ -16,8 +15,7 @@ returns-then-is_more-clause-takes g c =
 pub returns-then-is_more-clause-taken : goal.returns-then-is_more-clause-taken
 returns-then-is_more-clause-taken g c =
     let took = c.take_segments.ensures in
-    taken_are (λ taken. taken.0.segments.items) (λ taken. taken.0.ending) (λ taken. taken.1) c.args.asked
-    c.args.job.now.sharing.segment c.args.taker c.take_segments.result c.requires.lawful.sharing.segment.0
+    taken_are c.args.asked c.take_segments.result c.requires.lawful.sharing.segment.0
     (c.is_more.ensures.0 c.if-is_more.true) took.counts took.at_most_asked took.full took.room
 
 pub returns-else-is_more-clause-taken : goal.returns-else-is_more-clause-taken

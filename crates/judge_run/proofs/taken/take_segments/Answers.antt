@@ -8,8 +8,8 @@ use Rattle.trace_lines.specs.declared.piece.Ending.TheVariants.{More}
 use Rattle.trace_lines.specs.Pieces.{FitsEnding}
 use Rattle.trace_lines.specs.Takers.{TakesWhereKnown}
 use Rattle.judge_run.specs.Taking.{TakesLinesWhereKnown, TakesSoFarWhereKnown, most_lines}
-use Rattle.judge_run.proofs.Taking.{begins, fits_last, next_lines_are, next_within, no_lines, take_last_told}
-use Rattle.judge_run.proofs.Taking.{take_on_told, takes_on, takes_whole, there_behind}
+use Rattle.judge_run.proofs.Taking.{TakesInFile, begins, fits_last, next_lines_are, next_within, no_lines, take_last_told}
+use Rattle.judge_run.proofs.Taking.{exists_after, take_on_told, takes_on, takes_whole}
 use Rattle.judge_run.proofs.taken.take_segments.Goals as goal
 
 pub segments-init : goal.segments-init
@@ -21,12 +21,12 @@ segments-init g c =
       known_files = refl;
       faults = refl;
       misses = refl;
-      there = c.requires.file_exists;
+      file_exists = c.requires.file_exists;
       taken =
           begins (file_of (g.H.Shelf.known_files c.args.shelf.now) (string_bytes c.args.taker.name)) c.args.taker
           c.args.job.now.sharing.segment c.new-segments.result.items none;
       count = count;
-      few = omega (arith, ap length none);
+      at_most_counter = omega (arith, ap length none);
       full = omega (arith, ap length none);
       room = omega (arith, count, nothing);
     }
@@ -46,15 +46,15 @@ returns-then-not-is_more-clause-takes g c =
     subst
     (λ known_files. TakesWhereKnown (file_of known_files (string_bytes middle.name)) segment middle piece after)
     inv.known_files c.in-Ok.ensures.takes in
-    let takes =
-    takes_on known_files c.args.taker middle after first segment lines piece c.requires.file_exists inv.taken
-    here in
+    let before : TakesInFile known_files first c.args.taker lines middle =
+    record { file_exists = c.requires.file_exists; taken = inv.taken } in
+    let takes = takes_on known_files before here in
     let within = next_within c.segments.counter c.args.asked segment c.segments-test.true in
     subst
     (λ text. TakesLinesWhereKnown file (most_lines (job_view c.args.job.now) c.args.asked) c.args.taker text
     piece.ending after) (sym c.in-Ok-push_lines.ensures.lines)
-    (take_last_told file first segment (most_lines (job_view c.args.job.now) c.args.asked) c.args.taker middle after
-    lines piece inv.taken takes c.in-Ok.ensures.counts
+    (take_last_told file (most_lines (job_view c.args.job.now) c.args.asked) piece inv.taken takes
+    c.in-Ok.ensures.counts
     (λ more. let never : c.is_more.result ≡ true =
     c.is_more.ensures.1 more in let other : false ≡ true = sym c.if-not-is_more.true ∙ never in cc) within)
 
@@ -66,8 +66,8 @@ returns-then-not-is_more-clause-counts g c =
     let within = next_within c.segments.counter c.args.asked segment c.segments-test.true in
     let many = ap length c.in-Ok-push_lines.ensures.lines ∙ length-append lines piece.lines in
     subst (λ count. FitsEnding piece.ending (most_lines (job_view c.args.job.now) c.args.asked) count) (sym many)
-    (fits_last (c.segments.counter * segment) segment (most_lines (job_view c.args.job.now) c.args.asked) piece.ending
-    (length lines) (length piece.lines) c.segments.invariant.count c.in-Ok.ensures.counts
+    (fits_last (most_lines (job_view c.args.job.now) c.args.asked) piece.ending c.segments.invariant.count
+    c.in-Ok.ensures.counts
     (λ more. let never : c.is_more.result ≡ true =
     c.is_more.ensures.1 more in let other : false ≡ true = sym c.if-not-is_more.true ∙ never in cc) within)
 
@@ -86,30 +86,28 @@ segments-preserved g c =
     subst
     (λ known_files. TakesWhereKnown (file_of known_files (string_bytes middle.name)) segment middle piece after)
     inv.known_files c.in-Ok.ensures.takes in
-    let takes =
-    takes_on known_files c.args.taker middle after first segment lines piece c.requires.file_exists inv.taken
-    here in
+    let before : TakesInFile known_files first c.args.taker lines middle =
+    record { file_exists = c.requires.file_exists; taken = inv.taken } in
+    let takes = takes_on known_files before here in
     let more : piece.ending ≡ More = c.is_more.ensures.0 c.if-not-is_more.false in
     let whole : length piece.lines ≡ segment =
     subst (λ ending. FitsEnding ending segment (length piece.lines)) more c.in-Ok.ensures.counts in
-    let taken =
-    take_on_told file first segment c.args.taker middle after lines piece inv.taken takes more
-    c.in-Ok.ensures.counts in
+    let taken = take_on_told file piece inv.taken takes more c.in-Ok.ensures.counts in
+    let so_far : TakesInFile known_files (first + segment) c.args.taker (lines ++ piece.lines) after =
+    record { file_exists = c.requires.file_exists; taken = taken } in
     let next = next_lines_are c.segments.counter segment in
     let many = ap length c.in-Ok-push_lines.ensures.lines ∙ length-append lines piece.lines in
     record {
       known_files = c.in-Ok.ensures.known_files ∙ inv.known_files;
       faults = c.in-Ok.ensures.faults ∙ inv.faults;
       misses = c.in-Ok.ensures.misses ∙ inv.misses;
-      there =
-          there_behind known_files c.args.taker after (first + segment) (lines ++ piece.lines) c.requires.file_exists
-          taken;
+      file_exists = exists_after known_files so_far;
       taken =
           subst (λ text. TakesSoFarWhereKnown file ((c.segments.counter + 1) * segment) c.args.taker text after)
           (sym c.in-Ok-push_lines.ensures.lines)
           (subst (λ asked. TakesSoFarWhereKnown file asked c.args.taker (lines ++ piece.lines) after) (sym next) taken);
       count = omega (arith, many, inv.count, whole, next);
-      few = omega (arith, c.in-Ok-push_lines.ensures.at_most_one_more, inv.few);
+      at_most_counter = omega (arith, c.in-Ok-push_lines.ensures.at_most_one_more, inv.at_most_counter);
       full = omega (arith, many, c.in-Ok-push_lines.ensures.full, inv.full);
       room = omega (arith, many, inv.room, c.in-Ok.ensures.room);
     }

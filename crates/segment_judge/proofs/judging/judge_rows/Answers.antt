@@ -21,7 +21,6 @@ loop-place-init g c = record {
   can_judge = c.before-progress.ensures.can_judge;
   ram = ap (λ hart. g.M.PhysMem.ram hart.mem) c.before-progress.ensures.hart;
   rows = c.before-progress.ensures.rows;
-  valid = omega (arith, c.before-progress.ensures.rows, c.before-progress.ensures.valid);
 }
 
 pub loop-place-preserved : goal.loop-place-preserved
@@ -49,7 +48,6 @@ loop-place-preserved g c =
       can_judge = c.in_ok-judge_row.ensures.can_judge;
       ram = c.in_ok-judge_row.ensures.ram ∙ c.loop-place.invariant.ram;
       rows = rows ∙ ap (λ n. n + 1) c.loop-place.invariant.rows;
-      valid = c.in_ok-judge_row.ensures.valid;
     }
 
 pub returns-in-Some-2-clause-judged : goal.returns-in-Some-2-clause-judged
@@ -84,8 +82,8 @@ returns-clause-judged g c =
     rows_end (standing bytes_of before c.loop-place.invariant.accesses) (readings_in c.args.rows.now)
     c.loop-place.place _ (omega (arith, c.loop-place-test.false, c.len-place-end.ensures.count))
     c.loop-place.invariant.whole in
-    agreed bytes_of (state_of bytes_of c.args.start) (readings_in c.args.rows.now) before.hart before.rows
-    before.valid c.loop-place.invariant.accesses before.footprint end c.loop-place.invariant.bytes
+    agreed bytes_of (state_of bytes_of c.args.start) (readings_in c.args.rows.now) before.hart before.counts.rows
+    before.counts.valid c.loop-place.invariant.accesses before.footprint end c.loop-place.invariant.bytes
     c.loop-place.invariant.footprint
 
 pub returns-clause-stands : goal.returns-clause-stands

@@ -1,4 +1,4 @@
-use Rattle.std.proofs.Common.{◌≡◌, ◌≤◌, List, drop}
+use Rattle.std.proofs.Common.{◌≡◌, List, drop}
 use Rattle.hart_words.specs.Memory.{after_writes}
 use Rattle.rvfi_rows.specs.Readings.{readings_in}
 use Rattle.hart_step.specs.Harts.{state_of}
@@ -20,6 +20,5 @@ invariant-loop-place g l = record {
   bytes : g.M.PhysMem.bytes l.progress.hart.mem ≡ after_writes (writes_of accesses) (g.M.PhysMem.bytes l.fn.start.mem);
   can_judge : CanJudge g.M.PhysMem.ram l.progress;
   ram : g.M.PhysMem.ram l.progress.hart.mem ≡ g.M.PhysMem.ram l.fn.start.mem;
-  rows : l.progress.rows ≡ l.place;
-  valid : l.progress.valid ≤ l.progress.rows;
+  rows : l.progress.counts.rows ≡ l.place;
 }

@@ -7,7 +7,8 @@ returns-in-Refused-clause-judges g c =
 
 pub returns-in-Invalid-clause-judges : goal.returns-in-Invalid-clause-judges
 returns-in-Invalid-clause-judges g c =
-    λ accesses. rw c.in-Invalid.is (judges_invalid g.M.PhysMem.bytes c.args.self.now accesses)
+    λ accesses. rw c.in-Invalid.is (judges_invalid g.M.PhysMem.bytes c.args.self.now c.with_row-self.result accesses
+    c.with_row-self.ensures.rows c.with_row-self.ensures.valid)
 
 pub returns-in-Valid-clause-judges : goal.returns-in-Valid-clause-judges
 returns-in-Valid-clause-judges g c = rw c.in-Valid.is c.judge_valid.ensures.judges

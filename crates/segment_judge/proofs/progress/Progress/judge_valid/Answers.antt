@@ -1,4 +1,4 @@
-use Rattle.std.proofs.Common.{sym, refl}
+use Rattle.std.proofs.Common.{sym}
 use Rattle.std.proofs.lemmas.Result.{IfOk-at_ok}
 use Rattle.rvfi_rows.specs.Cells.{shown_in}
 use Rattle.segment_judge.proofs.Progressed.{judges_agreed, judges_differing, still_judges}
@@ -25,8 +25,8 @@ returns-in-Some-clause-judges g c = λ accesses.
       done =
           (IfOk-at_ok _ c.in-Ok.is c.step-done.ensures.stepped);
       added = c.in_ok-add.ensures.rows;
-      rows = refl;
-    }) refl
+      rows = c.with_row-self.ensures.rows;
+    })
     (sym c.in-Some.ensures)
 
 pub returns-in-None-clause-judges : goal.returns-in-None-clause-judges
@@ -37,8 +37,8 @@ returns-in-None-clause-judges g c = λ accesses.
       done =
           (IfOk-at_ok _ c.in-Ok.is c.step-done.ensures.stepped);
       added = c.in_ok-add.ensures.rows;
-      rows = refl;
-    }) refl
+      rows = c.with_row-self-in-None.ensures.rows;
+    }) c.with_row-self-in-None.ensures.valid
     (sym c.in-None.ensures)
 
 pub returns-in-Some-clause-can_judge : goal.returns-in-Some-clause-can_judge

@@ -1,0 +1,55 @@
+use Rattle.std.proofs.Common.{◌≡◌, true, false, ◌≤◌, ◌∙◌, string_bytes, sym}
+use Rattle.std.specs.List.{flat_map}
+use Rattle.judge_words.specs.Job.{job_view}
+use Rattle.outside_ports.specs.Ports.{file_of}
+use Rattle.hart_step.specs.Harts.{state_of}
+use Rattle.rvfi_rows.specs.Segments.{line_count_of, segment_lines}
+use Rattle.judge_run.proofs.Passing.{PartIsDone, over_passes, part_lines, part_nears, part_passes}
+use Rattle.verdict_join.proofs.Passed.{few_within, lines_within}
+use Rattle.judge_run.proofs.remaining.judge_part.Goals as goal
+
+pub passed_with-requires-clause-within : goal.passed_with-requires-clause-within
+passed_with-requires-clause-within g c =
+    let remaining = c.args.remaining in
+    let part = remaining.lookahead.part.items in
+    let verdict = c.in-Ok.settled.joined.verdict in
+    few_within (line_count_of part) 4611686018427387904 verdict
+    (lines_within (state_of g.M.PhysMem.bytes remaining.progress.hart) c.args.columns.now (flat_map segment_lines part)
+    verdict c.in-Ok.ensures.settled.verdict)
+    (part_lines c.args.job.now.sharing.window g.M.PhysMem.ram remaining c.requires.going)
+
+pub returns-clause-meant : goal.returns-clause-meant
+returns-clause-meant g c =
+    let remaining = c.args.remaining in
+    let file = file_of (g.H.Shelf.known_files c.args.shelf.now) (string_bytes remaining.progress.taker.name) in
+    let done : PartIsDone g.M.PhysMem.bytes g.M.PhysMem.ram c.args.columns.now c.args.job.now.sharing.window file
+    remaining c.in-Ok.settled =
+    record {
+      settled = c.in-Ok.ensures.settled;
+      read = c.in-Ok.ensures.read;
+      takes = c.in-Ok.ensures.takes;
+      holds = c.in-Ok.ensures.held;
+    } in
+    part_passes file (job_view c.args.job.now) remaining c.in-Ok.settled c.passed_with.result done c.passed_with.ensures
+
+pub returns-then-is_over-clause-meant : goal.returns-then-is_over-clause-meant
+returns-then-is_over-clause-meant g c =
+    let file = file_of (g.H.Shelf.known_files c.args.shelf.now) (string_bytes c.args.remaining.progress.taker.name) in
+    over_passes g.M.PhysMem.bytes file (job_view c.args.job.now) c.args.columns.now c.args.remaining
+    (c.is_over.ensures.0 c.if-is_over.true)
+
+pub returns-clause-nearer : goal.returns-clause-nearer
+returns-clause-nearer g c =
+    let remaining = c.args.remaining in
+    let file = file_of (g.H.Shelf.known_files c.args.shelf.now) (string_bytes remaining.progress.taker.name) in
+    let done : PartIsDone g.M.PhysMem.bytes g.M.PhysMem.ram c.args.columns.now c.args.job.now.sharing.window file
+    remaining c.in-Ok.settled =
+    record {
+      settled = c.in-Ok.ensures.settled;
+      read = c.in-Ok.ensures.read;
+      takes = c.in-Ok.ensures.takes;
+      holds = c.in-Ok.ensures.held;
+    } in
+    part_nears remaining c.in-Ok.settled c.passed_with.result c.requires.going
+    (λ over. let never : true ≡ false = sym (c.is_over.ensures.1 over) ∙ c.if-is_over.false in cc) done
+    c.passed_with.ensures
