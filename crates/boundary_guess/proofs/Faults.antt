@@ -109,17 +109,17 @@ placed_by true map request pa =
     in_by (holds_all map.ram pa request.len) (request.devices && is_device map.io pa request.len) pa request.access
 placed_by false map request pa = access_faults request.access
 
-behind_faults : (csrs : Csrs) (map : Map) (request : AccessRequest) (pa : Result ℕ Cause) → IfErr pa IsFault
+translated_faults : (csrs : Csrs) (map : Map) (request : AccessRequest) (pa : Result ℕ Cause) → IfErr pa IsFault
     → IfErr (place_after_translation csrs map request pa) IsFault
 unfolding place_of
-behind_faults csrs map request (Err cause) faults = faults
-behind_faults csrs map request (Ok pa) faults = placed_by (is_permitted csrs request pa) map request pa
+translated_faults csrs map request (Err cause) faults = faults
+translated_faults csrs map request (Ok pa) faults = placed_by (is_permitted csrs request pa) map request pa
 
 reach_faults : (csrs : Csrs) (map : Map) (request : AccessRequest) (va : ℕ) (bytes : Bytes)
     → IfErr ((virtual_place_of csrs map request va).run bytes).value IsFault
 unfolding virtual_place_of physical_address_of mapped
 reach_faults csrs map request va bytes =
-    behind_faults csrs map request _ (translated_by csrs map request va (is_translated csrs request.mode) bytes)
+    translated_faults csrs map request _ (translated_by csrs map request va (is_translated csrs request.mode) bytes)
 
 -- ---- fetches
 

@@ -84,11 +84,11 @@ take_push [] i x is = absurd cc
 take_push (y ∷ xs) zero x is = let same : x ≡ y = cc in rw same refl
 take_push (y ∷ xs) (suc i) x is = ap (λ more. y ∷ more) (take_push xs i x is)
 
-get_behind : {A : Type 0} (xs : List A) (i j : ℕ) → slice_get (drop i xs) j ≡ slice_get xs (i + j)
-get_behind [] zero j = refl
-get_behind [] (suc i) j = refl
-get_behind (y ∷ xs) zero j = let same : 0 + j ≡ j = omega arith in rw same refl
-get_behind (y ∷ xs) (suc i) j = let same : suc i + j ≡ suc (i + j) = omega arith in rw same (get_behind xs i j)
+get_after : {A : Type 0} (xs : List A) (i j : ℕ) → slice_get (drop i xs) j ≡ slice_get xs (i + j)
+get_after [] zero j = refl
+get_after [] (suc i) j = refl
+get_after (y ∷ xs) zero j = let same : 0 + j ≡ j = omega arith in rw same refl
+get_after (y ∷ xs) (suc i) j = let same : suc i + j ≡ suc (i + j) = omega arith in rw same (get_after xs i j)
 
 pub part_turn : (start number : ℕ) (lines part : List (List ℕ)) (line : List ℕ) → start ≤ number
     → Some line ≡ slice_get lines number → part ≡ take (number - start) (drop start lines)
@@ -97,7 +97,7 @@ part_turn start number lines part line from here so_far =
     let at : number ≡ start + (number - start) = omega (arith, from) in
     let more : number + 1 - start ≡ suc (number - start) = omega (arith, from) in
     let there : Some line ≡ slice_get (drop start lines) (number - start) =
-    here ∙ ap (λ n. slice_get lines n) at ∙ sym (get_behind lines start (number - start)) in
+    here ∙ ap (λ n. slice_get lines n) at ∙ sym (get_after lines start (number - start)) in
     rw (so_far, more) (take_push (drop start lines) (number - start) line there)
 
 -- no line feed stands in a line of a text

@@ -82,17 +82,17 @@ stands_by true map request pa =
     refl
 stands_by false map request pa = tt
 
-behind_stands : (csrs : Csrs) (map : Map) (request : AccessRequest) (pa : Result ℕ Cause)
+after_stands : (csrs : Csrs) (map : Map) (request : AccessRequest) (pa : Result ℕ Cause)
     → IfOk (place_after_translation csrs map request pa) (StandsIn map request.len)
 unfolding place_of
-behind_stands csrs map request (Err cause) = tt
-behind_stands csrs map request (Ok pa) = stands_by (is_permitted csrs request pa) map request pa
+after_stands csrs map request (Err cause) = tt
+after_stands csrs map request (Ok pa) = stands_by (is_permitted csrs request pa) map request pa
 
 reach_stands : (csrs : Csrs) (map : Map) (request : AccessRequest) (va : ℕ) (bytes : Bytes)
     → IfOk ((virtual_place_of csrs map request va).run bytes).value (StandsIn map request.len)
 unfolding virtual_place_of mapped
 reach_stands csrs map request va bytes =
-    behind_stands csrs map request ((physical_address_of csrs map request va).run bytes).value
+    after_stands csrs map request ((physical_address_of csrs map request va).run bytes).value
 
 address_stands : (map : Map) (va len : ℕ) (place : Result Place Cause) → IfOk place (StandsIn map len)
     → IfOk (with_address va place) (StandsIn map len)

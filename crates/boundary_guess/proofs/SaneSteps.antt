@@ -122,14 +122,14 @@ retired_sane core i value next sane small fits even = record {
   csrs = sane.csrs;
 }
 
-behind_even : (pc len : ℕ) → pc % 2 ≡ 0 → len % 2 ≡ 0 → (pc + len) % 2 ^ 64 % 2 ≡ 0
-behind_even pc len even short = omega (arith, even, short)
+after_even : (pc len : ℕ) → pc % 2 ≡ 0 → len % 2 ≡ 0 → (pc + len) % 2 ^ 64 % 2 ≡ 0
+after_even pc len even short = omega (arith, even, short)
 
 goes_on_sane : (core : Core) (i : Instruction) (value : ℕ) → IsSane core → IsInstruction i → value < 2 ^ 64
     → IsSane (core_at_next core i value)
 goes_on_sane core i value sane is small =
     retired_sane core i value ((core.pc + i.len) % 2 ^ 64) sane small (mod_below (core.pc + i.len) (2 ^ 64) (lit< tt))
-    (behind_even core.pc i.len sane.sound.even is.even)
+    (after_even core.pc i.len sane.sound.even is.even)
 
 -- the same state with other fields is as sound
 reserved_sane : (core : Core) (answer : AccessResult) → IsSane core

@@ -56,11 +56,11 @@ ended bytes_of start rows verdict accesses footprint whole is = record {
 
 -- all rows agreed
 pub agreed : {M : Type 0} (bytes_of : M → Bytes) (start : HartState) (rows : List RowReading) (hart : Hart M)
-    (count valid : ℕ) (accesses : List Accesses) (footprint : Footprint)
+    {count valid : ℕ} {accesses : List Accesses} {footprint : Footprint}
     → judgement_at (Agrees count valid) (Some hart.core) accesses ≡ judgement_from by_hart start rows
     → bytes_of hart.mem ≡ after_writes (writes_of accesses) start.bytes → IsFootprintOf footprint accesses
     → IsJudgement bytes_of start rows (record { verdict = Agrees count valid; end = Some hart; footprint = footprint })
-agreed bytes_of start rows hart count valid accesses footprint whole bytes is =
+agreed bytes_of start rows hart {count} {valid} {accesses} {footprint} whole bytes is =
     let here : Some (state_of bytes_of hart) ≡ end_with (Some hart.core) start accesses = rw bytes refl in
     record {
       verdict = ap (λ judgement. judgement.verdict) whole;

@@ -28,12 +28,12 @@ counted_twice rows valid more others (Refused row fault) =
     let first : rows + (more + row) ≡ rows + more + row = omega arith in rw first refl
 
 -- what comes after a verdict is counted on with it
-counted_behind : (rows valid : ℕ) (first rest : Verdict)
+counted_after : (rows valid : ℕ) (first rest : Verdict)
     → verdict_of_both (verdict_after_rows rows valid first) rest
     ≡ verdict_after_rows rows valid (verdict_of_both first rest)
-counted_behind rows valid (Agrees n m) rest = sym (counted_twice rows valid n m rest)
-counted_behind rows valid (Differs row difference) rest = refl
-counted_behind rows valid (Refused row fault) rest = refl
+counted_after rows valid (Agrees n m) rest = sym (counted_twice rows valid n m rest)
+counted_after rows valid (Differs row difference) rest = refl
+counted_after rows valid (Refused row fault) rest = refl
 
 -- a conclusion after so many rows
 abbrev counted : {C : Type 0} → ℕ → ℕ → Conclusion C → Conclusion C
@@ -46,31 +46,31 @@ followed_counted : {C : Type 0} (rows valid : ℕ) (verdict : Verdict) (end : Op
 followed_counted rows valid verdict None next = refl
 followed_counted rows valid verdict (Some state) next =
     ap (λ whole. record { verdict = whole; end = (next state).end })
-    (counted_behind rows valid verdict (next state).verdict)
+    (counted_after rows valid verdict (next state).verdict)
 
 -- one row, and the others after it
-abbrev state_behind : {C : Type 0} → Run (RowJudgement C) → Bytes → State C
-state_behind run bytes = record { core = run.value.next; bytes = after_writes run.wrote bytes }
+abbrev state_after : {C : Type 0} → Run (RowJudgement C) → Bytes → State C
+state_after run bytes = record { core = run.value.next; bytes = after_writes run.wrote bytes }
 
 abbrev state_with : {C : Type 0} → Bytes → C → State C
 state_with bytes core = record { core = core; bytes = bytes }
 
-end_behind : {C : Type 0} (judgement : Judgement C) (run : Run (RowJudgement C)) (bytes : Bytes) (end : Option C)
+end_after : {C : Type 0} (judgement : Judgement C) (run : Run (RowJudgement C)) (bytes : Bytes) (end : Option C)
     → option_map (state_with (after_writes (run.wrote ++ writes_of judgement.accesses) bytes)) end
     ≡ option_map (state_with (bytes_after_judgement judgement (after_writes run.wrote bytes))) end
-end_behind judgement run bytes end =
+end_after judgement run bytes end =
     ap (λ now. option_map (state_with now) end) (written_in_parts run.wrote (writes_of judgement.accesses) bytes)
 
 pub by_valid : {C : Type 0} (judging : Judging C) (state : State C) (shown : Shown) (rows : List RowReading)
     → ((judging state.core shown).run state.bytes).value.difference ≡ None
     → conclusion_from judging state (Ok (Some shown) ∷ rows)
-    ≡ counted 1 1 (conclusion_from judging (state_behind ((judging state.core shown).run state.bytes) state.bytes) rows)
+    ≡ counted 1 1 (conclusion_from judging (state_after ((judging state.core shown).run state.bytes) state.bytes) rows)
 unfolding conclusion_from judgement_of
 by_valid judging state shown rows agrees =
     let run = (judging state.core shown).run state.bytes in
     let rest = judgement_of judging run.value.next rows (after_writes run.wrote state.bytes) in
     rw agrees (ap (λ end. record { verdict = verdict_after_rows 1 1 rest.verdict; end = end })
-    (end_behind rest run state.bytes rest.end))
+    (end_after rest run state.bytes rest.end))
 
 pub by_different : {C : Type 0} (judging : Judging C) (state : State C) (shown : Shown) (rows : List RowReading)
     (difference : Difference) → ((judging state.core shown).run state.bytes).value.difference ≡ Some difference
@@ -84,11 +84,11 @@ unfolding conclusion_from judgement_of
 by_invalid judging state rows = refl
 
 valid_in_parts : {C : Type 0} (judging : Judging C) (state : State C) (shown : Shown) (rows others : List RowReading)
-    → JudgedInParts judging (state_behind ((judging state.core shown).run state.bytes) state.bytes) rows others
+    → JudgedInParts judging (state_after ((judging state.core shown).run state.bytes) state.bytes) rows others
     → (difference : Option Difference) → ((judging state.core shown).run state.bytes).value.difference ≡ difference
     → JudgedInParts judging state (Ok (Some shown) ∷ rows) others
 valid_in_parts judging state shown rows others later None is =
-    let next = state_behind ((judging state.core shown).run state.bytes) state.bytes in
+    let next = state_after ((judging state.core shown).run state.bytes) state.bytes in
     let first = conclusion_from judging next rows in
     by_valid judging state shown (rows ++ others) is
     ∙ ap (counted 1 1) later
@@ -128,5 +128,5 @@ in_parts judging state (Ok None ∷ rows) others =
     ∙ sym (ap (λ all. conclusion_then all (λ now. conclusion_from judging now others)) (by_invalid judging state rows))
 in_parts judging state (Ok (Some shown) ∷ rows) others =
     let run = (judging state.core shown).run state.bytes in
-    valid_in_parts judging state shown rows others (in_parts judging (state_behind run state.bytes) rows others)
+    valid_in_parts judging state shown rows others (in_parts judging (state_after run state.bytes) rows others)
     run.value.difference refl

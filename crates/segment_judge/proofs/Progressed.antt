@@ -24,7 +24,7 @@ use Rattle.read_footprint.specs.Sets.{IsFootprintOf, LiesInRam}
 use Rattle.segment_judge.specs.declared.progress.Progress.{Progress}
 use Rattle.segment_judge.specs.Standings.{RowGives, accesses_at}
 use Rattle.segment_judge.specs.Progress.{CanJudge, JudgesRow, standing}
-use Rattle.segment_judge.proofs.Turns.{agreed_gives, behind_valid, differing_gives, invalid_gives, performed_state}
+use Rattle.segment_judge.proofs.Turns.{agreed_gives, after_valid, differing_gives, invalid_gives, performed_state}
 use Rattle.segment_judge.proofs.Turns.{performed_touched, refused_gives}
 use Rattle.segment_judge.proofs.Within.{IsAdded, ReadLies, WriteLies, within_added}
 
@@ -63,32 +63,32 @@ pub record Stepped {M : Type 0} (bytes_of : M → Bytes) (before now : Progress 
       → IsFootprintOf now.footprint (rows ++ record { reads = seen; wrote = wrote } ∷ [])
   pub rows : now.counts.rows ≡ before.counts.rows + 1
 
-following : {M : Type 0} (bytes_of : M → Bytes) (before now : Progress M) (shown : Shown) (expected : Expected)
-    (seen : List Read) (wrote : List Write) (accesses : List Accesses)
+following : {M : Type 0} (bytes_of : M → Bytes) (before now : Progress M) {shown : Shown} {expected : Expected}
+    {seen : List Read} {wrote : List Write} (accesses : List Accesses)
     → Stepped bytes_of before now shown expected seen wrote
-    → behind_valid (standing bytes_of before accesses) shown now.counts.valid
+    → after_valid (standing bytes_of before accesses) shown now.counts.valid
     ≡ standing bytes_of now (accesses ++ accesses_at (state_of bytes_of before.hart) (Ok (Some shown)))
-following bytes_of before now shown expected seen wrote accesses step_of =
+following bytes_of before now {shown} {expected} {seen} {wrote} accesses step_of =
     rw (
       step_of.rows,
       performed_state (state_of bytes_of before.hart) shown now.hart.core expected seen wrote
           (bytes_of now.hart.mem) step_of.done,
     ) refl
 
-judges_by : {M : Type 0} (bytes_of : M → Bytes) (before now : Progress M) (shown : Shown) (expected : Expected)
-    (seen : List Read) (wrote : List Write) (accesses : List Accesses) (end : Option Verdict)
+judges_by : {M : Type 0} (bytes_of : M → Bytes) (before now : Progress M) {shown : Shown} {expected : Expected}
+    {seen : List Read} {wrote : List Write} (accesses : List Accesses) (end : Option Verdict)
     → Stepped bytes_of before now shown expected seen wrote
     → RowGives (standing bytes_of before accesses) (Ok (Some shown)) end
-    (behind_valid (standing bytes_of before accesses) shown now.counts.valid)
+    (after_valid (standing bytes_of before accesses) shown now.counts.valid)
     → JudgesRow bytes_of before now (Ok (Some shown)) end accesses
-judges_by bytes_of before now shown expected seen wrote accesses end step_of gives =
+judges_by bytes_of before now {shown} {expected} {seen} {wrote} accesses end step_of gives =
     let state = state_of bytes_of before.hart in
     let touches =
     performed_touched state shown now.hart.core expected seen wrote (bytes_of now.hart.mem) step_of.done in
     record {
       gives =
           subst (RowGives (standing bytes_of before accesses) (Ok (Some shown)) end)
-          (following bytes_of before now shown expected seen wrote accesses step_of) gives;
+          (following bytes_of before now accesses step_of) gives;
       footprint =
           λ is. subst (λ more. IsFootprintOf now.footprint (accesses ++ more)) (sym touches)
           (step_of.added accesses is);
@@ -96,36 +96,34 @@ judges_by bytes_of before now shown expected seen wrote accesses end step_of giv
           step_of.done.bytes_are ∙ ap (λ writes. after_writes writes (bytes_of before.hart.mem)) (sym (append-nil _));
     }
 
-expected_is : {M : Type 0} (bytes_of : M → Bytes) (before now : Progress M) (shown : Shown) (expected : Expected)
-    (seen : List Read) (wrote : List Write) → Stepped bytes_of before now shown expected seen wrote
+expected_is : {M : Type 0} (bytes_of : M → Bytes) (before now : Progress M) {shown : Shown} {expected : Expected}
+    {seen : List Read} {wrote : List Write} → Stepped bytes_of before now shown expected seen wrote
     → expected ≡ ((step_of before.hart.core shown).run (bytes_of before.hart.mem)).value.expected
-expected_is bytes_of before now shown expected seen wrote step_of = ap (λ gave. gave.expected) step_of.done.value_is
+expected_is bytes_of before now step_of = ap (λ gave. gave.expected) step_of.done.value_is
 
-pub judges_agreed : {M : Type 0} (bytes_of : M → Bytes) (before now : Progress M) (shown : Shown)
-    (expected : Expected) (seen : List Read) (wrote : List Write) (accesses : List Accesses)
+pub judges_agreed : {M : Type 0} (bytes_of : M → Bytes) (before now : Progress M) {shown : Shown}
+    {expected : Expected} {seen : List Read} {wrote : List Write} (accesses : List Accesses)
     → Stepped bytes_of before now shown expected seen wrote → now.counts.valid ≡ before.counts.valid + 1
     → difference_of expected shown ≡ None → JudgesRow bytes_of before now (Ok (Some shown)) None accesses
-judges_agreed bytes_of before now shown expected seen wrote accesses done valid agrees =
+judges_agreed bytes_of before now {shown} accesses done valid agrees =
     let start = standing bytes_of before accesses in
     let none : difference_of ((step_of before.hart.core shown).run (bytes_of before.hart.mem)).value.expected shown
     ≡ None =
-    ap (λ did. difference_of did shown) (sym (expected_is bytes_of before now shown expected seen wrote done))
-    ∙ agrees in
-    judges_by bytes_of before now shown expected seen wrote accesses None done
-    (subst (λ count. RowGives start (Ok (Some shown)) None (behind_valid start shown count)) (sym valid)
+    ap (λ did. difference_of did shown) (sym (expected_is bytes_of before now done)) ∙ agrees in
+    judges_by bytes_of before now accesses None done
+    (subst (λ count. RowGives start (Ok (Some shown)) None (after_valid start shown count)) (sym valid)
     (agreed_gives start shown none))
 
-pub judges_differing : {M : Type 0} (bytes_of : M → Bytes) (before now : Progress M) (shown : Shown)
-    (expected : Expected) (seen : List Read) (wrote : List Write) (accesses : List Accesses) (difference : Difference)
+pub judges_differing : {M : Type 0} (bytes_of : M → Bytes) (before now : Progress M) {shown : Shown}
+    {expected : Expected} {seen : List Read} {wrote : List Write} (accesses : List Accesses) {difference : Difference}
     → Stepped bytes_of before now shown expected seen wrote → difference_of expected shown ≡ Some difference
     → JudgesRow bytes_of before now (Ok (Some shown)) (Some (Differs now.counts.rows difference)) accesses
-judges_differing bytes_of before now shown expected seen wrote accesses difference done differs =
+judges_differing bytes_of before now {shown} accesses {difference} done differs =
     let start = standing bytes_of before accesses in
     let some : difference_of ((step_of before.hart.core shown).run (bytes_of before.hart.mem)).value.expected shown
     ≡ Some difference =
-    ap (λ did. difference_of did shown) (sym (expected_is bytes_of before now shown expected seen wrote done))
-    ∙ differs in
-    judges_by bytes_of before now shown expected seen wrote accesses (Some (Differs now.counts.rows difference)) done
+    ap (λ did. difference_of did shown) (sym (expected_is bytes_of before now done)) ∙ differs in
+    judges_by bytes_of before now accesses (Some (Differs now.counts.rows difference)) done
     (rw done.rows (differing_gives start shown difference some))
 
 -- the next row may be judged too

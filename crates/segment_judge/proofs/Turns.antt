@@ -59,8 +59,8 @@ abbrev expected_at : HartState → Shown → Expected
 expected_at state shown = ((step_of state.core shown).run state.bytes).value.expected
 
 -- after a valid row
-abbrev pub behind_valid : Standing → Shown → ℕ → Standing
-behind_valid before shown valid = record {
+abbrev pub after_valid : Standing → Shown → ℕ → Standing
+after_valid before shown valid = record {
   state = after_row before.state shown;
   rows = before.rows + 1;
   valid = valid;
@@ -68,7 +68,7 @@ behind_valid before shown valid = record {
 }
 
 pub agreed_gives : (before : Standing) (shown : Shown) → difference_of (expected_at before.state shown) shown ≡ None
-    → RowGives before (Ok (Some shown)) None (behind_valid before shown (before.valid + 1))
+    → RowGives before (Ok (Some shown)) None (after_valid before shown (before.valid + 1))
 unfolding judgement_after judgement_of by_hart mapped
 agreed_gives before shown agrees rows =
     let now = after_row before.state shown in
@@ -78,7 +78,7 @@ agreed_gives before shown agrees rows =
 pub differing_gives : (before : Standing) (shown : Shown) (difference : Difference)
     → difference_of (expected_at before.state shown) shown ≡ Some difference
     → RowGives before (Ok (Some shown)) (Some (Differs (before.rows + 1) difference))
-    (behind_valid before shown before.valid)
+    (after_valid before shown before.valid)
 unfolding judgement_after judgement_of by_hart mapped
 differing_gives before shown difference differs rows = rw differs refl
 

@@ -82,9 +82,8 @@ returns-clause-judged g c =
     rows_end (standing bytes_of before c.loop-place.invariant.accesses) (readings_in c.args.rows.now)
     c.loop-place.place _ (omega (arith, c.loop-place-test.false, c.len-place-end.ensures.count))
     c.loop-place.invariant.whole in
-    agreed bytes_of (state_of bytes_of c.args.start) (readings_in c.args.rows.now) before.hart before.counts.rows
-    before.counts.valid c.loop-place.invariant.accesses before.footprint end c.loop-place.invariant.bytes
-    c.loop-place.invariant.footprint
+    agreed bytes_of (state_of bytes_of c.args.start) (readings_in c.args.rows.now) before.hart end
+    c.loop-place.invariant.bytes c.loop-place.invariant.footprint
 
 pub returns-clause-stands : goal.returns-clause-stands
 returns-clause-stands g c =

@@ -19,8 +19,8 @@ add-requires-clause-writes g c =
 
 pub returns-in-Some-clause-judges : goal.returns-in-Some-clause-judges
 returns-in-Some-clause-judges g c = λ accesses.
-    judges_differing g.M.PhysMem.bytes c.args.self.now _ (shown_in c.args.row.now) c.in-Ok.stepped.expected
-    c.in-Ok.stepped.seen c.in-Ok.stepped.wrote accesses c.in-Some.difference
+    judges_differing g.M.PhysMem.bytes c.args.self.now _ {shown = shown_in c.args.row.now}
+    {expected = c.in-Ok.stepped.expected} {seen = c.in-Ok.stepped.seen} {wrote = c.in-Ok.stepped.wrote} accesses
     (record {
       done =
           (IfOk-at_ok _ c.in-Ok.is c.step-done.ensures.stepped);
@@ -31,8 +31,8 @@ returns-in-Some-clause-judges g c = λ accesses.
 
 pub returns-in-None-clause-judges : goal.returns-in-None-clause-judges
 returns-in-None-clause-judges g c = λ accesses.
-    judges_agreed g.M.PhysMem.bytes c.args.self.now _ (shown_in c.args.row.now) c.in-Ok.stepped.expected
-    c.in-Ok.stepped.seen c.in-Ok.stepped.wrote accesses
+    judges_agreed g.M.PhysMem.bytes c.args.self.now _ {shown = shown_in c.args.row.now}
+    {expected = c.in-Ok.stepped.expected} {seen = c.in-Ok.stepped.seen} {wrote = c.in-Ok.stepped.wrote} accesses
     (record {
       done =
           (IfOk-at_ok _ c.in-Ok.is c.step-done.ensures.stepped);
