@@ -315,7 +315,8 @@ part_passes {M} {bytes_of} {ram_of} {columns} (Some file) job remaining done pas
         → FollowsPartBy remaining.progress.counts done verdict end passed
         → PassesPart job columns bytes_of file remaining passed
     by (Agrees rows valid) (Some hart) (Continue next) agrees state counted =
-        (continues rows valid hart next counted agrees state, ap (λ (taker : LineTaker). taker.name) counted.taker ∙ is.takes.name)
+        let name = ap (λ (taker : LineTaker). taker.name) counted.taker ∙ is.takes.name in
+        (continues rows valid hart next counted agrees state, name)
     by (Agrees rows valid) (Some hart) (Ends end) agrees state follows = absurd follows
     by (Agrees rows valid) None (Continue next) agrees none follows = absurd follows
     by (Agrees rows valid) None (Ends end) agrees none follows = ends (Agrees rows valid) end agrees none follows

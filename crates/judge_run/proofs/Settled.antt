@@ -174,7 +174,7 @@ this_and_rest {M} {bytes_of} {ram_of} {columns} {segments} {settling} {round} re
       (
         next.over.is_round,
         subst
-            (λ pieces. GoOn (round_of bytes_of round).end rest (λ after_round. AreRounds after_round columns pieces rest))
+            (λ left. GoOn (round_of bytes_of round).end rest (λ after_round. AreRounds after_round columns left rest))
             (sym (left_after segments settling.tally.settled round.settled)) on,
       ),
     )
@@ -455,11 +455,11 @@ IsTalliedAfter ram_of columns segments tally (Continue next) =
 IsTalliedAfter ram_of columns segments tally (Ends joined) = Unit {0}
 
 part_tallied : {M : Type 0} {bytes_of : M → Bytes} {ram_of : M → Span} {columns : ColumnList}
-    {segments : List Segment} {settling : Settling M} {round : Round M} (next : AfterRound M)
+    {segments : List Segment} {round : Round M} (settling : Settling M) (next : AfterRound M)
     → IsTallied columns segments settling.tally
     → IsPartOver bytes_of ram_of columns (drop settling.tally.settled segments) (state_of bytes_of settling.hart)
     round → LeadsTo settling.tally round next → IsTalliedAfter ram_of columns segments settling.tally next
-part_tallied {M} {bytes_of} {ram_of} {columns} {segments} {settling} {round} next tallied over leads =
+part_tallied {M} {bytes_of} {ram_of} {columns} {segments} {round} settling next tallied over leads =
     by round.verdict round.end next (part_within round over) over.can_step leads
   where
     tally : Tally
@@ -512,7 +512,7 @@ leads_on {M} {bytes_of} {ram_of} {columns} {segments} {start} {before} {now} {la
       follows =
           subst (λ count. Followed bytes_of columns segments start before count next) (sym counted)
           (round_follows next is_next so_far leads.leads);
-      tallied = part_tallied next tallied (part_of_next is_next) leads.leads;
+      tallied = part_tallied settling next tallied (part_of_next is_next) leads.leads;
     }
 
 -- what the join of a round promises of it
@@ -604,21 +604,27 @@ none_rejudged {M} {bytes_of} {columns} {segments} {start} joined sound words sho
     settles.rejudged ∙ none_again start columns (map segment_lines segments) settles.rounds settles.are shown
 
 -- what is promised of segments that rounds settled, in one
+pub record PromisesRounds {M E : Type 0} (bytes_of : M → Bytes) (ram_of : M → Span) (columns : ColumnList)
+    (segments : List Segment) (start : HartState) (before now : ℕ) (result : Result (JoinedSegments M) E)
+    : Type 0 where
+  pub settles : IfOk result (SettlesInRounds bytes_of columns segments start before now)
+  pub can_step : IfOk result (λ joined. IfSome joined.end (CanStep ram_of))
+
 pub settled_by_rounds : {M E : Type 0} {bytes_of : M → Bytes} {ram_of : M → Span} {columns : ColumnList}
     {segments : List Segment} {start : HartState} {before now : ℕ} (result : Result (JoinedSegments M) E)
-    → IsSound start.core → HoldsWords start → IfOk result (SettlesInRounds bytes_of columns segments start before now)
-    → IfOk result (λ joined. IfSome joined.end (CanStep ram_of))
+    → IsSound start.core → HoldsWords start
+    → PromisesRounds bytes_of ram_of columns segments start before now result
     → IfOk result (IsSettled bytes_of ram_of columns segments start)
-settled_by_rounds (Err error) sound words settles can_step = tt
+settled_by_rounds (Err error) sound words promised = tt
 settled_by_rounds {M} {E} {bytes_of} {ram_of} {columns} {segments} {start} {before} {now} (Ok joined) sound words
-    settles can_step =
-    let all = come_to joined settles in
+    promised =
+    let all = come_to joined promised.settles in
     record {
       verdict = all.verdict;
       end = all.end;
-      can_step = can_step;
+      can_step = promised.can_step;
       again = by all.at_most_segments all.count;
-      once = λ shows. none_rejudged joined sound words shows settles;
+      once = λ shows. none_rejudged joined sound words shows promised.settles;
     }
   where
     by : now ≤ before + length segments → (now ≡ before + joined.rejudged) ⊎ (now ≡ before + joined.rejudged + 1)

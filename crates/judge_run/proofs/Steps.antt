@@ -12,6 +12,7 @@ use Rattle.trace_report.specs.declared.outcome.Outcome.{Outcome}
 use Rattle.trace_report.specs.declared.outcome.Ruling.TheVariants.{ImageTooLarge, NoJob}
 use Rattle.image_text.specs.declared.fault.ImageFault.{ImageFault}
 use Rattle.image_text.specs.Image.{image_of}
+use Rattle.page_image.specs.declared.image.PageImage.{PageImage}
 use Rattle.trace_lines.specs.declared.piece.Ending.{Ending}
 use Rattle.trace_lines.specs.Lines.{file_lines}
 use Rattle.rvfi_rows.specs.declared.fault.HeaderFault.{HeaderFault}
@@ -89,8 +90,8 @@ lacks_trace {X} {view} {job} {name} {image} (Some files) trace image_is lacks =
     goes_on job (files name) (files trace) (view image) image_is.read ∙ lacks
 
 -- the misses
-pub missed_memory : {X : Type 0} (files : Option Files) (job : JobView) (image trace : List ℕ) (stop : Stop)
-    (before now : ℕ) → MissesStop {X = X} (Err stop) files (λ files. memory_of job (files image)) before now
+pub missed_memory : (files : Option Files) (job : JobView) (image trace : List ℕ) (stop : Stop)
+    (before now : ℕ) → MissesStop {X = PageImage} (Err stop) files (λ files. memory_of job (files image)) before now
     → MissesStop {X = Outcome} (Err stop) files (λ files. job_outcome job (files image) (files trace)) before now
 missed_memory files job image trace (Known outcome) before now misses = misses
 missed_memory files job image trace NoMemory before now misses = misses

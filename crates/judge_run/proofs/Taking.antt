@@ -99,12 +99,18 @@ take_on {file} {first} {next} {before} {middle} {after} {lines} piece taken take
       name = takes.name ∙ taken.name;
     }
 
-pub take_on_told : {first next : ℕ} {before middle after : LineTaker} {lines : List (List ℕ)}
-    (file : Option (List ℕ)) (piece : Piece) → TakesSoFarWhereKnown file first before lines middle
-    → TakesWhereKnown file next middle piece after → piece.ending ≡ endings.More → FitsAsked next piece
-    → TakesSoFarWhereKnown file (first + next) before (lines ++ piece.lines) after
-take_on_told None piece taken takes more fits = tt
-take_on_told (Some file) piece taken takes more fits = take_on piece taken takes more fits
+-- a call after others, of the same file
+pub record TakesNext (file : Option (List ℕ)) (first next : ℕ) (before middle after : LineTaker)
+    (lines : List (List ℕ)) (piece : Piece) : Type 0 where
+  pub so_far : TakesSoFarWhereKnown file first before lines middle
+  pub takes : TakesWhereKnown file next middle piece after
+  pub fits : FitsAsked next piece
+
+pub take_on_told : {first next : ℕ} {before middle after : LineTaker} {lines : List (List ℕ)} {piece : Piece}
+    (file : Option (List ℕ)) → TakesNext file first next before middle after lines piece
+    → piece.ending ≡ endings.More → TakesSoFarWhereKnown file (first + next) before (lines ++ piece.lines) after
+take_on_told None is more = tt
+take_on_told {piece = piece} (Some file) is more = take_on piece is.so_far is.takes more is.fits
 
 -- as many as were asked for
 front_whole : (asked : ℕ) (left : RemainingLines) → asked ≤ length left.lines
@@ -164,22 +170,22 @@ take_last {file} {first} {next} {before} {middle} {after} {lines} asked piece ta
     fewer (endings.TooLong line) fits last = fits
     fewer endings.TooLarge fits last = fits
 
-pub take_last_told : {first next : ℕ} {before middle after : LineTaker} {lines : List (List ℕ)}
-    (file : Option (List ℕ)) (asked : ℕ) (piece : Piece) → TakesSoFarWhereKnown file first before lines middle
-    → TakesWhereKnown file next middle piece after → FitsAsked next piece → (piece.ending ≡ endings.More → ⊥)
-    → first + next ≤ asked → TakesLinesWhereKnown file asked before (lines ++ piece.lines) piece.ending after
-take_last_told None asked piece taken takes fits last within = tt
-take_last_told (Some file) asked piece taken takes fits last within =
-    take_last asked piece taken takes fits last within
+pub take_last_told : {first next : ℕ} {before middle after : LineTaker} {lines : List (List ℕ)} {piece : Piece}
+    (file : Option (List ℕ)) (asked : ℕ) → TakesNext file first next before middle after lines piece
+    → (piece.ending ≡ endings.More → ⊥) → first + next ≤ asked
+    → TakesLinesWhereKnown file asked before (lines ++ piece.lines) piece.ending after
+take_last_told None asked is last within = tt
+take_last_told {piece = piece} (Some file) asked is last within =
+    take_last asked piece is.so_far is.takes is.fits last within
 
 -- how many lines there are
-pub fits_last : {first next count more : ℕ} (asked : ℕ) (ending : Ending) → count ≡ first
+pub fits_last : {first count : ℕ} (next more asked : ℕ) (ending : Ending) → count ≡ first
     → FitsEnding ending next more → (ending ≡ endings.More → ⊥) → first + next ≤ asked
     → FitsEnding ending asked (count + more)
-fits_last asked endings.More so_far fits last within = absurd (last refl)
-fits_last asked endings.End so_far fits last within = omega (arith, so_far, fits, within)
-fits_last asked (endings.TooLong line) so_far fits last within = omega (arith, so_far, fits, within)
-fits_last asked endings.TooLarge so_far fits last within = omega (arith, so_far, fits, within)
+fits_last next more asked endings.More so_far fits last within = absurd (last refl)
+fits_last next more asked endings.End so_far fits last within = omega (arith, so_far, fits, within)
+fits_last next more asked (endings.TooLong line) so_far fits last within = omega (arith, so_far, fits, within)
+fits_last next more asked endings.TooLarge so_far fits last within = omega (arith, so_far, fits, within)
 
 -- so many lines were taken of a file that was there
 pub record TakesInFile (files : Option Files) (asked : ℕ) (before : LineTaker) (lines : List (List ℕ))
@@ -203,12 +209,12 @@ exists_after {asked} {before} {after} {lines} (Some files) is =
         subst IsSome (sym again) refl
 
 -- a call of a taker that stands further on in the same file
-pub takes_on : {asked next : ℕ} {before middle after : LineTaker} {lines : List (List ℕ)} {piece : Piece}
-    (files : Option Files) → TakesInFile files asked before lines middle
+pub takes_on : {asked : ℕ} {before middle : LineTaker} {lines : List (List ℕ)} (files : Option Files) (next : ℕ)
+    (piece : Piece) (after : LineTaker) → TakesInFile files asked before lines middle
     → TakesWhereKnown (file_of files (string_bytes middle.name)) next middle piece after
     → TakesWhereKnown (file_of files (string_bytes before.name)) next middle piece after
-takes_on None is takes = tt
-takes_on {asked} {next} {before} {middle} {after} {lines} {piece} (Some files) is takes =
+takes_on None next piece after is takes = tt
+takes_on {asked} {before} {middle} {lines} (Some files) next piece after is takes =
     by (files (string_bytes before.name)) refl is.file_exists is.taken
   where
     by : (file : Option (List ℕ)) → files (string_bytes before.name) ≡ file → IsSome file
@@ -335,25 +341,29 @@ no_turns endings.End last = refl
 no_turns (endings.TooLong line) last = refl
 no_turns endings.TooLarge last = refl
 
--- what is promised of segments that were taken, in one
+-- what is promised of segments that were taken: so many at most, each of so many lines
+pub record TakesAsked (asked segment : ℕ) (before : LineTaker) (result : Result (Taken × LineTaker) LineError)
+    : Type 0 where
+  pub counts : IfOk result
+      (λ taken. FitsEnding taken.0.ending (asked * segment) (length (taken_lines taken.0)))
+  pub at_most_asked : IfOk result (λ taken. length taken.0.segments.items ≤ asked)
+  pub full : IfOk result (λ taken. length taken.0.segments.items ≤ length (taken_lines taken.0))
+  pub room : IfOk result (λ taken. length (taken_lines taken.0) + room_of taken.1 ≤ room_of before)
+
 pub taken_are : {segment : ℕ} {before : LineTaker} (asked : Asked) (result : Result (Taken × LineTaker) LineError)
-    → 0 < segment → asked.ending ≡ endings.More
-    → IfOk result (λ taken. FitsEnding taken.0.ending (asked.segments * segment) (length (taken_lines taken.0)))
-    → IfOk result (λ taken. length taken.0.segments.items ≤ asked.segments)
-    → IfOk result (λ taken. length taken.0.segments.items ≤ length (taken_lines taken.0))
-    → IfOk result (λ taken. length (taken_lines taken.0) + room_of taken.1 ≤ room_of before)
+    → 0 < segment → asked.ending ≡ endings.More → TakesAsked asked.segments segment before result
     → IfOk result (λ taken. TakesSegments asked before taken.0.segments.items taken.0.ending taken.1)
-taken_are {segment} {before} asked (Ok taken) one more fits at_most full room = record {
-  at_most_asked = at_most;
-  full = full;
-  room = room;
+taken_are {segment} {before} asked (Ok taken) one more took = record {
+  at_most_asked = took.at_most_asked;
+  full = took.full;
+  room = took.room;
   ending =
       let most = at_most_one_turn taken.0.ending in
       let turns : more_turns asked.ending ≡ 1 = ap more_turns more in omega (arith, most, turns);
   nonempty_where_more = λ some.
-      some_taken asked.segments segment taken.0.ending taken.0.segments.items some one fits;
+      some_taken asked.segments segment taken.0.ending taken.0.segments.items some one took.counts;
 }
-taken_are asked (Err error) one more fits at_most full room = tt
+taken_are asked (Err error) one more took = tt
 
 pub none_are : (asked : Asked) (taker : LineTaker) (segments : List Segment) → segments ≡ []
     → (asked.ending ≡ endings.More → ⊥) → TakesSegments asked taker segments asked.ending taker

@@ -10,11 +10,12 @@ wrote_none None text = refl
 wrote_none (Some bytes) text = ap (λ all. Some all) (sym (append-nil bytes))
 
 -- some bytes more
-pub wrote_more : {before now later : Option (List ℕ)} {text piece : List ℕ} (done count : ℕ) → piece ≡ drop done text
+pub wrote_more : {now later : Option (List ℕ)} {piece : List ℕ} (before : Option (List ℕ)) (text : List ℕ)
+    (done count : ℕ) → piece ≡ drop done text
     → now ≡ option_map (λ bytes. bytes ++ take done text) before
     → later ≡ option_map (held_after (Ok count) piece) now
     → later ≡ option_map (λ bytes. bytes ++ take (done + count) text) before
-wrote_more {before} {now} {later} {text} {piece} done count rest so_far after =
+wrote_more {now} {later} {piece} before text done count rest so_far after =
     after ∙ ap (λ held. option_map (held_after (Ok count) piece) held) so_far ∙ by before
   where
     by : (held : Option (List ℕ))

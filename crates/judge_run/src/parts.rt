@@ -84,7 +84,9 @@ where
     let mut unread = Some(next);
     let mut start = Some(progress.hart);
     let mut from = Some(progress.taker);
-    let mut read = || read_from(workers, columns, &mut unread);
+    let mut read = || -> Result<Vec<Segment>, NoMemory>
+        requires { IsSome unread }
+    { read_from(workers, columns, &mut unread) };
     let mut settle = || -> Result<Joined<M>, NoMemory>
         requires { IsSome start × (IfSome start (CanStep M.ram) × ((length current.now < 2 ^ 32)
             × (row_count_of columns.now current.now < 2 ^ 60))) }

@@ -1,6 +1,5 @@
 use Rattle.judge_words.specs.Job.{job_view}
 use Rattle.page_image.specs.Bytes.{byte_of}
-use Rattle.page_image.specs.declared.image.PageImage.{PageImage}
 use Rattle.judge_run.proofs.Steps.{ReadsImage, job_stop, job_trace, missed_memory, missed_trace}
 use Rattle.judge_run.proofs.jobs.judge_files.Goals as goal
 
@@ -11,7 +10,7 @@ returns-in-Err-clause-meant g c =
 
 pub returns-in-Err-clause-misses : goal.returns-in-Err-clause-misses
 returns-in-Err-clause-misses g c =
-    missed_memory {X = PageImage} (g.H.Shelf.known_files c.args.shelf.now) (job_view c.args.job.now) c.args.image.now
+    missed_memory (g.H.Shelf.known_files c.args.shelf.now) (job_view c.args.job.now) c.args.image.now
     c.args.trace.now c.in-Err.stop (g.H.Shelf.misses c.args.shelf.now) (g.H.Shelf.misses c.read_memory.new.shelf)
     c.in-Err.ensures.misses
 

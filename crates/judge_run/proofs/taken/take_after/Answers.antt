@@ -2,7 +2,7 @@ use Rattle.std.proofs.Common.{◌≡◌, ◌∙◌, false, true, sym, string_byt
 use Rattle.judge_words.specs.Job.{job_view}
 use Rattle.outside_ports.specs.Ports.{file_of}
 use Rattle.judge_run.specs.Taking.{most_lines}
-use Rattle.judge_run.proofs.Taking.{none_are, result_after, taken_are}
+use Rattle.judge_run.proofs.Taking.{TakesAsked, none_are, result_after, taken_are}
 use Rattle.judge_run.proofs.taken.take_after.Goals as goal
 
 pub returns-then-is_more-clause-takes : goal.returns-then-is_more-clause-takes
@@ -15,8 +15,10 @@ returns-then-is_more-clause-takes g c =
 pub returns-then-is_more-clause-taken : goal.returns-then-is_more-clause-taken
 returns-then-is_more-clause-taken g c =
     let took = c.take_segments.ensures in
+    let asked : TakesAsked c.args.asked.segments c.args.job.now.sharing.segment c.args.taker c.take_segments.result =
+    record { counts = took.counts; at_most_asked = took.at_most_asked; full = took.full; room = took.room } in
     taken_are c.args.asked c.take_segments.result c.requires.lawful.sharing.segment.0
-    (c.is_more.ensures.0 c.if-is_more.true) took.counts took.at_most_asked took.full took.room
+    (c.is_more.ensures.0 c.if-is_more.true) asked
 
 pub returns-else-is_more-clause-taken : goal.returns-else-is_more-clause-taken
 returns-else-is_more-clause-taken g c =

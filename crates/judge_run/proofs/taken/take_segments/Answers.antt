@@ -8,8 +8,8 @@ use Rattle.trace_lines.specs.declared.piece.Ending.TheVariants.{More}
 use Rattle.trace_lines.specs.Pieces.{FitsEnding}
 use Rattle.trace_lines.specs.Takers.{TakesWhereKnown}
 use Rattle.judge_run.specs.Taking.{TakesLinesWhereKnown, TakesSoFarWhereKnown, most_lines}
-use Rattle.judge_run.proofs.Taking.{TakesInFile, begins, fits_last, next_lines_are, next_within, no_lines, take_last_told}
-use Rattle.judge_run.proofs.Taking.{exists_after, take_on_told, takes_on, takes_whole}
+use Rattle.judge_run.proofs.Taking.{TakesInFile, TakesNext, begins, exists_after, fits_last, next_lines_are}
+use Rattle.judge_run.proofs.Taking.{next_within, no_lines, take_last_told, take_on_told, takes_on, takes_whole}
 use Rattle.judge_run.proofs.taken.take_segments.Goals as goal
 
 pub segments-init : goal.segments-init
@@ -48,13 +48,14 @@ returns-then-not-is_more-clause-takes g c =
     inv.known_files c.in-Ok.ensures.takes in
     let before : TakesInFile known_files first c.args.taker lines middle =
     record { file_exists = c.requires.file_exists; taken = inv.taken } in
-    let takes = takes_on known_files before here in
+    let takes = takes_on known_files segment piece after before here in
+    let next : TakesNext file first segment c.args.taker middle after lines piece =
+    record { so_far = inv.taken; takes = takes; fits = c.in-Ok.ensures.counts } in
     let within = next_within c.segments.counter c.args.asked segment c.segments-test.true in
     subst
     (λ text. TakesLinesWhereKnown file (most_lines (job_view c.args.job.now) c.args.asked) c.args.taker text
     piece.ending after) (sym c.in-Ok-push_lines.ensures.lines)
-    (take_last_told file (most_lines (job_view c.args.job.now) c.args.asked) piece inv.taken takes
-    c.in-Ok.ensures.counts
+    (take_last_told file (most_lines (job_view c.args.job.now) c.args.asked) next
     (λ more. let never : c.is_more.result ≡ true =
     c.is_more.ensures.1 more in let other : false ≡ true = sym c.if-not-is_more.true ∙ never in cc) within)
 
@@ -66,7 +67,8 @@ returns-then-not-is_more-clause-counts g c =
     let within = next_within c.segments.counter c.args.asked segment c.segments-test.true in
     let many = ap length c.in-Ok-push_lines.ensures.lines ∙ length-append lines piece.lines in
     subst (λ count. FitsEnding piece.ending (most_lines (job_view c.args.job.now) c.args.asked) count) (sym many)
-    (fits_last (most_lines (job_view c.args.job.now) c.args.asked) piece.ending c.segments.invariant.count
+    (fits_last segment (length piece.lines) (most_lines (job_view c.args.job.now) c.args.asked) piece.ending
+    c.segments.invariant.count
     c.in-Ok.ensures.counts
     (λ more. let never : c.is_more.result ≡ true =
     c.is_more.ensures.1 more in let other : false ≡ true = sym c.if-not-is_more.true ∙ never in cc) within)
@@ -88,11 +90,13 @@ segments-preserved g c =
     inv.known_files c.in-Ok.ensures.takes in
     let before : TakesInFile known_files first c.args.taker lines middle =
     record { file_exists = c.requires.file_exists; taken = inv.taken } in
-    let takes = takes_on known_files before here in
+    let takes = takes_on known_files segment piece after before here in
+    let call : TakesNext file first segment c.args.taker middle after lines piece =
+    record { so_far = inv.taken; takes = takes; fits = c.in-Ok.ensures.counts } in
     let more : piece.ending ≡ More = c.is_more.ensures.0 c.if-not-is_more.false in
     let whole : length piece.lines ≡ segment =
     subst (λ ending. FitsEnding ending segment (length piece.lines)) more c.in-Ok.ensures.counts in
-    let taken = take_on_told file piece inv.taken takes more c.in-Ok.ensures.counts in
+    let taken = take_on_told file call more in
     let so_far : TakesInFile known_files (first + segment) c.args.taker (lines ++ piece.lines) after =
     record { file_exists = c.requires.file_exists; taken = taken } in
     let next = next_lines_are c.segments.counter segment in
