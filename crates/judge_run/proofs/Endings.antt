@@ -21,9 +21,6 @@ use Rattle.judge_run.specs.declared.stop.Stop.{Stop}
 use Rattle.judge_run.specs.declared.stop.Stop.TheVariants.{Known, ReadFault, NoMemory}
 use Rattle.hart_words.specs.Memory.{Bytes}
 use Rattle.hart_step.specs.Cores.{core_at_reset}
-use Rattle.hart_step.specs.declared.hart.Hart.{Hart}
-use Rattle.hart_step.specs.Harts.{state_of}
-use Rattle.hart_step.specs.Rows.{HartState}
 use Rattle.segment_judge.specs.Laws.{conclusion_from}
 use Rattle.judge_run.specs.declared.progress.Progress.{Progress}
 use Rattle.judge_run.specs.declared.progress.TraceEnd.{TraceEnd}

@@ -1,5 +1,4 @@
 -- Progress by one row.
-use Rattle.std.specs.Prelude.{◌||◌, ◌&&◌, not}
 use Rattle.std.proofs.Common.{◌≡◌, ℕ, ◌+◌, All, List, [], ◌∷◌, ◌++◌, Option, Some, None, Ok, Err, refl, sym, ap, ◌∙◌}
 use Rattle.std.proofs.Common.{subst, append-nil, arith}
 use Rattle.hart_words.specs.declared.accesses.Read.{Read}

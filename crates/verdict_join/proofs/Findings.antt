@@ -70,7 +70,8 @@ module _ {M : Type 0} (bytes_of : M → Bytes) (ram_of : M → Span) (columns : 
 
   finding_theirs : (number : ℕ) (what : What (JudgedSegment M))
       → IsLawfulWhat bytes_of ram_of columns segments guesses number what
-      → IsTheirFinding by_hart readings states number (finding (slice_get readings number) (slice_get states number) what)
+      → IsTheirFinding by_hart readings states number
+      (finding (slice_get readings number) (slice_get states number) what)
   finding_theirs number (Skipped least) lawful = tt
   finding_theirs number (Judged judged) lawful =
       rw (slice_get-map (rows_of_segment columns) segments number, slice_get-map (state_of bytes_of) guesses number)
