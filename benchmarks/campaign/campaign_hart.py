@@ -15,7 +15,7 @@ from hart_registers import (
     KIND_AT, LINES, LOCKED, MPRV, MXR, OFF, PMP_ENTRIES, SATP_MODE_AT, SATP_PPN, SUM, SV39,
     ControlRegisters, M, S, U,
 )
-from reference_hart import BLOCK, Core, Hart
+from reference_hart import Core, Hart
 
 KINDS = {FETCH: "fetch", LOAD: "load", STORE: "store"}
 SIZES = ("4 KiB", "2 MiB", "1 GiB")
@@ -199,18 +199,24 @@ class MadeHart(Hart):
             self.count_leaf(walk, self.mode)
         return half
 
-    def place(self, address, length, kind, atomic=False):
-        mode = self.data_mode()
-        self.memory.walk = walk = Walk(kind, mode, address)
+    def parts(self, address, length, kind, atomic=False):
         try:
-            place = super().place(address, length, kind, atomic)
+            return super().parts(address, length, kind, atomic)
         except Trap as trap:
             if trap.cause == kind.misaligned:
                 self.reached["misaligned", f"{KINDS[kind]}{', atomic' if atomic else ''}"] += 1
-            elif self.translates(mode):
-                self.count_refused(walk, trap)
             if atomic and address in self.devices and trap.cause == kind.access_fault:
                 self.reached["devices", "atomic refused"] += 1
+            raise
+
+    def place(self, address, length, kind, in_ram):
+        mode = self.data_mode()
+        self.memory.walk = walk = Walk(kind, mode, address)
+        try:
+            place = super().place(address, length, kind, in_ram)
+        except Trap as trap:
+            if self.translates(mode):
+                self.count_refused(walk, trap)
             raise
         finally:
             self.memory.walk = None
@@ -330,7 +336,7 @@ def count_atomic(reached, hart, retired, reserved):
         outcome = "fails, nothing reserved"
     elif hart.translates(hart.data_mode()):
         outcome = "fails, translated"
-    elif reserved // BLOCK == retired.source1 // BLOCK:
+    elif reserved // hart.choices.block == retired.source1 // hart.choices.block:
         outcome = "fails by choice"
     else:
         outcome = "fails in another block"
