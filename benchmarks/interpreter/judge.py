@@ -301,6 +301,19 @@ class Once(argparse.Action):
         setattr(options, self.dest, value)
 
 
+def add_choices(parser):
+    """Gives a parser the options that say what a core chose."""
+    for name, choice in CHOSEN.items():
+        kind = block_bytes if choice == "block" else str
+        usual = getattr(Choices(), choice)
+        parser.add_argument(name, type=kind, default=usual, choices=VALUES[choice], action=Once, dest=choice)
+
+
+def choices_of(options):
+    """What these options say."""
+    return Choices(**{choice: getattr(options, choice) for choice in CHOSEN.values()})
+
+
 def parse():
     default = Setting()
     parser = Parser(
@@ -313,18 +326,14 @@ def parse():
         ("--max-image", number, default.most_image), ("--max-trace", number, default.most_trace),
     ):
         parser.add_argument(name, type=kind, default=value, action=Once)
-    for name, choice in CHOSEN.items():
-        kind = block_bytes if choice == "block" else str
-        usual = getattr(default.choices, choice)
-        parser.add_argument(name, type=kind, default=usual, choices=VALUES[choice], action=Once, dest=choice)
+    add_choices(parser)
     return parser.parse_args()
 
 
 def main():
     options = parse()
-    choices = Choices(**{choice: getattr(options, choice) for choice in CHOSEN.values()})
     setting = Setting(
-        options.pc, options.ram, options.io, options.max_image, options.max_trace, choices
+        options.pc, options.ram, options.io, options.max_image, options.max_trace, choices_of(options)
     )
     said, status = foretell(options.image.read_bytes(), options.trace.read_bytes(), setting)
     print(said)
