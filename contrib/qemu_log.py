@@ -19,6 +19,10 @@ grows with the program's code, and not with the log.
 The address, the masks and the data of an access follow from the instruction, the registers before
 it and those after it. What a load or an AMO to x0 found is not known, nor whether an SC to x0
 stored. trap is shown from the log's first trap or interrupt on.
+
+qemu carries out loads and stores at any address. One over the end of a page is shown as all others,
+from its first byte on, as if its bytes lay side by side. qemu sets A and D of page tables. --choices
+names the options under which a judge takes both, for judges that know them.
 """
 import argparse
 import functools
@@ -31,6 +35,7 @@ CSRS = (
     "satp", "stvec", "sscratch", "sepc", "scause", "stval",
 )
 KNOWN = {"pc", "mhartid", *CSRS, *(f"x{number}" for number in range(32))}
+CHOICES = "--misaligned done --ad set"  # the judge's options that fit qemu
 MEMORY = ("mem_addr", "mem_rmask", "mem_rdata", "mem_wmask", "mem_wdata")
 COLUMNS = (
     "intr", "pc_rdata", "mode", "trap", "insn", "rs1_addr", "rs1_rdata", "rs2_addr", "rs2_rdata",
@@ -611,6 +616,9 @@ def arguments():
                         help="the judge's image, for instructions that the log does not list")
     parser.add_argument("--without", default="", metavar="COLUMN,..",
                         help="columns to leave out, as csr_medeleg_rdata")
+    parser.add_argument("--choices", action="store_true",
+                        help="tell on standard error which options fit what qemu chooses otherwise "
+                        "than the judge does by default; for a judge that knows them")
     words = parser.parse_args()
     words.without = words.without.split(",") if words.without else []
     for name in words.without:
@@ -647,6 +655,8 @@ def convert(log, words, out):
         raise Refused(f"{words.log}: line {reader.at}: {fault}") from None
     for text in converter.tell():
         print(f"qemu_log.py: {text}", file=sys.stderr)
+    if words.choices:
+        print(f"qemu_log.py: the judge's options that fit qemu: {CHOICES}", file=sys.stderr)
 
 
 def main():

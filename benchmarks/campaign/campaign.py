@@ -2,6 +2,7 @@
 """Holds a program to the answers of judge.py on random images and traces.
 
     campaign.py PROGRAM [--first N] [--count M] [--seed S] [--jobs J] [--keep FOLDER] [--part]
+                [--choices]
 
 Each case, which its number and the seed decide, is a program that is made up while a hart runs
 through it, a trace of that run with columns drawn by chance, and options. In half of the cases one
@@ -9,7 +10,8 @@ thing is altered in the trace or in the image. The line and the status that are 
 judge.py, which reads the same texts. What the cases reached is counted and printed. The status is 1
 where an answer is not the one due, where a trace in which nothing is altered does not agree, or,
 without --part, where one of the things that campaign_reach.py lists was not reached. With --keep
-the files of each wrong answer are put into a folder.
+the files of each wrong answer are put into a folder. With --choices the cases are others: each core
+chooses by chance what hart_choices.py has, and the program gets the options for that.
 """
 import argparse
 import os
@@ -89,7 +91,7 @@ def judge_cases(options, first, last):
     with tempfile.TemporaryDirectory(dir=options.folder) as folder:
         image, trace = f"{folder}/image", f"{folder}/trace"
         for at in range(first, last):
-            case = make_case(options.seed, at, reached)
+            case = make_case(options.seed, at, reached, options.choices)
             said, status = foretell(case.image, case.trace, case.setting)
             due = f"{said}\n", status
             reached[kind_of(said)] += 1
@@ -151,6 +153,9 @@ def parse():
     parser.add_argument("--jobs", type=number, default=os.cpu_count())
     parser.add_argument("--keep", type=Path, help="where to put the files of wrong answers")
     parser.add_argument("--part", action="store_true", help="do not fail for what was not reached")
+    parser.add_argument(
+        "--choices", action="store_true", help="for a program that is told a core's choices"
+    )
     parser.add_argument("--folder", help="where the files of the cases are for a while")
     return parser.parse_args()
 
@@ -162,7 +167,7 @@ def main():
     begun = time.monotonic()
     reached, wrong = run_all(options)
     summary(reached)
-    missed = [what for what in all_to_reach() if not reached[what]]
+    missed = [what for what in all_to_reach(options.choices) if not reached[what]]
     for kind, name in missed:
         print(f"not reached: {kind}: {name}")
     altered = options.count - reached["altered", "nothing"]

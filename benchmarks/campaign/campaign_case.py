@@ -6,10 +6,11 @@ from campaign_hart import MODES, MadeCore, MadeHart, count_row
 from campaign_plan import Chance, Maker
 from campaign_rows import Row, alter_field, alter_image, alter_rows, pick_columns
 from campaign_text import Form, alter_lines, break_image, image_text, trace_lines, trace_text
+from hart_choices import VALUES, Choices
 from hart_instructions import MASK
 from hart_memory import PAGE, RAM
 from hart_registers import LINES, M
-from judge import CSR_DATA, Setting
+from judge import CHOSEN, CSR_DATA, Setting
 
 PHYSICAL_END = 1 << 56
 MEGA, GIGA = 1 << 21, 1 << 30
@@ -69,6 +70,11 @@ def pick_setting(chance):
     else:
         pc = ram.start + chance.below(min(len(ram), 64 * PAGE)) & ~1
     return Setting(pc, ram, pick_devices(chance, ram))
+
+
+def pick_choices(chance):
+    """What a core chose once and for all."""
+    return Choices(**{name: chance.pick(values) for name, values in VALUES.items()})
 
 
 class Run:
@@ -161,7 +167,17 @@ def option(chance, name, text):
     return [f"--{name}={text}"] if chance.one_in(2) else [f"--{name}", text]
 
 
-def pick_words(chance, setting, reached):
+def choice_words(chance, choices, reached):
+    """The options for a core's choices; the defaults are left out mostly."""
+    for name, choice in CHOSEN.items():
+        value = getattr(choices, choice)
+        reached["choice", f"{name} {value}"] += 1
+        if value != getattr(Choices(), choice) or chance.one_in(4):
+            text = spelled(chance, value) if isinstance(value, int) else value
+            yield option(chance, name.removeprefix("--"), text)
+
+
+def pick_words(chance, setting, reached, with_choices):
     """The words of a command with this setting, in any order that is allowed."""
     pieces = [["IMAGE"], ["TRACE"]]
     # A part has a third of the window at most: in the widest one it has more than 64 segments of a row.
@@ -182,6 +198,8 @@ def pick_words(chance, setting, reached):
         if value != default:
             pieces.append(option(chance, name, spelled(chance, value)))
             reached["option", name] += 1
+    if with_choices:
+        pieces += choice_words(chance, setting.choices, reached)
     files = pieces[:2]  # which stand in this order
     chance.shuffle(pieces)
     for piece, place in zip(files, sorted(map(pieces.index, files))):
@@ -196,10 +214,12 @@ def limited(chance, setting, image, trace):
     return setting._replace(most_image=most) if text is image else setting._replace(most_trace=most)
 
 
-def make_case(seed, number, reached):
-    """The case of this number; what it reaches is counted."""
-    chance = Chance(f"{seed} {number}")
+def make_case(seed, number, reached, with_choices=False):
+    """The case of this number; what it reaches is counted. With choices it is another one."""
+    chance = Chance(f"{seed} {number}{' choices' if with_choices else ''}")
     setting, columns, form = pick_setting(chance), pick_columns(chance), Form(chance)
+    if with_choices:
+        setting = setting._replace(choices=pick_choices(chance))
     form.count(reached)
     run = Run(chance, setting, columns, reached)
     run.make()
@@ -217,9 +237,11 @@ def make_case(seed, number, reached):
     trace, text = trace_text(chance, form, lines), image_text(chance, image)
     if 0.49 <= kind < 0.5:
         text, altered = break_image(chance, text, setting.ram)
+    elif with_choices and 0.5 <= kind < 0.53:
+        setting, altered = setting._replace(choices=pick_choices(chance)), "other choices"
     elif chance.one_in(40):
         setting = limited(chance, setting, text, trace)
     reached["rows"] += len(run.rows)
     for column in columns:
         reached["column", column] += 1
-    return Case(text, trace, pick_words(chance, setting, reached), setting, altered)
+    return Case(text, trace, pick_words(chance, setting, reached, with_choices), setting, altered)

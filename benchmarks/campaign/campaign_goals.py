@@ -188,9 +188,12 @@ class Goals:
         number = self.chance.pick((0, 3, 7, 8, 12, 15, 15))
         kind = NAPOT if self.chance.one_in(2) else TOR
         name = "pmpcfg0" if number < 8 else "pmpcfg2"
+        rights = 7
+        if self.setting.choices.marks == "set" and self.chance.one_in(6):
+            rights = 5  # so that A and D may not be set
         others = self.hart.csrs.values[name] & ~(0xFF << 8 * (number % 8))
         self.plan += self.set_register(f"pmpaddr{number}", ALL_BYTES)
-        self.plan += self.set_register(name, others | (kind << 3 | 7) << 8 * (number % 8))
+        self.plan += self.set_register(name, others | (kind << 3 | rights) << 8 * (number % 8))
 
     def count(self):
         """Lets S and U read counters, or not, and reads some."""
@@ -328,7 +331,12 @@ class Goals:
         suffix = chance.pick("WD")
         length = 4 if suffix == "W" else 8
         address = self.address(length)
-        other = address + chance.pick((0, 0, 0, length, -length, 64, 4)) & MASK
+        if self.goes_anywhere():
+            address -= address % length
+        apart = [0, 0, 0, length, -length, 64, 4]
+        if (block := self.setting.choices.block) != 64:
+            apart += [block, block // 2, -block]
+        other = address + chance.pick(apart) & MASK
         steps = [lambda: self.access_to(f"LR.{suffix}", address)] if chance.random() < 0.85 else []
         if chance.one_in(3):
             steps.append(self.another)

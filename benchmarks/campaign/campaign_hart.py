@@ -15,7 +15,7 @@ from hart_registers import (
     KIND_AT, LINES, LOCKED, MPRV, MXR, OFF, PMP_ENTRIES, SATP_MODE_AT, SATP_PPN, SUM, SV39,
     ControlRegisters, M, S, U,
 )
-from reference_hart import BLOCK, Core, Hart
+from reference_hart import Core, Hart
 
 KINDS = {FETCH: "fetch", LOAD: "load", STORE: "store"}
 SIZES = ("4 KiB", "2 MiB", "1 GiB")
@@ -29,6 +29,7 @@ class Walk:
     def __init__(self, kind, mode, address):
         self.kind, self.mode, self.address = kind, mode, address
         self.entries = []
+        self.sets = False  # whether the last entry got A or D
 
     def level(self):
         """The level of the table whose entry is read next."""
@@ -68,6 +69,8 @@ class MadeMemory(Memory):
         bytes_of = range(address, address + length)
         self.known.update(bytes_of)
         self.stored.update(bytes_of)
+        if self.walk:
+            self.walk.sets = True
         super().write(address, length, value)
 
 
@@ -175,7 +178,8 @@ class MadeHart(Hart):
     """A hart over made memory that counts what its accesses reach."""
 
     def __init__(self, maker, core, setting, reached):
-        super().__init__(MadeMemory(maker, setting.ram), core, setting.devices, setting.pc)
+        memory = MadeMemory(maker, setting.ram)
+        super().__init__(memory, core, setting.devices, setting.pc, setting.choices)
         self.csrs = CountedRegisters(reached)
         self.reached = reached
 
@@ -199,18 +203,41 @@ class MadeHart(Hart):
             self.count_leaf(walk, self.mode)
         return half
 
-    def place(self, address, length, kind, atomic=False):
+    def parts(self, address, length, kind, atomic=False):
+        name = KINDS[kind]
+        try:
+            parts = super().parts(address, length, kind, atomic)
+        except Trap as trap:
+            if trap.cause == kind.misaligned:
+                self.reached["misaligned", f"{name}{', atomic' if atomic else ''}"] += 1
+            elif address % length:
+                which = "first" if trap.value == address else "second"
+                self.reached["misaligned", f"{name}, {which} part refused, cause {trap.cause}"] += 1
+                if address in self.devices and trap.cause == kind.access_fault:
+                    self.reached["misaligned", f"{name}, at a device"] += 1
+            if atomic and address in self.devices and trap.cause == kind.access_fault:
+                self.reached["devices", "atomic refused"] += 1
+            raise
+        if address % length:
+            self.count_parts(name, parts)
+        return parts
+
+    def count_parts(self, name, parts):
+        """Counts an access at an address that is no multiple of its length."""
+        how = "in one page"
+        if len(parts) == 2:
+            (low, size), (high, _) = parts
+            how = "over an edge" if high == low + size else "over an edge, apart"
+        self.reached["misaligned", f"{name}, done {how}"] += 1
+
+    def place(self, address, length, kind, in_ram):
         mode = self.data_mode()
         self.memory.walk = walk = Walk(kind, mode, address)
         try:
-            place = super().place(address, length, kind, atomic)
+            place = super().place(address, length, kind, in_ram)
         except Trap as trap:
-            if trap.cause == kind.misaligned:
-                self.reached["misaligned", f"{KINDS[kind]}{', atomic' if atomic else ''}"] += 1
-            elif self.translates(mode):
+            if self.translates(mode):
                 self.count_refused(walk, trap)
-            if atomic and address in self.devices and trap.cause == kind.access_fault:
-                self.reached["devices", "atomic refused"] += 1
             raise
         finally:
             self.memory.walk = None
@@ -225,6 +252,9 @@ class MadeHart(Hart):
         last, level = walk.entries[-1], 3 - len(walk.entries)
         status, kind = self.csrs.values["mstatus"], KINDS[walk.kind]
         self.reached["page", f"{SIZES[level]}: {kind} in {MODES[mode]}"] += 1
+        if walk.sets:
+            what = "D" if last & PTE_A else "A and D" if walk.kind == STORE else "A"
+            self.reached["marks", f"{kind} sets {what}"] += 1
         if walk.kind != FETCH and mode == S and last & PTE_U:
             self.reached["page", "U page in S under SUM"] += 1
         if walk.kind == LOAD and not last & PTE_R and status & MXR:
@@ -238,6 +268,10 @@ class MadeHart(Hart):
             self.reached["page fault", f"{refusal(walk, self.csrs.values['mstatus'])}: {kind}"] += 1
             return
         last = walk.entries[-1] if walk.entries else 0
+        needed = PTE_A | PTE_D if walk.kind == STORE else PTE_A
+        if last & (PTE_R | PTE_X) and last & needed != needed and not walk.sets:
+            self.reached["marks", f"{kind} may not set them"] += 1
+            return
         if last & (PTE_R | PTE_X):
             self.reached["page", f"refused behind the walk: {kind}"] += 1
             return
@@ -330,7 +364,7 @@ def count_atomic(reached, hart, retired, reserved):
         outcome = "fails, nothing reserved"
     elif hart.translates(hart.data_mode()):
         outcome = "fails, translated"
-    elif reserved // BLOCK == retired.source1 // BLOCK:
+    elif reserved // hart.choices.block == retired.source1 // hart.choices.block:
         outcome = "fails by choice"
     else:
         outcome = "fails in another block"

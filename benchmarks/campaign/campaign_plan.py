@@ -158,8 +158,10 @@ class Maker(Goals):
         elif chance.one_in(2):
             rights |= PTE_R | chance.pick((PTE_W, PTE_X, PTE_W | PTE_X))
         user = walk.mode == U or (walk.kind != FETCH and status & SUM and chance.one_in(2))
-        dirty = PTE_D if rights & PTE_W or chance.one_in(2) else 0
-        return rights | PTE_V | PTE_A | dirty | (PTE_U if user else 0)
+        marks = PTE_A | (PTE_D if rights & PTE_W or chance.one_in(2) else 0)
+        if self.setting.choices.marks == "set":
+            marks = chance.pick((marks, 0, PTE_A, PTE_D))
+        return rights | PTE_V | marks | (PTE_U if user else 0)
 
     def frame(self, size, offset, kind):
         """The begin of a page of this size whose byte at the offset is somewhere, or None."""
@@ -289,9 +291,21 @@ class Maker(Goals):
             address = self.ram.start + chance.below(len(self.ram))
         if chance.one_in(12):
             return address & MASK
+        if self.goes_anywhere() and chance.one_in(3):
+            return self.odd(address, length)
         address = address - address % length & MASK
         self.hot = [*self.hot[-5:], address]
         return address
+
+    def goes_anywhere(self):
+        """Whether loads and stores are carried out at any address."""
+        return self.setting.choices.misaligned == "done"
+
+    def odd(self, address, length):
+        """An address near this one at which an access mostly lies over the end of a page."""
+        if self.chance.one_in(4):
+            return address & MASK
+        return (address | PAGE - 1) - self.chance.below(length) & MASK
 
     def base(self, address, low, high, step, registers):
         """A register of these that is near the address, and the offset, a multiple of step."""
@@ -313,6 +327,8 @@ class Maker(Goals):
         if not good:
             return None
         address = chance.pick(good) + low + chance.below(high - low + 1)
+        if self.goes_anywhere() and chance.one_in(3):
+            return self.odd(address, length)
         return (address - address % length if chance.random() < 0.93 else address) & MASK
 
     def access(self):
@@ -333,6 +349,8 @@ class Maker(Goals):
         if is_new:
             found = self.near(length, low, high) if chance.random() < 0.6 else None
             address = found if found is not None else self.address(length)
+            if atomic and self.goes_anywhere() and not chance.one_in(8):
+                address -= address % length
         base = self.base(address, low, high, 1, range(1, 32))
         if base is None:
             if not is_new and chance.one_in(3):

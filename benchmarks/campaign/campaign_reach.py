@@ -3,8 +3,9 @@
 Each is a kind and a name under which it is counted. What is counted and not listed is only printed.
 """
 from campaign_code import ALL_NAMES
+from hart_choices import VALUES
 from hart_registers import ADDRESSES, INTERRUPT_ORDER
-from judge import CSRS, PLAIN, WIDTHS
+from judge import CHOSEN, CSRS, PLAIN, WIDTHS
 
 CAUSES = (1, 2, 3, 4, 5, 6, 7, 8, 9, 11, 12, 13, 15)
 SIZES = ("4 KiB", "2 MiB", "1 GiB")
@@ -134,7 +135,28 @@ def verdicts():
         yield "altered", what
 
 
-def all_to_reach():
+def choices():
+    """What only cases reach whose cores choose by chance."""
+    for name, choice in CHOSEN.items():
+        for value in VALUES[choice]:
+            yield "choice", f"{name} {value}"
+    for kind, causes in (("load", (5, 13)), ("store", (7, 15))):
+        for how in ("in one page", "over an edge", "over an edge, apart"):
+            yield "misaligned", f"{kind}, done {how}"
+        for cause in causes:
+            yield "misaligned", f"{kind}, first part refused, cause {cause}"
+            yield "misaligned", f"{kind}, second part refused, cause {cause}"
+        yield "misaligned", f"{kind}, at a device"
+    for what in ("fetch sets A", "load sets A", "store sets A and D", "store sets D"):
+        yield "marks", what
+    for kind in KINDS:
+        yield "marks", f"{kind} may not set them"
+    yield "altered", "other choices"
+
+
+def all_to_reach(with_choices):
+    if with_choices:
+        yield from choices()
     for name in (*ALL_NAMES, "illegal, 16 bits", "illegal, 32 bits"):
         yield "instruction", name
     for part in (registers, traps, pages, protection, memory, forms, verdicts):

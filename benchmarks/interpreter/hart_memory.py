@@ -1,8 +1,8 @@
 """Physical memory, and the way to it from virtual addresses: Sv39.
 
 After the Privileged Architecture, version 20211203, chapter "Supervisor-Level ISA"; a part of
-reference_hart.py. Nothing is cached, and a walk writes nothing: a page whose A is clear, or whose D is clear
-for a store, is a page fault.
+reference_hart.py. Nothing is cached. A walk to a page whose A is clear, or whose D is clear for a store, ends
+in a page fault, or sets them in its leaf at once.
 """
 from typing import NamedTuple
 
@@ -88,8 +88,11 @@ def read_image(path):
             address += 1
 
 
-def translate(csrs, memory, kind, mode, address):
-    """The physical address that an access of this kind and mode has; a trap where it has none."""
+def translate(csrs, memory, kind, mode, address, marks):
+    """The physical address that an access of this kind and mode has; a trap where it has none.
+
+    A leaf that lacks A, or for a store D, and nothing else, is treated as this choice of marks says.
+    """
     satp = csrs.values["satp"]
     if mode == M or satp >> SATP_MODE_AT != SV39:
         return address
@@ -109,6 +112,14 @@ def translate(csrs, memory, kind, mode, address):
         if entry & (PTE_R | PTE_X):
             if not admits(entry, kind, mode, csrs.values["mstatus"]) or named % size:
                 raise page_fault
+            needed = PTE_A | PTE_D if kind == STORE else PTE_A
+            if entry & needed != needed:
+                if marks == "fault":
+                    raise page_fault
+                # The entry is written as a store of S that has all its bytes.
+                if not csrs.allows(S, place, ENTRY, WRITE):
+                    raise Trap(kind.access_fault, address)
+                memory.write(place, ENTRY, entry | needed)
             return named + address % size
         if entry & (PTE_U | PTE_A | PTE_D):  # reserved where an entry names a table
             raise page_fault
@@ -117,11 +128,10 @@ def translate(csrs, memory, kind, mode, address):
 
 
 def admits(leaf, kind, mode, status):
-    """Whether a leaf lets an access of this kind happen in U or S under this mstatus."""
+    """Whether a leaf lets an access of this kind happen in U or S under this mstatus, whatever A and D are."""
     if leaf & PTE_U:
         allowed = mode == U or (kind != FETCH and bool(status & SUM))
     else:
         allowed = mode == S
     rights = leaf | PTE_R if leaf & PTE_X and status & MXR else leaf
-    needed = PTE_A | PTE_D if kind == STORE else PTE_A
-    return allowed and bool(rights & kind.page_right) and leaf & needed == needed
+    return allowed and bool(rights & kind.page_right)

@@ -2,22 +2,29 @@
 """Judges a trace by the hart of reference_hart.py.
 
     judge.py IMAGE TRACE [--pc A] [--ram B:S] [--io B:S] [--max-image M] [--max-trace M]
+             [--misaligned trap|done] [--mtval value|zero] [--ad fault|set] [--reserve BYTES]
 
 Prints the line that `rvjudge judge` prints for an image and a trace, and ends with its status. The
 rules of comparison are those that docs/REFERENCE.md describes, written here a second time after
 riscv-formal's description of RVFI; those of the texts stand in trace_text.py. Of the words it knows
-what these options say, and none of their limits.
+what these options say, and no limits of those in the first line. An option that stands twice, and a
+choice that the second line does not have, is refused. BYTES is a power of two from 8 to 4096.
+
+The second line says what the core chose that made the trace; the first values and 64 are the
+defaults. hart_choices.py says what each means.
 """
 import argparse
+import os
 import sys
 from pathlib import Path
 from typing import NamedTuple
 
+from hart_choices import VALUES, Choices
 from hart_instructions import MASK
 from hart_memory import RAM, Memory
 from hart_registers import LINES, M
 from reference_hart import BREAKPOINT, CALL_FROM_U, Core, Hart
-from trace_text import Refused, read_image, read_rows
+from trace_text import Refused, read_image, read_number, read_rows
 
 # the columns with their bits, in the order of comparison; halt is never compared
 PLAIN = {
@@ -244,7 +251,11 @@ class Setting(NamedTuple):
     devices: range = range(0)
     most_image: int = 1 << 30
     most_trace: int = 1 << 40
+    choices: Choices = Choices()
 
+
+# each option that names a choice, with the choice
+CHOSEN = {"--misaligned": "misaligned", "--mtval": "trap_values", "--ad": "marks", "--reserve": "block"}
 
 STATUS = {"agrees": 0, "differs": 1, "refused image:": 3, "refused trace:": 4}
 
@@ -253,7 +264,7 @@ def foretell(image, trace, setting):
     """The line and the status for the bytes of an image and of a trace."""
     try:
         memory = Memory(read_image(image, setting.most_image, setting.ram).items(), setting.ram)
-        judge = Judge(Hart(memory, devices=setting.devices, pc=setting.pc))
+        judge = Judge(Hart(memory, devices=setting.devices, pc=setting.pc, choices=setting.choices))
         said = answer(judge, read_rows(trace, setting.most_trace, WIDTHS))
     except Refused as refused:
         said = f"refused {refused}"
@@ -265,20 +276,65 @@ def span(text):
     return range(number(base), number(base) + number(size))
 
 
-def main():
+def block_bytes(text):
+    """The bytes of a reservation set, which are a number as a trace has them."""
+    return read_number(os.fsencode(text))
+
+
+class Parser(argparse.ArgumentParser):
+    """Refuses words with the judge's line and status."""
+
+    def error(self, message):
+        print("refused words")
+        sys.stdout.flush()
+        super().error(message)  # which ends with 2
+
+
+class Once(argparse.Action):
+    """An option that may stand once."""
+
+    def __call__(self, parser, options, value, option=None):
+        given = options.given = getattr(options, "given", set())
+        if self.dest in given:
+            parser.error(f"{option} stands twice")
+        given.add(self.dest)
+        setattr(options, self.dest, value)
+
+
+def add_choices(parser):
+    """Gives a parser the options that say what a core chose."""
+    for name, choice in CHOSEN.items():
+        kind = block_bytes if choice == "block" else str
+        usual = getattr(Choices(), choice)
+        parser.add_argument(name, type=kind, default=usual, choices=VALUES[choice], action=Once, dest=choice)
+
+
+def choices_of(options):
+    """What these options say."""
+    return Choices(**{choice: getattr(options, choice) for choice in CHOSEN.values()})
+
+
+def parse():
     default = Setting()
-    parser = argparse.ArgumentParser(
-        description=__doc__, formatter_class=argparse.RawDescriptionHelpFormatter
+    parser = Parser(
+        description=__doc__, formatter_class=argparse.RawDescriptionHelpFormatter, allow_abbrev=False
     )
     parser.add_argument("image", type=Path)
     parser.add_argument("trace", type=Path)
-    parser.add_argument("--pc", type=number, default=default.pc)
-    parser.add_argument("--ram", type=span, default=default.ram)
-    parser.add_argument("--io", type=span, default=default.devices)
-    parser.add_argument("--max-image", type=number, default=default.most_image)
-    parser.add_argument("--max-trace", type=number, default=default.most_trace)
-    options = parser.parse_args()
-    setting = Setting(options.pc, options.ram, options.io, options.max_image, options.max_trace)
+    for name, kind, value in (
+        ("--pc", number, default.pc), ("--ram", span, default.ram), ("--io", span, default.devices),
+        ("--max-image", number, default.most_image), ("--max-trace", number, default.most_trace),
+    ):
+        parser.add_argument(name, type=kind, default=value, action=Once)
+    add_choices(parser)
+    return parser.parse_args()
+
+
+def main():
+    options = parse()
+    setting = Setting(
+        options.pc, options.ram, options.io, options.max_image, options.max_trace, choices_of(options)
+    )
     said, status = foretell(options.image.read_bytes(), options.trace.read_bytes(), setting)
     print(said)
     return status

@@ -1,5 +1,10 @@
 #!/usr/bin/env python3
-"""Runs the kernel in kernel/ in qemu and in reference_hart.py, and compares row by row: kernel_qemu.py [IMAGE].
+"""Runs the kernel in kernel/ in qemu and in reference_hart.py, and compares row by row.
+
+    kernel_qemu.py [IMAGE] [CHOICES]
+
+The image is kernel/kernel.hex, or the one given. CHOICES are those options of judge.py that say what a core
+chose; kernel/choices.hex needs what qemu does, --misaligned done --ad set.
 
 Prints how many rows agree, or the first that differs, with all that differs in it; the status is then 1. qemu
 runs one instruction at a time under -icount shift=0 and writes a log, of which nothing is kept.
@@ -8,6 +13,7 @@ Of each row that qemu begins to carry out: the address, the instruction's bits, 
 registers CSRS before it, an interrupt's entry included; of each trap and interrupt: cause, address and trap
 value; besides, what the UART was sent. A row's rd is seen in x1 to x31 of the next.
 """
+import argparse
 import os
 import subprocess
 import sys
@@ -17,6 +23,7 @@ from pathlib import Path
 from typing import NamedTuple
 
 from hart_memory import PAGE, RAM
+from judge import add_choices, choices_of
 from run_kernel import make_hart, run
 
 HERE = Path(__file__).parent
@@ -208,9 +215,14 @@ def compare_runs(hart, folder):
 
 
 def main():
-    image = sys.argv[1] if len(sys.argv) > 1 else HERE / "kernel" / "kernel.hex"
+    parser = argparse.ArgumentParser(
+        description=__doc__, formatter_class=argparse.RawDescriptionHelpFormatter, allow_abbrev=False
+    )
+    parser.add_argument("image", nargs="?", default=HERE / "kernel" / "kernel.hex")
+    add_choices(parser)
+    options = parser.parse_args()
     with tempfile.TemporaryDirectory() as name:
-        comparison = compare_runs(make_hart(image), Path(name))
+        comparison = compare_runs(make_hart(options.image, choices_of(options)), Path(name))
     if comparison.difference:
         print(comparison.difference)
         return 1

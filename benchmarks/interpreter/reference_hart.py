@@ -3,19 +3,18 @@
 
 Written after the RISC-V Unprivileged ISA and the Privileged Architecture, version 20211203 (chapters
 "Control and Status Registers (CSRs)", "Machine-Level ISA" and "Supervisor-Level ISA"), and apart from
-rvjudge, whose second opinion it is. What the standards leave to a core is asked of a Core. Its parts are
-hart_instructions.py, hart_registers.py and hart_memory.py.
+rvjudge, whose second opinion it is. What the standards leave to a core is asked of a Core, or stands in
+Choices. Its parts are hart_instructions.py, hart_registers.py, hart_memory.py and hart_choices.py.
 
 Every access is translated where satp says so, and held to the 16 entries of physical memory protection.
 Nothing is cached, so SFENCE.VMA has nothing to do.
 """
 from typing import NamedTuple
 
+from hart_choices import Choices
 from hart_instructions import ATOMIC, BRANCHES, INTEGER, LOADS, MASK, STORES, Instruction, decode, expand, signed
-from hart_memory import FETCH, LOAD, RAM, STORE, Trap, translate
+from hart_memory import FETCH, LOAD, PAGE, RAM, STORE, Trap, translate
 from hart_registers import DECIDED, MPP_AT, MPRV, TSR, TVM, TW, ControlRegisters, M, S, U
-
-BLOCK = 64  # bytes of a reservation set
 
 # codes of exceptions that no access raises
 ILLEGAL, BREAKPOINT = 2, 3
@@ -23,7 +22,8 @@ CALL_FROM_U = 8  # and the mode's number more from S and M
 
 
 class Access(NamedTuple):
-    """The bytes that one instruction reads and writes; None where it does not. Its place is physical."""
+    """The bytes that one instruction reads and writes; None where it does not. Its place is physical, that of
+    its first byte."""
 
     address: int
     place: int
@@ -48,7 +48,7 @@ class Retired(NamedTuple):
 
 
 class Core:
-    """The choices that the standards leave to a core; these are the plainest."""
+    """The choices that a core may make anew at each instruction; these are the plainest."""
 
     def stores(self, instruction):
         """Whether an SC stores whose bytes lie in the reserved block."""
@@ -77,8 +77,9 @@ class Core:
 class Hart:
     """The registers, pc, the mode, memory, and the reservation, which is the number of a block or None."""
 
-    def __init__(self, memory, core=None, devices=range(0), pc=RAM.start):
+    def __init__(self, memory, core=None, devices=range(0), pc=RAM.start, choices=Choices()):
         self.memory = memory
+        self.choices = choices
         self.core = core or Core()
         self.devices = devices
         self.registers = [0] * 32
@@ -86,11 +87,12 @@ class Hart:
         self.mode = M
         self.csrs = ControlRegisters()
         self.reserved = None
+        self.fetched = None  # the bits of the instruction at hand
         self.decoded = {}
 
     def copy(self):
-        """A hart in the same state, with the same core."""
-        hart = Hart(self.memory.copy(), self.core, self.devices)
+        """A hart in the same state, with the same core and choices."""
+        hart = Hart(self.memory.copy(), self.core, self.devices, choices=self.choices)
         hart.registers = list(self.registers)
         hart.pc, hart.mode, hart.reserved = self.pc, self.mode, self.reserved
         hart.csrs = self.csrs.copy()
@@ -109,7 +111,7 @@ class Hart:
         return bits | self.fetch_half(self.pc + 2 & MASK) << 16, 4
 
     def fetch_half(self, address):
-        place = translate(self.csrs, self.memory, FETCH, self.mode, address)
+        place = translate(self.csrs, self.memory, FETCH, self.mode, address, self.choices.marks)
         if not self.csrs.allows(self.mode, place, 2, FETCH.right) or place not in self.memory.ram:
             raise Trap(FETCH.access_fault, address)
         return self.memory.read(place, 2)
@@ -119,13 +121,28 @@ class Hart:
         status = self.csrs.values["mstatus"]
         return status >> MPP_AT & 3 if self.mode == M and status & MPRV else self.mode
 
-    def place(self, address, length, kind, atomic=False):
-        """The physical address of a data access; a trap where it is refused or goes nowhere."""
-        if address % length:
+    def parts(self, address, length, kind, atomic=False):
+        """The parts of a data access, each a physical address and its bytes; a trap where one is refused.
+
+        An access at a multiple of its length is one part. Any other one, where it is carried out, is split
+        at the end of a page of virtual addresses, and each part goes to RAM alone. The parts are asked for
+        in order, each translated and then checked, and the first refusal is that of the access.
+        """
+        if address % length == 0:
+            return [(self.place(address, length, kind, atomic), length)]
+        if atomic or self.choices.misaligned == "trap":
             raise Trap(kind.misaligned, address)
+        first = min(length, PAGE - address % PAGE)
+        parts = [(self.place(address, first, kind, True), first)]
+        if first < length:
+            parts.append((self.place(address + first & MASK, length - first, kind, True), length - first))
+        return parts
+
+    def place(self, address, length, kind, in_ram):
+        """The physical address of bytes in one page; a trap where they are refused or go nowhere."""
         mode = self.data_mode()
-        place = translate(self.csrs, self.memory, kind, mode, address)
-        answered = place in self.memory.ram or (place in self.devices and not atomic)
+        place = translate(self.csrs, self.memory, kind, mode, address, self.choices.marks)
+        answered = place in self.memory.ram or (place in self.devices and not in_ram)
         if not answered or not self.csrs.allows(mode, place, length, kind.right):
             raise Trap(kind.access_fault, address)
         return place
@@ -136,12 +153,14 @@ class Hart:
         source1 = source2 = 0
         try:
             bits, length = self.fetch()
+            self.fetched = bits
             instruction = self.meaning(bits, length)
             source1 = self.registers[instruction.rs1] if instruction.rs1 else 0
             source2 = self.registers[instruction.rs2] if instruction.rs2 else 0
             value, next_pc, access = self.execute(instruction, source1, source2, pc + length & MASK)
         except Trap as trap:
-            self.mode, self.pc = self.csrs.enter(self.mode, pc, trap.cause, trap.value, False)
+            told = 0 if self.choices.trap_values == "zero" else trap.value
+            self.mode, self.pc = self.csrs.enter(self.mode, pc, trap.cause, told, False)
             return Retired(bits, length, instruction, pc, self.pc, source1, source2, 0, None, trap)
         value = value & MASK if instruction.rd else 0
         if instruction.rd:
@@ -190,9 +209,12 @@ class Hart:
 
     def execute_load(self, loaded_as, address, after):
         length, by_sign = loaded_as
-        place = self.place(address, length, LOAD)
+        parts = self.parts(address, length, LOAD)
+        place = parts[0][0]
         if place in self.memory.ram:
-            loaded = self.memory.read(place, length)
+            loaded = 0
+            for at, size in reversed(parts):
+                loaded = loaded << 8 * size | self.memory.read(at, size)
         else:
             loaded = self.core.device_load(address, place, length)
         value = signed(loaded, 8 * length) if by_sign else loaded
@@ -200,9 +222,13 @@ class Hart:
 
     def execute_store(self, length, address, source2, after):
         stored = source2 & ((1 << 8 * length) - 1)
-        place = self.place(address, length, STORE)
+        parts = self.parts(address, length, STORE)
+        place = parts[0][0]
         if place in self.memory.ram:
-            self.memory.write(place, length, stored)
+            left = stored
+            for at, size in parts:
+                self.memory.write(at, size, left & ((1 << 8 * size) - 1))
+                left >>= 8 * size
         else:
             self.core.device_store(place, length, stored)
         return 0, after, Access(address, place, length, None, stored)
@@ -211,14 +237,15 @@ class Hart:
         operation, _, suffix = instruction.name.partition(".")
         length = 4 if suffix == "W" else 8
         source = source2 & ((1 << 8 * length) - 1)
-        place = self.place(address, length, LOAD if operation == "LR" else STORE, True)
+        ((place, _),) = self.parts(address, length, LOAD if operation == "LR" else STORE, True)
+        block = place // self.choices.block
         old = self.memory.read(place, length)
         match operation:
             case "LR":
-                self.reserved = place // BLOCK
+                self.reserved = block
                 return signed(old, 8 * length), after, Access(address, place, length, old, None)
             case "SC":
-                succeeds = self.reserved == place // BLOCK and self.core.stores(instruction)
+                succeeds = self.reserved == block and self.core.stores(instruction)
                 self.reserved = None
                 if not succeeds:
                     return 1, after, None
@@ -230,7 +257,7 @@ class Hart:
 
     def illegal(self):
         """The trap of the instruction at pc that may not be carried out here."""
-        return Trap(ILLEGAL, self.fetch()[0])
+        return Trap(ILLEGAL, self.fetched)
 
     def execute_system(self, instruction, after):
         """The next pc of an instruction of the modes."""

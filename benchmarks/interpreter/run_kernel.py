@@ -1,17 +1,20 @@
 #!/usr/bin/env python3
-"""Runs the kernel in kernel/ and writes the trace of its run: run_kernel.py IMAGE TRACE.
+"""Runs the kernel in kernel/ and writes the trace of its run: run_kernel.py IMAGE TRACE [CHOICES].
 
-Prints the number of rows. The status is not 0 where the kernel found something wrong itself.
+Prints the number of rows. The status is not 0 where the kernel found something wrong itself. CHOICES are those
+options of judge.py that say what a core chose; kernel/choices.hex needs --misaligned done --ad set.
 
 The core that is played here has three devices of qemu's virt machine, as far as the kernel uses them: the
 timer of the CLINT, a UART, and the finisher that ends the run. Time passes as in qemu under -icount shift=0:
 each instruction takes a nanosecond, and mtime counts tenths of microseconds.
 """
+import argparse
 import sys
 from typing import NamedTuple
 
+from hart_choices import Choices
 from hart_memory import Memory, read_image
-from judge import CALLS
+from judge import CALLS, add_choices, choices_of
 from reference_hart import BREAKPOINT, Core, Hart, Retired
 
 DEVICES = range(0x00100000, 0x10001000)
@@ -147,15 +150,21 @@ def trace_line(order, row):
     return ",".join("" if field is None else f"0x{field:x}" for field in fields) + "\n"
 
 
-def make_hart(image):
+def make_hart(image, choices=Choices()):
     """The hart before its first row, with this image in memory."""
-    return Hart(Memory(read_image(image)), KernelCore(), DEVICES)
+    return Hart(Memory(read_image(image)), KernelCore(), DEVICES, choices=choices)
 
 
 def main():
-    image, trace = sys.argv[1:]
-    hart = make_hart(image)
-    with open(trace, "w", encoding="ascii") as text:
+    parser = argparse.ArgumentParser(
+        description=__doc__, formatter_class=argparse.RawDescriptionHelpFormatter, allow_abbrev=False
+    )
+    parser.add_argument("image")
+    parser.add_argument("trace")
+    add_choices(parser)
+    options = parser.parse_args()
+    hart = make_hart(options.image, choices_of(options))
+    with open(options.trace, "w", encoding="ascii") as text:
         names = [*COLUMNS, *(f"csr_{name}_{part}" for name in CSRS + SELDOM for part in ("rdata", "wdata"))]
         text.write(",".join(f"rvfi_{name}" for name in names) + "\n")
         for order, row in enumerate(run(hart, CSRS + SELDOM)):

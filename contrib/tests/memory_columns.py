@@ -1,6 +1,8 @@
 #!/usr/bin/env python3
 """Holds the columns of memory of a trace by qemu_log.py, row by row: only what is not known is empty.
 
+An access at any address, also over the end of a page, is shown from its first byte on.
+
     memory_columns.py TRACE
 """
 import csv
@@ -27,6 +29,11 @@ def wanted(row, name, size):
     return filled | ({"mem_wdata"} if is_store or name.startswith("amo") and is_read_known else set())
 
 
+def are_masks_right(row, size):
+    """Whether the masks that are shown have the access's bytes, or none."""
+    return all(int(row[it], 16) in (0, (1 << size) - 1) for it in ("mem_rmask", "mem_wmask") if row[it])
+
+
 def main():
     count = 0
     with open(sys.argv[1], encoding="ascii") as text:
@@ -38,6 +45,9 @@ def main():
             if filled != due:
                 print(f"row {number}, {name}: {sorted(filled)} are filled, wanted {sorted(due)}",
                       file=sys.stderr)
+                return 1
+            if not are_masks_right(row, size):
+                print(f"row {number}, {name}: another mask", file=sys.stderr)
                 return 1
             count += bool(size)
     return 0 if count > 5 else 1

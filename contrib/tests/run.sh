@@ -153,6 +153,26 @@ test_qemu() {
     expect 'qemu, run here' "agrees $rows" "$folder/image.hex" "$out" --io 0x100000:0xff01000
 }
 
+# What qemu chose otherwise than the judge does by default, under the options that qemu_log.py names. The
+# judge does not know them yet, and the one of benchmarks/ takes its place.
+test_qemu_choices() {
+    sh "$tests/qemu/make.sh" "$folder" choices.s || fail "choices.s did not run in qemu"
+    out=$folder/run.csv judge=$contrib/../benchmarks/interpreter/judge.py io=0x100000:0xff01000
+    python3 "$contrib/qemu_log.py" --choices "$folder/run.log" -o "$out" 2>"$folder/said" ||
+        fail "qemu_log.py --choices"
+    options=$(sed -n "s/^qemu_log.py: the judge's options that fit qemu: //p" "$folder/said")
+    [ "$options" = '--misaligned done --ad set' ] || fail "qemu_log.py --choices: $(cat "$folder/said")"
+    python3 "$contrib/qemu_log.py" "$folder/run.log" 2>"$folder/said" | cmp -s - "$out" ||
+        fail 'qemu_log.py --choices: another trace'
+    grep -q options "$folder/said" && fail 'qemu_log.py names options without --choices'
+    python3 "$tests/memory_columns.py" "$out" || fail 'qemu_log.py: the columns of odd accesses'
+    # shellcheck disable=SC2086  # words
+    found=$(python3 "$judge" "$folder/image.hex" "$out" --io $io $options)
+    [ "$found" = "agrees $(($(wc -l <"$out") - 1))" ] || fail "qemu's choices: $found"
+    python3 "$judge" "$folder/image.hex" "$out" --io $io >"$folder/said"
+    [ $? -eq 1 ] || fail "qemu's choices without options: $(cat "$folder/said")"
+}
+
 # The writer at an RVFI port of so many instructions a cycle.
 judge_bench() {
     expect "$1" 'agrees 10' "$tests/rvfi/image.hex" "$folder/bench.csv"
@@ -303,7 +323,7 @@ fi
 can_run 'logs of Spike' python3 && test_spike
 can_run 'the stored log of qemu' python3 gzip && test_qemu_log
 can_run 'a run in qemu' python3 riscv64-unknown-elf-gcc riscv64-unknown-elf-objcopy \
-    qemu-system-riscv64 && has_version 'a run in qemu' qemu-system-riscv64 'version 7\.' && test_qemu
+    qemu-system-riscv64 && has_version 'a run in qemu' qemu-system-riscv64 'version 7\.' && test_qemu && test_qemu_choices
 can_run 'rvfi_csv.sv in Icarus Verilog' iverilog vvp && test_iverilog
 can_run 'a trace that is judged live' iverilog vvp mkfifo && test_live
 can_run 'sort_rows.py' python3 && test_sort

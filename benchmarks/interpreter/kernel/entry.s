@@ -105,10 +105,21 @@ switch_context:
 copy_user:
     li      t0, SUM
     csrs    sstatus, t0
+    .ifdef  OTHER_CHOICES           # eight bytes at a time at any address
+    li      t2, 8
+0:  bltu    a2, t2, 1f
+    ld      t1, 0(a1)
+    sd      t1, 0(a0)
+    addi    a0, a0, 8
+    addi    a1, a1, 8
+    addi    a2, a2, -8
+    j       0b
+    .else
     or      t1, a0, a1
     or      t1, t1, a2
     andi    t1, t1, 7
     beqz    t1, 3f
+    .endif
 1:  beqz    a2, copied
     lbu     t1, 0(a1)
     sb      t1, 0(a0)
@@ -116,12 +127,14 @@ copy_user:
     addi    a1, a1, 1
     addi    a2, a2, -1
     j       1b
+    .ifndef OTHER_CHOICES
 2:  ld      t1, 0(a1)
     sd      t1, 0(a0)
     addi    a0, a0, 8
     addi    a1, a1, 8
     addi    a2, a2, -8
 3:  bnez    a2, 2b
+    .endif
 copied:
     csrc    sstatus, t0
     li      a0, 0

@@ -24,10 +24,7 @@ typedef unsigned long u64;
 #define FRAMES 0x80800000UL
 #define FRAMES_MOST 1024
 
-/*
- * The bits of an entry of a page table, with two of the kernel's own. Every leaf has A and D from the beginning:
- * harts differ in whether they set them or raise a page fault.
- */
+/* The bits of an entry of a page table, with two of the kernel's own. */
 enum {
     VALID = 1 << 0,
     READ = 1 << 1,
@@ -40,6 +37,16 @@ enum {
     COPIED_ON_WRITE = 1 << 8,
     AGED = 1 << 9, /* there, but V is clear, so that the next access is noticed */
 };
+
+/*
+ * Of A and D, what leaves have from the beginning. Harts differ in whether they set them or raise a page fault;
+ * with OTHER_CHOICES the kernel is one for harts that set them, and carry out loads and stores at any address.
+ */
+#ifdef OTHER_CHOICES
+enum { MARKS = 0 };
+#else
+enum { MARKS = ACCESSED | DIRTY };
+#endif
 
 enum { CALL_FROM_U = 8, FETCH_PAGE_FAULT = 12, LOAD_PAGE_FAULT = 13, STORE_PAGE_FAULT = 15 };
 enum { SOFTWARE_INTERRUPT = 1, TIMER_INTERRUPT = 5 };
@@ -113,6 +120,7 @@ void age(struct process *process);
 void share_megapage(struct process *process, u64 address);
 void copy_space(struct process *from, struct process *to);
 void drop_space(struct process *process);
+u64 take_marks(struct process *process, u64 address);
 
 /* process.c */
 void schedule(void);

@@ -99,6 +99,10 @@ static u64 answer(struct frame *frame)
         return 0;
     case PEEK:
         return peek(&found, a0) ? 0 : found;
+#ifdef OTHER_CHOICES
+    case TAKE_MARKS:
+        return take_marks(current, a0);
+#endif
     }
     CLEAR_CSR(sstatus, SIE);
     switch (frame->x[A7]) {

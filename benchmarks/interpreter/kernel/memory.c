@@ -1,8 +1,7 @@
 /* Frames of 4 KiB, the tables of Sv39, and the spaces of processes, whose pages come when they are touched. */
 #include "kernel.h"
 
-enum { READ_WRITE = READ | WRITE | ACCESSED | DIRTY, READ_EXECUTE = READ | EXECUTE | ACCESSED | DIRTY };
-enum { USER_PAGE = USER | ACCESSED | DIRTY };
+enum { READ_WRITE = READ | WRITE | MARKS, READ_EXECUTE = READ | EXECUTE | MARKS, USER_PAGE = USER | MARKS };
 
 extern u8 kernel_start[], text_end[], rodata_end[], kernel_end[];
 
@@ -42,7 +41,7 @@ u64 map_kernel(void)
     kernel_middle[index_of(DEVICES, 1)] = leaf(UART, READ_WRITE | GLOBAL);
     kernel_middle[index_of((u64)kernel_start + KERNEL_OFFSET, 1)] = pointer((u64)kernel_pages);
     for (u8 *page = kernel_start; page < kernel_end; page += PAGE) {
-        u64 rights = page < text_end ? READ_EXECUTE : page < rodata_end ? READ | ACCESSED | DIRTY : READ_WRITE;
+        u64 rights = page < text_end ? READ_EXECUTE : page < rodata_end ? READ | MARKS : READ_WRITE;
         kernel_pages[index_of((u64)page, 0)] = leaf((u64)page, rights | GLOBAL);
     }
     return 8UL << 60 | (u64)kernel_root >> 12;
@@ -261,3 +260,17 @@ void drop_space(struct process *process)
     process->root = 0;
     forget_all(process);
 }
+
+#ifdef OTHER_CHOICES
+/* A and D of a page as the hart has set them, which are cleared; -1 where it was never touched. */
+u64 take_marks(struct process *process, u64 address)
+{
+    u64 *entry = entry_of(process, address, 0, 0), marks;
+    if (!entry || !*entry)
+        return -1UL;
+    marks = *entry & (ACCESSED | DIRTY);
+    *entry &= ~(ACCESSED | DIRTY);
+    forget(process, address);
+    return marks;
+}
+#endif

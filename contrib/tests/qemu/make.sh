@@ -1,12 +1,14 @@
 #!/bin/sh
-# Builds program.c, runs it in qemu, and leaves image.hex and run.log in FOLDER: make.sh FOLDER.
-# With Debian's gcc-riscv64-unknown-elf, binutils-riscv64-unknown-elf and qemu-system-misc.
+# Builds program.c, or another SOURCE, runs it in qemu, and leaves image.hex and run.log in FOLDER:
+# make.sh FOLDER [SOURCE]. With Debian's gcc-riscv64-unknown-elf, binutils-riscv64-unknown-elf and
+# qemu-system-misc.
 set -eu
 here=$(cd "$(dirname "$0")" && pwd)
+source=$here/${2:-program.c}
 cd "$1"
 riscv64-unknown-elf-gcc -march=rv64imac_zicsr_zifencei -mabi=lp64 -mcmodel=medany -O1 \
     -Wall -Wextra -Werror -nostdlib -ffreestanding -Wl,--no-relax -Wl,--build-id=none -Wl,--no-warn-rwx-segments \
-    -Wl,--section-start=.init=0x80000000 -o program.elf "$here/program.c"
+    -Wl,--section-start=.init=0x80000000 -o program.elf "$source"
 riscv64-unknown-elf-objcopy -O verilog program.elf image.hex
 timeout 20 qemu-system-riscv64 -M virt \
     -cpu rv64,f=off,d=off,h=off,sstc=off,zba=off,zbb=off,zbc=off,zbs=off \

@@ -1,0 +1,42 @@
+"""What the standards leave to a core once and for all; a part of reference_hart.py.
+
+What a core may choose anew at each instruction is asked of a Core instead.
+"""
+from dataclasses import dataclass
+
+# the values that each choice may have
+VALUES = {
+    "misaligned": ("trap", "done"),
+    "trap_values": ("value", "zero"),
+    "marks": ("fault", "set"),
+    "block": tuple(8 << power for power in range(10)),  # up to a page
+}
+
+
+@dataclass(frozen=True)
+class Choices:
+    """The choices of a hart, which no step changes.
+
+    misaligned: loads and stores at addresses that are no multiple of their length raise an exception, or are
+    carried out (Unprivileged ISA, "RV32I Base Integer Instruction Set", section "Load and Store Instructions").
+    LR, SC and AMOs raise it in any case, which "A" Standard Extension for Atomic Instructions allows.
+
+    trap_values: mtval and stval tell what the Privileged Architecture names for each exception, or are 0 on
+    every trap (chapters "Machine-Level ISA" and "Supervisor-Level ISA", "Trap Value Register").
+
+    marks: an access to a page whose A is clear, and a store to one whose D is, is a page fault, or sets them
+    (chapter "Supervisor-Level ISA", section "Addressing and Memory Protection").
+
+    block: the bytes of a reservation set, an aligned block of a size that is a power of two (Unprivileged
+    ISA, section "Load-Reserved/Store-Conditional Instructions").
+    """
+
+    misaligned: str = "trap"
+    trap_values: str = "value"
+    marks: str = "fault"
+    block: int = 64
+
+    def __post_init__(self):
+        for name, values in VALUES.items():
+            if getattr(self, name) not in values:
+                raise ValueError(f"{name} cannot be {getattr(self, name)}")
