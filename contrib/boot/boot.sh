@@ -1,22 +1,38 @@
 #!/bin/sh
-# Firmware from qemu to a verdict, live: boot.sh [ROWS] [PROGRAM]. OpenSBI and U-Boot, as Debian
-# has them, run in qemu; what qemu tells goes through pipes to the judge, and nothing of it is kept.
-# The run ends after ROWS rows, or where ROWS is 0 or not given, at U-Boot's prompt. The judge is
-# PROGRAM, or bin/rvjudge. KEEP names a folder that gets the image, the trace, and what the firmware
-# wrote to its serial port: for contrib/explain.py, with a ROWS that is not much after the
-# difference. The status is the judge's; 69 where a package is missing, 68 where the run ended
-# before its rows, or did not begin.
+# Firmware from qemu to a verdict, live: boot.sh [ROWS] [PROGRAM].
+#
+# OpenSBI and U-Boot, as Debian has them, run in qemu. What qemu tells of the run goes through pipes
+# to the judge, and nothing of it is kept. The run ends after ROWS rows, or where ROWS is 0 or not
+# given, at U-Boot's prompt. The judge is PROGRAM, or bin/rvjudge.
+#
+# Where KEEP names a folder it gets the image (boot.hex), the trace (boot.csv), the judge's options
+# (boot.options) and what the firmware wrote to its serial port (boot.serial): for
+# contrib/explain.py, with ROWS not much above the row that differs. Each run is the same.
+#
+# The status is the judge's; 69 where a package is missing; 68 where the run did not begin, or ended
+# too early.
 set -u
 boot=$(cd "$(dirname "$(readlink -f "$0")")" && pwd) || exit 68
 contrib=$(dirname "$boot")
 rows=${1:-0}
 program=${2:-$contrib/../bin/rvjudge}
-opensbi=${OPENSBI:-/usr/lib/riscv64-linux-gnu/opensbi/generic/fw_jump.bin}
-uboot=${UBOOT:-/usr/lib/u-boot/qemu-riscv64_smode/u-boot.bin}
+opensbi=/usr/lib/riscv64-linux-gnu/opensbi/generic/fw_jump.bin
+uboot=/usr/lib/u-boot/qemu-riscv64_smode/u-boot.bin
+# The machine: one hart that has what the judge's has, and 64 MiB. Each instruction takes 2^10
+# nanoseconds: that makes runs repeat, and U-Boot's two seconds before the prompt short.
+cpu=rv64,f=off,d=off,h=off,v=off,sstc=off,zba=off,zbb=off,zbc=off,zbs=off,pmu-num=29
+memory=0x80000000:0x4000000
+# The judge has a page more, for the stub; below it are the devices, from the first on that are used.
+stub=0x7ffff000
+options="--pc $stub --ram $stub:0x4001000 --io 0x100000:0x7feff000"
 
 case $rows in
+-h | --help)
+    sed -n '2,/^set/s/^# \{0,1\}//p' "$0"
+    exit 0
+    ;;
 *[!0-9]*)
-    echo "boot.sh: ROWS is a decimal number, not $rows" >&2
+    echo "boot.sh: $rows is no decimal number" >&2
     exit 68
     ;;
 esac
@@ -26,24 +42,19 @@ missing=
 command -v qemu-system-riscv64 >/dev/null || missing="$missing qemu-system-misc"
 command -v python3 >/dev/null || missing="$missing python3"
 if [ -n "$missing" ]; then
-    echo "boot.sh: Debian's packages are missing:$missing" >&2
+    echo "boot.sh: packages are missing:$missing" >&2
     exit 69
 fi
 
-# qemu's machine: 64 MiB, one hart with what the judge's has. A fixed number of nanoseconds for each
-# instruction makes runs repeat; a large one makes U-Boot's two seconds before its prompt short.
-cpu=rv64,f=off,d=off,h=off,v=off,sstc=off,zba=off,zbb=off,zbc=off,zbs=off
-ram=0x80000000:0x4000000 nanoseconds_shift=10
-# The judge's: a page for the stub below that memory, and devices from the test device on up to it.
-stub=0x7ffff000 judged_ram=0x7ffff000:0x4001000 devices=0x100000:0x7feff000
-
 folder=$(mktemp -d) || exit 68
 qemu=
-# qemu waits in a write where nothing reads its log, and then does not heed a request to end.
+
+# Ends qemu, and waits for what reads its log. Where that is gone qemu goes on, and heeds kill.
+# shellcheck disable=SC2317  # a trap calls it
 finish() {
-    exec 3<&-
+    exec 3<&- 4<&-
     [ -z "$qemu" ] || kill "$qemu" 2>/dev/null
-    [ -z "$qemu" ] || wait "$qemu" 2>/dev/null
+    wait
     rm -rf "$folder"
 }
 trap finish EXIT
@@ -51,53 +62,74 @@ trap 'exit 68' HUP INT TERM
 
 fail() {
     echo "boot.sh: $*" >&2
-    cat "$folder/said" >&2 2>/dev/null
+    cat "$folder/said" >&2
     exit 68
 }
 
-take_rows() {
-    if [ "$rows" -gt 0 ]; then head -n "$rows"; else cat; fi
+is_at_prompt() {
+    grep -q '^=> ' "$folder/serial" 2>/dev/null
+}
+
+end_at_prompt() {
+    until is_at_prompt; do
+        sleep 1
+        kill -0 "$qemu" 2>/dev/null || return
+    done
+    kill "$qemu"
+}
+
+# The trace from the log: the rows of the stub, and then those of qemu.
+trace() {
+    cat "$folder/head" - <&3 | python3 "$contrib/qemu_log.py" 2>>"$folder/said" | {
+        IFS= read -r header
+        printf '%s\n' "$header"
+        cat "$folder/stub.csv"
+        if [ "$rows" -gt 0 ]; then head -n "$rows"; else cat; fi
+    }
 }
 
 keep_copy() {
-    if [ -n "${KEEP:-}" ]; then tee "$KEEP/run.csv"; else cat; fi
+    if [ -n "${KEEP:-}" ]; then tee "$KEEP/boot.csv"; else cat; fi
 }
 
-# Ends qemu where U-Boot waits for a command.
-await_prompt() {
-    while kill -0 "$qemu" 2>/dev/null; do
-        if grep -q '^=> ' "$folder/serial" 2>/dev/null; then
-            kill "$qemu"
-            return
-        fi
-        sleep 1
-    done
+judge() {
+    # shellcheck disable=SC2086  # words
+    trace | keep_copy | "$program" judge "$folder/boot.hex" /dev/stdin $options
 }
 
 mkfifo "$folder/log" || exit 68
-# Opened for both, so that neither this script nor a qemu that fails waits for the other.
+# It is opened for both at first, so that a qemu that fails leaves nothing waiting for it.
 exec 4<>"$folder/log"
-qemu-system-riscv64 -M virt -cpu "$cpu" -m 64M -bios "$opensbi" -kernel "$uboot" \
-    -icount shift=$nanoseconds_shift -display none -monitor none -serial "file:$folder/serial" \
+qemu-system-riscv64 -M virt -cpu $cpu -m 64M -bios $opensbi -kernel $uboot -icount shift=10 -seed 1 \
+    -display none -monitor none -serial "file:$folder/serial" \
     -S -qmp "unix:$folder/control,server=on,wait=off" \
     -singlestep -d in_asm,cpu,exec,int,nochain -D "$folder/log" 2>"$folder/said" 4<&- &
 qemu=$!
 exec 3<"$folder/log"
-python3 "$boot/memory_image.py" "$folder/control" --ram $ram -o "$folder/image.hex" ||
+python3 "$boot/memory_image.py" "$folder/control" --ram $memory -o "$folder/boot.hex" ||
     fail 'qemu did not begin'
 exec 4<&-
-python3 "$boot/make_stub.py" "$folder/image.hex" "$folder/stub.csv" --at $stub \
+python3 "$boot/make_stub.py" "$folder/boot.hex" "$folder/stub.csv" --at $stub \
     <&3 >"$folder/head" || fail 'the firmware did not begin'
-[ "$rows" -gt 0 ] || await_prompt &
+[ "$rows" -gt 0 ] || end_at_prompt 3<&- &
 
-verdict=$(cat "$folder/head" - <&3 | python3 "$contrib/qemu_log.py" 2>"$folder/told" | {
-    IFS= read -r header
-    printf '%s\n' "$header"
-    cat "$folder/stub.csv"
-    take_rows
-} | keep_copy | "$program" judge "$folder/image.hex" /dev/stdin --pc $stub --ram $judged_ram \
-    --io $devices)
+judge >"$folder/verdict" 3<&3 &
+exec 3<&-
+wait $!
 status=$?
-[ -z "${KEEP:-}" ] || cp "$folder/image.hex" "$folder/serial" "$KEEP/"
-printf '%s\n' "$verdict"
+if [ -n "${KEEP:-}" ]; then
+    cp "$folder/boot.hex" "$KEEP/"
+    cp "$folder/serial" "$KEEP/boot.serial"
+    echo "$options" >"$KEEP/boot.options"
+fi
+verdict=$(cat "$folder/verdict")
+[ -z "$verdict" ] || echo "$verdict"
+if [ $status -eq 0 ]; then
+    stub_rows=$(wc -l <"$folder/stub.csv")
+    if [ "$rows" -gt 0 ]; then
+        [ "${verdict#agrees }" -ge $((rows + stub_rows)) ] || fail "the run ended before $rows rows"
+    else
+        is_at_prompt || fail "the run ended before U-Boot's prompt"
+    fi
+fi
 exit $status
