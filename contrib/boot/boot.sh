@@ -52,6 +52,7 @@ qemu=
 # Ends qemu, and waits for what reads its log. Where that is gone qemu goes on, and heeds kill.
 # shellcheck disable=SC2317  # a trap calls it
 finish() {
+    trap '' HUP INT TERM
     exec 3<&- 4<&-
     [ -z "$qemu" ] || kill "$qemu" 2>/dev/null
     wait
@@ -70,7 +71,9 @@ is_at_prompt() {
     grep -q '^=> ' "$folder/serial" 2>/dev/null
 }
 
+# Ends qemu at the prompt. It must not hold the log open: qemu would wait for it to read.
 end_at_prompt() {
+    exec 3<&-
     until is_at_prompt; do
         sleep 1
         kill -0 "$qemu" 2>/dev/null || return
@@ -111,11 +114,11 @@ python3 "$boot/memory_image.py" "$folder/control" --ram $memory -o "$folder/boot
 exec 4<&-
 python3 "$boot/make_stub.py" "$folder/boot.hex" "$folder/stub.csv" --at $stub \
     <&3 >"$folder/head" || fail 'the firmware did not begin'
-[ "$rows" -gt 0 ] || end_at_prompt 3<&- &
-
-judge >"$folder/verdict" 3<&3 &
+[ "$rows" -gt 0 ] || end_at_prompt &
+judge >"$folder/verdict" &
+judge=$!
 exec 3<&-
-wait $!
+wait $judge
 status=$?
 if [ -n "${KEEP:-}" ]; then
     cp "$folder/boot.hex" "$KEEP/"
