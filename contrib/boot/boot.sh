@@ -22,7 +22,7 @@ uboot=/usr/lib/u-boot/qemu-riscv64_smode/u-boot.bin
 # nanoseconds: that makes runs repeat, and U-Boot's two seconds before the prompt short.
 cpu=rv64,f=off,d=off,h=off,v=off,sstc=off,zba=off,zbb=off,zbc=off,zbs=off,pmu-num=29
 memory=0x80000000:0x4000000
-# The judge has a page more, for the stub; below it are the devices, from the first on that are used.
+# The judge has a page more, for the stub. Below it are the devices, from the first that is used on.
 stub=0x7ffff000
 options="--pc $stub --ram $stub:0x4001000 --io 0x100000:0x7feff000"
 
@@ -81,9 +81,14 @@ end_at_prompt() {
     kill "$qemu"
 }
 
+# The rows of a log, as far as they are wanted; tells where not all of it was taken.
+rows_of_log() {
+    python3 "$contrib/qemu_log.py" 2>>"$folder/said" || : >"$folder/not_whole"
+}
+
 # The trace from the log: the rows of the stub, and then those of qemu.
 trace() {
-    cat "$folder/head" - <&3 | python3 "$contrib/qemu_log.py" 2>>"$folder/said" | {
+    cat "$folder/head" - <&3 | rows_of_log | {
         IFS= read -r header
         printf '%s\n' "$header"
         cat "$folder/stub.csv"
@@ -103,8 +108,8 @@ judge() {
 mkfifo "$folder/log" || exit 68
 # It is opened for both at first, so that a qemu that fails leaves nothing waiting for it.
 exec 4<>"$folder/log"
-qemu-system-riscv64 -M virt -cpu $cpu -m 64M -bios $opensbi -kernel $uboot -icount shift=10 -seed 1 \
-    -display none -monitor none -serial "file:$folder/serial" \
+qemu-system-riscv64 -M virt -cpu $cpu -m 64M -bios $opensbi -kernel $uboot \
+    -icount shift=10 -seed 1 -display none -monitor none -serial "file:$folder/serial" \
     -S -qmp "unix:$folder/control,server=on,wait=off" \
     -singlestep -d in_asm,cpu,exec,int,nochain -D "$folder/log" 2>"$folder/said" 4<&- &
 qemu=$!
@@ -131,8 +136,8 @@ if [ $status -eq 0 ]; then
     stub_rows=$(wc -l <"$folder/stub.csv")
     if [ "$rows" -gt 0 ]; then
         [ "${verdict#agrees }" -ge $((rows + stub_rows)) ] || fail "the run ended before $rows rows"
-    else
-        is_at_prompt || fail "the run ended before U-Boot's prompt"
+    elif [ -e "$folder/not_whole" ] || ! is_at_prompt; then
+        fail "the run ended before U-Boot's prompt"
     fi
 fi
 exit $status

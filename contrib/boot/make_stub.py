@@ -33,7 +33,7 @@ class Refused(Exception):
 
 
 def registers_in(text, pc):
-    """The registers of the first state at pc, by number; None where the text has none, or no end."""
+    """The registers of the first state at pc, by number; None where it is not there as a whole."""
     begin = text.find(f" pc       {pc:016x}\n")
     end = text.find(" x31/", begin)
     if begin < 0 or text.find("\n", end) < 0 or end < 0:

@@ -1,5 +1,5 @@
 #!/usr/bin/env python3
-"""Tries what boot/boot.sh is made of: boot_test.py PROGRAM. The status is 1 where anything failed."""
+"""Tries what boot/boot.sh is made of: boot_test.py PROGRAM. The status is 1 where it failed."""
 import os
 import shutil
 import subprocess
