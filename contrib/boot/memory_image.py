@@ -15,7 +15,7 @@ import tempfile
 import time
 
 PAGE, LINE = 4096, 16  # bytes
-SECONDS_TO_CONNECT = 20
+SECONDS_TO_CONNECT = 60
 
 
 class Refused(Exception):

@@ -165,7 +165,7 @@ test_boot() {
         >"$folder/other"
     : >"$folder/none.hex"
     chmod +x "$folder/other"
-    found=$(timeout 60 sh "$contrib/boot/boot.sh" 0 "$folder/other" 2>"$folder/said")
+    found=$(timeout 300 sh "$contrib/boot/boot.sh" 0 "$folder/other" 2>"$folder/said")
     status=$? wanted='differs row 1: trap expected 0x0000000000000001 found 0x0000000000000000'
     [ "$status $found" = "1 $wanted" ] || fail "firmware without an image: $status '$found'"
 }
