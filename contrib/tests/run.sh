@@ -173,6 +173,23 @@ test_qemu_choices() {
     [ $? -eq 1 ] || fail "qemu's choices without options: $(cat "$folder/said")"
 }
 
+# Firmware that Debian has, from its first instruction on, live; and a difference, which ends qemu.
+test_boot() {
+    found=$(sh "$contrib/boot/boot.sh" 200000 "$program" 2>"$folder/said")
+    if [ $? -eq 69 ]; then
+        leave_out "firmware in qemu: $(cat "$folder/said")"
+        return
+    fi
+    [ "$found" = 'agrees 200007' ] || fail "firmware in qemu: '$found': $(cat "$folder/said")"
+    printf '%s\n' '#!/bin/sh' 'shift 2' "exec '$program' judge '$folder/none.hex' \"\$@\"" \
+        >"$folder/other"
+    : >"$folder/none.hex"
+    chmod +x "$folder/other"
+    found=$(timeout 300 sh "$contrib/boot/boot.sh" 0 "$folder/other" 2>"$folder/said")
+    status=$? wanted='differs row 1: trap expected 0x0000000000000001 found 0x0000000000000000'
+    [ "$status $found" = "1 $wanted" ] || fail "firmware without an image: $status '$found'"
+}
+
 # The writer at an RVFI port of so many instructions a cycle.
 judge_bench() {
     expect "$1" 'agrees 10' "$tests/rvfi/image.hex" "$folder/bench.csv"
@@ -324,6 +341,11 @@ can_run 'logs of Spike' python3 && test_spike
 can_run 'the stored log of qemu' python3 gzip && test_qemu_log
 can_run 'a run in qemu' python3 riscv64-unknown-elf-gcc riscv64-unknown-elf-objcopy \
     qemu-system-riscv64 && has_version 'a run in qemu' qemu-system-riscv64 'version 7\.' && test_qemu && test_qemu_choices
+if can_run 'the start of firmware' python3; then
+    python3 "$tests/boot_test.py" "$program" || fail "the start of firmware"
+fi
+can_run 'firmware in qemu' python3 qemu-system-riscv64 mkfifo timeout &&
+    has_version 'firmware in qemu' qemu-system-riscv64 'version 7\.' && test_boot
 can_run 'rvfi_csv.sv in Icarus Verilog' iverilog vvp && test_iverilog
 can_run 'a trace that is judged live' iverilog vvp mkfifo && test_live
 can_run 'sort_rows.py' python3 && test_sort
