@@ -312,7 +312,7 @@ class Cover:
             self.count_access(row, size)
 
     def count_exception(self, before, row):
-        """A trap is counted on the row behind it, whose mode says where it went."""
+        """A trap is counted on the row after it, whose mode says where it went."""
         register = "scause" if row.get("mode") == 1 else "mcause"
         cause = before.get(f"csr_{register}_wdata", row.get(f"csr_{register}_rdata"))
         name = name_of(before.get("insn", 0))
@@ -336,8 +336,8 @@ class Cover:
         mask = row.get("mem_wmask") or row.get("mem_rmask")
         if "mem_addr" not in row or not mask:
             return
-        behind = (mask & -mask).bit_length() - 1
-        self.counts["accesses"][f"{size} at {row['mem_addr'] + behind & 7}"] += 1
+        offset = (mask & -mask).bit_length() - 1
+        self.counts["accesses"][f"{size} at {row['mem_addr'] + offset & 7}"] += 1
         if "mem_paddr" in row and row.get("mode") in (0, 1):
             changed = row["mem_addr"] ^ row["mem_paddr"]
             self.counts["pages"]["4 KiB" if changed & 0x1FF000 else

@@ -41,7 +41,7 @@ READ = {
     "cycle",
 }
 MEANING = {
-    "valid": "a valid row behind one that showed halt", "order": "the row's number",
+    "valid": "a valid row after one that showed halt", "order": "the row's number",
     "intr": "an interrupt was entered before this row", "pc_rdata": "the instruction's address",
     "mode": "the mode of the instruction: 0 U, 1 S, 3 M", "ixl": "the register width's code",
     "trap": "the instruction took a synchronous trap", "insn": "the instruction's bits",

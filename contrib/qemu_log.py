@@ -334,7 +334,7 @@ class Translations:
         self.image = image  # bytes by address, for what is not listed
         self.by_block = {}
         self.by_address = {}
-        self.latest = None  # until the state behind it says which block it is
+        self.latest = None  # until the state after it says which block it is
         self.mode = None
 
     def take(self, text, shown):
@@ -378,7 +378,7 @@ class Translations:
 
 
 class Converter:
-    """Rows from lines. A row is held until the state behind it says what it has written."""
+    """Rows from lines. A row is held until the state after it says what it has written."""
 
     def __init__(self, start, image, write):
         self.start = start
@@ -389,7 +389,7 @@ class Converter:
         self.layout = self.latest = None  # the form of states, and the last one
         self.blocks = {}  # lines of exec, with what they say
         self.held = None  # a row
-        self.unfetched = None  # a row behind it that could not be fetched
+        self.unfetched = None  # a row after it that could not be fetched
         self.interrupt = None  # the code of one that was entered, until its handler's first row
         self.entered = None  # the code of the last one
         self.tells_traps = False
@@ -461,7 +461,7 @@ class Converter:
     def lines_of(self, code, state):
         """What is shown of mip before the row, an interrupt's entry included, and its mask."""
         line = 0 if self.interrupt is None else 1 << self.interrupt
-        if code.reads_mip:  # a line may rise behind the state: the lines are those of the value
+        if code.reads_mip:  # a line may rise after the state: the lines are those of the value
             return f"0x{line:x}", f"0x{line:x}"
         if state.mip is None:
             return "", ""
@@ -517,7 +517,7 @@ class Converter:
         self.interrupt = None
 
     def finish(self, state):
-        """Writes what is held, behind which the hart has a state."""
+        """Writes what is held, after which the hart has a state."""
         if self.held is not None:
             self.write(self.row_text(self.held, state))
             self.rows += 1
@@ -542,14 +542,14 @@ class Converter:
             if code.access is not None:
                 value = int(after.registers[code.rd], 16) if code.rd else None
                 memory = memory_fields(code.access, registers, value)
-        before_mip, behind_mip = self.csr_fields(row.state.csrs)
+        before_mip, after_mip = self.csr_fields(row.state.csrs)
         mode = "" if row.mode is None else f"0x{row.mode:x}"
         trap = "" if row.trap is None else f"0x{row.trap:x}"
         return (f"0x{row.intr:x},0x{row.pc:x},{mode},{trap},{code.insn},{rs1},{rs2},{written},"
-                f"{pc_wdata},{row.mask},{before_mip},{row.mip},{behind_mip},{memory}\n")
+                f"{pc_wdata},{row.mask},{before_mip},{row.mip},{after_mip},{memory}\n")
 
     def csr_fields(self, csrs):
-        """The control and status registers before and behind mip; most rows change none."""
+        """The control and status registers before and after mip; most rows change none."""
         if csrs != self.csrs:
             texts = ["" if it is None else as_hex(it) for it in csrs]
             at = CSRS.index("mip")

@@ -7,7 +7,7 @@ Each NAME.csv, NAME.csv.gz and NAME.csv.zst in the folders and below them is jud
 
     NAME.hex       its image, or else the image.hex of its folder or of the nearest folder above;
     NAME.options   options of the judge (words between blanks), each in place of the one that is
-                   given behind --;
+                   given after --;
     NAME.expect    what an agreement must be worth, one a line: the number of valid rows, or
                    "ends with halt";
     NAME.elf       the program, for the explanation of a difference.
@@ -559,7 +559,7 @@ def run(words):
         print("".join(f"{it.name}: {it.line}\n" for it in results), end="")
         return tell(traces, results, words, program)
     check_program(program)
-    given = {"--workers": "1"} | options_by_name(words.options, "behind --")
+    given = {"--workers": "1"} | options_by_name(words.options, "after --")
     traces = traces_in(words.folders, given)
     settings = {"program": program, "timeout": words.timeout, "at_least": words.at_least}
     if words.way == "slurm":

@@ -37,7 +37,7 @@ LISTED = re.compile(r"0x([0-9a-f]+) \(0x([0-9a-f]+)\) ?(.*)")
 COMMITTED = re.compile(r"([0-3]) 0x([0-9a-f]+) \(0x([0-9a-f]+)\)(.*)")
 RAISED = re.compile(r"exception (.+), epc 0x([0-9a-f]+)")
 INTERRUPT = re.compile(r"interrupt #(\d+)")
-# An instruction as it is listed, and behind it as it retired, where it wrote no more than a
+# An instruction as it is listed, and after it as it retired, where it wrote no more than a
 # register and made no more than one access: most of a log.
 PLAIN = re.compile(
     r"core +(\d+): 0x([0-9a-f]{16}) \(0x([0-9a-f]+)\)[^\n]*\n"
@@ -71,7 +71,7 @@ def address(digits):
 
 
 class Converter:
-    """Rows from lines. A row is held until the line behind it says where the program goes on."""
+    """Rows from lines. A row is held until the line after it says where the program goes on."""
 
     def __init__(self, start, hart, write):
         self.start = start
@@ -112,7 +112,7 @@ class Converter:
         self.hold(row)
 
     def add_written(self, row, words):
-        """What stands behind an instruction: registers and values, and the accesses to memory."""
+        """What stands after an instruction: registers and values, and the accesses to memory."""
         access = None  # a mem whose next word may be the data of a store
         for word in words:
             if word == "mem":
@@ -202,7 +202,7 @@ class Converter:
         self.held = ",".join(before) + ",", "," + ",".join(after) + "\n", not row["trap"]
 
     def go_on(self, pc):
-        """Writes the row that is held, behind which the program goes on at pc."""
+        """Writes the row that is held, after which the program goes on at pc."""
         if self.held:
             before, after, goes_on = self.held
             self.write(before + (f"0x{pc:x}" if goes_on and pc is not None else "") + after)

@@ -4,7 +4,7 @@
     alter_fields.py IMAGE TRACE [PROGRAM] [--io BASE:SIZE] [--count N] [--seed S] [--jobs J] [--keep FOLDER]
         [--cut MOST]
 
-Each of the N altered traces is the front of TRACE up to some rows behind the altered one, with one field
+Each of the N altered traces is the front of TRACE up to some rows after the altered one, with one field
 altered; rows well before it do not show the registers. The whole answer is foretold by judge.py, which goes
 on from a state before the altered row; then PROGRAM judges the altered trace from its beginning, and must
 print that answer and end with its status; with --cut, in segments of up to MOST rows and windows of up to
@@ -32,7 +32,7 @@ from judge import PLAIN, WIDTHS, Judge, answer, number, read_row, span
 from reference_hart import Hart
 
 EVERY = 32  # rows between two kept states
-BEHIND = 6  # rows of an altered trace behind the altered one
+ROWS_AFTER = 6  # rows of an altered trace after the altered one
 TRIES = 200  # alterations that are tried for one that makes a difference
 NEVER_EMPTY = ("insn", "pc_rdata")  # a row without them cannot be read
 AGREEMENTS = 9  # of 100 alterations so many may make no difference
@@ -83,7 +83,7 @@ class Trace:
 
     def end_of(self, row):
         """Where an altered trace ends."""
-        return min(row + 1 + BEHIND, len(self.rows))
+        return min(row + 1 + ROWS_AFTER, len(self.rows))
 
     def altered_line(self, row, column, text):
         fields = self.lines[row].rstrip("\n").split(",")

@@ -308,7 +308,7 @@ class Goals:
     # Code and reservations.
 
     def write_code(self):
-        """Stores an instruction ahead, and goes there, mostly behind a FENCE.I."""
+        """Stores an instruction ahead, and goes there, mostly after a FENCE.I."""
         chance = self.chance
         register, base = 1 + chance.below(15), 16 + chance.below(16)
         name = chance.pick(("ADDI", "XORI", "SLTIU"))

@@ -273,7 +273,7 @@ class MadeHart(Hart):
             self.reached["marks", f"{kind} may not set them"] += 1
             return
         if last & (PTE_R | PTE_X):
-            self.reached["page", f"refused behind the walk: {kind}"] += 1
+            self.reached["page", f"refused after the walk: {kind}"] += 1
             return
         table = last >> PTE_PPN_AT if walk.entries else self.csrs.values["satp"] & SATP_PPN
         where = "protected" if table * PAGE in self.memory.ram else "outside RAM"

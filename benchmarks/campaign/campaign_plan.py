@@ -91,7 +91,7 @@ class Maker(Goals):
     # Values of bytes that nothing has read yet.
 
     def value(self, walk, address, length):
-        """The value of these bytes, which the hart reads on this walk, or behind it."""
+        """The value of these bytes, which the hart reads on this walk, or after it."""
         if walk and length == ENTRY:
             return self.entry(walk)
         if walk and walk.kind == FETCH:
@@ -102,7 +102,7 @@ class Maker(Goals):
         return self.chance.number() & (1 << 8 * length) - 1
 
     def half(self, address):
-        """The 16 bits at pc, or behind them."""
+        """The 16 bits at pc, or after them."""
         if self.second and self.second[0] == address:
             bits, self.second = self.second[1], None
             return bits

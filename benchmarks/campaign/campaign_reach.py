@@ -47,7 +47,7 @@ def pages():
             "2 MiB misaligned", "1 GiB misaligned", "A clear",
         ):
             yield "page fault", f"{why}: {kind}"
-        for what in ("table protected", "table outside RAM", "refused behind the walk"):
+        for what in ("table protected", "table outside RAM", "refused after the walk"):
             yield "page", f"{what}: {kind}"
     yield "page fault", "D clear: store"
     yield "page", "U page in S under SUM"

@@ -95,22 +95,22 @@ class Row:
                 self.fields["mem_wmask"] = 0
             return
         # A core shows the access's own address, that of its doubleword, or one not far before.
-        behind = chance.pick((0, 0, access.address % 8, chance.below(9 - access.length)))
-        if behind > 8 - access.length:
-            behind = 0
-        behind = behind if shows_address else 0
-        touched = (1 << access.length) - 1 << behind
-        places = (1 << 8 * access.length) - 1 << 8 * behind
+        offset = chance.pick((0, 0, access.address % 8, chance.below(9 - access.length)))
+        if offset > 8 - access.length:
+            offset = 0
+        offset = offset if shows_address else 0
+        touched = (1 << access.length) - 1 << offset
+        places = (1 << 8 * access.length) - 1 << 8 * offset
         self.fields |= {
-            "mem_addr": access.address - behind & MASK if shows_address else None,
-            "mem_paddr": access.place - behind & MASK, "mem_wmask": 0,
+            "mem_addr": access.address - offset & MASK if shows_address else None,
+            "mem_paddr": access.place - offset & MASK, "mem_wmask": 0,
         }
         if access.read is not None:
             self.fields["mem_rmask"] = touched | self.garbage("mem_rmask")
-            self.masked("mem_rdata", access.read << 8 * behind, places)
+            self.masked("mem_rdata", access.read << 8 * offset, places)
         if access.written is not None:
             self.fields["mem_wmask"] = touched
-            self.masked("mem_wdata", access.written << 8 * behind, places)
+            self.masked("mem_wdata", access.written << 8 * offset, places)
 
     def csr(self, name, part, value, needed, untold):
         """One value of a register under a mask with at least the needed bits; the bits that it

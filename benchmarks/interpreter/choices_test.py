@@ -327,7 +327,7 @@ LEAF_WITHOUT_A = [
 
 
 def rows_of(words, header, last):
-    """A trace of these words one after the other; last is what the final row shows behind pc_rdata."""
+    """A trace of these words one after the other; last is what the final row shows after pc_rdata."""
     lines, blank = [f"insn,pc_rdata,{header}"], "," * header.count(",")
     for at, word in enumerate(words):
         shown = last if at == len(words) - 1 else blank

@@ -82,7 +82,7 @@ def csr_shown(row, name, part):
 
 
 def distance(row, access):
-    """How far behind mem_addr the access begins; None where mem_addr is not shown."""
+    """How far after mem_addr the access begins; None where mem_addr is not shown."""
     return access.address - row["mem_addr"] & MASK if "mem_addr" in row else None
 
 
@@ -109,9 +109,9 @@ class RowCore(Core):
         return self.row.get("trap", 0) == 1
 
     def device_load(self, address, place, length):
-        bits, behind = (1 << 8 * length) - 1, address - self.row.get("mem_addr", 0) & MASK
-        if "mem_addr" in self.row and "mem_rdata" in self.row and behind <= 8 - length:
-            return self.row["mem_rdata"] >> 8 * behind & bits
+        bits, offset = (1 << 8 * length) - 1, address - self.row.get("mem_addr", 0) & MASK
+        if "mem_addr" in self.row and "mem_rdata" in self.row and offset <= 8 - length:
+            return self.row["mem_rdata"] >> 8 * offset & bits
         return self.row.get("rd_wdata", 0) & bits
 
 
@@ -200,23 +200,23 @@ def expect_memory(access, row):
     if access is None:
         yield Expected("mem_wmask", 0)
         return
-    behind = distance(row, access)
-    shown = behind is not None
-    if shown and behind > 8 - access.length:
+    offset = distance(row, access)
+    shown = offset is not None
+    if shown and offset > 8 - access.length:
         yield Expected("mem_addr", access.address)
         return  # that differs
-    behind = behind or 0
-    touched = (1 << access.length) - 1 << behind
-    places = (1 << 8 * access.length) - 1 << 8 * behind
+    offset = offset or 0
+    touched = (1 << access.length) - 1 << offset
+    places = (1 << 8 * access.length) - 1 << 8 * offset
     if shown and access.read is not None:
         yield Expected("mem_rmask", touched, touched)
-        yield Expected("mem_rdata", access.read << 8 * behind, places)
+        yield Expected("mem_rdata", access.read << 8 * offset, places)
     if access.written is None:
         yield Expected("mem_wmask", 0)
     elif shown:
         yield Expected("mem_wmask", touched)
-        yield Expected("mem_wdata", access.written << 8 * behind, places)
-    yield Expected("mem_paddr", access.place - behind & MASK)
+        yield Expected("mem_wdata", access.written << 8 * offset, places)
+    yield Expected("mem_paddr", access.place - offset & MASK)
 
 
 def expect_csrs(row, before, after):

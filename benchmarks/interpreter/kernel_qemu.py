@@ -34,7 +34,7 @@ CSRS = (
 EXTENSIONS_OFF = ("f", "d", "h", "sstc", "zba", "zbb", "zbc", "zbs")
 DEVICE_TREE_ROOM = 16 << 20  # at the end of RAM, where qemu puts a device tree
 EMPTY = bytes(PAGE)
-STATE_LINES = 26  # of the registers behind the line of a row
+STATE_LINES = 26  # of the registers after the line of a row
 
 
 class Trap(NamedTuple):
@@ -85,7 +85,7 @@ class Log:
             yield held
 
     def state(self, line):
-        """The row of a line with the place and flags of a translation, and of the state behind it."""
+        """The row of a line with the place and flags of a translation, and of the state after it."""
         _, _, place, flags, *_ = line.split()
         if self.latest:
             (self.words[place],), self.latest = self.latest, ()

@@ -179,7 +179,7 @@ class Hart:
         return instruction
 
     def execute(self, instruction, source1, source2, after):
-        """The value for rd, the next pc, and the access; after is the address behind the instruction."""
+        """The value for rd, the next pc, and the access; after is the address after the instruction."""
         name, imm = instruction.name, instruction.imm
         if name in INTEGER:
             other = imm & MASK if instruction.rs2 is None else source2

@@ -161,16 +161,16 @@ class Show:
         self.place = access.place
         # A core shows the access's own address, that of its doubleword, or another one not far before.
         any_of_them = self.noise.bits(8) % (9 - access.length)
-        behind = (0, 0, access.address % 8, any_of_them)[self.noise.bits(2)]
-        shown, shown_place = access.address - behind & MASK, access.place - behind & MASK
-        touched, places = (1 << access.length) - 1 << behind, (1 << 8 * access.length) - 1 << 8 * behind
+        offset = (0, 0, access.address % 8, any_of_them)[self.noise.bits(2)]
+        shown, shown_place = access.address - offset & MASK, access.place - offset & MASK
+        touched, places = (1 << access.length) - 1 << offset, (1 << 8 * access.length) - 1 << 8 * offset
         self.fields |= {"mem_addr": shown, "mem_paddr": shown_place, "mem_wmask": 0}
         if access.read is not None:
             self.fields["mem_rmask"] |= touched
-            self.masked("mem_rdata", access.read << 8 * behind, places)
+            self.masked("mem_rdata", access.read << 8 * offset, places)
         if access.written is not None:
             self.fields["mem_wmask"] = touched
-            self.masked("mem_wdata", access.written << 8 * behind, places)
+            self.masked("mem_wdata", access.written << 8 * offset, places)
 
     def csr(self, name, part, value, needed, untold):
         """One value of a register, with at least the needed bits shown; those that are not told may be anything."""

@@ -19,7 +19,7 @@ sys.set_int_max_str_digits(0)  # a number of a row has as many digits as its lin
 
 
 class Refused(Exception):
-    """What stands in a refusal behind `refused `."""
+    """What stands in a refusal after `refused `."""
 
 
 def read_number(text):
@@ -102,7 +102,7 @@ def fields_of(line):
 
 
 def quoted_field(line, at):
-    """What stands in the quotes that open here, and the place behind them."""
+    """What stands in the quotes that open here, and the place after them."""
     pieces = []
     while True:
         close = line.find(b'"', at + 1)

@@ -1,6 +1,6 @@
 #!/bin/sh
 # Tells what the stages take through which 1,000,000 rows go, in microseconds, with one worker and
-# with four, or with as many as are given behind the number of passes: of a loop, of compiled code, and
+# with four, or with as many as are given after the number of passes: of a loop, of compiled code, and
 # of loads and stores. crates/stage_times/src/main.rt says what is counted.
 set -eu
 passes=${1:-10}

@@ -33,12 +33,12 @@ class Trial:
         all_before, host_before = processors_time()
         run = subprocess.run([program, image, trace, str(workers), "1"], check=True,
                              stdout=subprocess.PIPE, text=True)
-        all_behind, host_behind = processors_time()
+        all_after, host_after = processors_time()
         stages = {words[0]: words[1:] for words in map(str.split, run.stdout.splitlines())
                   if len(words) == 3}
         self.one, self.several = (int(stages["reading"][place]) + int(stages["judging"][place])
                                   for place in (0, 1))
-        self.steal = 100 * (host_behind - host_before) / max(1, all_behind - all_before)
+        self.steal = 100 * (host_after - host_before) / max(1, all_after - all_before)
 
 
 def told(trials):

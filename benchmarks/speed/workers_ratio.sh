@@ -1,5 +1,5 @@
 #!/bin/sh
-# Tells how many times as fast four workers, or as many as are given behind the number of trials, read
+# Tells how many times as fast four workers, or as many as are given after the number of trials, read
 # and judge 1,000,000 rows of compiled code, and of loads and stores, as one worker does: by trials in
 # which the host took next to nothing of the processors. workers_ratio.py says what is measured.
 set -eu

@@ -2,8 +2,8 @@
 """Holds the documents to the judge: documents.py PROGRAM.
 
 A line of a document that is indented by four blanks, begins with bin/rvjudge judge and names files
-in folders is run, in the top folder, and the line behind it must be what the judge prints. Each
-image and trace in examples/ must be named. Behind a paragraph that ends in `FILE`: the whole text
+in folders is run, in the top folder, and the line after it must be what the judge prints. Each
+image and trace in examples/ must be named. After a paragraph that ends in `FILE`: the whole text
 of that file must stand, indented by four blanks. Prints how many lines were run; the status is 1
 where anything is not so.
 """
@@ -18,7 +18,7 @@ EXAMPLES = "contrib/tests/examples"
 
 
 def runs(text):
-    """The words of each command and the line that stands behind it."""
+    """The words of each command and the line that stands after it."""
     lines = text.split("\n")
     return [(line.split()[1:], after.strip()) for line, after in zip(lines, lines[1:])
             if line.startswith(COMMAND) and all("/" in word for word in line.split()[2:4])]

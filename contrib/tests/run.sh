@@ -15,7 +15,7 @@ fail() {
     failed=1
 }
 
-# Whether the tools behind the name of a test are there; says which are not.
+# Whether the tools that a test names are there; says which are not.
 can_run() {
     name=$1 missing=
     shift

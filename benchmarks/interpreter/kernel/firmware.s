@@ -64,7 +64,7 @@ machine_trap:
     beqz    t1, illegal
     j       redirect
 
-leave_behind:                       # the instruction of four bytes that trapped
+leave_after:                       # the instruction of four bytes that trapped
     csrr    t0, mepc
     addi    t0, t0, 4
     csrw    mepc, t0
@@ -100,7 +100,7 @@ set_timer:
     csrc    mip, t0
     li      t0, MTIP
     csrs    mie, t0
-    j       leave_behind
+    j       leave_after
 
 pass:
     li      t0, FINISHER
@@ -203,7 +203,7 @@ count_bits:                         # of the instruction in t0
     csrw    mscratch, t1
     each_register ld, 1, 3, 4, 7, 8, 9, 10, 11, 12, 13, 14, 15, 16, 17, 18, 19, 20, 21, 22, 23, 24, 25
     each_register ld, 26, 27, 28, 29, 30, 31
-    j       leave_behind
+    j       leave_after
 
     .balign 16
 frame:

@@ -17,7 +17,7 @@ typedef unsigned long u64;
 #define DEVICES 0xffffffff90000000UL
 #define KERNEL_OFFSET 0xffffffff00000000UL
 
-/* Physical addresses: behind the kernel one megapage that processes share, then the frames. */
+/* Physical addresses: after the kernel one megapage that processes share, then the frames. */
 #define RAM 0x80000000UL
 #define UART 0x10000000UL
 #define SHARED 0x80600000UL

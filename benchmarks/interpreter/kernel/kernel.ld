@@ -1,5 +1,5 @@
 /*
- * The firmware where the hart begins, and the kernel 2 MiB behind it, at virtual addresses in the last two GiB.
+ * The firmware where the hart begins, and the kernel 2 MiB after it, at virtual addresses in the last two GiB.
  * Its parts are of whole pages, since each has rights of its own.
  */
 ENTRY(_start)

@@ -100,7 +100,7 @@ exceptions:
     la      s11, 1f                 # an odd target loses its last bit
     jalr    t4, 1(a4)
 1:  with_value a4
-    addi    a1, a3, -2              # an instruction whose second half is behind the end of RAM
+    addi    a1, a3, -2              # an instruction whose second half is after the end of RAM
     li      t4, 3
     sh      t4, (a1)
     fence.i

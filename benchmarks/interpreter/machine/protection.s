@@ -1,6 +1,6 @@
 # Physical memory protection: the registers, what each kind of entry covers, fetches, accesses under MPRV, and
 # locks. From here on S and U run: entry 15 opens the program to them, entry 14 the devices.
-    .equ ARENA, 0x80100000          # behind the program; what entries 0 to 13 are tried on
+    .equ ARENA, 0x80100000          # after the program; what entries 0 to 13 are tried on
     .equ ARENA_1, ARENA + 0x1000
     .equ ARENA_2, ARENA + 0x2000
 

@@ -1,7 +1,7 @@
-# Programs in the address spaces of translation.s: tables and pages behind protection and outside RAM, devices,
+# Programs in the address spaces of translation.s: tables and pages under protection and outside RAM, devices,
 # fetches over the edges of pages, pages at several addresses, traps that are delegated and that are not, interrupts.
     .equ EDGE_1, 0x80410000         # a page that ends in the first half of LI a2
-    .equ EDGE_2, 0x80412000         # one that begins in the second half and an ECALL; behind EDGE_1 is another
+    .equ EDGE_2, 0x80412000         # one that begins in the second half and an ECALL; after EDGE_1 is another
     .equ EDGES, LASTS + (20 << 12)
     .equ OVER, EDGES + 0xffe
     .equ SHARED, 0x80420000         # a page with several addresses, and one beside it
@@ -66,7 +66,7 @@ small_there:
     csrw    pmpaddr1, t4
     .endm
 
-# An entry of each level behind protection, which is read in 8 bytes and as S: in U, and as S under MPRV.
+# An entry of each level under protection, which is read in 8 bytes and as S: in U, and as S under MPRV.
 guarded_tables:
     addi    sp, sp, -16
     sd      ra, 8(sp)
@@ -99,7 +99,7 @@ under_guards:
     csrw    pmpcfg0, zero
     jr      s7
 
-# Pages behind protection, and which fault goes first: in U, and as S under MPRV.
+# Pages under protection, and which fault goes first: in U, and as S under MPRV.
 guarded_pages:
     addi    sp, sp, -16
     sd      ra, 8(sp)
@@ -257,7 +257,7 @@ at_devices:
     call    fall
     .endm
 
-# Both halves were fetched: LI gave 0x123, and ECALL came behind it.
+# Both halves were fetched: LI gave 0x123, and ECALL came after it.
     .macro  went_over mode, to
     is      t3, 8 + mode_\mode
     is      a2, 0x123
@@ -279,7 +279,7 @@ edges:
     li      t6, 0x1000
     add     a3, t4, t6
     sh      t5, -2(a3)
-    li      t6, 0x734560            # LI a2 would have 0x456 from the page behind EDGE_1
+    li      t6, 0x734560            # LI a2 would have 0x456 from the page after EDGE_1
     sw      t6, (a3)
     sh      zero, 4(a3)
     li      t6, 0x731230

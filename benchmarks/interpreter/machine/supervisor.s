@@ -2,7 +2,7 @@
 # TVM, TW and TSR bind, registers by mode, views of S, and interrupts that S takes.
 #
 # The handler of S has its record at tp, in the same form as that of M. Where a fetch was refused it goes on at
-# s6, elsewhere behind the instruction; an interrupt is turned off in sie, and every exception turns all on.
+# s6, elsewhere after the instruction; an interrupt is turned off in sie, and every exception turns all on.
     .equ WAY, 32                    # in what is recorded at tp
 
     .macro s_entry number

@@ -14,7 +14,7 @@
 
 enum { A = 1 << 6, D = 1 << 7, LOADED = 13, STORED = 15 };
 
-/* One megapage that is there, with no page behind it. */
+/* One megapage that is there, with no page after it. */
 #define SHARED_BEGIN 0x2000000000UL
 #define SHARED_END 0x2000200000UL
 #define SPACE_END 0x4000000000UL
