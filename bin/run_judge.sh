@@ -6,7 +6,7 @@
 usage_file=$(dirname "$(readlink -f "$0")")/usage.txt
 [ -f "$usage_file" ] || usage_file=${RVJUDGE_USAGE:-}
 
-# Runs the program, which is the first COUNT words behind it, with the words that are left:
+# Runs the program, which is the first COUNT words after it, with the words that are left:
 # run_judge COUNT PROGRAM.. WORDS... Signals that end it are passed on, and end this one too.
 run_judge() {
     program_words=$1
@@ -117,7 +117,7 @@ take_plain() {
         judge2) trace=$1 ;;
         make1) check_range NUMBER "$1" 0 4294967295 ;;
         make2) check_range ROWS "$1" 0 262144 ;;
-        *) reason="'$1' is a third word behind $command" ;;
+        *) reason="'$1' is a third word after $command" ;;
     esac
 }
 
@@ -185,7 +185,7 @@ check_pc() {
     case $1 in *[13579bdfBDF]) reason="--pc: $1 is odd" ;; esac
 }
 
-# A base and a size; span is then the first byte and the one behind the last.
+# A base and a size; span is then the first byte and the one after the last.
 check_span() {
     case $2 in *:*) ;; *) reason="$1: '$2' is no base and size, as 0x1000:0x1000"; return 1 ;; esac
     most=72057594037927936

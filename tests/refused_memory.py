@@ -59,7 +59,7 @@ FILES = {
 0x00300193,0x80000008,
 0x00400213,0x8000000c,
 """,
-    # the registers are not shown, so that each guess behind the first segment is wrong
+    # the registers are not shown, so that each guess after the first segment is wrong
     "hidden.csv": """insn,pc_rdata
 0xfff00093,0x80000000
 0x34009173,0x80000004
