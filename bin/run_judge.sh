@@ -128,7 +128,8 @@ take_option() {
         --workers) check_range "$1" "$2" 1 64 ;;
         --segment) check_range "$1" "$2" 1 1048576 ;;
         --window) check_range "$1" "$2" 1 1024 ;;
-        --pc | --ram | --io | --max-image | --max-trace)
+        --pc | --ram | --io | --max-image | --max-trace | \
+            --misaligned | --mtval | --ad | --reserve | --bits)
             [ "$command" = judge ] || { reason="$1 is an option of judge alone"; return; }
             case $1 in
                 --max-image) check_range "$1" "$2" 1 1073741824 ;;
@@ -136,6 +137,11 @@ take_option() {
                 --pc) check_pc "$2" ;;
                 --ram) check_span "$1" "$2" && ram_span=$span ;;
                 --io) check_span "$1" "$2" && io_span=$span ;;
+                --misaligned) check_word "$1" "$2" trap "done" ;;
+                --mtval) check_word "$1" "$2" value zero ;;
+                --ad) check_word "$1" "$2" fault set ;;
+                --reserve) check_block "$2" ;;
+                --bits) check_word "$1" "$2" on off ;;
             esac ;;
         *) reason="$1 is no option" ;;
     esac
@@ -169,6 +175,16 @@ check_range() {
     [ "$value" -ge "$3" ] && [ "$value" -le "$4" ] && return
     reason="$1: $2 is not in $3 to $4"
     return 1
+}
+
+# A name, its value, and the two words that it may be.
+check_word() {
+    [ "$2" = "$3" ] || [ "$2" = "$4" ] || reason="$1: '$2' is neither $3 nor $4"
+}
+
+check_block() {
+    check_range --reserve "$1" 8 4096 || return
+    [ $((value & (value - 1))) -eq 0 ] || reason="--reserve: $1 is no power of two"
 }
 
 check_pc() {

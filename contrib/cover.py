@@ -1,11 +1,13 @@
 #!/usr/bin/env python3
 """Tells what traces exercised, and what in them the judge would pass over.
 
-    cover.py TRACE.. [--json FILE] [--lint]
+    cover.py TRACE.. [--bits on] [--json FILE] [--lint]
 
 An agreement is worth what the trace shows. For all traces together: the instructions of the judge's
 table that retired, and those that never did; exceptions, interrupts, control and status registers,
 modes, page sizes, the sizes and alignments of accesses; columns that are never or partly filled.
+The 40 instructions of bit manipulation (Zba, Zbb, Zbs) are of the table with --bits on, and where
+one of them retired.
 
 Then the lint: names that the judge does not know and passes over, rd_wdata left empty where rd is
 not x0, addresses without their 0x, rows out of order, a trace without a valid row. time and cycle
@@ -95,6 +97,26 @@ BY_FUNCT7 = {
     (0x3B, 6, 1): "remw", (0x3B, 7, 1): "remuw", (0x1B, 1, 0): "slliw", (0x1B, 5, 0): "srliw",
     (0x1B, 5, 32): "sraiw", (0x13, 1, 0): "slli", (0x13, 5, 0): "srli", (0x13, 5, 32): "srai",
 }
+# Zba, Zbb and Zbs: the same, and those with one register by bits 31:20 in the place of funct7.
+BITS_BY_FUNCT7 = {
+    (0x33, 2, 16): "sh1add", (0x33, 4, 16): "sh2add", (0x33, 6, 16): "sh3add",
+    (0x33, 4, 32): "xnor", (0x33, 6, 32): "orn", (0x33, 7, 32): "andn",
+    (0x33, 4, 5): "min", (0x33, 5, 5): "minu", (0x33, 6, 5): "max", (0x33, 7, 5): "maxu",
+    (0x33, 1, 48): "rol", (0x33, 5, 48): "ror", (0x33, 1, 36): "bclr", (0x33, 5, 36): "bext",
+    (0x33, 1, 52): "binv", (0x33, 1, 20): "bset",
+    (0x3B, 0, 4): "add.uw", (0x3B, 2, 16): "sh1add.uw", (0x3B, 4, 16): "sh2add.uw",
+    (0x3B, 6, 16): "sh3add.uw", (0x3B, 1, 48): "rolw", (0x3B, 5, 48): "rorw",
+    (0x13, 1, 36): "bclri", (0x13, 5, 36): "bexti", (0x13, 1, 52): "binvi", (0x13, 1, 20): "bseti",
+    (0x13, 5, 48): "rori", (0x1B, 5, 48): "roriw",
+    (0x1B, 1, 4): "slli.uw", (0x1B, 1, 5): "slli.uw",  # the amount has 6 bits
+}
+BITS_BY_FUNCT12 = {
+    (0x13, 1, 0x600): "clz", (0x13, 1, 0x601): "ctz", (0x13, 1, 0x602): "cpop",
+    (0x13, 1, 0x604): "sext.b", (0x13, 1, 0x605): "sext.h", (0x13, 5, 0x287): "orc.b",
+    (0x13, 5, 0x6B8): "rev8", (0x3B, 4, 0x080): "zext.h",
+    (0x1B, 1, 0x600): "clzw", (0x1B, 1, 0x601): "ctzw", (0x1B, 1, 0x602): "cpopw",
+}
+BIT_MANIPULATION = [*dict.fromkeys([*BITS_BY_FUNCT7.values(), *BITS_BY_FUNCT12.values()])]
 BY_FUNCT5 = {
     0: "amoadd", 1: "amoswap", 2: "lr", 3: "sc", 4: "amoxor", 8: "amoor", 12: "amoand",
     16: "amomin", 20: "amomax", 24: "amominu", 28: "amomaxu",
@@ -115,7 +137,7 @@ ILLEGAL = "illegal"
 
 @functools.lru_cache(1 << 16)
 def name_of(bits):
-    """The instruction of the judge's table that a word is, or ILLEGAL."""
+    """The instruction of the judge's table under --bits on that a word is, or ILLEGAL."""
     if bits & 3 != 3:
         return compressed_name(bits) if bits & 0xFFFF else ILLEGAL
     opcode, funct3, funct7 = bits & 0x7F, bits >> 12 & 7, bits >> 25
@@ -132,8 +154,9 @@ def name_of(bits):
         return f"{name}.{'wd'[funct3 - 2]}"
     if opcode == 0x13:
         funct7 &= ~1
-    found = BY_FUNCT3.get(opcode, {}).get(funct3)
-    return found or BY_FUNCT7.get((opcode, funct3, funct7), ILLEGAL)
+    key = opcode, funct3, funct7
+    return BY_FUNCT3.get(opcode, {}).get(funct3) or BY_FUNCT7.get(key) or BITS_BY_FUNCT7.get(key) \
+        or BITS_BY_FUNCT12.get((opcode, funct3, bits >> 20), ILLEGAL)
 
 
 def compressed_name(bits):
@@ -208,9 +231,10 @@ def opened(path):
 
 
 class Cover:
-    """What the rows of all traces exercised."""
+    """What the rows of all traces exercised. has_bits: the table is that of --bits on."""
 
-    def __init__(self):
+    def __init__(self, has_bits=False):
+        self.has_bits = has_bits
         self.rows = self.valid = 0
         self.counts = {it: Counter() for it in (
             "instructions", "exceptions", "interrupts", "registers", "modes", "pages", "accesses",
@@ -318,7 +342,7 @@ class Cover:
         name = name_of(before.get("insn", 0))
         if cause is None and name in ("ecall", "ebreak", "c.ebreak"):
             cause = 3 if name != "ecall" else {0: 8, 1: 9, 3: 11}.get(before.get("mode"))
-        if cause is None and name == ILLEGAL and before.get("insn"):
+        if cause is None and name in (ILLEGAL, *BIT_MANIPULATION) and before.get("insn"):
             cause = 2
         self.counts["exceptions"][EXCEPTIONS.get(cause, "of a cause that is not shown")] += 1
 
@@ -346,8 +370,10 @@ class Cover:
     def report(self):
         """All as one table, what was never seen included."""
         counts = self.counts
+        has_bits = self.has_bits or not counts["instructions"].keys().isdisjoint(BIT_MANIPULATION)
+        table = TABLE + BIT_MANIPULATION if has_bits else TABLE
         never = {
-            "instructions": [it for it in TABLE if it not in counts["instructions"]],
+            "instructions": [it for it in table if it not in counts["instructions"]],
             "exceptions": [it for it in EXCEPTIONS.values() if it not in counts["exceptions"]],
             "interrupts": [it for it in INTERRUPTS.values() if it not in counts["interrupts"]],
             "registers": [it for it in CSRS.values() if it not in counts["registers"]
@@ -415,10 +441,12 @@ def main():
     parser = argparse.ArgumentParser(description=first, epilog=rest,
                                      formatter_class=argparse.RawDescriptionHelpFormatter)
     parser.add_argument("traces", nargs="+", metavar="TRACE")
+    parser.add_argument("--bits", choices=("off", "on"), default="off",
+                        help="the table is that of the judge under this option")
     parser.add_argument("--json", metavar="FILE", help="write the report as JSON")
     parser.add_argument("--lint", action="store_true", help="tell the lint alone")
     words = parser.parse_args()
-    cover = Cover()
+    cover = Cover(words.bits == "on")
     try:
         for path in words.traces:
             cover.read(path)

@@ -7,7 +7,9 @@ Runs the judge, prints its line, and where that is a difference: the last rows w
 disassembly, function and source line; the signal with both values and the bits that differ; the
 operands with the rows that last wrote them; the access to memory, why the hart traps there, and
 the row that last stored there; the registers. TRACE may be packed (.gz, .zst). Functions and lines
-need --elf and python3-pyelftools, disassembly a riscv objdump (binutils-riscv64-unknown-elf).
+need --elf, or an IMAGE that is an ELF file, and python3-pyelftools, disassembly a riscv objdump
+(binutils-riscv64-unknown-elf). OPTIONs are those of the judge; what traps is told by --misaligned,
+--ad and --bits too.
 
 What is not shown in the trace is not known here: it is said so. The trace is read once for the
 rows, and once more for each doubleword of memory that is looked for; no more than the last rows
@@ -26,6 +28,9 @@ from contextlib import contextmanager
 from pathlib import Path
 from typing import NamedTuple
 
+import elf_image
+from cover import BIT_MANIPULATION, name_of
+
 HERE = Path(__file__).resolve().parent
 UNPACK = {".gz": ["gzip", "-dc"], ".zst": ["zstd", "-dcq"]}
 ABI = ("zero ra sp gp tp t0 t1 t2 s0 s1 a0 a1 a2 a3 a4 a5 a6 a7 s2 s3 s4 s5 s6 s7 s8 s9 s10 s11 "
@@ -34,6 +39,7 @@ DIFFERS = re.compile(r"differs row (\d+): (\w+) expected (\S+) found (\S+)")
 DEBIAN = "/usr/lib/python3/dist-packages"
 MASK = (1 << 64) - 1
 SATP = 0x180
+WITH_AMOUNT = ("slli.uw", "rori", "roriw", "bclri", "bexti", "binvi", "bseti")
 # The columns that are read; the others are the judge's matter.
 READ = {
     "valid", "insn", "pc_rdata", "trap", "mode", "rs1_addr", "rs1_rdata", "rs2_addr", "rs2_rdata",
@@ -138,6 +144,8 @@ def registers_of(bits):
             return rs1, None, rd
         case 8 | 24:
             return rs1, rs2, 0
+        case 14 if name_of(bits) == "zext.h":
+            return rs1, None, rd
         case 11 | 12 | 14:
             return rs1, None if bits >> 27 == 2 and bits >> 2 & 31 == 11 else rs2, rd
         case 28 if bits >> 12 & 7:
@@ -339,7 +347,14 @@ def image_bytes(path, address, size):
     """Bytes of the image, 0 where it has none."""
     found, at = [0] * size, 0
     with open(path, "rb") as file:
-        text = file.read().decode("latin-1")
+        data = file.read()
+    if data.startswith(elf_image.MAGIC):
+        for at, part in elf_image.segments(data):
+            for it in range(size):
+                if 0 <= address + it - at < len(part):
+                    found[it] = part[address + it - at]
+        return found
+    text = data.decode("latin-1")
     if not re.match(r"\s*[@0-9a-fA-F/]", text):
         return [None] * size
     text = re.sub(r"/\*.*?\*/|//[^\n]*", " ", text, flags=re.S)
@@ -419,6 +434,8 @@ class Places:
         return table[low - 1:low]
 
     def disassembly(self, pc, bits):
+        if name_of(bits) in BIT_MANIPULATION:  # bytes without an ELF file's attributes are not
+            return bit_manipulation_text(bits)
         if not self.objdump:
             return ""
         with tempfile.NamedTemporaryFile() as file:
@@ -436,6 +453,17 @@ class Places:
         return f"{text}{self.disassembly(row.pc, row.bits):<28} {self.name(row.pc)}".rstrip()
 
 
+def bit_manipulation_text(bits):
+    """An instruction of bit manipulation as the assembler has it."""
+    name, (rs1, rs2, rd) = name_of(bits), registers_of(bits)
+    words = [ABI[rd], ABI[rs1]]
+    if rs2 is not None:
+        words.append(ABI[rs2])
+    elif name in WITH_AMOUNT:
+        words.append(hex(bits >> 20 & (31 if name == "roriw" else 63)))
+    return f"{name} {','.join(words)}"
+
+
 # ---- what is said
 
 
@@ -450,6 +478,7 @@ class Explanation:
         self.add("the last rows", [places.row(it, ">" if it is self.row else " ") for it in rows]
                  + places.said)
         self.tell_signal()
+        self.tell_instruction()
         self.tell_operands()
         self.tell_path()
         self.tell_access(self.row)
@@ -479,6 +508,11 @@ class Explanation:
                 if place := self.places.name(value):
                     lines.append(f"{name} is {place}")
         self.add(f"{self.signal}: {meaning}", lines)
+
+    def tell_instruction(self):
+        name = name_of(self.row.bits)
+        if name in BIT_MANIPULATION and self.words.bits == "off":
+            self.add("instruction", [f"traps    {name} is illegal without --bits on (cause 2)"])
 
     def tell_operands(self):
         lines = []
@@ -539,7 +573,9 @@ class Explanation:
     def tell_place(self, row, access, address, lines):
         """Why the access traps, or the physical address in RAM that it has."""
         cause = 4 if access.data is None else 6
-        if address % access.size:
+        is_misaligned = address % access.size != 0
+        is_plain = access.kind in ("load", "store")
+        if is_misaligned and not (is_plain and self.words.misaligned == "done"):
             lines.append(f"traps    not aligned to {access.size} bytes (cause {cause})")
             return None
         translated = is_translated(row)
@@ -549,9 +585,15 @@ class Explanation:
         physical = self.walk(row, access, address, lines) if translated else address
         if physical is None:
             return None
+        if translated and address % 4096 + access.size > 4096:
+            lines.append(f"place    0x{physical:x}, of the part before the end of the page")
+            return None
         if self.words.ram[0] <= physical < sum(self.words.ram):
             return physical
         io = self.words.io
+        if io and io[0] <= physical < sum(io) and is_misaligned:
+            lines.append(f"traps    a device, and not aligned (cause {cause + 1})")
+            return None
         if io and io[0] <= physical < sum(io):
             lines.append(f"device   in --io 0x{io[0]:x}:0x{io[1]:x}, whose data are the trace's")
             return None
@@ -579,7 +621,7 @@ class Explanation:
             flags = "".join(name if entry >> it & 1 else "-" for it, name in enumerate("VRWXUGAD"))
             lines.append(f"level {level}  entry at 0x{at:x} is 0x{entry:016x} {flags}, "
                          f"{self.stored_by(stored, 8)}")
-            if fault := entry_fault(entry, level, row, access):
+            if fault := entry_fault(entry, level, row, access, self.words.ad == "set"):
                 lines.append(f"traps    {fault} (cause {cause})")
                 return None
             table = (entry >> 10 & (1 << 44) - 1) << 12
@@ -599,7 +641,7 @@ class Explanation:
         self.add("registers before the row, as the trace shows them", lines)
 
 
-def entry_fault(entry, level, row, access):
+def entry_fault(entry, level, row, access, sets_marks):
     """Why an entry of a page table refuses an access, or None."""
     is_store = access.data is not None
     if not entry & 1:
@@ -621,10 +663,10 @@ def entry_fault(entry, level, row, access):
         return "not permitted in S: U is 1, unless SUM is set"
     if entry >> 10 & (1 << 9 * level) - 1:
         return "a large page that is not aligned"
-    if not entry & 64:
-        return "A is 0, which the judge's hart does not set"
-    if is_store and not entry & 128:
-        return "D is 0, which the judge's hart does not set"
+    if not entry & 64 and not sets_marks:
+        return "A is 0, which the judge's hart does not set without --ad set"
+    if is_store and not entry & 128 and not sets_marks:
+        return "D is 0, which the judge's hart does not set without --ad set"
     return None
 
 
@@ -671,13 +713,18 @@ def judged(words):
     return ran.returncode, ran.stdout.strip() or ran.stderr.strip()
 
 
+def value_of(options, name):
+    """The value of an option of the judge, or None."""
+    for word, after in zip(options, [*options[1:], ""]):
+        if word.partition("=")[0] == f"--{name}":
+            return word.partition("=")[2] or after
+    return None
+
+
 def span(options, name, default):
-    """Base and size of an option, or None."""
-    for at, word in enumerate(options):
-        if word.startswith(f"--{name}"):
-            text = word.partition("=")[2] or options[at + 1]
-            return tuple(number(it) for it in text.split(":"))
-    return default
+    """Base and size of an option, or the default."""
+    text = value_of(options, name)
+    return tuple(number(it) for it in text.split(":")) if text else default
 
 
 def arguments(given):
@@ -699,7 +746,15 @@ def arguments(given):
     words.options = given[cut + 1:]
     words.ram = span(words.options, "ram", (0x80000000, 0x8000000))
     words.io = span(words.options, "io", None)
+    for name, default in (("misaligned", "trap"), ("ad", "fault"), ("bits", "off")):
+        setattr(words, name, value_of(words.options, name) or default)
     return words
+
+
+def elf_of(image):
+    """The image, where it is an ELF file."""
+    with open(image, "rb") as file:
+        return image if file.read(len(elf_image.MAGIC)) == elf_image.MAGIC else None
 
 
 def explain(words):
@@ -711,7 +766,7 @@ def explain(words):
     rows = deque(rows_of(words.trace, int(found[1])), max(1, words.rows))
     if not rows or rows[-1].number != int(found[1]):
         raise Refused(f"row {found[1]} was not found in {words.trace}")
-    parts = Explanation(words, Places(words.elf), found, list(rows)).parts
+    parts = Explanation(words, Places(words.elf or elf_of(words.image)), found, list(rows)).parts
     print(as_text(line, parts), end="")
     if words.html:
         Path(words.html).write_text(as_page(line, parts, words), encoding="utf-8")

@@ -21,8 +21,10 @@ it and those after it. What a load or an AMO to x0 found is not known, nor wheth
 stored. trap is shown from the log's first trap or interrupt on.
 
 qemu carries out loads and stores at any address. One over the end of a page is shown as all others,
-from its first byte on, as if its bytes lay side by side. qemu sets A and D of page tables. --choices
-names the options under which a judge takes both, for judges that know them.
+from its first byte on, as if its bytes lay side by side. qemu sets A and D of page tables. Where a run
+has such accesses, or translates, the last lines on standard error name the option of the judge that
+fits; --choices names both in any case. --bits on is named where instructions of Zba, Zbb or Zbs
+were carried out, as qemu does with zba=on, zbb=on, zbs=on.
 """
 import argparse
 import functools
@@ -30,12 +32,17 @@ import re
 import sys
 from typing import NamedTuple
 
+import elf_image
+from cover import BIT_MANIPULATION, name_of
+
 CSRS = (
     "mstatus", "medeleg", "mideleg", "mie", "mtvec", "mscratch", "mepc", "mcause", "mtval", "mip",
     "satp", "stvec", "sscratch", "sepc", "scause", "stval",
 )
 KNOWN = {"pc", "mhartid", *CSRS, *(f"x{number}" for number in range(32))}
-CHOICES = "--misaligned done --ad set"  # the judge's options that fit qemu
+# The judge's options that fit qemu.
+MISALIGNED, MARKS, BITS = "--misaligned done", "--ad set", "--bits on"
+SATP = [it for it in CSRS if it != "mip"].index("satp")
 MEMORY = ("mem_addr", "mem_rmask", "mem_rdata", "mem_wmask", "mem_wdata")
 COLUMNS = (
     "intr", "pc_rdata", "mode", "trap", "insn", "rs1_addr", "rs1_rdata", "rs2_addr", "rs2_rdata",
@@ -106,15 +113,20 @@ def written_register(bits):
 
 
 def image_bytes(path):
-    """The bytes of an image text as objcopy writes it, by address."""
+    """The bytes of an image by address: an ELF file, or a text as objcopy writes it."""
     found, at = {}, 0
-    with open(path, encoding="ascii") as text:
-        for token in text.read().split():
-            if token.startswith("@"):
-                at = int(token[1:], 16)
-            else:
-                found[at] = int(token, 16)
-                at += 1
+    with open(path, "rb") as file:
+        data = file.read()
+    if data.startswith(elf_image.MAGIC):
+        for at, part in elf_image.segments(data):
+            found.update(enumerate(part, at))
+        return found
+    for token in data.decode("ascii").split():
+        if token.startswith("@"):
+            at = int(token[1:], 16)
+        else:
+            found[at] = int(token, 16)
+            at += 1
     return found
 
 
@@ -126,6 +138,7 @@ class Decoded(NamedTuple):
     rs2: int | None
     rd: int
     reads_mip: bool
+    is_bit_manipulation: bool
     access: "Access | None"
 
 
@@ -192,7 +205,8 @@ def decoded(bits):
     return Decoded(
         f"0x{bits:x}", bits >> 15 & 31 if reads_one or reads_two else None,
         bits >> 20 & 31 if reads_two else None, written_register(bits),
-        bits & 0x7F == 0x73 and bits >> 20 in READS_OF_MIP, access_of(bits))
+        bits & 0x7F == 0x73 and bits >> 20 in READS_OF_MIP, name_of(bits) in BIT_MANIPULATION,
+        access_of(bits))
 
 
 def amo_result(operation, old, operand, bits):
@@ -207,9 +221,8 @@ def amo_result(operation, old, operand, bits):
 NO_ACCESS = ",0x0,,0x0,"
 
 
-def memory_fields(access, registers, value):
+def memory_fields(access, address, registers, value):
     """The fields of MEMORY: registers are those before, value is what rd got, or None (x0)."""
-    address = int(registers[access.base], 16) + access.offset & (1 << 64) - 1
     mask, most = (1 << access.size) - 1, (1 << 8 * access.size) - 1
     read = None if value is None else value & most
     if access.data is None:
@@ -394,7 +407,8 @@ class Converter:
         self.entered = None  # the code of the last one
         self.tells_traps = False
         self.csrs, self.csr_text = None, ("", "")
-        self.rows = self.before = self.again = 0
+        self.rows = self.before = self.again = self.misaligned = self.bits = 0
+        self.translates = False
 
     def take(self, line):
         if line.startswith(" "):
@@ -539,9 +553,15 @@ class Converter:
             written = f"0x{code.rd:x},{as_hex(after.registers[code.rd])}"
             pc_wdata = pc_wdata or as_hex(after.pc)
             memory = NO_ACCESS
+            if code.is_bit_manipulation and int(pc_wdata, 16) == row.pc + 4:
+                self.bits += 1
             if code.access is not None:
                 value = int(after.registers[code.rd], 16) if code.rd else None
-                memory = memory_fields(code.access, registers, value)
+                base, offset = registers[code.access.base], code.access.offset
+                address = int(base, 16) + offset & (1 << 64) - 1
+                if address % code.access.size and code.access.operation is None:
+                    self.misaligned += 1
+                memory = memory_fields(code.access, address, registers, value)
         before_mip, after_mip = self.csr_fields(row.state.csrs)
         mode = "" if row.mode is None else f"0x{row.mode:x}"
         trap = "" if row.trap is None else f"0x{row.trap:x}"
@@ -553,6 +573,7 @@ class Converter:
         if csrs != self.csrs:
             texts = ["" if it is None else as_hex(it) for it in csrs]
             at = CSRS.index("mip")
+            self.translates = self.translates or (csrs[SATP] or "0").startswith("8")
             self.csrs, self.csr_text = csrs, (",".join(texts[:at]), ",".join(texts[at:]))
         return self.csr_text
 
@@ -565,6 +586,16 @@ class Converter:
             yield f"{self.again} states are left out that were begun anew, or led to themselves"
         if self.lines:
             yield "the log ends in the middle of a state, which is left out"
+        if self.misaligned:
+            yield f"{self.misaligned} accesses at misaligned addresses: judge with {MISALIGNED}"
+        if self.translates:
+            yield f"pages whose A and D qemu sets: judge with {MARKS}"
+        if self.bits:
+            yield f"{self.bits} instructions of bit manipulation: judge with {BITS}"
+
+    def choices(self):
+        """The judge's options that fit qemu, and what it carried out."""
+        return f"{MISALIGNED} {MARKS} {BITS}" if self.bits else f"{MISALIGNED} {MARKS}"
 
 
 class Reader:
@@ -617,8 +648,8 @@ def arguments():
     parser.add_argument("--without", default="", metavar="COLUMN,..",
                         help="columns to leave out, as csr_medeleg_rdata")
     parser.add_argument("--choices", action="store_true",
-                        help="tell on standard error which options fit what qemu chooses otherwise "
-                        "than the judge does by default; for a judge that knows them")
+                        help="tell on standard error which options of the judge fit what qemu "
+                        "chooses otherwise than the judge does by default")
     words = parser.parse_args()
     words.without = words.without.split(",") if words.without else []
     for name in words.without:
@@ -656,7 +687,8 @@ def convert(log, words, out):
     for text in converter.tell():
         print(f"qemu_log.py: {text}", file=sys.stderr)
     if words.choices:
-        print(f"qemu_log.py: the judge's options that fit qemu: {CHOICES}", file=sys.stderr)
+        print(f"qemu_log.py: the judge's options that fit qemu: {converter.choices()}",
+              file=sys.stderr)
 
 
 def main():

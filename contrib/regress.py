@@ -5,9 +5,10 @@
 
 Each NAME.csv, NAME.csv.gz and NAME.csv.zst in the folders and below them is judged, with
 
-    NAME.hex       its image, or else the image.hex of its folder or of the nearest folder above;
+    NAME.hex       its image, or else the image.hex of its folder or of the nearest folder above, or
+                   else NAME.elf;
     NAME.options   options of the judge (words between blanks), each in place of the one that is
-                   given after --;
+                   given after --: "--bits on" for a core that has Zba, Zbb and Zbs;
     NAME.expect    what an agreement must be worth, one a line: the number of valid rows, or
                    "ends with halt";
     NAME.elf       the program, for the explanation of a difference.
@@ -111,8 +112,8 @@ def wanted_lines(path):
 
 
 def image_for(base, top):
-    """NAME.hex, or the nearest image.hex from its folder up to the top one."""
-    own = base.with_name(base.name + ".hex")
+    """NAME.hex, or the nearest image.hex from its folder up to the top one, or NAME.elf."""
+    own, program = (base.with_name(base.name + it) for it in (".hex", ".elf"))
     if own.exists():
         return own
     folder = base.parent
@@ -120,6 +121,8 @@ def image_for(base, top):
         if (folder / "image.hex").exists():
             return folder / "image.hex"
         if folder == top or folder == folder.parent:
+            if program.exists():
+                return program
             raise Refused(f"neither {own.name} nor image.hex is there")
         folder = folder.parent
 

@@ -9,6 +9,8 @@ each instruction that retired has written. Both are needed. Without LOG, or with
 input is read. A row is written for each instruction that retired or trapped, from the first at --pc
 on; what the log does not show stays an empty field. Memory use does not grow with the log.
 
+Judge with --bits on where Spike was run with _zba_zbb_zbs in --isa.
+
 What is not said on a row: the mode of an instruction that traps, what a load found in memory, and
 registers that have no column. The last are counted on standard error.
 """

@@ -2,16 +2,18 @@
 """Holds a program to the answers of judge.py on random images and traces.
 
     campaign.py PROGRAM [--first N] [--count M] [--seed S] [--jobs J] [--keep FOLDER] [--part]
-                [--choices]
+                [--no-choices]
 
 Each case, which its number and the seed decide, is a program that is made up while a hart runs
 through it, a trace of that run with columns drawn by chance, and options. In half of the cases one
 thing is altered in the trace or in the image. The line and the status that are due are those of
-judge.py, which reads the same texts. What the cases reached is counted and printed. The status is 1
-where an answer is not the one due, where a trace in which nothing is altered does not agree, or,
-without --part, where one of the things that campaign_reach.py lists was not reached. With --keep
-the files of each wrong answer are put into a folder. With --choices the cases are others: each core
-chooses by chance what hart_choices.py has, and the program gets the options for that.
+judge.py, which reads the same texts. Each core chooses by chance what hart_choices.py has, and the
+program gets the options for that; with --no-choices the cases are others, all of cores with the
+defaults. What the cases reached is counted and printed. The status is 1 where an answer is not the
+one due, where a trace in which nothing is altered does not agree, where a core with bit
+manipulation does not differ as it must from a hart without, or the other way round, or, without
+--part, where one of the things that campaign_reach.py lists was not reached. With --keep the files
+of each wrong answer are put into a folder.
 """
 import argparse
 import os
@@ -75,6 +77,18 @@ def kind_of(said):
     return f"refused {words[1].rstrip(':')}", what
 
 
+def fault_of(case, said, due):
+    """Why an answer is wrong; None where it is not."""
+    if said != due:
+        return "not as due"
+    line, status = due
+    if case.altered is None and status not in (0, 3, 4):
+        return "nothing is altered, so that it should agree"
+    if case.foreknown and line != f"{case.foreknown}\n":
+        return f"it should be {case.foreknown}"
+    return None
+
+
 def keep(folder, at, case, said, due):
     """Puts the files of a wrong answer into a folder, with the command and both answers."""
     folder.mkdir(parents=True, exist_ok=True)
@@ -96,14 +110,16 @@ def judge_cases(options, first, last):
             due = f"{said}\n", status
             reached[kind_of(said)] += 1
             reached["altered", case.altered or "nothing"] += 1
+            if case.foreknown:
+                reached["bits", f"{case.altered.removeprefix('bits ')}: known to differ"] += 1
             Path(image).write_bytes(case.image)
             Path(trace).write_bytes(case.trace)
             words = [{"IMAGE": image, "TRACE": trace}.get(word, word) for word in case.words]
             found = answer_of(options.program, words) if options.program else due
-            should_agree = case.altered is None and status not in (0, 3, 4)
-            if found == due and not should_agree:
+            why = fault_of(case, found, due)
+            if why is None:
                 continue
-            wrong.append((at, found, due))
+            wrong.append((at, why, found, due))
             if options.keep:
                 keep(options.keep, at, case, found, due)
     return reached, wrong
@@ -122,8 +138,7 @@ def run_all(options):
         for done, (more, found) in enumerate(pool.imap_unordered(chunk, tasks), 1):
             reached += more
             wrong += found
-            for at, said, due in found[: max(0, WRONG_SHOWN - len(wrong) + len(found))]:
-                why = "nothing is altered, so that it should agree" if said == due else "not as due"
+            for at, why, said, due in found[: max(0, WRONG_SHOWN - len(wrong) + len(found))]:
                 print(f"case {at}, {why}:\n  due:  {due}\n  said: {said}", flush=True)
             if done % 40 == 0:
                 seconds = time.monotonic() - begun
@@ -154,7 +169,8 @@ def parse():
     parser.add_argument("--keep", type=Path, help="where to put the files of wrong answers")
     parser.add_argument("--part", action="store_true", help="do not fail for what was not reached")
     parser.add_argument(
-        "--choices", action="store_true", help="for a program that is told a core's choices"
+        "--choices", action=argparse.BooleanOptionalAction, default=True,
+        help="whether cores make their choices by chance",
     )
     parser.add_argument("--folder", help="where the files of the cases are for a while")
     return parser.parse_args()

@@ -1,8 +1,9 @@
 """One case: an image, a trace, and the words of a command; a part of campaign.py."""
 from collections import Counter
+from dataclasses import replace
 from typing import NamedTuple
 
-from campaign_hart import MODES, MadeCore, MadeHart, count_row
+from campaign_hart import MODES, MadeCore, MadeHart, count_row, manipulation_of
 from campaign_plan import Chance, Maker
 from campaign_rows import Row, alter_field, alter_image, alter_rows, pick_columns
 from campaign_text import Form, alter_lines, break_image, image_text, trace_lines, trace_text
@@ -17,13 +18,17 @@ MEGA, GIGA = 1 << 21, 1 << 30
 
 
 class Case(NamedTuple):
-    """A command's files and words, what they say, and what was altered, None where nothing was."""
+    """A command's files and words, what they say, and what was altered, None where nothing was.
+
+    foreknown is the line that is due, where it is known without judge.py.
+    """
 
     image: bytes
     trace: bytes
     words: list
     setting: Setting
     altered: str | None
+    foreknown: str | None
 
 
 def pick_ram(chance):
@@ -77,13 +82,21 @@ def pick_choices(chance):
     return Choices(**{name: chance.pick(values) for name, values in VALUES.items()})
 
 
+def alter_choices(chance, choices):
+    """Other choices than the core's, of bit manipulation alone or of all; what was done."""
+    if chance.one_in(2):
+        turned = "off" if choices.bits == "on" else "on"
+        return replace(choices, bits=turned), f"bits turned {turned}"
+    return pick_choices(chance), "other choices"
+
+
 class Run:
     """A hart's run through a program that is made up on the way, and the rows that it shows."""
 
-    def __init__(self, chance, setting, columns, reached):
+    def __init__(self, chance, setting, columns, reached, with_choices):
         self.chance, self.reached = chance, reached
         self.columns = dict.fromkeys(columns)
-        maker = Maker(chance, setting)
+        maker = Maker(chance, setting, with_choices)
         self.count = maker.rows
         self.core = MadeCore(chance, set(columns))
         self.hart = maker.hart = MadeHart(maker, self.core, setting, reached)
@@ -93,6 +106,7 @@ class Run:
         self.trapped_last = False
         self.reserved = None  # the place of the last LR, while its block is reserved
         self.rows, self.pcs = [], []
+        self.first_bits = None  # number and row of the first instruction of bit manipulation
 
     def make(self):
         """Its rows, fewer where the hart comes to the same place again and again."""
@@ -154,6 +168,19 @@ class Run:
         self.order = self.order + 1 & MASK
         self.trapped_last = retired.trap is not None
         self.rows.append(row.fields)
+        if self.first_bits is None and manipulation_of(retired):
+            self.first_bits = len(self.rows), row.fields
+
+    def turned_bits(self):
+        """The line that is due where the options turn bit manipulation on or off, if its first row
+        shows trap."""
+        if self.first_bits is None or "trap" not in self.columns:
+            return None
+        number, fields = self.first_bits
+        trap = fields["trap"]
+        if trap is None:
+            return None
+        return f"differs row {number}: trap expected 0x{1 - trap:016x} found 0x{trap:016x}"
 
 
 def spelled(chance, value):
@@ -214,16 +241,16 @@ def limited(chance, setting, image, trace):
     return setting._replace(most_image=most) if text is image else setting._replace(most_trace=most)
 
 
-def make_case(seed, number, reached, with_choices=False):
+def make_case(seed, number, reached, with_choices):
     """The case of this number; what it reaches is counted. With choices it is another one."""
     chance = Chance(f"{seed} {number}{' choices' if with_choices else ''}")
     setting, columns, form = pick_setting(chance), pick_columns(chance), Form(chance)
     if with_choices:
         setting = setting._replace(choices=pick_choices(chance))
     form.count(reached)
-    run = Run(chance, setting, columns, reached)
+    run = Run(chance, setting, columns, reached, with_choices)
     run.make()
-    image, altered = run.hart.memory.image, None
+    image, altered, foreknown = run.hart.memory.image, None, None
     kind = chance.random()
     if kind < 0.37:
         altered = alter_field(chance, columns, run.rows)
@@ -238,10 +265,13 @@ def make_case(seed, number, reached, with_choices=False):
     if 0.49 <= kind < 0.5:
         text, altered = break_image(chance, text, setting.ram)
     elif with_choices and 0.5 <= kind < 0.53:
-        setting, altered = setting._replace(choices=pick_choices(chance)), "other choices"
+        choices, altered = alter_choices(chance, setting.choices)
+        setting = setting._replace(choices=choices)
+        foreknown = run.turned_bits() if altered.startswith("bits") else None
     elif chance.one_in(40):
         setting = limited(chance, setting, text, trace)
     reached["rows"] += len(run.rows)
     for column in columns:
         reached["column", column] += 1
-    return Case(text, trace, pick_words(chance, setting, reached, with_choices), setting, altered)
+    words = pick_words(chance, setting, reached, with_choices)
+    return Case(text, trace, words, setting, altered, foreknown)

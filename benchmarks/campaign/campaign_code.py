@@ -1,8 +1,10 @@
 """Bits of instructions from their names, and names from bits; a part of campaign.py.
 
 The encodings are those of the instruction listings of the RISC-V Unprivileged ISA and of the
-Privileged Architecture. What words mean says hart_instructions.py.
+Privileged Architecture. What words mean says hart_instructions.py, and hart_bits.py of those of
+bit manipulation.
 """
+from hart_bits import AMOUNT_BITS, REGISTER_BITS, UNARY_BITS, decode_bits
 from hart_instructions import (
     ATOMIC_NAMES, BRANCH_NAMES, CSR_NAMES, IMMEDIATE_NAMES, INTEGER, LOAD_NAMES, REGISTER_NAMES,
     STORE_NAMES, SYSTEM_WORDS, WORD_NAMES, decode, expand,
@@ -39,6 +41,20 @@ FORMS |= {
     for funct5, name in ATOMIC_NAMES.items() for suffix, funct3 in (("W", 2), ("D", 3))
 }
 WORDS = {name: bits for bits, name in SYSTEM_WORDS.items()}
+
+# those of bit manipulation; under F bits 31:20 stand in the place of funct7
+BITS_FORMS = {
+    name: ("R", opcode, funct3, funct7)
+    for opcode, names in REGISTER_BITS.items() for (funct7, funct3), name in names.items()
+}
+BITS_FORMS |= {
+    name: ("F", opcode, funct3, top)
+    for opcode, names in UNARY_BITS.items() for (top, funct3), name in names.items()
+}
+BITS_FORMS |= {
+    name: ("H", opcode, funct3, above << size - 5)
+    for opcode, size, names in AMOUNT_BITS for (above, funct3), name in names.items()
+}
 
 IMMEDIATES = {
     "S": ((31, "11:5"), (11, "4:0")), "B": ((31, "12|10:5"), (11, "4:1|11")),
@@ -89,11 +105,13 @@ def encode(name, rd=0, rs1=0, rs2=0, imm=0):
     """The word of an instruction of 32 bits."""
     if name in WORDS:
         return WORDS[name]
-    form, opcode, funct3, funct7 = FORMS[name]
+    form, opcode, funct3, funct7 = FORMS.get(name) or BITS_FORMS[name]
     bits = opcode | funct3 << 12
     match form:
         case "R":
             return bits | rd << 7 | rs1 << 15 | rs2 << 20 | funct7 << 25
+        case "F":
+            return bits | rd << 7 | rs1 << 15 | funct7 << 20
         case "I":
             return bits | rd << 7 | rs1 << 15 | (imm & 0xFFF) << 20
         case "H":
@@ -136,11 +154,12 @@ def short_name(half):
     return next(name for mask, bits, name in SHORT_BY_BITS if half & mask == bits)
 
 
-def name_of(bits, length):
-    """The name under which the instruction of these bits is counted."""
+def name_of(bits, length, has_bits):
+    """The name under which the instruction of these bits is counted, with those of hart_bits.py or
+    without."""
     if length == 2:
         return short_name(bits) if expand(bits) else "illegal, 16 bits"
-    instruction = decode(bits)
+    instruction = decode(bits) or (decode_bits(bits) if has_bits else None)
     if instruction is None:
         return "illegal, 32 bits"
     if instruction.name == "FENCE" and bits >> 12 & 7:

@@ -6,6 +6,7 @@ data. The image that comes of it gives the same run, since each byte was made up
 used.
 """
 from campaign_code import name_of
+from hart_bits import UNARY_BITS, decode_bits
 from hart_instructions import MASK
 from hart_memory import (
     ENTRY, FETCH, LOAD, PTE_A, PTE_D, PTE_PPN_AT, PTE_R, PTE_RESERVED_AT, PTE_U, PTE_V, PTE_W,
@@ -21,6 +22,7 @@ KINDS = {FETCH: "fetch", LOAD: "load", STORE: "store"}
 SIZES = ("4 KiB", "2 MiB", "1 GiB")
 PMP_KINDS = ("OFF", "TOR", "NA4", "NAPOT")
 MODES = {U: "U", S: "S", M: "M"}
+UNARY = {name for names in UNARY_BITS.values() for name in names.values()}
 
 
 class Walk:
@@ -321,8 +323,9 @@ def count_row(reached, hart, mode, retired, reserved):
     reached["mode", MODES[mode]] += 1
     name = None
     if retired.bits is not None:
-        name = name_of(retired.bits, retired.length)
+        name = name_of(retired.bits, retired.length, hart.choices.bits == "on")
         reached["instruction", name] += 1
+        count_bits(reached, hart, retired)
     count_code(reached, hart, mode, retired)
     if retired.trap:
         trap = retired.trap
@@ -335,6 +338,25 @@ def count_row(reached, hart, mode, retired, reserved):
         count_register(reached, hart, retired)
     if name == "FENCE.I":
         hart.memory.fenced = set(hart.memory.stored)
+
+
+def count_bits(reached, hart, retired):
+    """Counts an instruction of bit manipulation, on a hart that has it or has not."""
+    found = manipulation_of(retired)
+    if not found:
+        return
+    reached["bits", f"{found.name} {hart.choices.bits}"] += 1
+    if retired.trap or found.name not in UNARY:
+        return
+    if retired.source1 == 0:
+        reached["bits", f"{found.name} of 0"] += 1
+    elif retired.source1 & 0xFFFFFFFF == 0:
+        reached["bits", f"{found.name} of a low word of 0"] += 1
+
+
+def manipulation_of(retired):
+    """The instruction of bit manipulation whose bits were fetched; None where it is another."""
+    return decode_bits(retired.bits) if retired.bits is not None and retired.length == 4 else None
 
 
 def count_code(reached, hart, mode, retired):

@@ -5,7 +5,7 @@ something: it keeps a plan of steps, and where that is empty begins another one 
 """
 from random import Random
 
-from campaign_code import NOP, SHORT, encode, encode_short
+from campaign_code import BITS_FORMS, NOP, SHORT, encode, encode_short
 from campaign_goals import Goals
 from hart_instructions import ATOMIC, BRANCHES, LOADS, MASK, STORES, signed
 from hart_memory import (
@@ -28,6 +28,7 @@ IMMEDIATE_FORMS = [
     "ADDI", "SLTI", "SLTIU", "XORI", "ORI", "ANDI", "SLLI", "SRLI", "SRAI", "ADDIW", "SLLIW",
     "SRLIW", "SRAIW", "LUI", "AUIPC",
 ]
+BITS_NAMES = list(BITS_FORMS)
 ATOMICS = [f"{name}.{suffix}" for name in (*ATOMIC, "LR", "SC") for suffix in "WD"]
 SYSTEM = ["ECALL", "EBREAK", "MRET", "SRET", "WFI", "SFENCE_VMA", "FENCE", "FENCE.I"]
 CSR_FORMS = ["CSRRW", "CSRRS", "CSRRC", "CSRRWI", "CSRRSI", "CSRRCI"]
@@ -67,11 +68,19 @@ class Chance(Random):
             return self.getrandbits(12) - 2048 & MASK
         return self.getrandbits(64 if kind == 2 else 32)
 
+    def pattern(self):
+        """A number of which few bits or few bytes are set, or few are not, or a low word of 0."""
+        if self.one_in(2):
+            value = self.getrandbits(64) & self.getrandbits(64) & self.getrandbits(64)
+        else:
+            value = int.from_bytes(self.pick((0, 0, self.getrandbits(8))) for _ in range(8))
+        return self.pick((value, value, MASK - value, value << 32 & MASK))
+
 
 class Maker(Goals):
     """Makes up what a hart reads: instructions, data, and entries of page tables."""
 
-    def __init__(self, chance, setting):
+    def __init__(self, chance, setting, with_bits):
         self.chance = chance
         self.setting = setting
         self.ram, self.devices = setting.ram, setting.devices
@@ -85,6 +94,10 @@ class Maker(Goals):
         usual = (5, 3, 2, 5, 3, 3, 1, 2, 0.4)
         self.weights = [chance.pick((0, 1, 1, 3)) * weight for weight in usual]
         self.weights[0] += 1
+        self.bits_share = 0  # of integer instructions that are those of bit manipulation
+        if with_bits:
+            has_them = setting.choices.bits == "on"
+            self.bits_share = chance.pick((0.2, 0.6, 0.95)) if has_them else 0.12
         self.rows = 0  # how many the trace is to have
         self.begin()
 
@@ -208,6 +221,8 @@ class Maker(Goals):
 
     def integer(self):
         chance = self.chance
+        if self.bits_share and chance.random() < self.bits_share:
+            return self.manipulation()
         rd, rs1, rs2 = chance.below(32), chance.below(32), chance.below(32)
         if chance.one_in(6):
             value = chance.number()
@@ -215,6 +230,23 @@ class Maker(Goals):
         if chance.one_in(3):
             return encode(chance.pick(IMMEDIATE_FORMS), rd, rs1, imm=chance.getrandbits(20))
         return encode(chance.pick(REGISTER_FORMS), rd, rs1, rs2)
+
+    def manipulation(self):
+        """An instruction of bit manipulation, now and then after its operands were set."""
+        chance = self.chance
+        name, rs1, rs2 = chance.pick(BITS_NAMES), chance.below(32), chance.below(32)
+        amount = chance.getrandbits(5 if name == "RORIW" else 6)
+        bits = encode(name, chance.below(32), rs1, rs2, amount)
+        if not chance.one_in(3):
+            return bits
+        sources = chance.pick(((rs1,), (rs1, rs2)))
+        self.first(*(self.operand(register) for register in sources if register), lambda: bits)
+        return None
+
+    def operand(self, register):
+        """A step that sets a register to a number, often one with a pattern."""
+        value = self.chance.pick((self.chance.number(), self.chance.pattern()))
+        return lambda: self.constant(register, value)
 
     def short(self):
         chance = self.chance
@@ -475,6 +507,7 @@ class Maker(Goals):
         if chance.one_in(3):
             return chance.getrandbits(16) & ~3 | chance.below(3)
         if chance.one_in(2):
-            name = chance.pick(REGISTER_FORMS + IMMEDIATE_FORMS + ATOMICS + SYSTEM)
+            names = REGISTER_FORMS + IMMEDIATE_FORMS + ATOMICS + SYSTEM
+            name = chance.pick(names + BITS_NAMES if self.bits_share else names)
             return encode(name, chance.below(32), chance.below(32)) ^ 1 << chance.below(30) + 2
         return chance.getrandbits(32) | 3

@@ -3,6 +3,8 @@
 Each is a kind and a name under which it is counted. What is counted and not listed is only printed.
 """
 from campaign_code import ALL_NAMES
+from campaign_hart import UNARY
+from hart_bits import BITS
 from hart_choices import VALUES
 from hart_registers import ADDRESSES, INTERRUPT_ORDER
 from judge import CHOSEN, CSRS, PLAIN, WIDTHS
@@ -151,6 +153,17 @@ def choices():
         yield "marks", what
     for kind in KINDS:
         yield "marks", f"{kind} may not set them"
+    for name in BITS:
+        yield "instruction", name
+        for value in VALUES["bits"]:
+            yield "bits", f"{name} {value}"
+    for name in UNARY:
+        yield "bits", f"{name} of 0"
+    for name in ("CLZW", "CTZW", "CPOPW"):
+        yield "bits", f"{name} of a low word of 0"
+    for value in VALUES["bits"]:
+        yield "altered", f"bits turned {value}"
+        yield "bits", f"turned {value}: known to differ"
     yield "altered", "other choices"
 
 

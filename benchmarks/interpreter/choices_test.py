@@ -397,12 +397,12 @@ class Verdicts(unittest.TestCase):
             trace.write_bytes(b"insn,pc_rdata\n0x00500093,0x80000000\n")
             command = [sys.executable, HERE / "judge.py", image, trace]
             for words, due in (
-                ("--misaligned done --mtval zero --ad set --reserve 4096", (b"agrees 1\n", 0)),
-                ("--misaligned trap --mtval value --ad fault --reserve=0x40", (b"agrees 1\n", 0)),
+                ("--misaligned done --mtval zero --ad set --reserve 4096 --bits on", (b"agrees 1\n", 0)),
+                ("--misaligned trap --mtval value --ad fault --reserve=0x40 --bits=off", (b"agrees 1\n", 0)),
                 *((words, (b"refused words\n", 2)) for words in (
                     "--reserve 48", "--reserve 4", "--reserve 8192", "--reserve 0_8", "--reserve", "--ad SET",
                     "--ad", "--mtval 0", "--misaligned=", "--misaligned done --misaligned done", "--mis done",
-                    "--reserve 8 --reserve 8",
+                    "--reserve 8 --reserve 8", "--bits", "--bits ON", "--bits 1", "--bits on --bits on",
                 )),
             ):
                 run = subprocess.run([*command, *words.split()], capture_output=True, check=False)

@@ -10,6 +10,7 @@ VALUES = {
     "trap_values": ("value", "zero"),
     "marks": ("fault", "set"),
     "block": tuple(8 << power for power in range(10)),  # up to a page
+    "bits": ("off", "on"),
 }
 
 
@@ -29,12 +30,16 @@ class Choices:
 
     block: the bytes of a reservation set, an aligned block of a size that is a power of two (Unprivileged
     ISA, section "Load-Reserved/Store-Conditional Instructions").
+
+    bits: the hart lacks Zba, Zbb and Zbs of the Bit-Manipulation ISA-extensions, or has all three. misa tells
+    nothing of them.
     """
 
     misaligned: str = "trap"
     trap_values: str = "value"
     marks: str = "fault"
     block: int = 64
+    bits: str = "off"
 
     def __post_init__(self):
         for name, values in VALUES.items():

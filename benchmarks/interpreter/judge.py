@@ -3,15 +3,16 @@
 
     judge.py IMAGE TRACE [--pc A] [--ram B:S] [--io B:S] [--max-image M] [--max-trace M]
              [--misaligned trap|done] [--mtval value|zero] [--ad fault|set] [--reserve BYTES]
+             [--bits off|on]
 
 Prints the line that `rvjudge judge` prints for an image and a trace, and ends with its status. The
 rules of comparison are those that docs/REFERENCE.md describes, written here a second time after
 riscv-formal's description of RVFI; those of the texts stand in trace_text.py. Of the words it knows
 what these options say, and no limits of those in the first line. An option that stands twice, and a
-choice that the second line does not have, is refused. BYTES is a power of two from 8 to 4096.
+choice that is not listed here, is refused. BYTES is a power of two from 8 to 4096.
 
-The second line says what the core chose that made the trace; the first values and 64 are the
-defaults. hart_choices.py says what each means.
+The last five say what the core chose that made the trace; the first values and 64 are the defaults.
+hart_choices.py says what each means.
 """
 import argparse
 import os
@@ -255,7 +256,10 @@ class Setting(NamedTuple):
 
 
 # each option that names a choice, with the choice
-CHOSEN = {"--misaligned": "misaligned", "--mtval": "trap_values", "--ad": "marks", "--reserve": "block"}
+CHOSEN = {
+    "--misaligned": "misaligned", "--mtval": "trap_values", "--ad": "marks", "--reserve": "block",
+    "--bits": "bits",
+}
 
 STATUS = {"agrees": 0, "differs": 1, "refused image:": 3, "refused trace:": 4}
 

@@ -4,17 +4,22 @@
 Written after the RISC-V Unprivileged ISA and the Privileged Architecture, version 20211203 (chapters
 "Control and Status Registers (CSRs)", "Machine-Level ISA" and "Supervisor-Level ISA"), and apart from
 rvjudge, whose second opinion it is. What the standards leave to a core is asked of a Core, or stands in
-Choices. Its parts are hart_instructions.py, hart_registers.py, hart_memory.py and hart_choices.py.
+Choices, which can add Zba, Zbb and Zbs. Its parts are hart_instructions.py, hart_bits.py, hart_registers.py,
+hart_memory.py and hart_choices.py.
 
 Every access is translated where satp says so, and held to the 16 entries of physical memory protection.
 Nothing is cached, so SFENCE.VMA has nothing to do.
 """
 from typing import NamedTuple
 
+from hart_bits import BITS, decode_bits
 from hart_choices import Choices
 from hart_instructions import ATOMIC, BRANCHES, INTEGER, LOADS, MASK, STORES, Instruction, decode, expand, signed
 from hart_memory import FETCH, LOAD, PAGE, RAM, STORE, Trap, translate
 from hart_registers import DECIDED, MPP_AT, MPRV, TSR, TVM, TW, ControlRegisters, M, S, U
+
+# what instructions compute of their sources alone
+COMPUTED = INTEGER | BITS
 
 # codes of exceptions that no access raises
 ILLEGAL, BREAKPOINT = 2, 3
@@ -96,7 +101,7 @@ class Hart:
         hart.registers = list(self.registers)
         hart.pc, hart.mode, hart.reserved = self.pc, self.mode, self.reserved
         hart.csrs = self.csrs.copy()
-        hart.decoded = self.decoded  # what words mean is the same for every hart
+        hart.decoded = self.decoded  # what words mean is the same for every hart of these choices
         return hart
 
     def take_interrupt(self, code):
@@ -173,6 +178,8 @@ class Hart:
         instruction = self.decoded.get(bits)
         if instruction is None:
             instruction = decode(bits) if length == 4 else expand(bits)
+            if instruction is None and length == 4 and self.choices.bits == "on":
+                instruction = decode_bits(bits)
             if instruction is None:
                 raise Trap(ILLEGAL, bits)
             self.decoded[bits] = instruction
@@ -181,9 +188,9 @@ class Hart:
     def execute(self, instruction, source1, source2, after):
         """The value for rd, the next pc, and the access; after is the address after the instruction."""
         name, imm = instruction.name, instruction.imm
-        if name in INTEGER:
+        if name in COMPUTED:
             other = imm & MASK if instruction.rs2 is None else source2
-            return INTEGER[name](source1, other), after, None
+            return COMPUTED[name](source1, other), after, None
         if name in BRANCHES:
             return 0, self.pc + imm & MASK if BRANCHES[name](source1, source2) else after, None
         if name in LOADS:

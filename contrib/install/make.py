@@ -10,6 +10,7 @@ from pathlib import Path
 USAGE = Path(__file__).resolve().parents[2] / "bin" / "usage.txt"
 OPTION = re.compile(r"  (--[\w-]+) (\S+) +(.*)")
 OF_MAKE = ("--workers", "--segment", "--window")
+WORDS = re.compile(r": (\w+) or (\w+) \(")  # where an option's value is one of two words
 
 
 def parts(text):
@@ -43,11 +44,20 @@ def man(version):
     yield ".SH EXAMPLE\n.nf\nrvjudge judge image.hex core.csv \\-\\-io 0x10000000:0x1000\n.fi"
 
 
+def words_of(text):
+    """The words that an option's value may be, where they are words."""
+    found = WORDS.search(text)
+    return " ".join(found.groups()) if found else ""
+
+
 def bash(_):
-    names = [it[0] for it in parts(USAGE.read_text(encoding="utf-8"))[2]]
+    options = parts(USAGE.read_text(encoding="utf-8"))[2]
+    names = [it[0] for it in options]
+    values = "\n".join(f"            {name}) values='{words_of(text)}' ;;"
+                       for name, _value, text in options if words_of(text))
     yield f"""# Completion of rvjudge for bash, made by contrib/install/make.py.
 _rvjudge() {{
-    local word=${{COMP_WORDS[COMP_CWORD]}}
+    local word=${{COMP_WORDS[COMP_CWORD]}} before=${{COMP_WORDS[COMP_CWORD-1]}}
     COMPREPLY=()
     if [ "$COMP_CWORD" -eq 1 ]; then
         mapfile -t COMPREPLY < <(compgen -W 'judge make' -- "$word")
@@ -55,7 +65,13 @@ _rvjudge() {{
         local names='{' '.join(names)}'
         [ "${{COMP_WORDS[1]}}" = judge ] || names='{' '.join(OF_MAKE)}'
         mapfile -t COMPREPLY < <(compgen -W "$names" -- "$word")
-    elif [ "${{COMP_WORDS[1]}}" = judge ] && [[ ${{COMP_WORDS[COMP_CWORD-1]}} != -* ]]; then
+    elif [ "${{COMP_WORDS[1]}}" = judge ] && [[ $before == -* ]]; then
+        local values=
+        case $before in
+{values}
+        esac
+        mapfile -t COMPREPLY < <(compgen -W "$values" -- "$word")
+    elif [ "${{COMP_WORDS[1]}}" = judge ]; then
         compopt -o filenames
         mapfile -t COMPREPLY < <(compgen -f -- "$word")
     fi
@@ -69,8 +85,9 @@ def zsh(_):
     def specs(names):
         for name, value, text in options:
             if name in names:
+                words = f"({words_of(text)})" if words_of(text) else ""
                 text = re.sub(r"[\[\]':]", " ", text)
-                yield f"        '{name}=[{text}]:{value.replace(':', ' and ')}:'"
+                yield f"        '{name}=[{text}]:{value.replace(':', ' and ')}:{words}'"
 
     yield """#compdef rvjudge rvjudge-unproved
 # Completion of rvjudge for zsh, made by contrib/install/make.py.

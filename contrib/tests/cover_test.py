@@ -80,18 +80,45 @@ def test_lint(folder):
         assert covered(folder, bad)[1].returncode == 2, bad
 
 
+def test_bits(folder):
+    """Two instructions of bit manipulation that retire, and one that traps."""
+    words = [0x08A5863B, 0x60259693, 0x0805C53B]  # add.uw a2,a1,a0; cpop a3,a1; zext.h a0,a1
+    text = "insn,pc_rdata,trap,rd_wdata\n" + "".join(
+        f"0x{it:x},0x{0x80000000 + 4 * at:x},{int(at == 2)},1\n" for at, it in enumerate(words))
+    report = covered(folder, text)[0]
+    assert report["seen"]["instructions"] == {"add.uw": 1, "cpop": 1}, report["seen"]
+    assert report["seen"]["exceptions"] == {"illegal instruction": 1}, report["seen"]
+    assert {"zext.h", "slli.uw"} <= set(report["never"]["instructions"]), report["never"]
+    assert faults(folder, text.replace("rd_wdata", "halt").replace(",1\n", ",0\n")) == {
+        "rd_wdata is empty or missing where rd is not x0": 2}
+    plain = covered(folder, RUN.read_text())[0]["never"]["instructions"]
+    whole = covered(folder, RUN.read_text(), "--bits", "on")[0]["never"]["instructions"]
+    assert len(whole) == len(plain) + 40 and "sh1add" not in plain, whole
+
+
 def test_illegal_words(folder):
     """cover.py and the interpreter of benchmarks/ know the same instructions."""
     sys.path[:0] = [str(TESTS.parent), str(TESTS.parents[1] / "benchmarks/interpreter")]
-    from cover import ILLEGAL, name_of
+    from cover import BIT_MANIPULATION, ILLEGAL, name_of
+    from hart_bits import decode_bits
     from hart_instructions import decode, expand
     words = [it for it in range(1 << 16) if it & 3 != 3]
     words += [0x33 | at * 0x01041 << 7 & 0xFFFFFF80 for at in range(3000)]
     words += [opcode | at << 12 | high << 25 for opcode in range(3, 128, 4) if opcode & 0x1C != 0x1C
               for at in range(8) for high in range(128)]
+    words += [opcode | at << 12 | 0xB << 15 | high << 20 for opcode in (0x13, 0x1B, 0x33, 0x3B)
+              for at in range(8) for high in range(1 << 12)]
+    names = set()
     for bits in words:
         is_legal = (decode(bits) if bits & 3 == 3 else expand(bits)) is not None
-        assert (name_of(bits) != ILLEGAL) == is_legal, f"0x{bits:x}: {name_of(bits)}, {is_legal}"
+        found, name = decode_bits(bits) if bits & 3 == 3 else None, name_of(bits)
+        if found:
+            assert name.upper().replace(".", "_") == found.name, f"0x{bits:x}: {name}, {found}"
+            assert name in BIT_MANIPULATION and not is_legal, name
+            names.add(name)
+        else:
+            assert (name != ILLEGAL) == is_legal, f"0x{bits:x}: {name}, {is_legal}"
+    assert names == set(BIT_MANIPULATION) and len(names) == 40, names
 
 
 def main():

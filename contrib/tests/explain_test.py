@@ -12,6 +12,9 @@ from pathlib import Path
 TESTS = Path(__file__).resolve().parent
 STORED = TESTS / "explain"
 EXPLAIN = TESTS.parent / "explain.py"
+sys.path.insert(0, str(TESTS.parent))
+from qemu_log import image_bytes  # noqa: E402  # found by the line before
+from small_elf import small_elf  # noqa: E402
 IO = ["--io", "0x10000000:0x1000"]
 # By the stored text: the fields that are altered, by row and column; the bytes of the image; the
 # judge's options.
@@ -79,15 +82,58 @@ def try_forms(program, folder):
     assert missing.returncode == 70 and "none.csv" in missing.stderr, missing
 
 
+def try_choices(program, folder):
+    """What explain.py tells under options for choices of the implementation."""
+    image = "@80000000 3b 86 a5 08"  # add.uw a2,a1,a0
+    trace = "insn,pc_rdata,mode,trap,rd_wdata\n0x8a5863b,0x80000000,3,0,1\n"
+    said, _ = explained(program, folder, image, trace, [])
+    assert "add.uw a2,a1,a0" in said and "add.uw is illegal without --bits on" in said, said
+    said, _ = explained(program, folder, image, trace, ["--bits", "on"])
+    assert "rd_wdata expected" in said and "rs1 a1 (x11)" in said and "illegal" not in said, said
+    image = "@80000000 03 25 10 00"  # lw a0,1(zero)
+    trace = "insn,pc_rdata,mode,trap,rd_wdata\n0x102503,0x80000000,3,0,1\n"
+    for options, wanted in (([], "not aligned to 4 bytes (cause 4)"),
+                            (["--misaligned=done"], "outside --ram 0x80000000:0x8000000")):
+        said, _ = explained(program, folder, image, trace, options)
+        assert f"traps    {wanted}" in said, said
+    image, trace, options = entry_without_mark()
+    assert explained(program, folder, image, trace, [*options, "--ad", "set"]) == ("agrees 46\n", 0)
+
+
+def entry_without_mark():
+    """The image, the trace and the options of wrong_entry."""
+    fields, swaps, options = CASES["wrong_entry"]
+    image = (STORED / "image.hex").read_text().lower()
+    for old, new in swaps.items():
+        image = image.replace(old, new)
+    return image, altered((STORED / "run.csv").read_text(), fields), options
+
+
+def try_elf(program, folder):
+    """An image that is an ELF file is explained as its text is."""
+    image, trace, options = entry_without_mark()
+    text, _ = explained(program, folder, image, trace, options)
+    (folder / "text").write_text(image)
+    by_address = image_bytes(folder / "text")
+    start = min(by_address)
+    data = bytes(by_address.get(it, 0) for it in range(start, max(by_address) + 1))
+    (folder / "image.elf").write_bytes(small_elf(start, data))
+    ran = subprocess.run([sys.executable, EXPLAIN, "image.elf", "run.csv", "-p", program, "--elf",
+                          STORED / "program.elf", "--", *options], cwd=folder,
+                         capture_output=True, text=True, check=False)
+    assert ran.stdout == text, f"{ran.stdout} {ran.stderr}"
+
+
 def main():
     program, failed = str(Path(sys.argv[1]).resolve()), 0
     with tempfile.TemporaryDirectory() as folder:
-        for name, test in [*((it, try_case) for it in CASES), ("forms", None)]:
+        for name, test in [*((it, try_case) for it in CASES), ("forms", try_forms),
+                           ("choices", try_choices), ("elf", try_elf)]:
             try:
-                if test:
+                if name in CASES:
                     test(name, program, Path(folder))
                 else:
-                    try_forms(program, Path(folder))
+                    test(program, Path(folder))
             except AssertionError as fault:
                 print(f"contrib: FAILED: explain, {name}: {fault}", file=sys.stderr)
                 failed += 1

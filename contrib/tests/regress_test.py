@@ -17,6 +17,8 @@ import time
 import xml.etree.ElementTree as xml
 from pathlib import Path
 
+from small_elf import small_elf
+
 TESTS = Path(__file__).resolve().parent
 EXAMPLES = TESTS / "examples"
 REGRESS = shlex.split(os.environ.get("REGRESS", "")) or [str(TESTS.parent / "regress.py")]
@@ -168,6 +170,19 @@ def test_other_endings(it):
     (it.path / "b.csv.xz").write_bytes(b"")
     (it.path / "c.expect").write_text("9\n")
     it.run().wants(2, counts(1, refused=2), "c.expect: there is no trace for it")
+
+
+def test_bits_and_elf(it):
+    """An option for all, another for one trace, and an image that is an ELF file."""
+    for name in "ab":
+        (it.path / f"{name}.csv").write_text(
+            "insn,pc_rdata,trap,rd_wdata\n0x8a5863b,0x80000000,0,0\n")  # add.uw a2,a1,a0
+        (it.path / f"{name}.elf").write_bytes(small_elf(0x80000000, bytes.fromhex("3b86a508")))
+    it.run("--explain", "0", "--", "--bits", "on").wants(0, counts(2))
+    (it.path / "b.options").write_text("--bits off\n")
+    it.run("--explain", "0", "--", "--bits", "on").wants(1, "a: agrees 1", counts(1, 1))
+    (it.path / "image.hex").write_text("@80000000 13 00 00 00\n")
+    it.run("--explain", "0", "--", "--bits", "on").wants(1, counts(0, 2))
 
 
 def test_options(it):

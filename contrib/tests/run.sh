@@ -117,7 +117,8 @@ test_spike() {
 test_qemu_log() {
     image=$tests/qemu/image.hex out=$folder/qemu.csv io=0x100000:0xff01000
     gzip -dc "$tests/qemu/run.log.gz" >"$folder/log"
-    python3 "$contrib/qemu_log.py" "$folder/log" -o "$out" 2>/dev/null || fail "qemu_log.py"
+    python3 "$contrib/qemu_log.py" "$folder/log" -o "$out" 2>"$folder/said" || fail "qemu_log.py"
+    grep -q 'judge with' "$folder/said" && fail "qemu_log.py names options: $(cat "$folder/said")"
     expect qemu 'agrees 274' "$image" "$out" --io $io
     expect_columns qemu "$out" 34
     python3 "$tests/memory_columns.py" "$out" || fail 'qemu_log.py: the columns of memory'
@@ -153,24 +154,45 @@ test_qemu() {
     expect 'qemu, run here' "agrees $rows" "$folder/image.hex" "$out" --io 0x100000:0xff01000
 }
 
-# What qemu chose otherwise than the judge does by default, under the options that qemu_log.py names. The
-# judge does not know them yet, and the one of benchmarks/ takes its place.
+# What qemu chose otherwise than the judge does by default, under the options that qemu_log.py names.
 test_qemu_choices() {
     sh "$tests/qemu/make.sh" "$folder" choices.s || fail "choices.s did not run in qemu"
-    out=$folder/run.csv judge=$contrib/../benchmarks/interpreter/judge.py io=0x100000:0xff01000
+    out=$folder/run.csv io=0x100000:0xff01000
     python3 "$contrib/qemu_log.py" --choices "$folder/run.log" -o "$out" 2>"$folder/said" ||
         fail "qemu_log.py --choices"
     options=$(sed -n "s/^qemu_log.py: the judge's options that fit qemu: //p" "$folder/said")
     [ "$options" = '--misaligned done --ad set' ] || fail "qemu_log.py --choices: $(cat "$folder/said")"
     python3 "$contrib/qemu_log.py" "$folder/run.log" 2>"$folder/said" | cmp -s - "$out" ||
         fail 'qemu_log.py --choices: another trace'
-    grep -q options "$folder/said" && fail 'qemu_log.py names options without --choices'
+    for option in '--misaligned done' '--ad set'; do
+        grep -q -e ": judge with $option\$" "$folder/said" || fail "qemu_log.py does not name $option"
+    done
+    grep -q options "$folder/said" && fail 'qemu_log.py names all options without --choices'
     python3 "$tests/memory_columns.py" "$out" || fail 'qemu_log.py: the columns of odd accesses'
+    rows=$(($(wc -l <"$out") - 1))
     # shellcheck disable=SC2086  # words
-    found=$(python3 "$judge" "$folder/image.hex" "$out" --io $io $options)
-    [ "$found" = "agrees $(($(wc -l <"$out") - 1))" ] || fail "qemu's choices: $found"
-    python3 "$judge" "$folder/image.hex" "$out" --io $io >"$folder/said"
+    expect "qemu's choices" "agrees $rows" "$folder/image.hex" "$out" --io $io $options
+    "$program" judge "$folder/image.hex" "$out" --io $io >"$folder/said"
     [ $? -eq 1 ] || fail "qemu's choices without options: $(cat "$folder/said")"
+}
+
+# Bit manipulation, under the option that qemu_log.py names where such instructions were carried out.
+test_qemu_bits() {
+    sh "$tests/qemu/make.sh" "$folder" bits.s on || fail "bits.s did not run in qemu"
+    out=$folder/run.csv io=0x100000:0xff01000
+    python3 "$contrib/qemu_log.py" --choices "$folder/run.log" -o "$out" 2>"$folder/said" ||
+        fail "qemu_log.py: bits.s"
+    grep -q ': 20 instructions of bit manipulation: judge with --bits on$' "$folder/said" ||
+        fail "qemu_log.py does not name --bits on: $(cat "$folder/said")"
+    grep -q 'fit qemu: --misaligned done --ad set --bits on$' "$folder/said" ||
+        fail "qemu_log.py --choices: $(cat "$folder/said")"
+    rows=$(($(wc -l <"$out") - 1))
+    expect 'bits.s' "agrees $rows" "$folder/image.hex" "$out" --io $io --bits on
+    sed '/^IN:/,/^0x/d' "$folder/run.log" >"$folder/less"
+    python3 "$contrib/qemu_log.py" "$folder/less" --image "$folder/program.elf" 2>/dev/null |
+        cmp -s - "$out" || fail 'qemu_log.py: with an ELF file as --image the trace is another'
+    "$program" judge "$folder/image.hex" "$out" --io $io >"$folder/said"
+    [ $? -eq 1 ] || fail "bits.s without --bits on: $(cat "$folder/said")"
 }
 
 # Firmware that Debian has, from its first instruction on, live; and a difference, which ends qemu.
@@ -274,6 +296,24 @@ test_sort() {
         python3 "$contrib/sort_rows.py" "$tests/examples/lanes.csv"
 }
 
+# A program that ld links with these words, judged from its ELF file and from its text, which does not
+# have the entry point.
+judge_elf() {
+    riscv64-unknown-elf-as -march=rv64ima_zba_zbb_zbs -o "$folder/elf.o" "$tests/elf/program.s" ||
+        fail 'as: tests/elf/program.s'
+    riscv64-unknown-elf-ld --no-warn-rwx-segments "$@" -o "$folder/elf" "$folder/elf.o" ||
+        fail "ld $*"
+    riscv64-unknown-elf-objcopy -O verilog "$folder/elf" "$folder/elf.hex" || fail 'objcopy'
+    expect "an ELF file, ld $*" 'agrees 5' "$folder/elf" "$tests/elf/run.csv" --bits on
+    expect "its text, ld $*" 'agrees 5' "$folder/elf.hex" "$tests/elf/run.csv" --bits on \
+        --pc 0x80000008
+}
+
+test_elf() {
+    judge_elf -T "$contrib/link.ld"
+    judge_elf -n -Ttext=0x80000000
+}
+
 # From C to a verdict.
 test_c() {
     cp "$tests/c/program.c" "$folder/program.c"
@@ -282,6 +322,8 @@ test_c() {
     rows=$(($(wc -l <"$folder/program.csv") - 1))
     [ "$rows" -gt 500 ] || fail "the program in C carried out $rows rows"
     expect 'a program in C' "agrees $rows" "$folder/program.hex" "$folder/program.csv" \
+        --io 0x100000:0x1000
+    expect 'its ELF file' "agrees $rows" "$folder/program.elf" "$folder/program.csv" \
         --io 0x100000:0x1000
     # main gave 0, so that tohost is stored as 1
     python3 "$contrib/cover.py" --lint "$folder/program.csv" >"$folder/said" ||
@@ -340,7 +382,8 @@ fi
 can_run 'logs of Spike' python3 && test_spike
 can_run 'the stored log of qemu' python3 gzip && test_qemu_log
 can_run 'a run in qemu' python3 riscv64-unknown-elf-gcc riscv64-unknown-elf-objcopy \
-    qemu-system-riscv64 && has_version 'a run in qemu' qemu-system-riscv64 'version 7\.' && test_qemu && test_qemu_choices
+    qemu-system-riscv64 && has_version 'a run in qemu' qemu-system-riscv64 'version 7\.' &&
+    test_qemu && test_qemu_choices && test_qemu_bits
 if can_run 'the start of firmware' python3; then
     python3 "$tests/boot_test.py" "$program" || fail "the start of firmware"
 fi
@@ -349,6 +392,8 @@ can_run 'firmware in qemu' python3 qemu-system-riscv64 mkfifo timeout &&
 can_run 'rvfi_csv.sv in Icarus Verilog' iverilog vvp && test_iverilog
 can_run 'a trace that is judged live' iverilog vvp mkfifo && test_live
 can_run 'sort_rows.py' python3 && test_sort
+can_run 'an ELF file' riscv64-unknown-elf-as riscv64-unknown-elf-ld riscv64-unknown-elf-objcopy &&
+    test_elf
 can_run 'a program in C' python3 make riscv64-unknown-elf-gcc riscv64-unknown-elf-objcopy \
     qemu-system-riscv64 && has_version 'a program in C' qemu-system-riscv64 'version 7\.' && test_c
 can_run 'rvfi_csv.sv in Verilator' verilator make g++ &&

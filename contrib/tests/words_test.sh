@@ -87,6 +87,30 @@ judge i t --max-image 1073741825
 judge i t --max-trace 0
 judge i t --max-trace 1099511627776
 judge i t --max-trace 1099511627777
+judge i t --misaligned trap
+judge i t --misaligned=done
+judge i t --misaligned DONE
+judge i t --misaligned
+judge i t --misaligned=
+judge i t --mtval value
+judge i t --mtval zero
+judge i t --mtval 0
+judge i t --ad fault
+judge i t --ad set
+judge i t --ad sets
+judge i t --ad set --ad set
+judge i t --reserve 8
+judge i t --reserve 0x40
+judge i t --reserve 4096
+judge i t --reserve 48
+judge i t --reserve 4
+judge i t --reserve 0
+judge i t --reserve 8192
+judge i t --reserve x
+judge i t --bits on
+judge i t --bits off
+judge i t --bits yes
+judge i t --misaligned done --mtval zero --ad set --reserve 8 --bits on
 judge i t --workers 0
 judge i t --workers 64
 judge i t --workers 65
@@ -109,6 +133,11 @@ make 7 262145
 make 0x7 010
 make a 1
 make 7 10 --pc 0x80000000
+make 7 10 --misaligned trap
+make 7 10 --mtval value
+make 7 10 --ad fault
+make 7 10 --reserve 64
+make 7 10 --bits off
 make 7 10 --workers 2
 make 7 10 --workers 2 --workers 2
 LISTS

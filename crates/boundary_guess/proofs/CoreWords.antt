@@ -31,7 +31,7 @@ use Rattle.rv_decode.specs.declared.operation.CsrOp.{CsrOp}
 use Rattle.rv_decode.specs.declared.operation.CsrOp.TheVariants.{Write, Set, Clear}
 use Rattle.rv_integer.specs.declared.int_result.CsrRequest.{CsrRequest}
 use Rattle.trap_entry.specs.Entries.{cause_value, enter_machine_of, enter_of, enter_supervisor_of, handler_address}
-use Rattle.trap_entry.specs.Entries.{is_delegated, machine_stack, pc_by_enter, status_into_machine}
+use Rattle.trap_entry.specs.Entries.{is_delegated, machine_stack, pc_by_enter, status_into_machine, trap_value_of}
 use Rattle.trap_entry.specs.Entries.{status_into_supervisor, supervisor_stack}
 use Rattle.trap_entry.specs.Returns.{mret_of, sret_of, status_by_mret, status_by_sret}
 use Rattle.trap_entry.proofs.Legal.{machine_legal, mret_legal, sret_legal, supervisor_legal}
@@ -41,7 +41,8 @@ use Rattle.hart_step.specs.Cores.{IsSound}
 use Rattle.hart_step.specs.CsrAccess.{OldValue, csr_access_result, new_value_of, old_value_by, old_value_of, traps_at}
 use Rattle.hart_step.specs.CsrAccess.{with_choices, csrs_after_request}
 use Rattle.hart_step.specs.Returns.{core_after_mret, core_after_sret}
-use Rattle.hart_step.specs.Steps.{core_after_entry}
+use Rattle.hart_step.specs.Steps.{core_after_entry, written_trap_value}
+use Rattle.hart_words.specs.Options.{are_zero}
 use Rattle.boundary_guess.proofs.ResultWords.{IsEvenWord}
 use Rattle.boundary_guess.proofs.CsrWords.{HasWords, base_word, kind_fits, merged_word, value_word, with_word}
 use Rattle.boundary_guess.proofs.CsrWords.{write_words}
@@ -293,14 +294,23 @@ entry_even csrs mode interrupt code words =
     (vector_by (is_delegated csrs mode interrupt code) (at csrs Stvec) (at csrs Mtvec) (words.values Stvec)
     (words.values Mtvec))
 
+trap_value_word : (zero : Bool) (value : ℕ) → value < 2 ^ 64 → trap_value_of zero value < 2 ^ 64
+trap_value_word true value small = lit< tt
+trap_value_word false value small = small
+
 pub entered_sane : (core : Core) (interrupt : Bool) (code value : ℕ) → IsSane core
     → cause_value interrupt code < 2 ^ 64 → value < 2 ^ 64 → IsSane (core_after_entry core interrupt code value)
 unfolding core_after_entry
 entered_sane core interrupt code value sane cause small =
-    let enters : EntersWords (cause_value interrupt code) value core.pc =
-    record { cause_fits = cause; tval_fits = small; pc_fits = sane.pc; pc_even = sane.sound.even } in
+    let tval = written_trap_value core value in
+    let enters : EntersWords (cause_value interrupt code) tval core.pc = record {
+      cause_fits = cause;
+      tval_fits = trap_value_word (are_zero core.choices.trap_values) value small;
+      pc_fits = sane.pc;
+      pc_even = sane.sound.even;
+    } in
     let csrs =
-    enter_sane core.csrs core.mode interrupt code value core.pc (sane.sound.legal, sane.csrs) enters in
+    enter_sane core.csrs core.mode interrupt code tval core.pc (sane.sound.legal, sane.csrs) enters in
     let pc = entry_even core.csrs core.mode interrupt code sane.csrs in
     record {
       sound = record { even = pc.1; legal = csrs.0 };

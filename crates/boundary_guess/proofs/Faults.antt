@@ -1,44 +1,52 @@
 -- No access to memory raises an environment call or a breakpoint, and what a fetch gives is a word of its length.
-use Rattle.std.proofs.Common.{◌≡◌, ℕ, zero, suc, ◌+◌, ◌*◌, ◌%◌, ◌^◌, ◌<◌, ◌==◌, Bool, true, false, List, [], ◌∷◌, refl}
-use Rattle.std.proofs.Common.{sym, ap, ◌∙◌, subst, arith, Ok, Err, Result, if◌then◌else◌, lit<}
+use Rattle.std.proofs.Common.{◌≡◌, ℕ, zero, suc, ◌+◌, ◌-◌, ◌*◌, ◌%◌, ◌^◌, ◌<◌, ◌==◌, Bool, true, false, Option, Some, None}
+use Rattle.std.proofs.Common.{List, [], ◌∷◌, refl, sym, ap, ◌∙◌, subst, arith, Ok, Err, Result, if◌then◌else◌, lit<}
 use Rattle.std.specs.Prelude.{IfOk, IfErr, ◌&&◌}
 use Rattle.std.proofs.Math.Nat.{pow-suc}
-use Rattle.hart_words.specs.declared.privilege.Mode.{Mode}
 use Rattle.hart_words.specs.declared.privilege.Access.{Access}
 use Rattle.hart_words.specs.declared.privilege.Access.TheVariants.{Fetch, Load, Store}
 use Rattle.hart_words.specs.declared.privilege.Cause.{Cause}
 use Rattle.hart_words.specs.declared.privilege.Cause.TheVariants.{LoadAddressMisaligned, StoreAddressMisaligned}
 use Rattle.hart_words.specs.declared.privilege.WalkFlags.{WalkFlags}
+use Rattle.hart_words.specs.declared.options.Marks.{Marks}
+use Rattle.hart_words.specs.declared.options.Marks.TheVariants as marks
 use Rattle.hart_words.specs.declared.map.Map.{Map}
-use Rattle.hart_words.specs.Memory.{Bytes, after_writes, number_at}
+use Rattle.hart_words.specs.Memory.{Bytes, number_at}
 use Rattle.hart_words.specs.Spans.{holds_all}
 use Rattle.hart_words.specs.Privilege.{access_fault_of, page_fault_of}
-use Rattle.hart_words.specs.Actions.{Action, pure, read_memory, mapped, ◌>>=◌}
-use Rattle.hart_words.proofs.Runs.{run_then-is}
-use Rattle.csr_file.specs.declared.csrs.Csrs.{Csrs}
+use Rattle.hart_words.specs.Actions.{pure, read_memory, mapped, ◌>>=◌}
 use Rattle.csr_file.specs.declared.stored_csr.StoredCsr.TheVariants.{Satp}
 use Rattle.csr_file.specs.Registers.{at}
-use Rattle.sv39_walk.specs.Entries.{address_in, final_result, is_leaf, leaf_admits}
-use Rattle.sv39_walk.specs.Walk.{Visit, chain, chain_result, translation_of}
-use Rattle.sv39_walk.proofs.Walks.{translation-by_chain, translation_writes}
+use Rattle.sv39_walk.specs.Entries.{Tables, address_in, final_result, is_leaf, is_marked, leaf_allows, unmarked_by}
+use Rattle.sv39_walk.specs.Entries.{unmarked_result}
+use Rattle.sv39_walk.specs.Walk.{Visit, address_of, chain, chain_result, translation_of}
+use Rattle.sv39_walk.proofs.Walks.{translation-by_chain}
 use Rattle.mem_access.specs.declared.place.AccessRequest.{AccessRequest}
 use Rattle.mem_access.specs.declared.place.Place.{Place}
 use Rattle.mem_access.specs.Places.{is_device, is_permitted, place_in, place_of}
-use Rattle.mem_access.specs.Translation.{is_readable, is_translated, place_after_translation, virtual_place_of}
-use Rattle.mem_access.specs.Translation.{physical_address_of, walk_flags_of}
-use Rattle.mem_access.specs.Accesses.{Exception, after_first, data_load, data_store, fetch_result, load_from}
-use Rattle.mem_access.specs.Accesses.{load_result, parcel_at, parcel_fetch, parcel_from, store_place_of, value_at}
-use Rattle.mem_access.specs.Accesses.{with_address, with_second}
+use Rattle.mem_access.specs.Translation.{is_translated, place_after_translation, physical_address_of, tables_of}
+use Rattle.mem_access.specs.Translation.{virtual_place_of, walk_flags_of}
+use Rattle.mem_access.specs.Accesses.{Exception, Part, Places, after_first, after_place, alone, data_load, data_places_of}
+use Rattle.mem_access.specs.Accesses.{data_store, fetch_result, first_len, first_part, has_second_part, is_split}
+use Rattle.mem_access.specs.Accesses.{joined_value, load_from, load_result, parcel_at, parcel_fetch, parcel_from}
+use Rattle.mem_access.specs.Accesses.{part_place_of, request_for, second_part, second_place_of, split_places_of}
+use Rattle.mem_access.specs.Accesses.{store_place_of, value_at, value_of_parts, whole_place_of, with_address, with_second}
 use Rattle.mem_access.proofs.Grants.{then_gives}
-use Rattle.mem_access.proofs.Writes.{then_writes_nothing}
 use Rattle.row_compare.specs.Signals.{is_call_or_breakpoint}
+use Rattle.hart_step.specs.declared.state.Core.{Core}
+use Rattle.hart_step.specs.Instructions.{fetch_at_pc}
+use Rattle.boundary_guess.proofs.Actions.{AreBytes, then_gives_bytes}
 
--- a cause, and an exception, that is neither
+-- a cause that is neither
 abbrev pub IsFault : Cause → Type 0
 IsFault cause = is_call_or_breakpoint cause ≡ false
 
+-- a result has this property where it is an exception
+abbrev pub Raises : {A : Type 0} → (Exception → Type 0) → Result A Exception → Type 0
+Raises P result = IfErr result P
+
 abbrev pub RaisesFaults : {A : Type 0} → Result A Exception → Type 0
-RaisesFaults result = IfErr result (λ exception. IsFault exception.0)
+RaisesFaults result = Raises (λ exception. IsFault exception.0) result
 
 access_faults : (access : Access) → IsFault (access_fault_of access)
 access_faults Fetch = refl
@@ -52,46 +60,63 @@ page_faults Store = refl
 
 -- ---- translation
 
-final_by : (test : Bool) (pa : ℕ) (access : Access) → IfErr (if test then Ok pa else Err (page_fault_of access)) IsFault
-final_by true pa access = tt
-final_by false pa access = page_faults access
+unmarked_faults : (choice : Marks) (can_set : Bool) (access : Access) (entry address : ℕ)
+    → IfErr (unmarked_by choice can_set access entry address) IsFault
+unmarked_faults marks.Fault can_set access entry address = page_faults access
+unmarked_faults marks.Set true access entry address = tt
+unmarked_faults marks.Set false access entry address = access_faults access
 
-final_faults : (level : ℕ) (flags : WalkFlags) (va : ℕ) (access : Access) (entry : ℕ)
-    → IfErr (final_result level flags va access entry) IsFault
+final_by : (allowed marked : Bool) (found : Result (ℕ × Option ℕ) Cause) (access : Access) (address : ℕ)
+    → IfErr found IsFault
+    → IfErr (if allowed then (if marked then Ok (address, None) else found) else Err (page_fault_of access)) IsFault
+final_by true true found access address faults = tt
+final_by true false found access address faults = faults
+final_by false marked found access address faults = page_faults access
+
+final_faults : (tables : Tables) (level : ℕ) (flags : WalkFlags) (va : ℕ) (access : Access) (pa entry : ℕ)
+    → IfErr (final_result tables level flags va access pa entry) IsFault
 unfolding final_result
-final_faults level flags va access entry =
-    final_by (is_leaf entry && leaf_admits level flags access entry) (address_in level entry va) access
+final_faults tables level flags va access pa entry =
+    let address = address_in level entry va in
+    final_by (is_leaf entry && leaf_allows level flags access entry) (is_marked access entry)
+    (unmarked_result tables access pa entry address) access address
+    (unmarked_faults tables.marks (tables.settable pa) access entry address)
 
-last_by : (test : Bool) (found : Result ℕ Cause) (access : Access) → IfErr found IsFault
-    → IfErr (if test then found else Err (access_fault_of access)) IsFault
-last_by true found access faults = faults
+last_by : (test : Bool) (found : Result (ℕ × Option ℕ) Cause) (access : Access) → IfErr found IsFault
+    → IfErr (address_of (if test then found else Err (access_fault_of access))) IsFault
+last_by true (Ok (address, entry)) access faults = tt
+last_by true (Err fault) access faults = faults
 last_by false found access faults = access_faults access
 
-chain_faults : (readable : ℕ → Bool) (bytes : Bytes) (flags : WalkFlags) (va : ℕ) (access : Access)
-    (visits : List Visit) → IfErr (chain_result readable bytes flags va access visits) IsFault
+chain_faults : (tables : Tables) (bytes : Bytes) (flags : WalkFlags) (va : ℕ) (access : Access)
+    (visits : List Visit) → IfErr (chain_result tables bytes flags va access visits) IsFault
 unfolding chain_result
-chain_faults readable bytes flags va access [] = page_faults access
-chain_faults readable bytes flags va access (visit ∷ []) =
-    last_by (readable visit.pa) (final_result visit.level flags va access (number_at bytes visit.pa 8)) access
-    (final_faults visit.level flags va access (number_at bytes visit.pa 8))
-chain_faults readable bytes flags va access (visit ∷ next ∷ more) =
-    chain_faults readable bytes flags va access (next ∷ more)
+chain_faults tables bytes flags va access [] = page_faults access
+chain_faults tables bytes flags va access (visit ∷ []) =
+    let entry = number_at bytes visit.pa 8 in
+    last_by (tables.readable visit.pa) (final_result tables visit.level flags va access visit.pa entry) access
+    (final_faults tables visit.level flags va access visit.pa entry)
+chain_faults tables bytes flags va access (visit ∷ next ∷ more) =
+    chain_faults tables bytes flags va access (next ∷ more)
 
-walk_faults : (readable : ℕ → Bool) (bytes : Bytes) (satp : ℕ) (flags : WalkFlags) (va : ℕ) (access : Access)
-    → IfErr ((translation_of readable satp flags va access).run bytes).value IsFault
-walk_faults readable bytes satp flags va access =
+walk_faults : (tables : Tables) (bytes : Bytes) (satp : ℕ) (flags : WalkFlags) (va : ℕ) (access : Access)
+    → IfErr ((translation_of tables satp flags va access).run bytes).value IsFault
+walk_faults tables bytes satp flags va access =
     let P : Result ℕ Cause → Type 0 = λ found. IfErr found IsFault in
-    subst P (sym (ap (λ run. run.value) (translation-by_chain readable bytes satp flags va access)))
-    (chain_faults readable bytes flags va access (chain readable bytes satp va))
+    subst P (sym (ap (λ run. run.value) (translation-by_chain tables bytes satp flags va access)))
+    (chain_faults tables bytes flags va access (chain tables.readable bytes satp va))
 
-translated_by : (csrs : Csrs) (map : Map) (request : AccessRequest) (va : ℕ) (on : Bool) (bytes : Bytes)
+translated_by : (core : Core) (request : AccessRequest) (va : ℕ) (on : Bool) (bytes : Bytes)
     → IfErr
-    ((if on then translation_of (is_readable csrs map) (at csrs Satp) (walk_flags_of csrs request.mode) va
-    request.access else pure (Ok va)).run bytes).value IsFault
+    ((if on
+    then translation_of (tables_of core.csrs core.map core.choices) (at core.csrs Satp)
+    (walk_flags_of core.csrs request.mode) va request.access
+    else pure (Ok va)).run bytes).value IsFault
 unfolding pure
-translated_by csrs map request va true bytes =
-    walk_faults (is_readable csrs map) bytes (at csrs Satp) (walk_flags_of csrs request.mode) va request.access
-translated_by csrs map request va false bytes = tt
+translated_by core request va true bytes =
+    walk_faults (tables_of core.csrs core.map core.choices) bytes (at core.csrs Satp)
+    (walk_flags_of core.csrs request.mode) va request.access
+translated_by core request va false bytes = tt
 
 -- ---- places
 
@@ -109,142 +134,195 @@ placed_by true map request pa =
     in_by (holds_all map.ram pa request.len) (request.devices && is_device map.io pa request.len) pa request.access
 placed_by false map request pa = access_faults request.access
 
-translated_faults : (csrs : Csrs) (map : Map) (request : AccessRequest) (pa : Result ℕ Cause) → IfErr pa IsFault
-    → IfErr (place_after_translation csrs map request pa) IsFault
+translated_faults : (core : Core) (request : AccessRequest) (pa : Result ℕ Cause) → IfErr pa IsFault
+    → IfErr (place_after_translation core.csrs core.map request pa) IsFault
 unfolding place_of
-translated_faults csrs map request (Err cause) faults = faults
-translated_faults csrs map request (Ok pa) faults = placed_by (is_permitted csrs request pa) map request pa
+translated_faults core request (Err cause) faults = faults
+translated_faults core request (Ok pa) faults = placed_by (is_permitted core.csrs request pa) core.map request pa
 
-reach_faults : (csrs : Csrs) (map : Map) (request : AccessRequest) (va : ℕ) (bytes : Bytes)
-    → IfErr ((virtual_place_of csrs map request va).run bytes).value IsFault
+reach_faults : (core : Core) (request : AccessRequest) (va : ℕ) (bytes : Bytes)
+    → IfErr ((virtual_place_of core.csrs core.map core.choices request va).run bytes).value IsFault
 unfolding virtual_place_of physical_address_of mapped
-reach_faults csrs map request va bytes =
-    translated_faults csrs map request _ (translated_by csrs map request va (is_translated csrs request.mode) bytes)
+reach_faults core request va bytes =
+    translated_faults core request _ (translated_by core request va (is_translated core.csrs request.mode) bytes)
 
 -- ---- fetches
 
-parcel_from_faults : (at : ℕ) (place : Result Place Cause) (bytes : Bytes) → IfErr place IsFault
-    → RaisesFaults ((parcel_from at place).run bytes).value
-unfolding pure mapped
-parcel_from_faults at (Err cause) bytes faults = faults
-parcel_from_faults at (Ok place) bytes faults = tt
+-- a property has each fault at an address, and after it, where addresses wrap
+pub record HoldsOfFaults (P : Exception → Type 0) (va : ℕ) : Type 0 where
+  pub here : (cause : Cause) → IsFault cause → P (cause, va)
+  pub after : (at : ℕ) (cause : Cause) → IsFault cause → P (cause, at % 2 ^ 64)
 
-parcel_faults : (csrs : Csrs) (map : Map) (mode : Mode) (at : ℕ) (bytes : Bytes)
-    → RaisesFaults ((parcel_at csrs map mode at).run bytes).value
+abbrev HoldsAt : (Exception → Type 0) → ℕ → Type 0
+HoldsAt P va = (cause : Cause) → IsFault cause → P (cause, va)
+
+parcel_from_raises : (P : Exception → Type 0) (at : ℕ) (place : Result Place Cause) (bytes : Bytes) → HoldsAt P at
+    → IfErr place IsFault → Raises P ((parcel_from at place).run bytes).value
+unfolding pure mapped
+parcel_from_raises P at (Err cause) bytes holds faults = holds cause faults
+parcel_from_raises P at (Ok place) bytes holds faults = tt
+
+parcel_raises : (P : Exception → Type 0) (core : Core) (at : ℕ) (bytes : Bytes) → HoldsAt P at
+    → Raises P ((parcel_at core.csrs core.map core.choices core.mode at).run bytes).value
 unfolding parcel_at
-parcel_faults csrs map mode at bytes =
-    let way = virtual_place_of csrs map (parcel_fetch mode) at in
-    then_gives RaisesFaults way (parcel_from at) bytes
-    (λ now. parcel_from_faults at (way.run bytes).value now (reach_faults csrs map (parcel_fetch mode) at bytes))
+parcel_raises P core at bytes holds =
+    let way = virtual_place_of core.csrs core.map core.choices (parcel_fetch core.mode) at in
+    then_gives (Raises P) way (parcel_from at) bytes
+    (λ now. parcel_from_raises P at (way.run bytes).value now holds
+    (reach_faults core (parcel_fetch core.mode) at bytes))
 
-second_faults : (first : ℕ) (second : Result ℕ Exception) → RaisesFaults second
-    → RaisesFaults (with_second first second)
-second_faults first (Err exception) faults = faults
-second_faults first (Ok second) faults = tt
+second_raises : (P : Exception → Type 0) (first : ℕ) (second : Result ℕ Exception) → Raises P second
+    → Raises P (with_second first second)
+second_raises P first (Err exception) holds = holds
+second_raises P first (Ok second) holds = tt
 
-after_by : (long : Bool) (csrs : Csrs) (map : Map) (mode : Mode) (pc first : ℕ) (bytes : Bytes)
-    → RaisesFaults
-    ((if long then mapped (with_second first) (parcel_at csrs map mode ((pc + 2) % 2 ^ 64)) else pure
-    (Ok (first, 2))).run bytes).value
+after_by : (P : Exception → Type 0) (long : Bool) (core : Core) (pc first : ℕ) (bytes : Bytes) → HoldsOfFaults P pc
+    → Raises P
+    ((if long
+    then mapped (with_second first) (parcel_at core.csrs core.map core.choices core.mode ((pc + 2) % 2 ^ 64))
+    else pure (Ok (first, 2))).run bytes).value
 unfolding pure mapped
-after_by true csrs map mode pc first bytes =
-    second_faults first _ (parcel_faults csrs map mode ((pc + 2) % 2 ^ 64) bytes)
-after_by false csrs map mode pc first bytes = tt
+after_by P true core pc first bytes holds =
+    second_raises P first _ (parcel_raises P core ((pc + 2) % 2 ^ 64) bytes (holds.after (pc + 2)))
+after_by P false core pc first bytes holds = tt
 
-after_faults : (csrs : Csrs) (map : Map) (mode : Mode) (pc : ℕ) (first : Result ℕ Exception) (bytes : Bytes)
-    → RaisesFaults first → RaisesFaults ((after_first csrs map mode pc first).run bytes).value
+after_raises : (P : Exception → Type 0) (core : Core) (pc : ℕ) (first : Result ℕ Exception) (bytes : Bytes)
+    → HoldsOfFaults P pc → Raises P first
+    → Raises P ((after_first core.csrs core.map core.choices core.mode pc first).run bytes).value
 unfolding pure
-after_faults csrs map mode pc (Err exception) bytes faults = faults
-after_faults csrs map mode pc (Ok first) bytes faults = after_by (first % 4 == 3) csrs map mode pc first bytes
+after_raises P core pc (Err exception) bytes holds raises = raises
+after_raises P core pc (Ok first) bytes holds raises = after_by P (first % 4 == 3) core pc first bytes holds
 
-pub fetch_faults : (csrs : Csrs) (map : Map) (mode : Mode) (pc : ℕ) (bytes : Bytes)
-    → RaisesFaults ((fetch_result csrs map mode pc).run bytes).value
+pub fetch_raises : (P : Exception → Type 0) (core : Core) (bytes : Bytes) → HoldsOfFaults P core.pc
+    → Raises P ((fetch_at_pc core).run bytes).value
 unfolding fetch_result
-fetch_faults csrs map mode pc bytes =
-    let first = parcel_at csrs map mode pc in
-    then_gives RaisesFaults first (after_first csrs map mode pc) bytes
-    (λ now. after_faults csrs map mode pc (first.run bytes).value now (parcel_faults csrs map mode pc bytes))
+fetch_raises P core bytes holds =
+    let first = parcel_at core.csrs core.map core.choices core.mode core.pc in
+    then_gives (Raises P) first (after_first core.csrs core.map core.choices core.mode core.pc) bytes
+    (λ now. after_raises P core core.pc (first.run bytes).value now holds
+    (parcel_raises P core core.pc bytes holds.here))
+
+-- ---- places of loads and stores
+
+address_raises : (P : Exception → Type 0) (va : ℕ) (place : Result Place Cause) → HoldsAt P va → IfErr place IsFault
+    → Raises P (with_address va place)
+address_raises P va (Err cause) holds faults = holds cause faults
+address_raises P va (Ok place) holds faults = tt
+
+part_raises : (P : Exception → Type 0) (core : Core) (request : AccessRequest) (part : Part) (bytes : Bytes)
+    → HoldsAt P part.va
+    → Raises P ((part_place_of core.csrs core.map core.choices request part).run bytes).value
+unfolding part_place_of mapped
+part_raises P core request part bytes holds =
+    address_raises P part.va _ holds (reach_faults core (request_for request part) part.va bytes)
+
+after_place_raises : (P : Exception → Type 0) (first : Place) (second : Result Place Exception) → Raises P second
+    → Raises P (after_place first second)
+after_place_raises P first (Err exception) raises = raises
+after_place_raises P first (Ok second) raises = tt
+
+second_place_raises : (P : Exception → Type 0) (core : Core) (request : AccessRequest) (part : Part)
+    (first : Result Place Exception) (bytes : Bytes) → HoldsAt P part.va → Raises P first
+    → Raises P ((second_place_of core.csrs core.map core.choices request part first).run bytes).value
+unfolding pure mapped
+second_place_raises P core request part (Err exception) bytes holds raises = raises
+second_place_raises P core request part (Ok first) bytes holds raises =
+    after_place_raises P first _ (part_raises P core request part bytes holds)
+
+alone_raises : (P : Exception → Type 0) (place : Result Place Exception) → Raises P place → Raises P (alone place)
+alone_raises P (Err exception) raises = raises
+alone_raises P (Ok place) raises = tt
+
+whole_raises : (P : Exception → Type 0) (core : Core) (request : AccessRequest) (va : ℕ) (bytes : Bytes)
+    → HoldsAt P va → Raises P ((whole_place_of core.csrs core.map core.choices request va).run bytes).value
+unfolding mapped
+whole_raises P core request va bytes holds =
+    alone_raises P _ (part_raises P core request (record { va = va; len = request.len }) bytes holds)
+
+split_raises : (P : Exception → Type 0) (core : Core) (request : AccessRequest) (va : ℕ) (bytes : Bytes)
+    → HoldsOfFaults P va
+    → Raises P ((split_places_of core.csrs core.map core.choices request va).run bytes).value
+unfolding split_places_of
+split_raises P core request va bytes holds = by (has_second_part va request.len)
+  where
+    by : (two : Bool)
+        → Raises P
+        ((if two
+        then (part_place_of core.csrs core.map core.choices request (first_part va request.len)
+        >>= second_place_of core.csrs core.map core.choices request (second_part va request.len))
+        else whole_place_of core.csrs core.map core.choices request va).run bytes).value
+    by true =
+        let low = first_part va request.len in
+        let high = second_part va request.len in
+        let first = part_place_of core.csrs core.map core.choices request low in
+        then_gives (Raises P) first (second_place_of core.csrs core.map core.choices request high) bytes
+        (λ now. second_place_raises P core request high (first.run bytes).value now
+        (holds.after (va + first_len va request.len)) (part_raises P core request low bytes holds.here))
+    by false = whole_raises P core request va bytes holds.here
+
+data_raises : (P : Exception → Type 0) (core : Core) (request : AccessRequest) (atomic : Bool) (cause : Cause)
+    (va : ℕ) (bytes : Bytes) → HoldsOfFaults P va × IsFault cause
+    → Raises P ((data_places_of core.csrs core.map core.choices request atomic cause va).run bytes).value
+unfolding data_places_of pure
+data_raises P core request atomic cause va bytes holds =
+    by (va % request.len == 0) (is_split core.choices request atomic va)
+  where
+    by : (aligned split : Bool)
+        → Raises P
+        ((if aligned then whole_place_of core.csrs core.map core.choices request va
+        else if split then split_places_of core.csrs core.map core.choices (record request { devices = false }) va
+        else pure (Err (cause, va))).run bytes).value
+    by true split = whole_raises P core request va bytes holds.0.here
+    by false true = split_raises P core (record request { devices = false }) va bytes holds.0
+    by false false = holds.0.here cause holds.1
 
 -- ---- loads and stores
 
-value_faults : (place : Place) (len : ℕ) (io : Bool) (bytes : Bytes)
-    → RaisesFaults ((value_at place len io).run bytes).value
+value_raises : (P : Exception → Type 0) (place : Place) (len : ℕ) (io : Bool) (bytes : Bytes)
+    → Raises P ((value_at place len io).run bytes).value
 unfolding pure mapped
-value_faults place len true bytes = tt
-value_faults place len false bytes = tt
+value_raises P place len true bytes = tt
+value_raises P place len false bytes = tt
 
-load_from_faults : (va len : ℕ) (place : Result Place Cause) (bytes : Bytes) → IfErr place IsFault
-    → RaisesFaults ((load_from va len place).run bytes).value
+parts_raise : (P : Exception → Type 0) (first second : Place) (low_len high_len : ℕ) (bytes : Bytes)
+    → Raises P ((value_of_parts first second low_len high_len).run bytes).value
+unfolding mapped
+parts_raise P first second low_len high_len bytes =
+    then_gives (Raises P) (read_memory (record { pa = first.pa; len = low_len }))
+    (λ low. mapped (λ high. Ok (first, Some second, joined_value low_len low high))
+    (read_memory (record { pa = second.pa; len = high_len }))) bytes (λ now. tt)
+
+load_from_raises : (P : Exception → Type 0) (va len : ℕ) (places : Result Places Exception) (bytes : Bytes)
+    → Raises P places → Raises P ((load_from va len places).run bytes).value
 unfolding pure
-load_from_faults va len (Err cause) bytes faults = faults
-load_from_faults va len (Ok place) bytes faults = value_faults place len place.io bytes
+load_from_raises P va len (Err exception) bytes raises = raises
+load_from_raises P va len (Ok (place, None)) bytes raises = value_raises P place len place.io bytes
+load_from_raises P va len (Ok (first, Some second)) bytes raises =
+    parts_raise P first second (first_len va len) (len - first_len va len) bytes
 
-load_by : (aligned : Bool) (csrs : Csrs) (map : Map) (request : AccessRequest) (va len : ℕ) (bytes : Bytes)
-    → RaisesFaults
-    ((if aligned then virtual_place_of csrs map request va
-    >>= load_from va len else pure (Err (LoadAddressMisaligned, va))).run bytes).value
-unfolding pure
-load_by true csrs map request va len bytes =
-    let way = virtual_place_of csrs map request va in
-    then_gives RaisesFaults way (load_from va len) bytes
-    (λ now. load_from_faults va len (way.run bytes).value now (reach_faults csrs map request va bytes))
-load_by false csrs map request va len bytes = refl
-
-pub load_faults : (csrs : Csrs) (map : Map) (mode : Mode) (va len : ℕ) (atomic : Bool) (bytes : Bytes)
-    → RaisesFaults ((load_result csrs map mode va len atomic).run bytes).value
+pub load_raises : (P : Exception → Type 0) (core : Core) (va len : ℕ) (atomic : Bool) (bytes : Bytes)
+    → HoldsOfFaults P va
+    → Raises P ((load_result core.csrs core.map core.choices core.mode va len atomic).run bytes).value
 unfolding load_result
-load_faults csrs map mode va len atomic bytes =
-    load_by (va % len == 0) csrs map (data_load csrs mode len atomic) va len bytes
+load_raises P core va len atomic bytes holds =
+    let request = data_load core.csrs core.mode len atomic in
+    let way = data_places_of core.csrs core.map core.choices request atomic LoadAddressMisaligned va in
+    then_gives (Raises P) way (load_from va len) bytes
+    (λ now. load_from_raises P va len (way.run bytes).value now
+    (data_raises P core request atomic LoadAddressMisaligned va bytes (holds, refl)))
 
-address_faults : (va : ℕ) (place : Result Place Cause) → IfErr place IsFault → RaisesFaults (with_address va place)
-address_faults va (Err cause) faults = faults
-address_faults va (Ok place) faults = tt
-
-store_by : (aligned : Bool) (csrs : Csrs) (map : Map) (request : AccessRequest) (va : ℕ) (bytes : Bytes)
-    → RaisesFaults
-    ((if aligned then mapped (with_address va) (virtual_place_of csrs map request va) else pure
-    (Err (StoreAddressMisaligned, va))).run bytes).value
-unfolding pure mapped
-store_by true csrs map request va bytes = address_faults va _ (reach_faults csrs map request va bytes)
-store_by false csrs map request va bytes = refl
-
-pub store_faults : (csrs : Csrs) (map : Map) (mode : Mode) (va len : ℕ) (atomic : Bool) (bytes : Bytes)
-    → RaisesFaults ((store_place_of csrs map mode va len atomic).run bytes).value
+pub store_raises : (P : Exception → Type 0) (core : Core) (va len : ℕ) (atomic : Bool) (bytes : Bytes)
+    → HoldsOfFaults P va
+    → Raises P ((store_place_of core.csrs core.map core.choices core.mode va len atomic).run bytes).value
 unfolding store_place_of
-store_faults csrs map mode va len atomic bytes =
-    store_by (va % len == 0) csrs map (data_store csrs mode len atomic) va bytes
+store_raises P core va len atomic bytes holds =
+    data_raises P core (data_store core.csrs core.mode len atomic) atomic StoreAddressMisaligned va bytes (holds, refl)
+
+-- every fault is one
+pub all_faults : (va : ℕ) → HoldsOfFaults (λ exception. IsFault exception.0) va
+all_faults va = record { here = λ cause faults. faults; after = λ at cause faults. faults }
 
 -- ---- words
-
-walk_writes : (on : Bool) (csrs : Csrs) (map : Map) (request : AccessRequest) (va : ℕ) (bytes : Bytes)
-    → ((if on then translation_of (is_readable csrs map) (at csrs Satp) (walk_flags_of csrs request.mode) va
-    request.access else pure (Ok va)).run bytes).wrote ≡ []
-unfolding pure
-walk_writes true csrs map request va bytes =
-    translation_writes (is_readable csrs map) bytes (at csrs Satp) (walk_flags_of csrs request.mode) va request.access
-walk_writes false csrs map request va bytes = refl
-
-pub reach_writes : (csrs : Csrs) (map : Map) (request : AccessRequest) (va : ℕ) (bytes : Bytes)
-    → ((virtual_place_of csrs map request va).run bytes).wrote ≡ []
-unfolding virtual_place_of physical_address_of mapped
-reach_writes csrs map request va bytes = walk_writes (is_translated csrs request.mode) csrs map request va bytes
-
-parcel_from_writes : (at : ℕ) (place : Result Place Cause) (bytes : Bytes)
-    → ((parcel_from at place).run bytes).wrote ≡ []
-unfolding pure mapped read_memory
-parcel_from_writes at (Err cause) bytes = refl
-parcel_from_writes at (Ok place) bytes = refl
-
-parcel_writes : (csrs : Csrs) (map : Map) (mode : Mode) (at : ℕ) (bytes : Bytes)
-    → ((parcel_at csrs map mode at).run bytes).wrote ≡ []
-unfolding parcel_at
-parcel_writes csrs map mode at bytes =
-    then_writes_nothing (virtual_place_of csrs map (parcel_fetch mode) at) (parcel_from at) bytes
-    (reach_writes csrs map (parcel_fetch mode) at bytes) (parcel_from_writes at)
-
--- each address holds a byte
-abbrev pub AreBytes : Bytes → Type 0
-AreBytes bytes = (address : ℕ) → bytes address < 256
 
 number_up : (byte rest whole : ℕ) → byte < 256 → rest < whole → byte + 256 * rest < whole * 256
 number_up byte rest whole low less = omega (arith, low, less)
@@ -270,27 +348,13 @@ unfolding pure mapped read_memory
 parcel_from_below at (Err cause) bytes are = tt
 parcel_from_below at (Ok place) bytes are = number_below bytes place.pa 2 are
 
-same_now : {A : Type 0} (first : Action A) (bytes : Bytes) → (first.run bytes).wrote ≡ []
-    → after_writes (first.run bytes).wrote bytes ≡ bytes
-unfolding after_writes
-same_now first bytes none = ap (λ wrote. after_writes wrote bytes) none
-
--- what comes of an action that writes nothing, and another
-pub then_gives_here : {A B : Type 0} (P : B → Type 0) (first : Action A) (next : A → Action B) (bytes : Bytes)
-    → (first.run bytes).wrote ≡ [] → P ((next (first.run bytes).value).run bytes).value
-    → P ((first >>= next).run bytes).value
-then_gives_here P first next bytes none here =
-    let Q : Bytes → Type 0 = λ now. P ((next (first.run bytes).value).run now).value in
-    subst P (sym (ap (λ run. run.value) (run_then-is first next bytes)))
-    (subst Q (sym (same_now first bytes none)) here)
-
-parcel_below : (csrs : Csrs) (map : Map) (mode : Mode) (at : ℕ) (bytes : Bytes) → AreBytes bytes
-    → IfOk ((parcel_at csrs map mode at).run bytes).value IsParcel
+parcel_below : (core : Core) (at : ℕ) (bytes : Bytes) → AreBytes bytes
+    → IfOk ((parcel_at core.csrs core.map core.choices core.mode at).run bytes).value IsParcel
 unfolding parcel_at
-parcel_below csrs map mode at bytes are =
-    let way = virtual_place_of csrs map (parcel_fetch mode) at in
-    then_gives_here (λ parcel. IfOk parcel IsParcel) way (parcel_from at) bytes
-    (reach_writes csrs map (parcel_fetch mode) at bytes) (parcel_from_below at (way.run bytes).value bytes are)
+parcel_below core at bytes are =
+    let way = virtual_place_of core.csrs core.map core.choices (parcel_fetch core.mode) at in
+    then_gives_bytes (λ parcel. IfOk parcel IsParcel) way (parcel_from at) bytes are
+    (parcel_from_below at (way.run bytes).value)
 
 long_word : (first second : ℕ) → first < 2 ^ 16 → second < 2 ^ 16 → (first % 4 == 3) ≡ true
     → IsFetchedWord (first + 2 ^ 16 * second, 4)
@@ -304,24 +368,26 @@ second_word : (first : ℕ) (second : Result ℕ Exception) → first < 2 ^ 16 �
 second_word first (Err exception) low long high = tt
 second_word first (Ok second) low long high = long_word first second low high long
 
-after_word : (csrs : Csrs) (map : Map) (mode : Mode) (pc : ℕ) (first : Result ℕ Exception) (bytes : Bytes)
-    → IfOk first IsParcel → AreBytes bytes → IfOk ((after_first csrs map mode pc first).run bytes).value IsFetchedWord
+after_word : (core : Core) (pc : ℕ) (first : Result ℕ Exception) (bytes : Bytes) → IfOk first IsParcel
+    → AreBytes bytes
+    → IfOk ((after_first core.csrs core.map core.choices core.mode pc first).run bytes).value IsFetchedWord
 unfolding pure mapped
-after_word csrs map mode pc (Err exception) bytes low are = tt
-after_word csrs map mode pc (Ok first) bytes low are = by (first % 4 == 3) refl
+after_word core pc (Err exception) bytes low are = tt
+after_word core pc (Ok first) bytes low are = by (first % 4 == 3) refl
   where
     by : (long : Bool) → (first % 4 == 3) ≡ long
         → IfOk
-        ((if long then mapped (with_second first) (parcel_at csrs map mode ((pc + 2) % 2 ^ 64))
+        ((if long
+        then mapped (with_second first) (parcel_at core.csrs core.map core.choices core.mode ((pc + 2) % 2 ^ 64))
         else pure (Ok (first, 2))).run bytes).value IsFetchedWord
-    by true is = second_word first _ low is (parcel_below csrs map mode ((pc + 2) % 2 ^ 64) bytes are)
+    by true is = second_word first _ low is (parcel_below core ((pc + 2) % 2 ^ 64) bytes are)
     by false is = record { length = sym (ap (λ (t : Bool). if t then 4 else 2) is); below = low }
 
-pub fetch_word : (csrs : Csrs) (map : Map) (mode : Mode) (pc : ℕ) (bytes : Bytes) → AreBytes bytes
-    → IfOk ((fetch_result csrs map mode pc).run bytes).value IsFetchedWord
+pub fetch_word : (core : Core) (bytes : Bytes) → AreBytes bytes
+    → IfOk ((fetch_at_pc core).run bytes).value IsFetchedWord
 unfolding fetch_result
-fetch_word csrs map mode pc bytes are =
-    let first = parcel_at csrs map mode pc in
-    then_gives_here (λ word. IfOk word IsFetchedWord) first (after_first csrs map mode pc) bytes
-    (parcel_writes csrs map mode pc bytes)
-    (after_word csrs map mode pc (first.run bytes).value bytes (parcel_below csrs map mode pc bytes are) are)
+fetch_word core bytes are =
+    let first = parcel_at core.csrs core.map core.choices core.mode core.pc in
+    then_gives_bytes (λ word. IfOk word IsFetchedWord) first
+    (after_first core.csrs core.map core.choices core.mode core.pc) bytes are
+    (λ now kept. after_word core core.pc (first.run bytes).value now (parcel_below core core.pc bytes are) kept)

@@ -3,7 +3,7 @@ use Rattle.std.proofs.Common.{◌≡◌, ℕ, ◌/◌, ◌%◌, ◌^◌, ◌<◌
 use Rattle.std.proofs.Common.{Some, bit_and, ◌==◌, refl, sym, ◌∙◌, ap, subst, arith, if◌then◌else◌, lit<, ◌-◌}
 use Rattle.std.specs.Prelude.{◌||◌}
 use Rattle.std.specs.List.{list_all, find}
-use Rattle.std.specs.Option.{option_map, option_and_then}
+use Rattle.std.specs.Option.{option_map, option_and_then, option_or}
 use Rattle.std.proofs.lemmas.Nat.{and_mask}
 use Rattle.std.proofs.lemmas.Bool.{eqb-true}
 use Rattle.std.proofs.lemmas.Bool.Decides.{nat_tests}
@@ -14,11 +14,15 @@ use Rattle.rv_decode.specs.declared.patterns.Form.TheVariants as forms
 use Rattle.rv_decode.specs.declared.patterns.Pattern.{Pattern}
 use Rattle.rv_decode.specs.Fields.{operation_of}
 use Rattle.rv_decode.specs.Operands.{operands_of}
-use Rattle.rv_decode.specs.Table.{opcodes, all_rows, meets, decoded_op_by, decoded_op_of}
+use Rattle.rv_decode.specs.Table.{opcodes, opcodes_with, bits_opcodes, all_rows, rows_of_opcode, meets, decoded_op_by}
+use Rattle.rv_decode.specs.Table.{Opcode, decoded_op_of, decoded_op_with}
 use Rattle.rv_compressed.specs.declared.compressed_op.CompressedOp.{CompressedOp}
 use Rattle.rv_compressed.specs.declared.patterns.Pattern.{Pattern as Parcel}
 use Rattle.rv_compressed.specs.Patterns.{holds, meets as meets_parcel}
-use Rattle.hart_step.specs.Instructions.{op_of}
+use Rattle.hart_step.specs.declared.state.Core.{Core}
+use Rattle.hart_step.specs.Instructions.{op_for}
+use Rattle.hart_step.specs.PlainRows.{is_store}
+use Rattle.rv_decode.proofs.ByOpcode.{further, without}
 use Rattle.hart_step.proofs.WordOpcodes.{both, opcode_met, opcode_of, word_opcode}
 use Rattle.rv_compressed.specs.Table.{table, encoding_of, expansion_by, expansion_of, expanded_op_of}
 
@@ -35,6 +39,9 @@ is_plain_op (ops.Immediate op rd rs1 imm) = true
 is_plain_op (ops.ImmediateWord op rd rs1 imm) = true
 is_plain_op (ops.Register op rd rs1 rs2) = true
 is_plain_op (ops.RegisterWord op rd rs1 rs2) = true
+is_plain_op (ops.BitsRegister op rd rs1 rs2) = true
+is_plain_op (ops.BitsImmediate op rd rs1 imm) = true
+is_plain_op (ops.BitsUnary op rd rs1) = true
 is_plain_op ops.Fence = true
 is_plain_op ops.FenceI = true
 is_plain_op ops.Ecall = false
@@ -64,6 +71,10 @@ is_plain_form (forms.ImmediateWord op) = true
 is_plain_form (forms.ShiftWord op) = true
 is_plain_form (forms.Register op) = true
 is_plain_form (forms.RegisterWord op) = true
+is_plain_form (forms.BitsRegister op) = true
+is_plain_form (forms.BitsShift op) = true
+is_plain_form (forms.BitsShiftWord op) = true
+is_plain_form (forms.BitsUnary op) = true
 is_plain_form forms.Fence = true
 is_plain_form forms.FenceI = true
 is_plain_form forms.Ecall = false
@@ -92,6 +103,10 @@ of_form (forms.ImmediateWord op) word = refl
 of_form (forms.ShiftWord op) word = refl
 of_form (forms.Register op) word = refl
 of_form (forms.RegisterWord op) word = refl
+of_form (forms.BitsRegister op) word = refl
+of_form (forms.BitsShift op) word = refl
+of_form (forms.BitsShiftWord op) word = refl
+of_form (forms.BitsUnary op) word = refl
 of_form forms.Fence word = refl
 of_form forms.FenceI word = refl
 of_form forms.Ecall word = refl
@@ -150,6 +165,12 @@ pub plain_decoded : (word : ℕ) (op : Op) → is_special (word % 128) ≡ false
     → is_plain_op op ≡ true
 unfolding decoded_op_of decoded_op_by opcodes
 plain_decoded word op other is = plain_among (all_rows opcodes) word op refl other is
+
+pub plain_decoded_with : (bits : Bool) (word : ℕ) (op : Op) → is_special (word % 128) ≡ false
+    → decoded_op_with word bits ≡ Some op → is_plain_op op ≡ true
+unfolding decoded_op_with decoded_op_by opcodes bits_opcodes
+plain_decoded_with false word op other is = plain_among (all_rows (opcodes_with false)) word op refl other is
+plain_decoded_with true word op other is = plain_among (all_rows (opcodes_with true)) word op refl other is
 
 -- ---- compressed instructions: none but C.EBREAK expands to such a word
 
@@ -225,20 +246,27 @@ decoded_form : (P : Op → Type 0) → ((form : Form) (word : ℕ) → P (operat
 unfolding decoded_op_of decoded_op_by
 decoded_form P holds word op is = decoded_by_form P holds (find (λ row. meets row word) (all_rows opcodes)) word op is
 
+decoded_form_with : (P : Op → Type 0) → ((form : Form) (word : ℕ) → P (operation_of form word)) → (bits : Bool)
+    (word : ℕ) (op : Op) → decoded_op_with word bits ≡ Some op → P op
+unfolding decoded_op_with decoded_op_by
+decoded_form_with P holds bits word op is =
+    decoded_by_form P holds (find (λ row. meets row word) (all_rows (opcodes_with bits))) word op is
+
 expanded_form : (P : Op → Type 0) → ((form : Form) (word : ℕ) → P (operation_of form word))
     → (expansion : Option ℕ) (op : Op) → option_and_then decoded_op_of expansion ≡ Some op → P op
 expanded_form P holds None op is = absurd cc
 expanded_form P holds (Some word) op is = decoded_form P holds word op is
 
-form_by : (P : Op → Type 0) → ((form : Form) (word : ℕ) → P (operation_of form word))
-    → (short : Bool) (bits : ℕ) (op : Op) → (if short then expanded_op_of bits else decoded_op_of bits) ≡ Some op → P op
+form_by : (P : Op → Type 0) → ((form : Form) (word : ℕ) → P (operation_of form word)) → (manipulates short : Bool)
+    (bits : ℕ) (op : Op)
+    → (if short then expanded_op_of bits else decoded_op_with bits manipulates) ≡ Some op → P op
 unfolding expanded_op_of
-form_by P holds true bits op is = expanded_form P holds (expansion_of bits) op is
-form_by P holds false bits op is = decoded_form P holds bits op is
+form_by P holds manipulates true bits op is = expanded_form P holds (expansion_of bits) op is
+form_by P holds manipulates false bits op is = decoded_form_with P holds manipulates bits op is
 
 pub of_some_form : (P : Op → Type 0) → ((form : Form) (word : ℕ) → P (operation_of form word))
-    → (bits len : ℕ) (op : Op) → op_of bits len ≡ Some op → P op
-of_some_form P holds bits len op is = form_by P holds (len == 2) bits op is
+    → (core : Core) (bits len : ℕ) (op : Op) → op_for core bits len ≡ Some op → P op
+of_some_form P holds core bits len op is = form_by P holds core.choices.bits (len == 2) bits op is
 
 five_bits : (word : ℕ) → word / 2 ^ 7 % 2 ^ 5 < 32
 five_bits word = omega arith
@@ -257,6 +285,10 @@ destination_by_form (forms.ImmediateWord op) word = five_bits word
 destination_by_form (forms.ShiftWord op) word = five_bits word
 destination_by_form (forms.Register op) word = five_bits word
 destination_by_form (forms.RegisterWord op) word = five_bits word
+destination_by_form (forms.BitsRegister op) word = five_bits word
+destination_by_form (forms.BitsShift op) word = five_bits word
+destination_by_form (forms.BitsShiftWord op) word = five_bits word
+destination_by_form (forms.BitsUnary op) word = five_bits word
 destination_by_form forms.Fence word = lit< tt
 destination_by_form forms.FenceI word = lit< tt
 destination_by_form forms.Ecall word = lit< tt
@@ -271,5 +303,93 @@ destination_by_form (forms.LoadReserved width) word = five_bits word
 destination_by_form (forms.StoreConditional width) word = five_bits word
 destination_by_form (forms.Amo op width) word = five_bits word
 
-pub destination_below : (bits len : ℕ) (op : Op) → op_of bits len ≡ Some op → (operands_of op).rd < 32
-destination_below bits len op is = of_some_form (λ op. (operands_of op).rd < 32) destination_by_form bits len op is
+pub destination_below : (core : Core) (bits len : ℕ) (op : Op) → op_for core bits len ≡ Some op
+    → (operands_of op).rd < 32
+destination_below core bits len op is =
+    of_some_form (λ op. (operands_of op).rd < 32) destination_by_form core bits len op is
+
+-- ---- no further row of bit manipulation is a store
+
+abbrev is_store_form : Form → Bool
+is_store_form (forms.Store op) = true
+is_store_form _ = false
+
+-- the rows of an opcode have no store
+abbrev has_no_store : List Pattern → Bool
+has_no_store rows = list_all (λ row. not (is_store_form row.form)) rows
+
+further_rows : (map : List Opcode) (code : ℕ) → list_all (λ opcode. has_no_store opcode.rows) map ≡ true
+    → has_no_store (rows_of_opcode map code) ≡ true
+further_rows [] code known_files = refl
+further_rows (opcode ∷ more) code known_files =
+    let parts = both (has_no_store opcode.rows) (list_all (λ opcode. has_no_store opcode.rows) more) known_files in
+    by (opcode.code == code) parts.0 (further_rows more code parts.1)
+  where
+    by : (test : Bool) → has_no_store opcode.rows ≡ true → has_no_store (rows_of_opcode more code) ≡ true
+        → has_no_store (if test then opcode.rows else rows_of_opcode more code) ≡ true
+    by true here later = here
+    by false here later = later
+
+no_store : (form : Form) (word : ℕ) → not (is_store_form form) ≡ true
+    → is_store (Some (operation_of form word)) ≡ false
+no_store forms.Lui word other = refl
+no_store forms.Auipc word other = refl
+no_store forms.Jal word other = refl
+no_store forms.Jalr word other = refl
+no_store (forms.Branch op) word other = refl
+no_store (forms.Load op) word other = refl
+no_store (forms.Store op) word other = absurd cc
+no_store (forms.Immediate op) word other = refl
+no_store (forms.Shift op) word other = refl
+no_store (forms.ImmediateWord op) word other = refl
+no_store (forms.ShiftWord op) word other = refl
+no_store (forms.Register op) word other = refl
+no_store (forms.RegisterWord op) word other = refl
+no_store (forms.BitsRegister op) word other = refl
+no_store (forms.BitsShift op) word other = refl
+no_store (forms.BitsShiftWord op) word other = refl
+no_store (forms.BitsUnary op) word other = refl
+no_store forms.Fence word other = refl
+no_store forms.FenceI word other = refl
+no_store forms.Ecall word other = refl
+no_store forms.Ebreak word other = refl
+no_store forms.Mret word other = refl
+no_store forms.Sret word other = refl
+no_store forms.Wfi word other = refl
+no_store forms.SfenceVma word other = refl
+no_store (forms.Csr op) word other = refl
+no_store (forms.CsrImmediate op) word other = refl
+no_store (forms.LoadReserved width) word other = refl
+no_store (forms.StoreConditional width) word other = refl
+no_store (forms.Amo op width) word other = refl
+
+none_among : (rows : List Pattern) (word : ℕ) → has_no_store rows ≡ true
+    → is_store (option_map (λ row. operation_of row.form word) (find (λ row. meets row word) rows)) ≡ false
+none_among [] word known_files = refl
+none_among (row ∷ rows) word known_files =
+    let parts = both (not (is_store_form row.form)) (has_no_store rows) known_files in
+    by (meets row word) parts.0 (none_among rows word parts.1)
+  where
+    by : (test : Bool) → not (is_store_form row.form) ≡ true
+        → is_store (option_map (λ row. operation_of row.form word) (find (λ row. meets row word) rows)) ≡ false
+        → is_store (option_map (λ row. operation_of row.form word)
+        (if test then Some row else find (λ row. meets row word) rows)) ≡ false
+    by true here later = no_store row.form word here
+    by false here later = later
+
+further_stores : (word : ℕ) → is_store (decoded_op_by (rows_of_opcode bits_opcodes (word % 128)) word) ≡ false
+unfolding decoded_op_by bits_opcodes
+further_stores word =
+    none_among (rows_of_opcode bits_opcodes (word % 128)) word (further_rows bits_opcodes (word % 128) refl)
+
+or_stores : (one other : Option Op) → is_store other ≡ false → is_store (option_or one other) ≡ is_store one
+or_stores None other none = none
+or_stores (Some op) other none = refl
+
+-- so a word is a store with bit manipulation just where it is one without
+pub stores_alike : (bits : Bool) (word : ℕ) → is_store (decoded_op_with word bits) ≡ is_store (decoded_op_of word)
+stores_alike false word = ap is_store (without word)
+stores_alike true word =
+    ap is_store (further word)
+    ∙ or_stores (decoded_op_of word) (decoded_op_by (rows_of_opcode bits_opcodes (word % 128)) word)
+    (further_stores word)

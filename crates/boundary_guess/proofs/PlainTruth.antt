@@ -217,21 +217,21 @@ pub ran_true : {core : Core} {shown : Shown} {facts : Retirement} {after : Core}
 unfolding core_after_run
 ran_true bytes (Trapped None exception) plain shows agrees did =
     absurd (took_no_fault agrees did.effects did.runs shows.trap plain.trap)
-ran_true {shown} bytes (Trapped (Some bits) exception) plain shows agrees did =
+ran_true {core} {shown} bytes (Trapped (Some bits) exception) plain shows agrees did =
     let runs = did.runs in
     let is = insn_is bits agrees did.insn (fetched_fits bits runs.len runs.word) shows.insn in
     let common : is_system_or_atomic bits ≡ false =
     sym (ap is_system_or_atomic (insn_as shown bits is)) ∙ plain.common in
     absurd
-    (took_no_fault agrees did.effects (runs.fault (plain_word bits runs.len runs.word common)) shows.trap plain.trap)
-ran_true {shown} {after} {wrote} bytes (Retired i access) plain shows agrees did =
+    (took_no_fault agrees did.effects (runs.fault (plain_word (core_after_count core shown) bits runs.len runs.word common)) shows.trap plain.trap)
+ran_true {core} {shown} {after} {wrote} bytes (Retired i access) plain shows agrees did =
     let runs = did.runs in
     let rd = (operands_of i.op).rd in
     let is = insn_is i.bits agrees did.insn (fetched_fits i.bits i.len runs.word) shows.insn in
     let common : is_system_or_atomic i.bits ≡ false =
     sym (ap is_system_or_atomic (insn_as shown i.bits is)) ∙ plain.common in
-    let done = runs.does (plain_word i.bits i.len runs.word common i.op runs.means) in
-    let rd_fits : rd < 2 ^ 64 = below_word rd (destination_below i.bits i.len i.op runs.means) in
+    let done = runs.does (plain_word (core_after_count core shown) i.bits i.len runs.word common i.op runs.means) in
+    let rd_fits : rd < 2 ^ 64 = below_word rd (destination_below (core_after_count core shown) i.bits i.len i.op runs.means) in
     let shows_after : ShowsAfter shown i after = record {
       register = rd_is _ agrees did.effects rd_fits shows.register;
       value = value_is _ agrees did.effects (did.in_range.registers rd) shows.value;
@@ -241,7 +241,7 @@ ran_true {shown} {after} {wrote} bytes (Retired i access) plain shows agrees did
       core_is = core_is_true access plain done.leaves shows_after did.in_range.even;
       bytes_are =
           bytes_are_true bytes wrote plain agrees did.effects
-          (stores_as shown i.bits i.len i.op is runs.word runs.means) done.touches;
+          (stores_as (core_after_count core shown) shown i.bits i.len i.op is runs.word runs.means) done.touches;
     }
   where
     below_word : (n : ℕ) → n < 32 → n < 2 ^ 64

@@ -25,6 +25,7 @@ use Rattle.rv_decode.specs.declared.patterns.Form.{Form}
 use Rattle.rv_decode.specs.declared.patterns.Form.TheVariants as forms
 use Rattle.rv_decode.specs.Fields.{operation_of}
 use Rattle.rv_decode.proofs.Even.{even_of_13, even_of_21}
+use Rattle.rv_bits.proofs.Fits.{results_fit}
 use Rattle.rv_integer.specs.declared.int_result.IntResult.{IntResult}
 use Rattle.rv_integer.specs.declared.int_result.IntResult.TheVariants as results
 use Rattle.rv_integer.specs.declared.int_result.SystemRequest.{SystemRequest}
@@ -130,6 +131,7 @@ HasOperands (ops.Jal rd offset) = offset % 2 ≡ 0
 HasOperands (ops.Branch op rs1 rs2 offset) = offset % 2 ≡ 0
 HasOperands (ops.Immediate op rd rs1 imm) = imm < 2 ^ 64
 HasOperands (ops.CsrImmediate op rd imm csr) = imm < 2 ^ 64
+HasOperands (ops.BitsImmediate op rd rs1 imm) = imm < 2 ^ 64
 HasOperands _ = Unit {0}
 
 short_field : (word : ℕ) → word / 2 ^ 15 % 2 ^ 5 < 2 ^ 64
@@ -137,6 +139,9 @@ short_field word = omega arith
 
 shift_field : (word : ℕ) → word / 2 ^ 20 % 2 ^ 6 < 2 ^ 64
 shift_field word = omega arith
+
+short_shift : (word : ℕ) → word / 2 ^ 20 % 2 ^ 5 < 2 ^ 64
+short_shift word = omega arith
 
 even_b : (a b c d : ℕ) → (a * 2 ^ 12 + b * 2 ^ 11 + c * 2 ^ 5 + d * 2 ^ 1) % 2 ≡ 0
 even_b a b c d = omega arith
@@ -161,6 +166,10 @@ operands_by_form (forms.ImmediateWord op) word = tt
 operands_by_form (forms.ShiftWord op) word = tt
 operands_by_form (forms.Register op) word = tt
 operands_by_form (forms.RegisterWord op) word = tt
+operands_by_form (forms.BitsRegister op) word = tt
+operands_by_form (forms.BitsShift op) word = shift_field word
+operands_by_form (forms.BitsShiftWord op) word = short_shift word
+operands_by_form (forms.BitsUnary op) word = tt
 operands_by_form forms.Fence word = tt
 operands_by_form forms.FenceI word = tt
 operands_by_form forms.Ecall word = tt
@@ -238,6 +247,10 @@ computed_words (ops.Immediate op rd rs1 imm) a b pc len has are = immediate_word
 computed_words (ops.ImmediateWord op rd rs1 imm) a b pc len has are = immediate_word_word op a imm
 computed_words (ops.Register op rd rs1 rs2) a b pc len has are = register_word op a b are.first_fits are.second_fits
 computed_words (ops.RegisterWord op rd rs1 rs2) a b pc len has are = register_word_word op a b
+computed_words (ops.BitsRegister op rd rs1 rs2) a b pc len has are =
+    results_fit op a b are.first_fits are.second_fits
+computed_words (ops.BitsImmediate op rd rs1 imm) a b pc len has are = results_fit op a imm are.first_fits has
+computed_words (ops.BitsUnary op rd rs1) a b pc len has are = results_fit op a 0 are.first_fits (lit< tt)
 computed_words ops.Fence a b pc len has are = even_sum pc len are.pc_even are.len_even
 computed_words ops.FenceI a b pc len has are = even_sum pc len are.pc_even are.len_even
 computed_words ops.Ecall a b pc len has are = tt

@@ -8,7 +8,6 @@ use Rattle.std.proofs.lemmas.Bool.Decides.{nat_tests}
 use Rattle.std.proofs.lemmas.Nat.{mod_below}
 use Rattle.std.proofs.lemmas.Nat.Bits.{bit_at_above}
 use Rattle.hart_words.specs.AccessSizes.{bytes_of}
-use Rattle.hart_words.specs.declared.accesses.Write.{Write}
 use Rattle.hart_words.specs.declared.privilege.Mode.{Mode}
 use Rattle.hart_words.specs.declared.privilege.Cause.{Cause}
 use Rattle.hart_words.specs.declared.privilege.Cause.TheVariants.{InstructionAccessFault, IllegalInstruction}
@@ -21,7 +20,7 @@ use Rattle.hart_words.specs.declared.privilege.Cause.TheVariants.{LoadPageFault,
 use Rattle.hart_words.specs.Privilege.{cause_code}
 use Rattle.hart_words.specs.declared.registers.Registers.{Registers}
 use Rattle.hart_words.specs.declared.signal.Signal.TheVariants.{RdWdata}
-use Rattle.hart_words.specs.Memory.{Bytes, after_writes, is_within, bytes_after_store}
+use Rattle.hart_words.specs.Memory.{Bytes}
 use Rattle.hart_words.specs.Registers.{register_of, with_register}
 use Rattle.hart_words.specs.Signals.{Shown}
 use Rattle.hart_words.specs.Actions.{pure, mapped}
@@ -41,8 +40,7 @@ use Rattle.rv_integer.specs.declared.int_result.SystemRequest.{SystemRequest}
 use Rattle.rv_integer.specs.declared.int_result.SystemRequest.TheVariants as system
 use Rattle.rv_integer.specs.declared.int_result.MemoryRequest.{MemoryRequest}
 use Rattle.rv_integer.specs.Results.{result_of}
-use Rattle.mem_access.specs.Accesses.{Exception, fetch_result}
-use Rattle.mem_access.proofs.Writes.{fetch_writes_nothing}
+use Rattle.mem_access.specs.Accesses.{Exception}
 use Rattle.hart_step.specs.declared.state.Core.{Core}
 use Rattle.hart_step.specs.declared.choices.RowChoices.{RowChoices}
 use Rattle.hart_step.specs.declared.instruction.Instruction.{Instruction}
@@ -56,20 +54,20 @@ use Rattle.hart_step.specs.Returns.{wfi_traps}
 use Rattle.hart_step.specs.MemoryAccess.{LocatedValue, memory_access, access_result_of, located_access}
 use Rattle.hart_step.specs.Instructions.{Completion, InstructionRun, after_access, after_csr, run_of_decoded}
 use Rattle.hart_step.specs.Instructions.{completion_if, run_of_result, execution_of, execution_by, run_of_fetched}
-use Rattle.hart_step.specs.Instructions.{first_value, core_at_next, op_of, instruction_run, core_after_retirement}
-use Rattle.hart_step.specs.Instructions.{second_value, system_execution}
+use Rattle.hart_step.specs.Instructions.{first_value, core_at_next, op_for, instruction_run, core_after_retirement}
+use Rattle.hart_step.specs.Instructions.{fetch_at_pc, second_value, system_execution}
 use Rattle.hart_step.specs.Steps.{before_instruction, core_after_count, core_after_entry, core_after_run}
 use Rattle.hart_step.specs.Steps.{core_after_outcome, interrupt_of, core_after_interrupt, core_after_interrupt_by}
 use Rattle.hart_step.specs.Laws.{next_of}
 use Rattle.hart_step.proofs.Phases.{next_halted, next_running}
 use Rattle.boundary_guess.proofs.Compared.{ShowsWords}
 use Rattle.boundary_guess.proofs.CoreWords.{IsSane, IsSaneAnswer, csr_accessed_sane, entered_sane, mret_sane, sret_sane}
-use Rattle.boundary_guess.proofs.Faults.{AreBytes, IsFetchedWord, fetch_word, then_gives_here}
+use Rattle.boundary_guess.proofs.Actions.{AreBytes, then_gives_bytes}
+use Rattle.boundary_guess.proofs.Faults.{IsFetchedWord, fetch_raises, fetch_word}
 use Rattle.boundary_guess.proofs.PlainOps.{of_some_form}
 use Rattle.boundary_guess.proofs.PlainRuns.{accessed_value, answer_from}
 use Rattle.boundary_guess.proofs.PlainSteps.{fetched_fits}
-use Rattle.boundary_guess.proofs.StepWords.{FitsFound, RaisesWords, answer_word, fetch_raises, found_fits}
-use Rattle.boundary_guess.proofs.StepWords.{placed_raises}
+use Rattle.boundary_guess.proofs.StepWords.{FitsFound, RaisesWords, all_words, answer_word, found_fits, located_raises}
 use Rattle.boundary_guess.proofs.ResultWords.{AreOperands, AsksWords, HasOperands, IsOfWords, computed_words}
 use Rattle.boundary_guess.proofs.ResultWords.{operands_by_form}
 
@@ -153,14 +151,15 @@ after_access_sane core i (Ok answer) sane is raises words =
 answer_raises : (core : Core) (choices : RowChoices) (request : MemoryRequest) (found : Result LocatedValue Exception)
     → RaisesWords found → RaisesWords (answer_from core choices request found)
 answer_raises core choices request (Err exception) raises = raises
-answer_raises core choices request (Ok found) raises = tt
+answer_raises core choices request (Ok (first, second, held)) raises = tt
 
 answer_fits : (core : Core) (choices : RowChoices) (request : MemoryRequest) (found : Result LocatedValue Exception)
     → FitsFound request.op (bytes_of request.size) found
     → IfOk (answer_from core choices request found) (λ a. a.value < 2 ^ 64)
 unfolding access_result_of
 answer_fits core choices request (Err exception) fits = tt
-answer_fits core choices request (Ok found) fits = answer_word core choices request found.0 found.1 request.op fits
+answer_fits core choices request (Ok (first, second, held)) fits =
+    answer_word core choices request first second held request.op fits
 
 -- what an instruction starts from, and its destination's value if the row shows it
 record IsSaneStart (core : Core) (choices : RowChoices) (i : Instruction) (bytes : Bytes) : Type 0 where
@@ -177,7 +176,7 @@ access_sane {core} {choices} {i} {bytes} request start small =
     let P : Result AccessResult Exception → Type 0 = λ answer. IsSaneResult (after_access core i answer) in
     subst P (sym (accessed_value core choices request bytes))
     (after_access_sane core i (answer_from core choices request found) start.state start.instruction
-    (answer_raises core choices request found (placed_raises core request bytes small))
+    (answer_raises core choices request found (located_raises (λ exception. exception.1 < 2 ^ 64) core request bytes (all_words request.address small)))
     (answer_fits core choices request found (found_fits core request bytes start.memory)))
 
 after_csr_sane : (core : Core) (i : Instruction) (answer : Result (ℕ × Csrs) Illegal) → IsSane core → IsInstruction i
@@ -285,7 +284,7 @@ record IsSaneRow (core : Core) (shown : Shown) (bytes : Bytes) : Type 0 where
   pub memory : AreBytes bytes
 
 decoded_sane : {core : Core} {shown : Shown} {bytes : Bytes} (bits len : ℕ) (op : Option Op)
-    → IsSaneRow core shown bytes → IsFetchedWord (bits, len) → op_of bits len ≡ op
+    → IsSaneRow core shown bytes → IsFetchedWord (bits, len) → op_for core bits len ≡ op
     → IsSaneRun ((run_of_decoded core shown bits len op).run bytes).value
 unfolding pure mapped
 decoded_sane bits len None sane word means = record { core = sane.state; traps = fetched_fits bits len word }
@@ -302,25 +301,26 @@ decoded_sane {core} {shown} {bytes} bits len (Some op) sane word means =
       destination = row_word (operands_of op).rd shown sane.row;
     } in
     ended_sane core i ((execution_of core choices i).run bytes).value sane.state
-    (executed_sane start (of_some_form HasOperands operands_by_form bits len op means))
+    (executed_sane start (of_some_form HasOperands operands_by_form core bits len op means))
 
 fetched_sane : {core : Core} {shown : Shown} {bytes : Bytes} (word : Result (ℕ × ℕ) Exception)
     → IsSaneRow core shown bytes → RaisesWords word → IfOk word IsFetchedWord
     → IsSaneRun ((run_of_fetched core shown word).run bytes).value
 unfolding pure
 fetched_sane (Err exception) sane raises word = record { core = sane.state; traps = raises }
-fetched_sane (Ok found) sane raises word = decoded_sane found.0 found.1 (op_of found.0 found.1) sane word refl
+fetched_sane {core} (Ok found) sane raises word =
+    decoded_sane found.0 found.1 (op_for core found.0 found.1) sane word refl
 
 ran_sane : (core : Core) (shown : Shown) (bytes : Bytes) → IsSaneRow core shown bytes
     → IsSaneRun ((instruction_run core shown).run bytes).value
 unfolding instruction_run
 ran_sane core shown bytes sane =
-    let fetch = fetch_result core.csrs core.map core.mode core.pc in
-    then_gives_here IsSaneRun fetch (run_of_fetched core shown) bytes
-    (fetch_writes_nothing core.csrs core.map core.mode core.pc bytes)
-    (fetched_sane (fetch.run bytes).value sane
-    (fetch_raises core.csrs core.map core.mode core.pc bytes sane.state.pc)
-    (fetch_word core.csrs core.map core.mode core.pc bytes sane.memory))
+    let fetch = fetch_at_pc core in
+    then_gives_bytes IsSaneRun fetch (run_of_fetched core shown) bytes sane.memory
+    (λ now kept. fetched_sane (fetch.run bytes).value
+    (record { state = sane.state; row = sane.row; memory = kept })
+    (fetch_raises (λ exception. exception.1 < 2 ^ 64) core bytes (all_words core.pc sane.state.pc))
+    (fetch_word core bytes sane.memory))
 
 -- ---- the step
 
@@ -423,21 +423,3 @@ next_sane core shown bytes sane words are = elim (cases_Bool core.halted) [
       (ran_sane (before_instruction core shown) shown bytes
       (record { state = begun_sane core shown sane; row = words; memory = are })))
 ]
-
--- ---- memory
-
-stored_by : (within : Bool) (new old : ℕ) → old < 256 → (if within then new % 256 else old) < 256
-stored_by true new old few = omega arith
-stored_by false new old few = few
-
-stored_bytes : (pa len value : ℕ) (bytes : Bytes) → AreBytes bytes → AreBytes (bytes_after_store pa len value bytes)
-unfolding bytes_after_store
-stored_bytes pa len value bytes are address =
-    stored_by (is_within pa len address) (value / 256 ^ (address - pa)) (bytes address) (are address)
-
-pub written_bytes : (wrote : List Write) (bytes : Bytes) → AreBytes bytes → AreBytes (after_writes wrote bytes)
-unfolding after_writes
-written_bytes [] bytes are = are
-written_bytes (write ∷ wrote) bytes are =
-    written_bytes wrote (bytes_after_store write.pa write.len write.value bytes)
-    (stored_bytes write.pa write.len write.value bytes are)

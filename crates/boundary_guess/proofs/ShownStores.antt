@@ -23,6 +23,7 @@ use Rattle.rvfi_rows.specs.declared.expected.Effects.{Effects}
 use Rattle.rvfi_rows.specs.declared.expected.Accessed.{Accessed}
 use Rattle.mem_access.specs.declared.place.Place.{Place}
 use Rattle.mem_access.specs.Places.{is_device}
+use Rattle.mem_access.specs.Accesses.{Places}
 use Rattle.row_compare.specs.declared.expected_signal.ExpectedSignal.{ExpectedSignal}
 use Rattle.row_compare.specs.Wanted.{whole, where_known}
 use Rattle.row_compare.specs.Memory.{address_at, byte_ones, data_at, moved_back, ones, expected_address}
@@ -31,10 +32,11 @@ use Rattle.row_compare.specs.Signals.{access_in, effects_in, expected_signal}
 use Rattle.row_compare.specs.Difference.{difference_between, signal_difference}
 use Rattle.hart_step.specs.declared.state.Core.{Core}
 use Rattle.hart_step.specs.declared.shown_store.ShownStore.{ShownStore}
-use Rattle.hart_step.specs.PlainRows.{bytes_put, shows_bytes, store_shown, translates_data}
+use Rattle.hart_step.specs.PlainRows.{bytes_put, lies_in_two_pages, shows_bytes, store_shown, translates_data}
 use Rattle.boundary_guess.proofs.Compared.{RowAgrees, ShowsWords, found_is, same_under}
-use Rattle.boundary_guess.proofs.PlainRuns.{Stores}
+use Rattle.boundary_guess.proofs.PlainRuns.{Stores, StoresAt}
 use Rattle.boundary_guess.proofs.StoreBytes.{ShowsStored, put_to_device, put_to_ram}
+use Rattle.boundary_guess.proofs.TwoPages.{AreNeighbours, parts_as_one, two_pages, whole_in_ram}
 
 -- ---- what the row shows of the access
 
@@ -70,7 +72,8 @@ near va len named small word at_most none = by (nat_le (above va named + len) 8)
         let close : nat_le (above va named + len) 8 ≡ true = grind (arith, nat_tests, zero_away, at_most) in
         absurd cc
 
--- a value is shown of each of three signals, and the physical address too where addresses are translated
+-- a value is shown of each of three signals, and the physical address too where addresses are translated; then all bytes
+-- are in one page
 pub record ShowsAccess (core : Core) (shown : Shown) : Type 0 where
   pub address : ℕ
   pub mask : ℕ
@@ -79,6 +82,7 @@ pub record ShowsAccess (core : Core) (shown : Shown) : Type 0 where
   pub mask_is : shown MemWmask ≡ Some mask
   pub bytes_are : shown MemWdata ≡ Some bytes
   pub place_known : (is_some (shown MemPaddr) || not (translates_data core)) ≡ true
+  pub one_page : translates_data core ≡ true → lies_in_two_pages address mask ≡ false
 
 word_of : (shown : Shown) (signal : Signal) (value : ℕ) → ShowsWords shown → shown signal ≡ Some value → value < 2 ^ 64
 word_of shown signal value words is =
@@ -167,50 +171,28 @@ some_is : (a b : ℕ) → Some a ≡ Some b → a ≡ b
 some_is a b is = cc
 
 -- a store that retired, of so many bytes
-record IsStoredAt (core : Core) (retired : Retired) (va pa len value : ℕ) : Type 0 where
+record IsStored (retired : Retired) (va pa len value : ℕ) : Type 0 where
   pub effects : Effects
   pub effects_are : retired.effects ≡ Ok effects
   pub made : effects.access ≡ Some (store_at va pa len value)
   pub va_fits : va < 2 ^ 64
+  pub at_most_8 : len ≤ 8
+
+-- where its bytes go
+record GoesTo (core : Core) (va pa len : ℕ) : Type 0 where
   pub pa_fits : pa < 2 ^ 64
   pub end_fits : pa + len ≤ 2 ^ 64
-  pub at_most_8 : len ≤ 8
   pub physical : translates_data core ≡ false → pa ≡ va
 
-place_by : {core : Core} {shown : Shown} {retired : Retired} {va pa len value : ℕ} (paddr : Option ℕ)
-    (shows : ShowsAccess core shown) → IsStoredAt core retired va pa len value → RowAgrees retired shown
-    → distance_in_window va len shows.address ≡ Some (above va shows.address) → shown MemPaddr ≡ paddr
-    → (is_some paddr || not (translates_data core)) ≡ true
-    → pa ≡ (unwrap_or paddr shows.address + above va shows.address) % 2 ^ 64
-place_by {core} {shown} {va} None shows stored agrees near is known =
-    stored.physical (negated (translates_data core) known)
-    ∙ own_distance va shows.address stored.va_fits (word_of shown MemAddr shows.address agrees.words shows.address_is)
-  where
-    negated : (b : Bool) → not b ≡ true → b ≡ false
-    negated true h = cc
-    negated false h = refl
-place_by {shown} {retired} {va} {pa} {len} {value} (Some place) shows stored agrees near is known =
-    let named = shows.address in
-    let access = store_at va pa len value in
-    let made_in = access_is retired stored.effects access stored.effects_are stored.made in
-    let back = moved_back pa (above va named) in
-    let want : expected_signal retired shown MemPaddr ≡ whole back =
-    physical_wanted retired shown access named made_in shows.address_is
-    ∙ ap (λ d. where_known (option_map (moved_back pa) d)) near in
-    let differs =
-    difference_at retired shown MemPaddr (Some place) (whole back) is want (agrees.none_differs MemPaddr) in
-    let shown_at : Some place ≡ Some back =
-    found_is MemPaddr (Some place) back refl (word_of shown MemPaddr place agrees.words is)
-    (mod_below (pa + (2 ^ 64 - above va named)) (2 ^ 64) (lit< tt)) differs in
-    let away_fits : above va named < 2 ^ 64 = mod_below (va + (2 ^ 64 - named)) (2 ^ 64) (lit< tt) in
-    back_place place pa (above va named) stored.pa_fits away_fits (some_is place _ shown_at)
+-- its bytes are among the eight that are shown, and are those that the mask has
+record ShowsMask (va len named mask : ℕ) : Type 0 where
+  pub within : above va named + len ≤ 8
+  pub distance : distance_in_window va len named ≡ Some (above va named)
+  pub mask_is : mask ≡ ones (above va named) len
 
--- the shown store is that of the instruction
-shows_stored : {core : Core} {shown : Shown} {retired : Retired} {va pa len value : ℕ}
-    (shows : ShowsAccess core shown) → IsStoredAt core retired va pa len value → RowAgrees retired shown
-    → ShowsStored (store_shown shown) pa len value (above va shows.address)
-unfolding store_shown
-shows_stored {shown} {retired} {va} {pa} {len} {value} shows stored agrees =
+shows_mask : {core : Core} {shown : Shown} {retired : Retired} {va pa len value : ℕ} (shows : ShowsAccess core shown)
+    → IsStored retired va pa len value → RowAgrees retired shown → ShowsMask va len shows.address shows.mask
+shows_mask {shown} {retired} {va} {pa} {len} {value} shows stored agrees =
     let access = store_at va pa len value in
     let named = shows.address in
     let away = above va named in
@@ -231,10 +213,52 @@ shows_stored {shown} {retired} {va} {pa} {len} {value} shows stored agrees =
     (ones_below away len within)
     (difference_at retired shown MemWmask (Some shows.mask) (whole (ones away len)) shows.mask_is mask_want
     (agrees.none_differs MemWmask)) in
+    record { within = within; distance = distance; mask_is = some_is shows.mask (ones away len) mask_found }
+
+place_by : {core : Core} {shown : Shown} {retired : Retired} {va pa len value : ℕ} (paddr : Option ℕ)
+    (shows : ShowsAccess core shown) → IsStored retired va pa len value × GoesTo core va pa len
+    → RowAgrees retired shown → distance_in_window va len shows.address ≡ Some (above va shows.address) → shown MemPaddr ≡ paddr
+    → (is_some paddr || not (translates_data core)) ≡ true
+    → pa ≡ (unwrap_or paddr shows.address + above va shows.address) % 2 ^ 64
+place_by {core} {shown} {va} None shows stored agrees near is known =
+    stored.1.physical (negated (translates_data core) known)
+    ∙ own_distance va shows.address stored.0.va_fits (word_of shown MemAddr shows.address agrees.words shows.address_is)
+  where
+    negated : (b : Bool) → not b ≡ true → b ≡ false
+    negated true h = cc
+    negated false h = refl
+place_by {shown} {retired} {va} {pa} {len} {value} (Some place) shows stored agrees near is known =
+    let named = shows.address in
+    let access = store_at va pa len value in
+    let made_in = access_is retired stored.0.effects access stored.0.effects_are stored.0.made in
+    let back = moved_back pa (above va named) in
+    let want : expected_signal retired shown MemPaddr ≡ whole back =
+    physical_wanted retired shown access named made_in shows.address_is
+    ∙ ap (λ d. where_known (option_map (moved_back pa) d)) near in
+    let differs =
+    difference_at retired shown MemPaddr (Some place) (whole back) is want (agrees.none_differs MemPaddr) in
+    let shown_at : Some place ≡ Some back =
+    found_is MemPaddr (Some place) back refl (word_of shown MemPaddr place agrees.words is)
+    (mod_below (pa + (2 ^ 64 - above va named)) (2 ^ 64) (lit< tt)) differs in
+    let away_fits : above va named < 2 ^ 64 = mod_below (va + (2 ^ 64 - named)) (2 ^ 64) (lit< tt) in
+    back_place place pa (above va named) stored.1.pa_fits away_fits (some_is place _ shown_at)
+
+-- the shown store is that of the instruction
+shows_stored : {core : Core} {shown : Shown} {retired : Retired} {va pa len value : ℕ}
+    (shows : ShowsAccess core shown) → IsStored retired va pa len value → GoesTo core va pa len
+    → RowAgrees retired shown → ShowsStored (store_shown shown) pa len value (above va shows.address)
+unfolding store_shown
+shows_stored {shown} {retired} {va} {pa} {len} {value} shows stored goes agrees =
+    let access = store_at va pa len value in
+    let named = shows.address in
+    let away = above va named in
+    let words = agrees.words in
+    let made_in = access_is retired stored.effects access stored.effects_are stored.made in
+    let window = shows_mask shows stored agrees in
     let want : ExpectedSignal = record { value = moved_up value away; mask = byte_ones away len } in
     let bytes_want : expected_signal retired shown MemWdata ≡ Some want =
     written_wanted retired shown access named made_in shows.address_is
-    ∙ ap (λ d. data_at len d (Some value)) distance in
+    ∙ ap (λ d. data_at len d (Some value)) window.distance in
     let bytes_same =
     same_under MemWdata shows.bytes want
     (difference_at retired shown MemWdata (Some shows.bytes) (Some want) shows.bytes_are bytes_want
@@ -243,11 +267,11 @@ shows_stored {shown} {retired} {va} {pa} {len} {value} shows stored agrees =
     ap (λ a. unwrap_or (shown MemPaddr) (unwrap_or a 0)) shows.address_is in
     record {
       place = place_word (shown MemPaddr) (shown MemAddr) (words MemPaddr) (words MemAddr);
-      within = within;
-      begins = place_by (shown MemPaddr) shows stored agrees distance refl shows.place_known
+      within = window.within;
+      begins = place_by (shown MemPaddr) shows (stored, goes) agrees window.distance refl shows.place_known
           ∙ ap (λ p. (p + away) % 2 ^ 64) (sym place_is);
-      fits = stored.end_fits;
-      mask = ap (λ m. unwrap_or m 0) shows.mask_is ∙ some_is shows.mask (ones away len) mask_found;
+      fits = goes.end_fits;
+      mask = ap (λ m. unwrap_or m 0) shows.mask_is ∙ window.mask_is;
       bytes = bytes_same ∙ ap (λ d. bit_and (unwrap_or d 0) (byte_ones away len)) (sym shows.bytes_are);
     }
   where
@@ -259,28 +283,43 @@ shows_stored {shown} {retired} {va} {pa} {len} {value} shows stored agrees =
 
 -- ---- and its bytes are those that are written
 
+-- what the test of the bytes that are shown tells
+known_by : (place translates lies : Bool) → (not translates || (place && not lies)) ≡ true
+    → (place || not translates) ≡ true
+known_by true translates lies holds = refl
+known_by false false lies holds = refl
+known_by false true lies holds = absurd cc
+
+one_by : (place translates lies : Bool) → (not translates || (place && not lies)) ≡ true → translates ≡ true
+    → lies ≡ false
+one_by place translates false holds on = refl
+one_by true true true holds on = absurd cc
+one_by false true true holds on = absurd cc
+one_by place false true holds on = absurd cc
+
 access_of : (shown : Shown) (core : Core) → shows_bytes core shown ≡ true → ShowsAccess core shown
 unfolding shows_bytes
-access_of shown core shows =
-    by (shown MemAddr) (shown MemWmask) (shown MemWdata) (is_some (shown MemPaddr) || not (translates_data core)) refl
-    refl refl refl shows
+access_of shown core shows = by (shown MemAddr) (shown MemWmask) (shown MemWdata) refl refl refl shows
   where
-    by : (address mask bytes : Option ℕ) (known : Bool) → shown MemAddr ≡ address → shown MemWmask ≡ mask
-        → shown MemWdata ≡ bytes → (is_some (shown MemPaddr) || not (translates_data core)) ≡ known
-        → (is_some address && is_some mask && is_some bytes && known) ≡ true → ShowsAccess core shown
-    by (Some address) (Some mask) (Some bytes) true a m b k h = record {
+    by : (address mask bytes : Option ℕ) → shown MemAddr ≡ address → shown MemWmask ≡ mask → shown MemWdata ≡ bytes
+        → (is_some address && is_some mask && is_some bytes
+        && (not (translates_data core)
+        || (is_some (shown MemPaddr) && not (lies_in_two_pages (unwrap_or address 0) (unwrap_or mask 0))))) ≡ true
+        → ShowsAccess core shown
+    by (Some address) (Some mask) (Some bytes) a m b holds = record {
       address = address;
       mask = mask;
       bytes = bytes;
       address_is = a;
       mask_is = m;
       bytes_are = b;
-      place_known = k;
+      place_known =
+          known_by (is_some (shown MemPaddr)) (translates_data core) (lies_in_two_pages address mask) holds;
+      one_page = one_by (is_some (shown MemPaddr)) (translates_data core) (lies_in_two_pages address mask) holds;
     }
-    by (Some address) (Some mask) (Some bytes) false a m b k h = absurd cc
-    by (Some address) (Some mask) None known a m b k h = absurd cc
-    by (Some address) None bytes known a m b k h = absurd cc
-    by None mask bytes known a m b k h = absurd cc
+    by (Some address) (Some mask) None a m b holds = absurd cc
+    by (Some address) None bytes a m b holds = absurd cc
+    by None mask bytes a m b holds = absurd cc
 
 written_by : {store : ShownStore} {len value away : ℕ} (map : Map) (place : Place) (io : Bool) (bytes : Bytes) (x : ℕ)
     → ShowsStored store place.pa len value away
@@ -292,30 +331,102 @@ written_by {len} map place true bytes x shows stands =
     put_to_device map.ram bytes x shows (device_apart map place.pa len x stands)
 written_by map place false bytes x shows stands = put_to_ram map.ram bytes x shows stands
 
+low_place : (pa : ℕ) (size : AccessSize) → pa + bytes_of size ≤ 2 ^ 64 → pa < 2 ^ 64
+low_place pa Byte fits = omega (arith, fits)
+low_place pa Halfword fits = omega (arith, fits)
+low_place pa Word fits = omega (arith, fits)
+low_place pa Doubleword fits = omega (arith, fits)
+
+-- a store that the row shows
+record IsShownStore (core : Core) (shown : Shown) (retired : Retired) (effects : Effects) : Type 0 where
+  pub effects_are : retired.effects ≡ Ok effects
+  pub shows : ShowsAccess core shown
+  pub agrees : RowAgrees retired shown
+
+-- to one place
+alone_is_true : {core : Core} {shown : Shown} {retired : Retired} {effects : Effects} {wrote : List Write}
+    (place : Place) (bytes : Bytes) → StoresAt core (place, None) effects.access wrote
+    → IsShownStore core shown retired effects
+    → (x : ℕ) → bytes_put core.map.ram (store_shown shown) 8 bytes x ≡ after_writes wrote bytes x
+alone_is_true {core} {shown} {retired} {effects} place bytes stores is x =
+    let len = bytes_of stores.request.size in
+    let fits = place_fits core.map len place place.io refl stores.stands.stands in
+    let stored : IsStored retired stores.request.address place.pa len stores.value = record {
+      effects = effects;
+      effects_are = is.effects_are;
+      made = stores.made;
+      va_fits = stores.address;
+      at_most_8 = few_bytes stores.request.size;
+    } in
+    let goes : GoesTo core stores.request.address place.pa len = record {
+      pa_fits = low_place place.pa stores.request.size fits;
+      end_fits = fits;
+      physical = stores.stands.physical;
+    } in
+    written_by core.map place place.io bytes x (shows_stored is.shows stored goes is.agrees) stores.stands.stands
+    ∙ ap (λ w. after_writes w bytes x) (sym stores.wrote_is)
+
+-- to two: without translation as to one, and with it no row shows it so
+two_are_true : {core : Core} {shown : Shown} {retired : Retired} {effects : Effects} {wrote : List Write}
+    (first second : Place) (bytes : Bytes) → StoresAt core (first, Some second) effects.access wrote
+    → IsShownStore core shown retired effects
+    → (x : ℕ) → bytes_put core.map.ram (store_shown shown) 8 bytes x ≡ after_writes wrote bytes x
+unfolding after_writes
+two_are_true {core} {shown} {retired} {effects} {wrote} first second bytes stores is x =
+    by (translates_data core) refl
+  where
+    stored : IsStored retired stores.request.address first.pa (bytes_of stores.request.size) stores.value
+    stored = record {
+      effects = effects;
+      effects_are = is.effects_are;
+      made = stores.made;
+      va_fits = stores.address;
+      at_most_8 = few_bytes stores.request.size;
+    }
+
+    by : (translates : Bool) → translates_data core ≡ translates
+        → bytes_put core.map.ram (store_shown shown) 8 bytes x ≡ after_writes wrote bytes x
+    by true on =
+        let va = stores.request.address in
+        let len = bytes_of stores.request.size in
+        let window = shows_mask is.shows stored is.agrees in
+        let word = word_of shown MemAddr is.shows.address is.agrees.words is.shows.address_is in
+        let apart : lies_in_two_pages is.shows.address is.shows.mask ≡ true =
+        ap (lies_in_two_pages is.shows.address) window.mask_is
+        ∙ two_pages va len is.shows.address stores.address word window.within stores.stands.two in
+        let both : true ≡ false = sym apart ∙ is.shows.one_page on in
+        absurd cc
+    by false off =
+        let va = stores.request.address in
+        let len = bytes_of stores.request.size in
+        let near : AreNeighbours core.map.ram va len first.pa second.pa = record {
+          here = stores.stands.first_at off;
+          next = stores.stands.second_at off;
+          low = stores.stands.low;
+          high = stores.stands.high;
+        } in
+        let held = whole_in_ram near in
+        let place : Place = record { pa = va; io = false } in
+        let fits = place_fits core.map len place false refl held in
+        let goes : GoesTo core va va len =
+        record { pa_fits = stores.address; end_fits = fits; physical = λ none. refl } in
+        let here : IsStored retired va va len stores.value =
+        subst (λ pa. IsStored retired va pa len stores.value) near.here stored in
+        put_to_ram core.map.ram bytes x (shows_stored is.shows here goes is.agrees) held
+        ∙ sym (parts_as_one stores.value bytes x near)
+        ∙ ap (λ w. after_writes w bytes x) (sym stores.wrote_is)
+
 pub store_is_true : {core : Core} {shown : Shown} {retired : Retired} {effects : Effects} {wrote : List Write}
     (bytes : Bytes) → Stores core effects.access wrote → retired.effects ≡ Ok effects → shows_bytes core shown ≡ true
     → RowAgrees retired shown
     → (x : ℕ) → bytes_put core.map.ram (store_shown shown) 8 bytes x ≡ after_writes wrote bytes x
-store_is_true {core} {shown} {retired} {effects} bytes stores is shows agrees x =
-    let place = stores.place in
-    let len = bytes_of stores.request.size in
-    let known = access_of shown core shows in
-    let fits = place_fits core.map len place place.io refl stores.stands in
-    let stored : IsStoredAt core retired stores.request.address place.pa len stores.value = record {
-      effects = effects;
-      effects_are = is;
-      made = stores.made;
-      va_fits = stores.address;
-      pa_fits = low_place place.pa stores.request.size fits;
-      end_fits = fits;
-      at_most_8 = few_bytes stores.request.size;
-      physical = stores.physical;
-    } in
-    written_by core.map place place.io bytes x (shows_stored known stored agrees) stores.stands
-    ∙ ap (λ w. after_writes w bytes x) (sym stores.wrote_is)
+store_is_true {core} {shown} {retired} {effects} {wrote} bytes stores is shows agrees x =
+    by stores.places stores.at
   where
-    low_place : (pa : ℕ) (size : AccessSize) → pa + bytes_of size ≤ 2 ^ 64 → pa < 2 ^ 64
-    low_place pa Byte fits = omega (arith, fits)
-    low_place pa Halfword fits = omega (arith, fits)
-    low_place pa Word fits = omega (arith, fits)
-    low_place pa Doubleword fits = omega (arith, fits)
+    known : IsShownStore core shown retired effects
+    known = record { effects_are = is; shows = access_of shown core shows; agrees = agrees }
+
+    by : (places : Places) → StoresAt core places effects.access wrote
+        → bytes_put core.map.ram (store_shown shown) 8 bytes x ≡ after_writes wrote bytes x
+    by (place, None) at = alone_is_true place bytes at known x
+    by (first, Some second) at = two_are_true first second bytes at known x

@@ -38,7 +38,7 @@ mask_byte x mask k all =
     subst Kept (sym (bits_of_bytes k)) (byte_under x mask (8 * k)) all
 
 -- all bytes from one to another, by trying all
-all_below : ℕ → (ℕ → Bool) → Bool
+unfoldable pub all_below : ℕ → (ℕ → Bool) → Bool
 all_below zero p = true
 all_below (suc n) p = p n && all_below n p
 
@@ -59,7 +59,7 @@ last_or_less (suc i) (suc n) few = elim (last_or_less i n (omega (arith, few))) 
   | inr less ↦ inr (omega (arith, less))
 ]
 
-tried : (n : ℕ) (p : ℕ → Bool) → all_below n p ≡ true → (i : ℕ) → i < n → p i ≡ true
+pub tried : (n : ℕ) (p : ℕ → Bool) → all_below n p ≡ true → (i : ℕ) → i < n → p i ≡ true
 unfolding all_below
 tried zero p all i few = absurd (omega (arith, few))
 tried (suc n) p all i few =

@@ -6,6 +6,7 @@ use Rattle.std.proofs.lemmas.List.{map-append}
 use Rattle.std.proofs.lemmas.List.Concat.{flat_map-cons}
 use Rattle.std.proofs.lemmas.List.Elements.{All-replicate}
 use Rattle.hart_words.specs.declared.map.Map.{Map}
+use Rattle.hart_words.specs.declared.choices.Choices.{Choices}
 use Rattle.hart_words.specs.Memory.{Bytes}
 use Rattle.hart_words.specs.Registers.{register_of, registers_at_reset}
 use Rattle.hart_words.specs.Signals.{Shown}
@@ -26,11 +27,13 @@ use Rattle.boundary_guess.specs.Truth.{Agree, HoldsWords, ShowChanges, StaysSoun
 use Rattle.boundary_guess.specs.Truth.{true_starts}
 use Rattle.boundary_guess.proofs.Compared.{ShowsWords}
 use Rattle.boundary_guess.proofs.CoreWords.{IsSane}
-use Rattle.boundary_guess.proofs.Faults.{AreBytes}
+use Rattle.boundary_guess.proofs.Actions.{AreBytes, written_bytes}
+use Rattle.boundary_guess.proofs.KeptChoices.{next_keeps}
+use Rattle.boundary_guess.proofs.NoSets.{SetsNone}
 use Rattle.boundary_guess.proofs.PlainTruth.{IsInRange}
-use Rattle.boundary_guess.proofs.SaneSteps.{next_sane, written_bytes}
+use Rattle.boundary_guess.proofs.SaneSteps.{next_sane}
 use Rattle.boundary_guess.proofs.ShownWords.{AllReadWords, rows_words}
-use Rattle.boundary_guess.proofs.TrueRows.{row_is_true}
+use Rattle.boundary_guess.proofs.TrueRows.{IsReady, row_is_true}
 
 -- a state is sound, and holds words
 pub record IsSaneState (state : HartState) : Type 0 where
@@ -49,22 +52,34 @@ in_range state sane = record { even = sane.core.sound.even; pc = sane.core.pc; r
 
 -- ---- rows
 
+-- they keep the choices of the implementation
+pub rows_keep : (rows : List RowReading) (state : HartState)
+    → (true_state_after state rows).core.choices ≡ state.core.choices
+unfolding true_state_after
+rows_keep [] state = refl
+rows_keep (Err fault ∷ rows) state = refl
+rows_keep (Ok None ∷ rows) state = rows_keep rows state
+rows_keep (Ok (Some shown) ∷ rows) state =
+    rows_keep rows (after_row state shown) ∙ next_keeps state.core shown state.bytes
+
 pub record IsGuessedRightly (state : HartState) (rows : List RowReading) : Type 0 where
   pub guess : guess_after state rows ≡ true_state_after state rows
   pub sane : IsSaneState (true_state_after state rows)
 
-rows_true : (rows : List RowReading) (state : HartState) → IsSaneState state → AllReadWords rows → Agree state rows
-    → ShowChanges rows → IsGuessedRightly state rows
+rows_true : (rows : List RowReading) (state : HartState) → IsSaneState state → SetsNone state.core.choices
+    → AllReadWords rows → Agree state rows → ShowChanges rows → IsGuessedRightly state rows
 unfolding guess_after true_state_after Agree ShowChanges AllReadWords
-rows_true [] state sane words agree show = record { guess = refl; sane = sane }
-rows_true (Err fault ∷ rows) state sane words agree show = absurd agree
-rows_true (Ok None ∷ rows) state sane words agree show =
-    let more = rows_true rows state sane words.1 agree show in
+rows_true [] state sane faults words agree show = record { guess = refl; sane = sane }
+rows_true (Err fault ∷ rows) state sane faults words agree show = absurd agree
+rows_true (Ok None ∷ rows) state sane faults words agree show =
+    let more = rows_true rows state sane faults words.1 agree show in
     record { guess = more.guess; sane = more.sane }
-rows_true (Ok (Some shown) ∷ rows) state sane words agree show =
+rows_true (Ok (Some shown) ∷ rows) state sane faults words agree show =
     let next = row_keeps state shown sane words.0 in
-    let right = row_is_true state shown sane.bytes (in_range (after_row state shown) next) show.0 words.0 agree.0 in
-    let more = rows_true rows (after_row state shown) next words.1 agree.1 show.1 in
+    let ready : IsReady state = record { bytes = sane.bytes; faults = faults } in
+    let right = row_is_true state shown ready (in_range (after_row state shown) next) show.0 words.0 agree.0 in
+    let kept = ap (λ choices. choices.marks) (next_keeps state.core shown state.bytes) in
+    let more = rows_true rows (after_row state shown) next (kept ∙ faults) words.1 agree.1 show.1 in
     record { guess = ap (λ s. guess_after s rows) right ∙ more.guess; sane = more.sane }
 
 -- ---- rows before others
@@ -98,21 +113,22 @@ rows_split columns lines segments =
     ∙ map-append (row_of_line columns) lines (lines_of_pieces segments)
 
 segments_true : (segments : List (List (List ℕ))) (last : List (List ℕ)) (columns : ColumnList) (state : HartState)
-    → IsSaneState state
+    → IsSaneState state → SetsNone state.core.choices
     → Agree state (rows_of columns (lines_of_pieces segments))
     → ShowChanges (rows_of columns (lines_of_pieces segments))
     → guesses_of state columns (segments ++ last ∷ []) ≡ true_starts state columns (segments ++ last ∷ [])
 unfolding guesses_of true_starts
-segments_true [] last columns state sane agree show = refl
-segments_true (lines ∷ segments) last columns state sane agree show =
+segments_true [] last columns state sane faults agree show = refl
+segments_true (lines ∷ segments) last columns state sane faults agree show =
     let rows = rows_of columns lines in
     let later = rows_of columns (lines_of_pieces segments) in
     let agreed = agree_parts rows later state (subst (Agree state) (rows_split columns lines segments) agree) in
     let showed = show_parts rows later (subst ShowChanges (rows_split columns lines segments) show) in
-    let here = rows_true rows state sane (rows_words columns lines) agreed.0 showed.0 in
+    let here = rows_true rows state sane faults (rows_words columns lines) agreed.0 showed.0 in
+    let kept = ap (λ choices. choices.marks) (rows_keep rows state) in
     ap (λ next. state ∷ guesses_of next columns (segments ++ last ∷ [])) here.guess
     ∙ ap (λ more. state ∷ more)
-    (segments_true segments last columns (true_state_after state rows) here.sane agreed.1 showed.1)
+    (segments_true segments last columns (true_state_after state rows) here.sane (kept ∙ faults) agreed.1 showed.1)
 
 -- ---- states
 
@@ -194,10 +210,10 @@ reset_configurations : All (λ entry. entry.cfg < 256) csrs_at_reset.entries
 unfolding csrs_at_reset
 reset_configurations = All-replicate (λ entry. entry.cfg < 256) 16 no_entry (lit< tt)
 
-pub reset_holds : (pc : ℕ) (map : Map) (bytes : Bytes) → pc < 2 ^ 64 → ((address : ℕ) → bytes address < 2 ^ 8)
-    → HoldsWords (state_at_reset pc map bytes)
+pub reset_holds : (pc : ℕ) (map : Map) (choices : Choices) (bytes : Bytes) → pc < 2 ^ 64
+    → ((address : ℕ) → bytes address < 2 ^ 8) → HoldsWords (state_at_reset pc map choices bytes)
 unfolding core_at_reset
-reset_holds pc map bytes small are =
+reset_holds pc map choices bytes small are =
     record {
       pc =
           small;
@@ -216,16 +232,17 @@ rows_stay state columns lines sound words =
 -- ---- the law
 
 pub rows_guessed : (state : HartState) (columns : ColumnList) (lines : List (List ℕ)) → IsSound state.core
-    → HoldsWords state
+    → HoldsWords state → SetsNone state.core.choices
     → Agree state (rows_of columns lines) → ShowChanges (rows_of columns lines)
     → guess_after state (rows_of columns lines) ≡ true_state_after state (rows_of columns lines)
-rows_guessed state columns lines sound words agree show =
-    (rows_true (rows_of columns lines) state (sane_by state sound words) (rows_words columns lines) agree show).guess
+rows_guessed state columns lines sound words faults agree show =
+    (rows_true (rows_of columns lines) state (sane_by state sound words) faults (rows_words columns lines) agree
+    show).guess
 
 pub segments_guessed : (state : HartState) (columns : ColumnList) (segments : List (List (List ℕ)))
-    (last : List (List ℕ)) → IsSound state.core → HoldsWords state
+    (last : List (List ℕ)) → IsSound state.core → HoldsWords state → SetsNone state.core.choices
     → Agree state (rows_of columns (lines_of_pieces segments))
     → ShowChanges (rows_of columns (lines_of_pieces segments))
     → guesses_of state columns (segments ++ last ∷ []) ≡ true_starts state columns (segments ++ last ∷ [])
-segments_guessed state columns segments last sound words agree show =
-    segments_true segments last columns state (sane_by state sound words) agree show
+segments_guessed state columns segments last sound words faults agree show =
+    segments_true segments last columns state (sane_by state sound words) faults agree show

@@ -21,7 +21,9 @@ use Rattle.hart_step.proofs.Phases.{begun_kept, expected_running, next_running, 
 use Rattle.boundary_guess.specs.Guesses.{guess_after_row, state_shown}
 use Rattle.boundary_guess.specs.Truth.{ShowsChanges}
 use Rattle.boundary_guess.proofs.Compared.{RowAgrees, ShowsWords}
-use Rattle.boundary_guess.proofs.Faults.{AreBytes}
+use Rattle.boundary_guess.proofs.Actions.{AreBytes}
+use Rattle.boundary_guess.proofs.KeptChoices.{begun_keeps}
+use Rattle.boundary_guess.proofs.NoSets.{SetsNone}
 use Rattle.boundary_guess.proofs.PlainSteps.{Runs, ran_runs}
 use Rattle.boundary_guess.proofs.PlainTruth.{IsInRange, IsRunOf, plain_facts, ran_true}
 
@@ -69,11 +71,16 @@ same_states : (one other : HartState) → one.core ≡ other.core → one.bytes 
 same_states one other core bytes =
     ap (λ c. record { core = c; bytes = one.bytes }) core ∙ ap (λ b. record { core = other.core; bytes = b }) bytes
 
-plain_row_is_true : (state : HartState) (shown : Shown) → is_plain state.core shown ≡ true → AreBytes state.bytes
+-- each address of a state's memory holds a byte, and no access of its hart sets an entry of a page table
+pub record IsReady (state : HartState) : Type 0 where
+  pub bytes : AreBytes state.bytes
+  pub faults : SetsNone state.core.choices
+
+plain_row_is_true : (state : HartState) (shown : Shown) → is_plain state.core shown ≡ true → IsReady state
     → IsInRange (after_row state shown).core → ShowsChanges shown → ShowsWords shown
     → difference_of ((step_of state.core shown).run state.bytes).value.expected shown ≡ None
     → state_shown state shown ≡ after_row state shown
-plain_row_is_true state shown is are range shows words agrees =
+plain_row_is_true state shown is ready range shows words agrees =
     let core = state.core in
     let bytes = state.bytes in
     let plain = plain_facts core shown is in
@@ -82,9 +89,11 @@ plain_row_is_true state shown is are range shows words agrees =
     let done = run.value in
     let next = next_running core shown bytes plain.runs in
     let wrote = wrote_running core shown bytes plain.runs in
+    let faults : SetsNone (before_instruction core shown).choices =
+    ap (λ choices. choices.marks) (begun_keeps core shown) ∙ ready.faults in
     let P : Core → Type 0 = λ k. Runs k done.executed done.core run.wrote in
     let did : IsRunOf core shown (retirement core shown done) done.executed done.core run.wrote = record {
-      runs = subst P begins (ran_runs (before_instruction core shown) shown bytes are);
+      runs = subst P begins (ran_runs (before_instruction core shown) shown bytes faults ready.bytes);
       insn = refl;
       effects = ap (λ k. effects_of k done.core done.executed) begins;
       in_range = subst IsInRange next range;
@@ -94,14 +103,14 @@ plain_row_is_true state shown is are range shows words agrees =
     same_states (state_shown state shown) (after_row state shown) (right.core_is ∙ sym next)
     (right.bytes_are ∙ ap (λ w. after_writes w bytes) (sym wrote))
 
-pub row_is_true : (state : HartState) (shown : Shown) → AreBytes state.bytes → IsInRange (after_row state shown).core
+pub row_is_true : (state : HartState) (shown : Shown) → IsReady state → IsInRange (after_row state shown).core
     → ShowsChanges shown → ShowsWords shown
     → difference_of ((step_of state.core shown).run state.bytes).value.expected shown ≡ None
     → guess_after_row state shown ≡ after_row state shown
 unfolding guess_after_row
-row_is_true state shown are range shows words agrees = by (is_plain state.core shown) refl
+row_is_true state shown ready range shows words agrees = by (is_plain state.core shown) refl
   where
     by : (plain : Bool) → is_plain state.core shown ≡ plain
         → (if plain then state_shown state shown else after_row state shown) ≡ after_row state shown
-    by true is = plain_row_is_true state shown is are range shows words agrees
+    by true is = plain_row_is_true state shown is ready range shows words agrees
     by false is = refl

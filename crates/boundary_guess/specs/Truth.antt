@@ -2,6 +2,7 @@
 use Rattle.std.specs.Prelude.{◌≡◌, ℕ, ◌^◌, ◌<◌, List, [], ◌∷◌, All, Some, None, Ok, Err, true}
 use Rattle.std.specs.Option.{is_some}
 use Rattle.hart_words.specs.declared.map.Map.{Map}
+use Rattle.hart_words.specs.declared.choices.Choices.{Choices}
 use Rattle.hart_words.specs.Memory.{Bytes}
 use Rattle.hart_words.specs.Registers.{register_of}
 use Rattle.hart_words.specs.Signals.{Shown}
@@ -25,8 +26,8 @@ pub record HoldsWords (state : HartState) : Type 0 where
   pub bytes : (address : ℕ) → state.bytes address < 2 ^ 8
 
 -- a hart at reset, over a memory
-abbrev pub state_at_reset : ℕ → Map → Bytes → HartState
-state_at_reset pc map bytes = record { core = core_at_reset pc map; bytes = bytes }
+abbrev pub state_at_reset : ℕ → Map → Choices → Bytes → HartState
+state_at_reset pc map choices bytes = record { core = core_at_reset pc map choices; bytes = bytes }
 
 -- a row shows a value of the signal
 abbrev pub IsShown : Shown → Signal → Type 0

@@ -7,9 +7,9 @@ ghost use Rattle.page_layers.specs.Memories.{layered_ram};
 
 use super::*;
 use crate::compiled::IMAGE;
-use crate::tests::put_line;
+use crate::tests::{put_line, write};
 use hart_step::{Core, Hart};
-use hart_words::{Map, Mode, Signal, Span};
+use hart_words::{Choices, Map, Signal, Span};
 use image_text::read_image;
 use line_text::Lines;
 use page_image::PageImage;
@@ -229,7 +229,7 @@ fn guesses_compiled_code(rt: HostRuntime) -> Result<(), Fail> {
     let alloc = rt.alloc();
     let map = map()?;
     let image = image(alloc, map.ram)?;
-    let start = Hart::reset(Layered::over(alloc, &image), CODE, map);
+    let start = Hart::reset(Layered::over(alloc, &image), CODE, map, Choices::plain());
     let run = run(alloc, &mut start.copy()?, ROWS)?;
     // So many rows are 16-bit instructions, store, and are of the A extension.
     let counts = (
@@ -253,17 +253,6 @@ fn guesses_compiled_code(rt: HostRuntime) -> Result<(), Fail> {
     Ok(())
 }
 
-/// Writes a register of control as M does.
-fn write(core: &mut Core, address: u16, value: u64) -> Result<(), Fail>
-    requires sound { IsSound core.old }
-    ensures sound { IsSound core.new }
-    ensures map { core.new.map ≡ core.old.map }
-{
-    core.csrs
-        .write(address, Mode::Machine, value)
-        .map_err(|_| Fail::from("no register"))
-}
-
 /// Where rows show their instructions alone, x2 stays 0, so that the first store, at row 6, traps
 /// to address 0. No RAM is there, and so each row after it traps to address 0 from there.
 #[test]
@@ -271,7 +260,7 @@ fn guesses_of_bare_rows(rt: HostRuntime) -> Result<(), Fail> {
     let alloc = rt.alloc();
     let map = map()?;
     let image = image(alloc, map.ram)?;
-    let start = Hart::reset(Layered::over(alloc, &image), CODE, map);
+    let start = Hart::reset(Layered::over(alloc, &image), CODE, map, Choices::plain());
     let signals = [Signal::Insn, Signal::PcRdata];
     let lines = lines_of(alloc, &run(alloc, &mut start.copy()?, ROWS)?, &signals)?;
     let columns = columns_of(alloc, &signals)?;
@@ -334,7 +323,7 @@ fn guesses_one_row_more(rt: HostRuntime) -> Result<(), Fail> {
     let alloc = rt.alloc();
     let map = map()?;
     let image = image(alloc, map.ram)?;
-    let mut hart = Hart::reset(Layered::over(alloc, &image), CODE, map);
+    let mut hart = Hart::reset(Layered::over(alloc, &image), CODE, map, Choices::plain());
     let row = blank_row(alloc)?;
     'rows: for place in 0..ROWS {
         let before = hart.copy()?;

@@ -5,8 +5,8 @@ ghost use Rattle.line_text.specs.Lines.{IsLine};
 ghost use Rattle.boundary_guess.specs.Guesses.{CanStep};
 
 use super::*;
-use hart_step::Hart;
-use hart_words::{Map, PhysMem, Span};
+use hart_step::{Core, Hart};
+use hart_words::{Choices, Map, Mode, PhysMem, Span};
 use line_text::Lines;
 use page_layers::MapMem;
 use rvfi_rows::{Columns, Segment, read_header, read_row};
@@ -109,8 +109,30 @@ fn start(alloc: Global) -> Result<Hart<MapMem>, Fail>
 {
     let ram = Span::new(CODE, 0x2000).ok_or("no range")?;
     let map = Map::new(ram, None).ok_or("no map")?;
-    let mut hart = Hart::reset(memory(alloc, map.ram)?, CODE, map);
+    let mut hart = Hart::reset(memory(alloc, map.ram)?, CODE, map, Choices::plain());
     hart.core.registers.set(10, DATA);
+    Ok(hart)
+}
+
+/// Writes a register of control as M does.
+pub(crate) fn write(core: &mut Core, address: u16, value: u64) -> Result<(), Fail>
+    requires sound { IsSound core.old }
+    ensures sound { IsSound core.new }
+    ensures map { core.new.map ≡ core.old.map }
+{
+    core.csrs
+        .write(address, Mode::Machine, value)
+        .map_err(|_| Fail::from("no register"))
+}
+
+/// That hart in S, with satp's MODE at Sv39: it can fetch nothing, and each step traps to address 0.
+fn translated(alloc: Global) -> Result<Hart<MapMem>, Fail>
+    ensures sound { IfOk result (λ hart. IsSound hart.core) }
+    ensures ram { IfOk result (λ hart. hart.mem.ram ≡ hart.core.map.ram) }
+{
+    let mut hart = start(alloc)?;
+    write(&mut hart.core, 0x180, 8 << 60)?;
+    hart.core.mode = Mode::Supervisor;
     Ok(hart)
 }
 
@@ -282,5 +304,60 @@ fn guesses_as_steps_lead(rt: HostRuntime) -> Result<(), Fail> {
         assert_eq!(rt; numbers(guess)?, numbers(&hart)?);
     }
     assert_eq!(rt; numbers(&hart)?, (CODE + 12, 5, 6, 5));
+    Ok(())
+}
+
+/// These columns show the physical address too.
+const PHYSICAL: &[u8] = b"valid,insn,pc_rdata,pc_wdata,mem_addr,mem_paddr,mem_wmask,mem_wdata";
+
+/// The numbers after one row.
+fn numbers_after(alloc: Global, hart: &Hart<MapMem>, row: &[u8]) -> Result<Numbers, Fail>
+    requires { CanStep (λ mem. mem.ram) hart.now }
+{
+    let columns = read_header(alloc, PHYSICAL)?;
+    let segments = segments_of(alloc, &[&[row], &[]])?;
+    let found = guesses(alloc, hart, &columns, &segments)?;
+    if found.len() != 2 {
+        return Err(Fail::from("two guesses"));
+    }
+    numbers(&found[1])
+}
+
+/// A store's bytes are taken where the row shows them, in two pages too, where addresses are not
+/// translated; where they are, bytes in two pages have no one physical address, and the row is
+/// stepped.
+#[test]
+fn guesses_stores_at_the_end_of_a_page(rt: HostRuntime) -> Result<(), Fail> {
+    let alloc = rt.alloc();
+    let rows: [(&[u8], u64, bool); 4] = [
+        (
+            b"1,0x00153023,0x80000000,0x80000010,0x80000ffc,0x80000ffc,0x0f,0x1122334455667788",
+            HELD,
+            true,
+        ),
+        (
+            b"1,0x00153023,0x80000000,0x80000010,0x80000ffc,0x80000ffc,0xf0,0x1122334455667788",
+            0x8899_aabb_1122_3344,
+            true,
+        ),
+        (
+            b"1,0x00153023,0x80000000,0x80000010,0x80000ffc,0x80000ffc,0x18,0x1122334455667788",
+            0x8899_aabb_ccdd_ee44,
+            false,
+        ),
+        (
+            b"1,0x00153023,0x80000000,0x80000010,0x80000ffc,0x80000ffc,0xff,0x1122334455667788",
+            0x8899_aabb_1122_3344,
+            false,
+        ),
+    ];
+    let here = start(alloc)?;
+    let there = translated(alloc)?;
+    for (row, data, is_taken) in rows {
+        let taken = (CODE + 16, 0, 0, data);
+        assert_eq!(rt; numbers_after(alloc, &here, row)?, taken);
+        let wanted = if is_taken { taken } else { (0, 0, 0, HELD) };
+        assert_eq!(rt; numbers_after(alloc, &there, row)?, wanted);
+    }
     Ok(())
 }

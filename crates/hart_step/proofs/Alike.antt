@@ -1,6 +1,7 @@
 -- In S and U nothing depends on a byte that protection refuses them.
-use Rattle.std.proofs.Common.{◌≡◌, ◌≢◌, ℕ, zero, suc, ◌+◌, ◌%◌, ◌^◌, ◌<◌, ◌≤◌, Bool, true, false, List, [], ◌∷◌, get_or}
-use Rattle.std.proofs.Common.{refl, sym, ap, ◌∙◌, subst, arith, All, Option, Some, if◌then◌else◌}
+use Rattle.std.proofs.Common.{◌≡◌, ◌≢◌, ℕ, zero, suc, ◌+◌, ◌<◌, ◌≤◌, Bool, true, false, List, [], ◌∷◌, get_or}
+use Rattle.std.proofs.Common.{refl, sym, ap, ◌∙◌, subst, arith, All, Ok, Err, Result, Option, Some, if◌then◌else◌}
+use Rattle.std.specs.Prelude.{IfOk}
 use Rattle.std.proofs.lemmas.List.Elements.{All-append, All-head, All-map, All-nil, All-tail}
 use Rattle.hart_words.specs.declared.privilege.Access.{Access}
 use Rattle.hart_words.specs.declared.privilege.Mode.{Mode}
@@ -8,15 +9,11 @@ use Rattle.hart_words.specs.declared.privilege.Mode.TheVariants.{User, Superviso
 use Rattle.hart_words.specs.declared.privilege.PmpEntry.{PmpEntry}
 use Rattle.hart_words.specs.declared.accesses.Read.{Read}
 use Rattle.hart_words.specs.declared.accesses.Write.{Write}
-use Rattle.hart_words.specs.AccessSizes.{bytes_of}
 use Rattle.hart_words.specs.Frames.{AgreeOn-after_writes}
 use Rattle.hart_words.specs.Memory.{AgreeOn, Bytes, SameBytes, after_writes}
 use Rattle.hart_words.specs.Signals.{Shown}
-use Rattle.hart_words.specs.declared.map.Map.{Map}
 use Rattle.rv_integer.specs.declared.int_result.IntResult.{IntResult}
 use Rattle.rv_integer.specs.declared.int_result.IntResult.TheVariants as results
-use Rattle.rv_integer.specs.declared.int_result.MemoryOp.{MemoryOp}
-use Rattle.rv_integer.specs.declared.int_result.MemoryOp.TheVariants.{Load, LoadReserved, Store, StoreConditional, Amo}
 use Rattle.pmp_check.specs.Protection.{is_allowed}
 use Rattle.pmp_check.proofs.Parts.{byte_allowed, both_alike}
 use Rattle.csr_file.specs.declared.csrs.Csrs.{Csrs}
@@ -24,14 +21,13 @@ use Rattle.csr_file.specs.Registers.{pmp_entries_of}
 use Rattle.mem_access.specs.declared.place.AccessRequest.{AccessRequest}
 use Rattle.mem_access.specs.Accesses.{parcel_fetch}
 use Rattle.mem_access.specs.Places.{data_mode_of}
-use Rattle.mem_access.specs.Reads.{CheckedRead, IsPermittedRead, access_reads_of, fetch_reads_of, reads_in}
-use Rattle.mem_access.specs.Reads.{walk_reads_of}
-use Rattle.mem_access.proofs.Orders.{HoldsOfReads, access_all, data_all, fetch_all, walk_all}
+use Rattle.mem_access.specs.Reads.{CheckedRead, IsPermittedRead, access_reads_of, fetch_reads_of, own_read, reads_in}
+use Rattle.mem_access.proofs.Granted.{HoldsOfOwn, Look, access_all, data_all, fetch_all, look_place, look_places}
 use Rattle.hart_step.specs.declared.state.Core.{Core}
 use Rattle.hart_step.specs.Rows.{HartState, RunBelowMachine, after_row, after_rows}
 use Rattle.hart_step.specs.Steps.{before_instruction, step_of}
-use Rattle.hart_step.specs.Laws.{request_at_pc}
-use Rattle.hart_step.specs.ProtectionLaws.{asked_reads_of, check_by, check_of, instruction_reads_of, reads_its_bytes}
+use Rattle.hart_step.specs.Laws.{bytes_after_fetch, request_at_pc}
+use Rattle.hart_step.specs.ProtectionLaws.{asked_reads_of, check_of, instruction_reads_of, is_atomic, reads_its_bytes}
 use Rattle.hart_step.specs.ProtectionLaws.{step_reads_of, AgreeWherePermitted, StepsAlike, ComeToTheSame, RowsGoAlike}
 use Rattle.hart_step.proofs.Entries.{SameEntries, begun_entries, lower_modes_leave}
 use Rattle.hart_step.proofs.Permitted.{step_granted}
@@ -80,55 +76,51 @@ data_lower csrs Machine lower = absurd (lower refl)
 data_lower csrs Supervisor lower = lower
 data_lower csrs User lower = lower
 
-pub check_mode : (core : Core) (len : ℕ) (op : MemoryOp) → (check_by core len op).mode
-    ≡ data_mode_of core.csrs core.mode
-check_mode core len (Load signed) = refl
-check_mode core len LoadReserved = refl
-check_mode core len (Store value) = refl
-check_mode core len (StoreConditional value) = refl
-check_mode core len (Amo op width b) = refl
-
-check_lower : (core : Core) (len : ℕ) (op : MemoryOp) → core.mode ≢ Machine → (check_by core len op).mode ≢ Machine
-check_lower core len op lower is = data_lower core.csrs core.mode lower (sym (check_mode core len op) ∙ is)
-
 -- each read of an instruction in S or U is made below M
 abbrev IsLower : CheckedRead → Type 0
 IsLower check = check.mode ≢ Machine
 
-walk_lower : (csrs : Csrs) (map : Map) (mode : Mode) (va : ℕ) (bytes : Bytes)
-    → All IsLower (walk_reads_of csrs map mode va bytes)
-walk_lower csrs map mode va bytes = walk_all IsLower csrs map mode va bytes (λ pa can. supervisor_lower)
+always : {A B : Type 0} (result : Result A B) (P : A → Type 0) → ((x : A) → P x) → IfOk result P
+always (Err e) P holds = tt
+always (Ok x) P holds = holds x
 
-access_lower : (csrs : Csrs) (map : Map) (request : AccessRequest) (va : ℕ) (bytes : Bytes) → request.mode ≢ Machine
-    → All IsLower (access_reads_of csrs map request va bytes)
-access_lower csrs map request va bytes lower =
-    access_all IsLower csrs map request va bytes (λ pa can. supervisor_lower) (λ place is memory. lower)
+-- what an access is of, by a hart
+abbrev pub look_of : Core → AccessRequest → Bytes → Look
+look_of core request bytes =
+    record { csrs = core.csrs; map = core.map; choices = core.choices; request = request; bytes = bytes }
+
+access_lower : (core : Core) (request : AccessRequest) (va : ℕ) (bytes : Bytes) → request.mode ≢ Machine
+    → All IsLower (access_reads_of core.csrs core.map core.choices request va bytes)
+access_lower core request va bytes lower =
+    let look = look_of core request bytes in
+    access_all IsLower look va (λ pa can. supervisor_lower)
+    (always (look_place look va) (λ place. place.io ≡ false → IsLower (own_read request va place))
+    (λ place memory. lower))
 
 fetch_lower : (core : Core) (bytes : Bytes) → core.mode ≢ Machine → All IsLower
-    (fetch_reads_of core.csrs core.map core.mode core.pc bytes)
+    (fetch_reads_of core.csrs core.map core.choices core.mode core.pc bytes)
 fetch_lower core bytes lower =
-    fetch_all IsLower core.csrs core.map core.mode core.pc bytes
-    (access_lower core.csrs core.map (parcel_fetch core.mode) core.pc bytes lower)
-    (access_lower core.csrs core.map (parcel_fetch core.mode) ((core.pc + 2) % 2 ^ 64) bytes lower)
+    fetch_all IsLower core.csrs core.map core.choices core.mode core.pc bytes
+    (λ va now. access_lower core (parcel_fetch core.mode) va now lower)
 
 asked_lower : (core : Core) (asks : Option IntResult) (bytes : Bytes) → core.mode ≢ Machine
     → All IsLower (asked_reads_of core asks bytes)
 asked_lower core (Some (results.Access request)) bytes lower =
     let check = check_of core request in
-    let holds : HoldsOfReads IsLower core.csrs core.map check request.address bytes = record {
-      whole = λ aligned. access_lower core.csrs core.map check request.address bytes
-          (check_lower core (bytes_of request.size) request.op lower);
-      walk = walk_lower core.csrs core.map check.mode request.address bytes;
-    } in
-    data_all (reads_its_bytes request.op) holds
+    let look = look_of core check bytes in
+    data_all IsLower look (is_atomic request.op) (reads_its_bytes request.op) request.address
+    (λ pa can. supervisor_lower)
+    (always (look_places look (is_atomic request.op) request.address) (All (HoldsOfOwn IsLower check))
+    (λ placed k d below memory. data_lower core.csrs core.mode lower))
 asked_lower core _ bytes lower = All-nil IsLower
 
 instruction_lower : (core : Core) (bytes : Bytes) → core.mode ≢ Machine → All IsLower (instruction_reads_of core bytes)
 unfolding instruction_reads_of
 instruction_lower core bytes lower =
-    All-append IsLower (fetch_reads_of core.csrs core.map core.mode core.pc bytes)
-    (asked_reads_of core (request_at_pc core bytes) bytes)
-    (fetch_lower core bytes lower) (asked_lower core (request_at_pc core bytes) bytes lower)
+    let asks = request_at_pc core bytes in
+    let after = bytes_after_fetch core bytes in
+    All-append IsLower (fetch_reads_of core.csrs core.map core.choices core.mode core.pc bytes)
+    (asked_reads_of core asks after) (fetch_lower core bytes lower) (asked_lower core asks after lower)
 
 step_lower : (core : Core) (shown : Shown) (bytes : Bytes) → (before_instruction core shown).mode ≢ Machine
     → All IsLower (step_reads_of core shown bytes)

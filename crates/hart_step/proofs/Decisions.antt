@@ -1,5 +1,5 @@
 -- A row decides nothing but its choices.
-use Rattle.std.proofs.Common.{◌≡◌, ℕ, ◌%◌, ◌^◌, Bool, true, false, not, ◌&&◌, refl, sym, ap, ◌∙◌, subst, inl, inr, Ok}
+use Rattle.std.proofs.Common.{◌≡◌, ℕ, ◌%◌, ◌^◌, Bool, true, false, not, ◌&&◌, refl, sym, ap, ◌∙◌, inl, inr, Ok}
 use Rattle.std.proofs.Common.{Err, Result, Option, Some, None, bit_and, bit_or, if◌then◌else◌}
 use Rattle.std.specs.Prelude.{◌==◌}
 use Rattle.std.specs.Option.{is_none, unwrap_or}
@@ -39,8 +39,7 @@ use Rattle.csr_file.specs.Access.{csr_read_at}
 use Rattle.interrupt_pick.specs.Interrupts.{pick_of}
 use Rattle.rvfi_rows.specs.declared.expected.Expected.TheVariants.{Retired}
 use Rattle.mem_access.specs.declared.place.Place.{Place}
-use Rattle.mem_access.specs.Accesses.{Exception, fetch_result}
-use Rattle.mem_access.proofs.Writes.{fetch_writes_nothing}
+use Rattle.mem_access.specs.Accesses.{Exception}
 use Rattle.hart_step.specs.declared.state.Core.{Core}
 use Rattle.hart_step.specs.declared.choices.RowChoices.{RowChoices}
 use Rattle.hart_step.specs.declared.choices.Lines.{Lines}
@@ -58,13 +57,14 @@ use Rattle.hart_step.specs.CsrAccess.{csr_access_result}
 use Rattle.hart_step.specs.Returns.{may_use_supervisor_instruction, wfi_traps}
 use Rattle.hart_step.specs.Instructions.{Completion, after_access, after_csr, completion_if, core_at_next}
 use Rattle.hart_step.specs.Instructions.{system_execution, execution_of, execution_by, first_value, second_value}
-use Rattle.hart_step.specs.Instructions.{InstructionRun, run_of_result, op_of, run_of_decoded, run_of_fetched}
-use Rattle.hart_step.specs.Instructions.{instruction_run}
+use Rattle.hart_step.specs.Instructions.{InstructionRun, run_of_result, op_for, run_of_decoded, run_of_fetched}
+use Rattle.hart_step.specs.Instructions.{fetch_at_pc, instruction_run}
 use Rattle.hart_step.specs.Steps.{core_after_count, interrupt_of, core_after_interrupt_by, core_after_interrupt}
 use Rattle.hart_step.specs.Steps.{lacks_interrupt, before_instruction, insn_of, effects_of, core_after_outcome}
 use Rattle.hart_step.specs.Steps.{core_after_run, expected_of, step_result_of}
 use Rattle.hart_step.specs.Laws.{AgreeOnRow, AgreeOnTime, AgreeOnRead, AgreeOnSystem, AgreeOnAccess, AgreeOnInstruction}
-use Rattle.hart_step.specs.Laws.{RowsDecideAlike, SameAt, is_row_dependent, request_by, request_from, request_at_pc}
+use Rattle.hart_step.specs.Laws.{RowsDecideAlike, SameAt, bytes_after_fetch, is_row_dependent, request_by, request_from}
+use Rattle.hart_step.specs.Laws.{request_at_pc}
 use Rattle.hart_step.proofs.Phases.{running, halting}
 
 -- the phases before the fetch
@@ -185,11 +185,11 @@ found_by one other request false held same = refl
 
 found_same : (one other : Shown) (rd : ℕ) (request : MemoryRequest) (found : LocatedValue) (signed : Bool)
     → AgreeOnAccess (Ok found) (memory.Load signed) one other
-    → value_found (choices_of other rd) request found.0 found.1
-    ≡ value_found (choices_of one rd) request found.0 found.1
+    → value_found (choices_of other rd) request found.0 found.2
+    ≡ value_found (choices_of one rd) request found.0 found.2
 unfolding choices_of
 found_same one other rd request found signed agree =
-    found_by (choices_of one rd) (choices_of other rd) request found.0.io found.1 (λ io.
+    found_by (choices_of one rd) (choices_of other rd) request found.0.io found.2 (λ io.
     device_same (choices_of one rd) (choices_of other rd) request.address (bytes_of request.size)
     (rd_same one other rd (agree io).0) (agree io).1.0 (agree io).1.1)
 
@@ -203,8 +203,8 @@ stored_same core one other rd request place value mask =
 
 answer_same : (core : Core) (one other : Shown) (rd : ℕ) (request : MemoryRequest) (found : LocatedValue)
     (op : MemoryOp) → AgreeOnAccess (Ok found) op one other
-    → access_result_by core (choices_of other rd) request found.0 found.1 op
-    ≡ access_result_by core (choices_of one rd) request found.0 found.1 op
+    → access_result_by core (choices_of other rd) request found.0 found.2 op
+    ≡ access_result_by core (choices_of one rd) request found.0 found.2 op
 answer_same core one other rd request found (memory.Load signed) agree =
     ap (λ value.
     record {
@@ -231,10 +231,10 @@ answered_same : (core : Core) (one other : Shown) (rd : ℕ) (request : MemoryRe
     ≡ (access_after_location core (choices_of one rd) request found).run bytes
 unfolding access_result_of
 answered_same core one other rd request (Err exception) bytes agree = refl
-answered_same core one other rd request (Ok found) bytes agree =
+answered_same core one other rd request (Ok (first, second, held)) bytes agree =
     let given : AccessResult → Unit {0} → Result AccessResult Exception = λ a _. Ok a in
-    ap (λ answer. (mapped (given answer) (put found.0 (bytes_of request.size) (number_written answer.access))).run
-    bytes) (answer_same core one other rd request found request.op agree)
+    ap (λ answer. (mapped (given answer) (put (first, second) request (number_written answer.access))).run bytes)
+    (answer_same core one other rd request (first, second, held) request.op agree)
 
 access_same : (core : Core) (one other : Shown) (rd : ℕ) (request : MemoryRequest) (bytes : Bytes)
     → AgreeOnAccess ((located_access core request).run bytes).value request.op one other
@@ -408,27 +408,19 @@ fetched_same : (core : Core) (one other : Shown) (word : Result (ℕ × ℕ) Exc
     → (run_of_fetched core other word).run bytes ≡ (run_of_fetched core one word).run bytes
 fetched_same core one other (Err exception) bytes agree = refl
 fetched_same core one other (Ok word) bytes agree =
-    decoded_same core one other word.0 word.1 (op_of word.0 word.1) bytes agree
-
-unchanged : (core : Core) (bytes : Bytes)
-    → bytes ≡ after_writes ((fetch_result core.csrs core.map core.mode core.pc).run bytes).wrote bytes
-unfolding after_writes
-unchanged core bytes =
-    ap (λ w. after_writes w bytes) (sym (fetch_writes_nothing core.csrs core.map core.mode core.pc bytes))
+    decoded_same core one other word.0 word.1 (op_for core word.0 word.1) bytes agree
 
 ran_same : (core : Core) (one other : Shown) (bytes : Bytes) → pending_lines_of other ≡ pending_lines_of one
-    → AgreeOnInstruction core bytes (request_at_pc core bytes) one other
+    → AgreeOnInstruction core (bytes_after_fetch core bytes) (request_at_pc core bytes) one other
     → (instruction_run core other).run bytes ≡ (instruction_run core one).run bytes
-unfolding instruction_run request_at_pc
+unfolding instruction_run request_at_pc bytes_after_fetch
 ran_same core one other bytes lines agree =
-    let fetch = fetch_result core.csrs core.map core.mode core.pc in
-    let before = fetch.run bytes in
-    let P : Bytes → Type 0 = λ m. AgreeOnInstruction core m (request_from core before.value) one other in
-    run_then-is fetch (run_of_fetched core other) bytes
+    let before = (fetch_at_pc core).run bytes in
+    run_then-is (fetch_at_pc core) (run_of_fetched core other) bytes
     ∙ ap (followed_by before)
     (fetched_same core one other before.value (after_writes before.wrote bytes)
-    (record { lines = lines; instruction = subst P (unchanged core bytes) agree }))
-    ∙ sym (run_then-is fetch (run_of_fetched core one) bytes)
+    (record { lines = lines; instruction = agree }))
+    ∙ sym (run_then-is (fetch_at_pc core) (run_of_fetched core one) bytes)
 
 pub decide_alike : (core : Core) (bytes : Bytes) (one other : Shown) → RowsDecideAlike core bytes one other
 unfolding mapped

@@ -31,7 +31,7 @@ use Rattle.csr_file.specs.Laws.{is_protective}
 use Rattle.csr_file.specs.Registers.{pmp_entries_of}
 use Rattle.csr_file.proofs.Writes.{leaves_protection}
 use Rattle.trap_entry.proofs.Rest.{enters_only, mret_only, sret_only}
-use Rattle.mem_access.specs.Accesses.{Exception, fetch_result}
+use Rattle.mem_access.specs.Accesses.{Exception}
 use Rattle.hart_step.specs.declared.state.Core.{Core}
 use Rattle.hart_step.specs.declared.choices.RowChoices.{RowChoices}
 use Rattle.hart_step.specs.declared.instruction.Instruction.{Instruction}
@@ -45,10 +45,11 @@ use Rattle.hart_step.specs.Returns.{may_use_supervisor_instruction, may_mret, co
 use Rattle.hart_step.specs.Returns.{wfi_traps}
 use Rattle.hart_step.specs.Instructions.{Completion, core_after_retirement, core_at_next, after_access, after_csr}
 use Rattle.hart_step.specs.Instructions.{completion_if, system_execution, execution_of, execution_by, first_value}
-use Rattle.hart_step.specs.Instructions.{second_value, InstructionRun, run_of_result, op_of, run_of_decoded}
-use Rattle.hart_step.specs.Instructions.{run_of_fetched, instruction_run}
+use Rattle.hart_step.specs.Instructions.{second_value, InstructionRun, run_of_result, op_for, run_of_decoded}
+use Rattle.hart_step.specs.Instructions.{fetch_at_pc, run_of_fetched, instruction_run}
 use Rattle.hart_step.specs.Steps.{before_instruction, core_after_count, core_after_entry, core_after_outcome}
 use Rattle.hart_step.specs.Steps.{core_after_run, interrupt_of, core_after_interrupt, core_after_interrupt_by}
+use Rattle.hart_step.specs.Steps.{written_trap_value}
 use Rattle.hart_step.specs.Laws.{next_of}
 use Rattle.hart_step.proofs.Phases.{next_running, next_halted}
 use Rattle.hart_step.proofs.ProtectiveCsrs.{protective_in_machine}
@@ -200,15 +201,14 @@ fetched_changes : (core : Core) (shown : Shown) (word : Result (ℕ × ℕ) Exce
     → RanChanges core ((run_of_fetched core shown word).run bytes).value
 unfolding pure
 fetched_changes core shown (Err exception) bytes = inl refl
-fetched_changes core shown (Ok word) bytes = decoded_changes core shown word.0 word.1 (op_of word.0 word.1) bytes
+fetched_changes core shown (Ok word) bytes = decoded_changes core shown word.0 word.1 (op_for core word.0 word.1) bytes
 
 pub ran_changes : (core : Core) (shown : Shown) (bytes : Bytes)
     → ChangesIn core.mode core.csrs ((instruction_run core shown).run bytes).value.core.csrs
 unfolding instruction_run
 ran_changes core shown bytes =
-    let fetch = fetch_result core.csrs core.map core.mode core.pc in
-    let before = fetch.run bytes in
-    let whole = run_then-is fetch (run_of_fetched core shown) bytes in
+    let before = (fetch_at_pc core).run bytes in
+    let whole = run_then-is (fetch_at_pc core) (run_of_fetched core shown) bytes in
     let P : Run InstructionRun → Type 0 = λ r. RanChanges core r.value in
     subst P (sym whole) (fetched_changes core shown before.value (after_writes before.wrote bytes))
 
@@ -216,7 +216,8 @@ ran_changes core shown bytes =
 entered_entries : (core : Core) (interrupt : Bool) (code value : ℕ)
     → SameEntries core.csrs (core_after_entry core interrupt code value).csrs
 unfolding core_after_entry
-entered_entries core interrupt code value = (enters_only core.csrs core.mode interrupt code value core.pc).entries
+entered_entries core interrupt code value =
+    (enters_only core.csrs core.mode interrupt code (written_trap_value core value) core.pc).entries
 
 begun_by : (core : Core) (asks : Bool) (pick : Option (ℕ × Mode))
     → SameEntries core.csrs (if asks then core_after_interrupt_by core pick else core).csrs

@@ -1,5 +1,7 @@
 pub mod Ways
+pub mod WritePlaces
 pub mod Phases
+pub mod StepSets
 pub mod Traps
 pub mod Modes
 pub mod Handlers
@@ -9,6 +11,8 @@ pub mod Reserved
 pub mod ProtectiveCsrs
 pub mod Entries
 pub mod Locks
+pub mod PlacedParts
+pub mod Located
 pub mod Permitted
 pub mod Rows
 pub mod LockedBytes
@@ -18,3 +22,4 @@ pub mod ShownBytes
 pub mod WholeStores
 pub mod WordOpcodes
 pub mod StoreWords
+pub mod PageEnds

@@ -5,7 +5,6 @@ use Rattle.std.specs.Prelude.{◌==◌}
 use Rattle.std.proofs.Math.ListN.{get_or-eq_default}
 use Rattle.std.proofs.lemmas.Bool.{and_right, cases_Bool, cond-false, cond-true, false_from_ne_true}
 use Rattle.std.proofs.lemmas.Bool.Decides.{nat_tests}
-use Rattle.std.proofs.lemmas.List.Elements.{All-weaker}
 use Rattle.hart_words.specs.declared.privilege.Access.TheVariants as kind
 use Rattle.hart_words.specs.declared.privilege.Mode.{Mode}
 use Rattle.hart_words.specs.declared.privilege.Mode.TheVariants.{User, Supervisor, Machine}
@@ -25,11 +24,11 @@ use Rattle.csr_file.specs.Values.{configuration_of}
 use Rattle.hart_step.specs.Cores.{IsSound}
 use Rattle.hart_step.specs.Rows.{HartState, after_row, after_rows}
 use Rattle.hart_step.specs.Steps.{before_instruction, step_of}
-use Rattle.hart_step.specs.ProtectionLaws.{IsLockedByte, IsStepWrite, LocksArePreserved}
+use Rattle.hart_step.specs.ProtectionLaws.{IsLockedByte, LocksArePreserved}
 use Rattle.hart_step.proofs.Entries.{begun_entries}
 use Rattle.hart_step.proofs.Permitted.{step_granted}
 use Rattle.hart_step.proofs.Locks.{locks_outlast, still_locked}
-use Rattle.hart_step.proofs.Rows.{Misses, refused_misses, unreached}
+use Rattle.hart_step.proofs.Rows.{refused_misses, unreached, writes_miss}
 
 -- a locked entry without W refuses a store to every mode
 by_lock : (cfg : ℕ) (unlocked : Bool) → (cfg / 2 ^ 7 % 2 == 0) ≡ unlocked → bit_is_set cfg PMP_LOCK ≡ true
@@ -138,8 +137,9 @@ kept_by_row state shown byte shut =
     λ (mode : Mode). ap (λ entries. is_allowed entries mode byte 1 kind.Store) (begun_entries state.core shown)
     ∙ shut_refuses state.core.csrs byte mode shut in
     unreached wrote state.bytes byte
-    (All-weaker (IsStepWrite begins) (Misses byte) (λ write granted. refused_misses begins byte write refused granted)
-    wrote (step_granted state.core shown state.bytes).writes)
+    (writes_miss begins state.bytes byte wrote (refused Supervisor)
+    (λ write granted. refused_misses begins byte write refused granted)
+    (step_granted state.core shown state.bytes).writes)
 
 kept_by_rows : (state : HartState) (rows : List Shown) (byte : ℕ) → IsShut state.core.csrs byte
     → (after_rows state rows).bytes byte ≡ state.bytes byte

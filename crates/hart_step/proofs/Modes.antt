@@ -26,7 +26,7 @@ use Rattle.csr_file.specs.Fields.{bit_is_set, mode_of_encoding}
 use Rattle.csr_file.specs.Registers.{at}
 use Rattle.trap_entry.specs.Returns.{mode_by_mret, mode_by_sret}
 use Rattle.trap_entry.proofs.Undone.{never_lowers}
-use Rattle.mem_access.specs.Accesses.{Exception, fetch_result}
+use Rattle.mem_access.specs.Accesses.{Exception}
 use Rattle.hart_step.specs.declared.state.Core.{Core}
 use Rattle.hart_step.specs.declared.choices.RowChoices.{RowChoices}
 use Rattle.hart_step.specs.declared.instruction.Instruction.{Instruction}
@@ -40,8 +40,8 @@ use Rattle.hart_step.specs.Returns.{may_use_supervisor_instruction, may_in_mode,
 use Rattle.hart_step.specs.Returns.{core_after_sret, wfi_traps}
 use Rattle.hart_step.specs.Instructions.{Completion, core_after_retirement, core_at_next, after_access, after_csr}
 use Rattle.hart_step.specs.Instructions.{completion_if, system_execution, execution_of, execution_by, first_value}
-use Rattle.hart_step.specs.Instructions.{second_value, InstructionRun, run_of_result, op_of, run_of_decoded}
-use Rattle.hart_step.specs.Instructions.{run_of_fetched, instruction_run}
+use Rattle.hart_step.specs.Instructions.{second_value, InstructionRun, run_of_result, op_for, run_of_decoded}
+use Rattle.hart_step.specs.Instructions.{fetch_at_pc, run_of_fetched, instruction_run}
 use Rattle.hart_step.specs.Steps.{before_instruction, core_after_count, core_after_entry, core_after_outcome}
 use Rattle.hart_step.specs.Steps.{core_after_run}
 use Rattle.hart_step.specs.Laws.{request_by, request_from, request_at_pc, next_of, enters_interrupt, ReturnsTo}
@@ -202,15 +202,14 @@ fetched_keeps : (core : Core) (shown : Shown) (word : Result (ℕ × ℕ) Except
     → RanKeeps core (request_from core word) ((run_of_fetched core shown word).run bytes).value
 unfolding pure
 fetched_keeps core shown (Err exception) bytes = λ retires. cc
-fetched_keeps core shown (Ok word) bytes = decoded_keeps core shown word.0 word.1 (op_of word.0 word.1) bytes
+fetched_keeps core shown (Ok word) bytes = decoded_keeps core shown word.0 word.1 (op_for core word.0 word.1) bytes
 
 ran_keeps : (core : Core) (shown : Shown) (bytes : Bytes)
     → RanKeeps core (request_at_pc core bytes) ((instruction_run core shown).run bytes).value
 unfolding instruction_run request_at_pc
 ran_keeps core shown bytes =
-    let fetch = fetch_result core.csrs core.map core.mode core.pc in
-    let before = fetch.run bytes in
-    let whole = run_then-is fetch (run_of_fetched core shown) bytes in
+    let before = (fetch_at_pc core).run bytes in
+    let whole = run_then-is (fetch_at_pc core) (run_of_fetched core shown) bytes in
     let P : Run InstructionRun → Type 0 = λ r. RanKeeps core (request_from core before.value) r.value in
     subst P (sym whole) (fetched_keeps core shown before.value (after_writes before.wrote bytes))
 

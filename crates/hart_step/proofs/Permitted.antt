@@ -1,19 +1,19 @@
--- All that a step reads, writes and expects is granted.
-use Rattle.std.proofs.Common.{◌≡◌, ℕ, ◌%◌, Bool, true, false, List, [], ◌∷◌, ◌++◌, append-nil, refl, sym, ap, ◌∙◌}
-use Rattle.std.proofs.Common.{subst, inl, inr, Ok, Err, Result, Option, Some, None, All, if◌then◌else◌}
-use Rattle.std.specs.Prelude.{IsTrue, IfSome, IfOk, ◌==◌}
-use Rattle.std.proofs.lemmas.Bool.{cases_Bool}
-use Rattle.std.proofs.lemmas.List.Elements.{All-append, All-map, All-nil}
+-- All that a step reads, stores and expects is granted.
+use Rattle.std.proofs.Common.{◌≡◌, ℕ, ◌/◌, ◌^◌, Bool, true, false, List, [], ◌∷◌, ◌++◌, append-nil, refl, sym}
+use Rattle.std.proofs.Common.{ap, ◌∙◌, subst, inl, inr, Ok, Err, Result, Option, Some, None, All, if◌then◌else◌}
+use Rattle.std.specs.Prelude.{IfSome, IfOk, map as each}
+use Rattle.std.proofs.lemmas.Bool.{and_parts, cases_Bool}
+use Rattle.std.proofs.lemmas.List.Elements.{All-append, All-cons, All-head, All-map, All-nil, All-tail, All-weaker}
 use Rattle.hart_words.specs.declared.privilege.Access.{Access}
 use Rattle.hart_words.specs.declared.privilege.Access.TheVariants as kind
-use Rattle.hart_words.specs.declared.privilege.Cause.{Cause}
+use Rattle.hart_words.specs.declared.privilege.Mode.TheVariants.{Supervisor}
 use Rattle.hart_words.specs.declared.accesses.Read.{Read}
 use Rattle.hart_words.specs.declared.accesses.Write.{Write}
 use Rattle.hart_words.specs.AccessSizes.{bytes_of}
-use Rattle.hart_words.specs.Memory.{Bytes, after_writes}
+use Rattle.hart_words.specs.Memory.{Bytes, after_writes, bytes_after_store}
 use Rattle.hart_words.specs.Signals.{Shown}
 use Rattle.hart_words.specs.Spans.{holds_all}
-use Rattle.hart_words.specs.Actions.{Action, Run, pure, read_memory, write_memory, mapped, followed_by, ◌>>=◌}
+use Rattle.hart_words.specs.Actions.{Action, Run, pure, write_memory, mapped, run_then, ◌>>=◌}
 use Rattle.hart_words.proofs.Runs.{run_then-is}
 use Rattle.rv_decode.specs.declared.operation.Op.{Op}
 use Rattle.rv_decode.specs.Operands.{operands_of}
@@ -25,24 +25,20 @@ use Rattle.rv_integer.specs.declared.int_result.MemoryOp.TheVariants.{Load, Load
 use Rattle.rv_integer.specs.declared.int_result.SystemRequest.{SystemRequest}
 use Rattle.rv_integer.specs.declared.int_result.SystemRequest.TheVariants as system
 use Rattle.rv_integer.specs.Results.{result_of}
+use Rattle.rv_atomic.specs.Operations.{amo_of}
 use Rattle.csr_file.specs.declared.csrs.Csrs.{Csrs}
 use Rattle.csr_file.specs.declared.access.Illegal.{Illegal}
 use Rattle.csr_file.specs.declared.fields.TheConstants.{TSR, TVM}
-use Rattle.rv_atomic.specs.Operations.{amo_of}
+use Rattle.csr_file.specs.Registers.{pmp_entries_of}
+use Rattle.pmp_check.specs.Protection.{is_allowed}
 use Rattle.rvfi_rows.specs.declared.expected.Accessed.{Accessed}
 use Rattle.rvfi_rows.specs.declared.expected.Expected.TheVariants.{Halted}
-use Rattle.hart_words.specs.declared.map.Map.{Map}
-use Rattle.hart_words.specs.declared.privilege.Mode.{Mode}
-use Rattle.mem_access.specs.declared.place.AccessRequest.{AccessRequest}
 use Rattle.mem_access.specs.declared.place.Place.{Place}
-use Rattle.mem_access.specs.Accesses.{Exception, data_store, fetch_result, store_place_of, with_address}
-use Rattle.mem_access.specs.Laws.{IsPermittedPlace, IsPlaceFound}
-use Rattle.mem_access.specs.Reads.{CheckedRead, IsPermittedRead, access_reads_of, data_reads_of, fetch_reads_of}
-use Rattle.mem_access.specs.Reads.{own_read, own_reads_at, place_found, reads_in, walk_reads_of}
-use Rattle.mem_access.proofs.Grants.{IsMemory, each_is, one_element}
-use Rattle.mem_access.proofs.Orders.{data_permitted, fetch_granted, found_memory, load_granted, reads_append}
-use Rattle.mem_access.proofs.Orders.{store_granted, store_is, store_value, then_known}
-use Rattle.mem_access.proofs.Writes.{fetch_writes_nothing}
+use Rattle.mem_access.specs.Accesses.{Exception, Part, Places, first_len, first_part, request_for, second_part}
+use Rattle.mem_access.specs.Laws.{ArePlacesFound, AreReads, AreTableSets, IsPermittedPart, IsPermittedPlace}
+use Rattle.mem_access.specs.Laws.{IsTableSet, place_list}
+use Rattle.mem_access.specs.Reads.{CheckedRead, IsPermittedRead, PlacedPart, fetch_reads_of, reads_in}
+use Rattle.mem_access.specs.Reads.{whole_part}
 use Rattle.hart_step.specs.declared.state.Core.{Core}
 use Rattle.hart_step.specs.declared.choices.RowChoices.{RowChoices}
 use Rattle.hart_step.specs.declared.instruction.Instruction.{Instruction}
@@ -50,323 +46,254 @@ use Rattle.hart_step.specs.declared.instruction.InstructionOutcome.{InstructionO
 use Rattle.hart_step.specs.declared.instruction.InstructionOutcome.TheVariants.{Trapped, Retired}
 use Rattle.hart_step.specs.declared.memory.AccessResult.{AccessResult}
 use Rattle.hart_step.specs.Choices.{choices_of}
-use Rattle.hart_step.specs.MemoryAccess.{LocatedValue, expected_access, value_found, found_without_value}
-use Rattle.hart_step.specs.MemoryAccess.{found_with_read, located_access, located_access_by, is_stored}
-use Rattle.hart_step.specs.MemoryAccess.{access_result_by, access_result_of, number_written, put_to, put}
-use Rattle.hart_step.specs.MemoryAccess.{access_after_location, memory_access}
+use Rattle.hart_step.specs.MemoryAccess.{LocatedValue, access_after_location, access_result_by, access_result_of}
+use Rattle.hart_step.specs.MemoryAccess.{expected_access, is_stored}
+use Rattle.hart_step.specs.MemoryAccess.{located_access, memory_access, number_written, put, put_to}
+use Rattle.hart_step.specs.MemoryAccess.{value_found}
 use Rattle.hart_step.specs.CsrAccess.{csr_access_result}
 use Rattle.hart_step.specs.Returns.{may_use_supervisor_instruction, may_mret, core_after_mret, core_after_sret}
 use Rattle.hart_step.specs.Instructions.{Completion, core_after_retirement, core_at_next, after_access, after_csr}
-use Rattle.hart_step.specs.Instructions.{completion_if, system_execution, execution_of, execution_by, first_value}
-use Rattle.hart_step.specs.Instructions.{second_value, InstructionRun, run_of_result, op_of, run_of_decoded}
-use Rattle.hart_step.specs.Instructions.{run_of_fetched, instruction_run}
+use Rattle.hart_step.specs.Instructions.{completion_if, system_execution, execution_of, execution_by, fetch_at_pc}
+use Rattle.hart_step.specs.Instructions.{first_value, second_value, InstructionRun, run_of_result, op_for}
+use Rattle.hart_step.specs.Instructions.{run_of_decoded, run_of_fetched, instruction_run}
 use Rattle.hart_step.specs.Steps.{StepResult, before_instruction, effects_of, expected_of, step_result_of, step_of}
-use Rattle.hart_step.specs.Laws.{request_by, request_from, request_at_pc}
-use Rattle.hart_step.specs.ProtectionLaws.{asked_reads_of, check_by, check_of, instruction_reads_of, kind_by}
-use Rattle.hart_step.specs.ProtectionLaws.{reads_its_bytes, step_reads_of, IsAskedAccess, IsAskedFor, IsAskedWrite}
-use Rattle.hart_step.specs.ProtectionLaws.{IsFoundFor, IsPermittedStep, IsStepAccess, IsStepWrite, MayAccess}
+use Rattle.hart_step.specs.Laws.{AreSetsAndStores, bytes_after_fetch, request_by, request_from, request_at_pc}
+use Rattle.hart_step.specs.ProtectionLaws.{access_kind_of, asked_reads_of, check_of, instruction_reads_of}
+use Rattle.hart_step.specs.ProtectionLaws.{is_atomic, kind_by, reads_its_bytes, step_reads_of}
+use Rattle.hart_step.specs.ProtectionLaws.{ArePermittedStores, BeginsAt, IsAskedAccess}
+use Rattle.hart_step.specs.ProtectionLaws.{IsAskedFor, IsPermittedStore, MayAccess, MayAccessPart}
 use Rattle.hart_step.specs.ProtectionLaws.{OfExpected, StepIsPermitted}
+use Rattle.mem_access.proofs.Granted.{data_permitted, fetch_granted}
+use Rattle.mem_access.proofs.Orders.{reads_append}
+use Rattle.hart_step.proofs.Located.{located_granted}
 use Rattle.hart_step.proofs.Phases.{running, halting}
-use Rattle.hart_step.proofs.Traps.{placed_writes}
+use Rattle.hart_step.proofs.PlacedParts.{placed_both, placed_whole, two_placed, whole_placed}
+use Rattle.hart_step.proofs.StepSets.{HoldsOfStores, access_stores, step_stores}
 
--- where an access goes, with what is read on the way and at the place
-record IsPlaced (core : Core) (va len : ℕ) (op : MemoryOp) (bytes : Bytes)
-    (run : Run (Result LocatedValue Exception)) : Type 0 where
-  pub reads : run.reads
-      ≡ reads_in (data_reads_of core.csrs core.map (check_by core len op) (reads_its_bytes op) va bytes)
-  pub place : IfOk run.value (λ found. IsPlaceFound core.csrs core.map (check_by core len op) va bytes found.0)
+-- the places that an access found, and the kind that it is of
+abbrev ArePlacesOf : Core → MemoryRequest → Bytes → Places → Type 0
+ArePlacesOf core request start places =
+    ArePlacesFound core.csrs core.map core.choices (check_of core request) (is_atomic request.op) request.address start
+    places
 
-unread_place : (place : Result Place Exception) (P : Place → Type 0) → IfOk place P
-    → IfOk (found_without_value place) (λ found. P found.0)
-unread_place (Err exception) P holds = tt
-unread_place (Ok place) P holds = holds
+record AreOfKind (core : Core) (request : MemoryRequest) (start : Bytes) (access : Access) (places : Places)
+    : Type 0 where
+  pub kind : access_kind_of request.op ≡ access
+  pub found : ArePlacesOf core request start places
 
--- what an AMO reads at its place, where no device is
-amo_own : (request : AccessRequest) (va : ℕ) (located_access : Result Place Cause) (bytes : Bytes)
-    → IfOk located_access IsMemory
-    → ((found_with_read request.len (with_address va located_access)).run bytes).reads
-    ≡ reads_in (own_reads_at request va located_access)
-unfolding pure mapped read_memory
-amo_own request va (Err cause) bytes memory = refl
-amo_own request va (Ok place) bytes memory =
-    let check = own_read request va place in
-    let P : Bool → Type 0 = λ io. check.read ∷ [] ≡ reads_in (if io then [] else check ∷ []) in
-    subst P (sym memory) refl
+-- the access that is expected
+begins_at : (placed : List PlacedPart) (places : Places) → each (λ one. one.place) placed ≡ place_list places
+    → BeginsAt places.0.pa placed
+begins_at [] (first, None) order = let none : ⊥ = cc in none
+begins_at [] (first, Some second) order = let none : ⊥ = cc in none
+begins_at (one ∷ more) (first, None) order = let same : first ≡ one.place = cc in ap (λ place. place.pa) same
+begins_at (one ∷ more) (first, Some second) order = let same : first ≡ one.place = cc in ap (λ place. place.pa) same
 
-amo_reads : (csrs : Csrs) (map : Map) (request : AccessRequest) (va : ℕ) (aligned : Bool) (bytes : Bytes)
-    → request.devices ≡ false
-    → reads_in (if aligned then walk_reads_of csrs map request.mode va bytes else []) ++
-    ((found_with_read request.len (store_value csrs map request va aligned bytes)).run bytes).reads
-    ≡ reads_in (if aligned then access_reads_of csrs map request va bytes else [])
-unfolding access_reads_of pure
-amo_reads csrs map request va true bytes none =
-    let located_access = place_found csrs map request va bytes in
-    let walk = walk_reads_of csrs map request.mode va bytes in
-    ap (λ reads. reads_in walk ++ reads)
-    (amo_own request va located_access bytes (found_memory csrs map request va bytes none))
-    ∙ sym (reads_append walk (own_reads_at request va located_access))
-amo_reads csrs map request va false bytes none = refl
+may_access : (core : Core) (request : MemoryRequest) (access : Access) (placed : List PlacedPart)
+    → access_kind_of request.op ≡ access → All (IsPermittedPart core.csrs core.map (check_of core request)) placed
+    → All (MayAccessPart core access) placed
+may_access core request access placed kind permitted =
+    All-weaker (IsPermittedPart core.csrs core.map (check_of core request)) (MayAccessPart core access)
+    (λ one is. subst (λ (a : Access). MayAccessPart core a one) kind is.granted) placed permitted
 
-amo_order : (csrs : Csrs) (map : Map) (mode : Mode) (va len : ℕ) (bytes : Bytes)
-    → ((store_place_of csrs map mode va len true >>= found_with_read len).run bytes).reads
-    ≡ reads_in (data_reads_of csrs map (data_store csrs mode len true) true va bytes)
-unfolding data_reads_of after_writes
-amo_order csrs map mode va len bytes =
-    let request = data_store csrs mode len true in
-    let known : Run (Result Place Exception) = record {
-      value = store_value csrs map request va (va % len == 0) bytes;
-      reads = reads_in (data_reads_of csrs map request false va bytes);
-      wrote = [];
-    } in
-    ap (λ t. t.reads)
-    (then_known (store_place_of csrs map mode va len true) (found_with_read len) bytes known
-    (store_is csrs map mode va len true bytes))
-    ∙ amo_reads csrs map request va (va % len == 0) bytes refl
+asked_for : (core : Core) (request : MemoryRequest) (start : Bytes) (places : Places) (read written : Option ℕ)
+    → AreOfKind core request start (kind_by written) places
+    → IsAskedFor core request start
+    (record { va = request.address; pa = places.0.pa; len = bytes_of request.size; read = read; written = written })
+asked_for core request start places read written is = record {
+  va = refl;
+  whole = refl;
+  kind = is.kind;
+  placed = is.found.placed;
+  found = is.found.found;
+  begins = begins_at is.found.placed places is.found.order;
+  permitted = may_access core request (kind_by written) is.found.placed is.kind is.found.permitted;
+}
 
-read_at_place : (len : ℕ) (place : Result Place Exception) (P : Place → Type 0) (bytes : Bytes) → IfOk place P
-    → IfOk ((found_with_read len place).run bytes).value (λ found. P found.0)
-unfolding pure mapped
-read_at_place len (Err exception) P bytes holds = tt
-read_at_place len (Ok place) P bytes holds = holds
+-- what is stored
+abbrev AreStored : Core → MemoryRequest → Bytes → List Write → Type 0
+AreStored core request start stores = ArePermittedStores core (Some (results.Access request)) start stores
 
-placed_by_granted : (core : Core) (va len : ℕ) (op : MemoryOp) (bytes : Bytes)
-    → IsPlaced core va len op bytes ((located_access_by core va len op).run bytes)
-unfolding mapped
-placed_by_granted core va len (Load signed) bytes =
-    let both = load_granted core.csrs core.map core.mode va len false bytes in
-    record { reads = both.0.order; place = both.1 }
-placed_by_granted core va len LoadReserved bytes =
-    let both = load_granted core.csrs core.map core.mode va len true bytes in
-    record { reads = both.0.order; place = both.1 }
-placed_by_granted core va len (Store value) bytes =
-    let both = store_granted core.csrs core.map core.mode va len false bytes in
-    let run = (store_place_of core.csrs core.map core.mode va len false).run bytes in
+stores_nothing : (core : Core) (asks : Option IntResult) (start : Bytes) → ArePermittedStores core asks start []
+stores_nothing core asks start = record { permitted = All-nil (IsPermittedStore core); asked = tt }
+
+-- a store to a part that is permitted and of RAM
+abbrev store_to : Part → Place → ℕ → Write
+store_to part place value = record { pa = place.pa; len = part.len; value = value }
+
+permitted_store : (core : Core) (request : MemoryRequest) (part : Part) (place : Place) (value : ℕ)
+    → access_kind_of request.op ≡ kind.Store
+    → IsPermittedPlace core.csrs core.map (request_for (check_of core request) part) place → place.io ≡ false
+    → IsPermittedStore core (store_to part place value)
+permitted_store core request part place value kind is memory =
+    (is.inside memory, subst (λ (a : Access). MayAccess core a place.pa part.len) kind is.granted)
+
+whole_stored : (core : Core) (request : MemoryRequest) (start : Bytes) (first : Place) (value : ℕ)
+    → AreOfKind core request start kind.Store (first, None) → first.io ≡ false
+    → AreStored core request start (store_to (whole_part request.address (bytes_of request.size)) first value ∷ [])
+whole_stored core request start first value is memory =
+    let part = whole_part request.address (bytes_of request.size) in
+    let here : PlacedPart = whole_placed (check_of core request) request.address first in
+    let placed = placed_whole first is.found in
+    let permitted =
+    All-head (IsPermittedPart core.csrs core.map (check_of core request)) here [] placed.permitted in
     record {
-      reads = both.0.order;
-      place = unread_place run.value (IsPlaceFound core.csrs core.map (check_by core len (Store value)) va bytes)
-          both.1;
-    }
-placed_by_granted core va len (StoreConditional value) bytes =
-    let both = store_granted core.csrs core.map core.mode va len true bytes in
-    let run = (store_place_of core.csrs core.map core.mode va len true).run bytes in
-    record {
-      reads = both.0.order;
-      place = unread_place run.value
-          (IsPlaceFound core.csrs core.map (check_by core len (StoreConditional value)) va bytes) both.1;
-    }
-placed_by_granted core va len (Amo op width b) bytes =
-    let way = store_place_of core.csrs core.map core.mode va len true in
-    let both = store_granted core.csrs core.map core.mode va len true bytes in
-    let run = way.run bytes in
-    let Here : Place → Type 0 = IsPlaceFound core.csrs core.map (check_by core len (Amo op width b)) va bytes in
-    let Placed : Result LocatedValue Exception → Type 0 = λ r. IfOk r (λ found. Here found.0) in
-    let now = after_writes run.wrote bytes in
-    record {
-      reads = amo_order core.csrs core.map core.mode va len bytes;
-      place = subst Placed (sym (ap (λ t. t.value) (run_then-is way (found_with_read len) bytes)))
-          (read_at_place len run.value Here now both.1);
+      permitted =
+          All-cons (IsPermittedStore core) (store_to part first value) []
+          (permitted_store core request part first value is.kind permitted memory) (All-nil (IsPermittedStore core));
+      asked = record { kind = is.kind; placed = here ∷ []; found = placed.found; ranges = refl };
     }
 
-placed_granted : (core : Core) (request : MemoryRequest) (bytes : Bytes)
-    → IsPlaced core request.address (bytes_of request.size) request.op bytes ((located_access core request).run bytes)
-unfolding located_access
-placed_granted core request bytes = placed_by_granted core request.address (bytes_of request.size) request.op bytes
+both_stored : (core : Core) (request : MemoryRequest) (start : Bytes) (first second : Place) (low high : ℕ)
+    → AreOfKind core request start kind.Store (first, Some second)
+    → AreStored core request start
+    (store_to (first_part request.address (bytes_of request.size)) first low
+    ∷ store_to (second_part request.address (bytes_of request.size)) second high ∷ [])
+both_stored core request start first second low high is =
+    let check = check_of core request in
+    let one = first_part request.address (bytes_of request.size) in
+    let two = second_part request.address (bytes_of request.size) in
+    let both = placed_both first second is.found in
+    let here : PlacedPart = record { part = one; place = first } in
+    let there : PlacedPart = record { part = two; place = second } in
+    let Permitted : PlacedPart → Type 0 = IsPermittedPart core.csrs core.map check in
+    let front = All-head Permitted here (there ∷ []) both.placed.permitted in
+    let back =
+    All-head Permitted there [] (All-tail Permitted here (there ∷ []) both.placed.permitted) in
+    record {
+      permitted =
+          All-cons (IsPermittedStore core) (store_to one first low) (store_to two second high ∷ [])
+          (permitted_store core request one first low is.kind front both.first_memory)
+          (All-cons (IsPermittedStore core) (store_to two second high) []
+          (permitted_store core request two second high is.kind back both.second_memory)
+          (All-nil (IsPermittedStore core)));
+      asked = record {
+        kind = is.kind;
+        placed = two_placed check request.address first second;
+        found = both.placed.found;
+        ranges = refl;
+      };
+    }
 
--- what is written and expected: what may be, and where the instruction asks for it
-abbrev IsOwnWrite : Core → Option IntResult → Bytes → Write → Type 0
-IsOwnWrite core asks bytes write = IsStepWrite core write × IsAskedWrite core asks bytes write
-
-abbrev IsOwnAccess : Core → Option IntResult → Bytes → Accessed → Type 0
-IsOwnAccess core asks bytes access = IsStepAccess core access × IsAskedAccess core asks bytes access
-
--- what comes of an access, that writes and shows what it may
-record IsAnswered (P : Write → Type 0) (Q : Accessed → Type 0) (run : Run (Result AccessResult Exception)) : Type
-    0 where
+-- a number that is put reads nothing, and stores what it may
+record Puts (core : Core) (request : MemoryRequest) (start : Bytes) (run : Run (Unit {0})) : Type 0 where
   pub reads : run.reads ≡ []
-  pub writes : All P run.wrote
-  pub access : IfOk run.value (λ answer. IfSome answer.access Q)
+  pub stores : AreStored core request start run.wrote
+
+puts_nothing : (core : Core) (request : MemoryRequest) (start : Bytes) (places : Places) (bytes : Bytes)
+    → Puts core request start ((put places request None).run bytes)
+unfolding put pure
+puts_nothing core request start places bytes =
+    record { reads = refl; stores = stores_nothing core (Some (results.Access request)) start }
+
+puts_whole : (core : Core) (request : MemoryRequest) (start : Bytes) (first : Place) (value : ℕ) (io : Bool)
+    (bytes : Bytes) → AreOfKind core request start kind.Store (first, None) × (first.io ≡ io)
+    → Puts core request start ((put_to first (bytes_of request.size) value io).run bytes)
+unfolding pure write_memory
+puts_whole core request start first value true bytes is =
+    record { reads = refl; stores = stores_nothing core (Some (results.Access request)) start }
+puts_whole core request start first value false bytes is =
+    record { reads = refl; stores = whole_stored core request start first value is.0 is.1 }
+
+puts_value : (core : Core) (request : MemoryRequest) (start : Bytes) (places : Places) (value : ℕ) (bytes : Bytes)
+    → AreOfKind core request start kind.Store places
+    → Puts core request start ((put places request (Some value)).run bytes)
+unfolding put ◌>>=◌ run_then write_memory
+puts_value core request start (first, None) value bytes is =
+    puts_whole core request start first value first.io bytes (is, refl)
+puts_value core request start (first, Some second) value bytes is = record {
+  reads = refl;
+  stores =
+      both_stored core request start first second value
+      (value / 256 ^ first_len request.address (bytes_of request.size)) is;
+}
+
+-- what comes of an access, that stores and shows what it may
+record IsAnswered (core : Core) (request : MemoryRequest) (start : Bytes)
+    (run : Run (Result AccessResult Exception)) : Type 0 where
+  pub reads : run.reads ≡ []
+  pub stores : AreStored core request start run.wrote
+  pub access : IfOk run.value (λ answer. IfSome answer.access (IsAskedFor core request start))
 
 -- an answer, whose number is written
-abbrev answering : Place → ℕ → AccessResult → Action (Result AccessResult Exception)
-answering place len answer = mapped (λ _. Ok answer) (put place len (number_written answer.access))
+abbrev answering : Places → MemoryRequest → AccessResult → Action (Result AccessResult Exception)
+answering places request answer = mapped (λ _. Ok answer) (put places request (number_written answer.access))
 
-abbrev Puts : (Write → Type 0) → Place → ℕ → Bytes → Option ℕ → Type 0
-Puts P place len bytes value =
-    (((put place len value).run bytes).reads ≡ []) × All P ((put place len value).run bytes).wrote
-
--- the writes that may be made at a place
-abbrev MayPut : (Write → Type 0) → Place → ℕ → Type 0
-MayPut P place len = (value : ℕ) → place.io ≡ false → P (record { pa = place.pa; len = len; value = value })
-
-put_writes : (P : Write → Type 0) (place : Place) (len value : ℕ) (io : Bool) (bytes : Bytes)
-    → (io ≡ false → P (record { pa = place.pa; len = len; value = value }))
-    → (((put_to place len value io).run bytes).reads ≡ []) × All P ((put_to place len value io).run bytes).wrote
-unfolding pure write_memory
-put_writes P place len value true bytes may = (refl, All-nil P)
-put_writes P place len value false bytes may =
-    (refl, one_element P (record { pa = place.pa; len = len; value = value }) (may refl))
-
-puts_nothing : (P : Write → Type 0) (place : Place) (len : ℕ) (bytes : Bytes) → Puts P place len bytes None
-unfolding put pure
-puts_nothing P place len bytes = (refl, All-nil P)
-
-puts_value : (P : Write → Type 0) (place : Place) (len value : ℕ) (bytes : Bytes) → MayPut P place len
-    → Puts P place len bytes (Some value)
-unfolding put
-puts_value P place len value bytes may = put_writes P place len value place.io bytes (may value)
-
-answered : {P : Write → Type 0} {Q : Accessed → Type 0} (place : Place) (len : ℕ) (answer : AccessResult)
-    (bytes : Bytes) → Puts P place len bytes (number_written answer.access) → IfSome answer.access Q
-    → IsAnswered P Q ((answering place len answer).run bytes)
+answered : {core : Core} {request : MemoryRequest} {start : Bytes} (places : Places) (answer : AccessResult)
+    (bytes : Bytes) → Puts core request start ((put places request (number_written answer.access)).run bytes)
+    → IfSome answer.access (IsAskedFor core request start)
+    → IsAnswered core request start ((answering places request answer).run bytes)
 unfolding mapped
-answered place len answer bytes puts granted = record { reads = puts.0; writes = puts.1; access = granted }
+answered places answer bytes puts granted = record { reads = puts.reads; stores = puts.stores; access = granted }
 
-stored_by : {P : Write → Type 0} {Q : Accessed → Type 0} (request : MemoryRequest) (place : Place) (value : ℕ)
-    (stored : Bool) (bytes : Bytes)
-    → MayPut P place (bytes_of request.size) → IfSome (expected_access request place None (Some value)) Q
-    → IsAnswered P Q ((answering place (bytes_of request.size) (if stored
+-- an SC that stored, and one that did not
+conditional_by : (core : Core) (request : MemoryRequest) (start : Bytes) (places : Places) (value : ℕ) (stored : Bool)
+    (bytes : Bytes) → AreOfKind core request start kind.Store places
+    → IsAnswered core request start ((answering places request (if stored
     then record {
       value =
           0;
-      access = expected_access request place None (Some value);
+      access = expected_access request places.0 None (Some value);
       reservation = record { block = None };
     }
     else record { value = 1; access = None; reservation = record { block = None } })).run bytes)
-stored_by {P} request place value true bytes may granted =
-    let len = bytes_of request.size in
+conditional_by core request start places value true bytes is =
     let answer : AccessResult =
     record {
       value = 0;
-      access = expected_access request place None (Some value);
+      access = expected_access request places.0 None (Some value);
       reservation = record { block = None };
     } in
-    answered place len answer bytes (puts_value P place len value bytes may) granted
-stored_by {P} request place value false bytes may granted =
-    let len = bytes_of request.size in
+    answered places answer bytes (puts_value core request start places value bytes is)
+    (asked_for core request start places None (Some value) is)
+conditional_by core request start places value false bytes is =
     let answer : AccessResult = record { value = 1; access = None; reservation = record { block = None } } in
-    answered place len answer bytes (puts_nothing P place len bytes) tt
+    answered places answer bytes (puts_nothing core request start places bytes) tt
 
--- where the place is, for the write and for the access that is expected
-abbrev IsFoundAt : Core → MemoryRequest → Bytes → Place → Access → Type 0
-IsFoundAt core request start place access =
-    IsFoundFor core request start access place.pa (bytes_of request.size) place.io
-
--- and that it is permitted, for an operation
-record IsGrantedAt (core : Core) (request : MemoryRequest) (op : MemoryOp) (start : Bytes) (place : Place) : Type
-    0 where
-  pub permitted : IsPermittedPlace core.csrs core.map (check_by core (bytes_of request.size) op) place
-  pub found : (access : Access) → (check_by core (bytes_of request.size) op).access ≡ access
-      → IsFoundAt core request start place access
-
-in_ram : (core : Core) (request : MemoryRequest) (start : Bytes) (place : Place)
-    → IsFoundAt core request start place kind.Store → place.io ≡ false
-    → IsFoundFor core request start kind.Store place.pa (bytes_of request.size) false
-in_ram core request start place found memory =
-    let P : Bool → Type 0 =
-    IsFoundFor core request start kind.Store place.pa (bytes_of request.size) in subst P memory found
-
-may_put : (core : Core) (request : MemoryRequest) (start : Bytes) (place : Place)
-    → (place.io ≡ false → IsTrue (holds_all core.map.ram place.pa (bytes_of request.size)))
-    → MayAccess core kind.Store place.pa (bytes_of request.size) → IsFoundAt core request start place kind.Store
-    → MayPut (IsOwnWrite core (Some (results.Access request)) start) place (bytes_of request.size)
-may_put core request start place inside may found value memory =
-    ((inside memory, may), in_ram core request start place found memory)
-
-asked_for : (core : Core) (request : MemoryRequest) (start : Bytes) (place : Place) (read written : Option ℕ)
-    → IsFoundAt core request start place (kind_by written)
-    → IsAskedFor core request start
-    (record { va = request.address; pa = place.pa; len = bytes_of request.size; read = read; written = written })
-asked_for core request start place read written found = record { va = refl; io = place.io; place = found }
-
-answer_granted : (core : Core) (choices : RowChoices) (request : MemoryRequest) (start : Bytes)
-    (found : LocatedValue) (op : MemoryOp) (bytes : Bytes) → IsGrantedAt core request op start found.0
-    → IsAnswered (IsOwnWrite core (Some (results.Access request)) start)
-    (IsOwnAccess core (Some (results.Access request)) start)
-    ((answering found.0 (bytes_of request.size)
-    (access_result_by core choices request found.0 found.1 op)).run bytes)
-answer_granted core choices request start found (Load signed) bytes is =
-    let place = found.0 in
-    let len = bytes_of request.size in
-    let Own : Write → Type 0 = IsOwnWrite core (Some (results.Access request)) start in
-    answered place len (access_result_by core choices request place found.1 (Load signed)) bytes
-    (puts_nothing Own place len bytes) (
-      is.permitted.granted,
-      asked_for core request start place (Some (value_found choices request place found.1)) None
-          (is.found kind.Load refl),
-    )
-answer_granted core choices request start found LoadReserved bytes is =
-    let place = found.0 in
-    let len = bytes_of request.size in
-    let Own : Write → Type 0 = IsOwnWrite core (Some (results.Access request)) start in
-    answered place len (access_result_by core choices request place found.1 LoadReserved) bytes
-    (puts_nothing Own place len bytes)
-    (is.permitted.granted, asked_for core request start place (Some found.1) None (is.found kind.Load refl))
-answer_granted core choices request start found (Store value) bytes is =
-    let place = found.0 in
-    let len = bytes_of request.size in
-    let Own : Write → Type 0 = IsOwnWrite core (Some (results.Access request)) start in
-    let here = is.found kind.Store refl in
-    answered place len (access_result_by core choices request place found.1 (Store value)) bytes
-    (puts_value Own place len value bytes
-    (may_put core request start place is.permitted.inside is.permitted.granted here))
-    (is.permitted.granted, asked_for core request start place None (Some value) here)
-answer_granted core choices request start found (StoreConditional value) bytes is =
-    let place = found.0 in
-    let here = is.found kind.Store refl in
-    stored_by request place value (is_stored core choices request place) bytes
-    (may_put core request start place is.permitted.inside is.permitted.granted here)
-    (is.permitted.granted, asked_for core request start place None (Some value) here)
-answer_granted core choices request start found (Amo op width b) bytes is =
-    let place = found.0 in
-    let len = bytes_of request.size in
-    let value = amo_of op width found.1 b in
-    let Own : Write → Type 0 = IsOwnWrite core (Some (results.Access request)) start in
-    let here = is.found kind.Store refl in
-    answered place len (access_result_by core choices request place found.1 (Amo op width b)) bytes
-    (puts_value Own place len value bytes
-    (may_put core request start place is.permitted.inside is.permitted.granted here))
-    (is.permitted.granted, asked_for core request start place (Some found.1) (Some value) here)
-
-granted_at : (core : Core) (request : MemoryRequest) (start : Bytes) (place : Place)
-    → (check_of core request).len ≡ bytes_of request.size
-    → IsPlaceFound core.csrs core.map (check_of core request) request.address start place
-    → IsGrantedAt core request request.op start place
-granted_at core request start place same is =
-    let P : ℕ → Type 0 = λ n. request.address % n ≡ 0 in
-    record {
-      permitted = is.granted;
-      found =
-          λ access checked.
-          record { kind = checked; whole = refl; aligned = subst P same is.aligned; found = is.found };
-    }
-
-pub check_len : (core : Core) (len : ℕ) (op : MemoryOp) → (check_by core len op).len ≡ len
-check_len core len (Load signed) = refl
-check_len core len LoadReserved = refl
-check_len core len (Store value) = refl
-check_len core len (StoreConditional value) = refl
-check_len core len (Amo op width b) = refl
+-- what an operation comes to at its places, with the number that was read there
+answer_granted : (core : Core) (choices : RowChoices) (request : MemoryRequest) (start : Bytes) (found : LocatedValue)
+    (bytes : Bytes) (op : MemoryOp) → AreOfKind core request start (access_kind_of op) (found.0, found.1)
+    → IsAnswered core request start
+    ((answering (found.0, found.1) request (access_result_by core choices request found.0 found.2 op)).run bytes)
+answer_granted core choices request start (first, second, held) bytes (Load signed) is =
+    answered (first, second) (access_result_by core choices request first held (Load signed)) bytes
+    (puts_nothing core request start (first, second) bytes)
+    (asked_for core request start (first, second) (Some (value_found choices request first held)) None is)
+answer_granted core choices request start (first, second, held) bytes LoadReserved is =
+    answered (first, second) (access_result_by core choices request first held LoadReserved) bytes
+    (puts_nothing core request start (first, second) bytes)
+    (asked_for core request start (first, second) (Some held) None is)
+answer_granted core choices request start (first, second, held) bytes (Store value) is =
+    answered (first, second) (access_result_by core choices request first held (Store value)) bytes
+    (puts_value core request start (first, second) value bytes is)
+    (asked_for core request start (first, second) None (Some value) is)
+answer_granted core choices request start (first, second, held) bytes (StoreConditional value) is =
+    conditional_by core request start (first, second) value (is_stored core choices request first) bytes is
+answer_granted core choices request start (first, second, held) bytes (Amo op width b) is =
+    let value = amo_of op width held b in
+    answered (first, second) (access_result_by core choices request first held (Amo op width b)) bytes
+    (puts_value core request start (first, second) value bytes is)
+    (asked_for core request start (first, second) (Some held) (Some value) is)
 
 answered_granted : (core : Core) (choices : RowChoices) (request : MemoryRequest) (start : Bytes)
     (found : Result LocatedValue Exception) (bytes : Bytes)
-    → IfOk found (λ f. IsPlaceFound core.csrs core.map (check_of core request) request.address start f.0)
-    → IsAnswered (IsOwnWrite core (Some (results.Access request)) start)
-    (IsOwnAccess core (Some (results.Access request)) start)
-    ((access_after_location core choices request found).run bytes)
+    → IfOk found (λ f. ArePlacesOf core request start (f.0, f.1))
+    → IsAnswered core request start ((access_after_location core choices request found).run bytes)
 unfolding pure access_result_of
-answered_granted core choices request start (Err exception) bytes is =
-    record { reads = refl; writes = All-nil (IsOwnWrite core (Some (results.Access request)) start); access = tt }
-answered_granted core choices request start (Ok found) bytes is =
-    let len = bytes_of request.size in
-    answer_granted core choices request start found request.op bytes
-    (granted_at core request start found.0 (check_len core len request.op) is)
+answered_granted core choices request start (Err exception) bytes is = record {
+  reads = refl;
+  stores = stores_nothing core (Some (results.Access request)) start;
+  access = tt;
+}
+answered_granted core choices request start (Ok (first, second, held)) bytes is =
+    answer_granted core choices request start (first, second, held) bytes request.op
+    (record { kind = refl; found = is })
 
 -- an instruction, by what it asks for, from the memory that it finds
 record IsDone (core : Core) (asks : Option IntResult) (start : Bytes) (run : Run (Result Completion Exception)) : Type
     0 where
   pub reads : run.reads ≡ reads_in (asked_reads_of core asks start)
-  pub writes : All (IsOwnWrite core asks start) run.wrote
-  pub access : IfOk run.value (λ done. IfSome done.access (IsOwnAccess core asks start))
+  pub access : IfOk run.value (λ done. IfSome done.access (IsAskedAccess core asks start))
 
 accessed_access : (core : Core) (i : Instruction) (Q : Accessed → Type 0) (answer : Result AccessResult Exception)
     → IfOk answer (λ a. IfSome a.access Q) → IfOk (after_access core i answer) (λ done. IfSome done.access Q)
@@ -379,24 +306,39 @@ access_granted : (core : Core) (choices : RowChoices) (i : Instruction) (request
     ((mapped (after_access core i) (memory_access core choices request)).run bytes)
 unfolding mapped memory_access
 access_granted core choices i request bytes =
-    let asks : Option IntResult = Some (results.Access request) in
     let way = located_access core request in
     let before = way.run bytes in
     let now = after_writes before.wrote bytes in
     let after = (access_after_location core choices request before.value).run now in
     let whole = run_then-is way (access_after_location core choices request) bytes in
-    let is = placed_granted core request bytes in
-    let answer = answered_granted core choices request bytes before.value now is.place in
-    let Q : Accessed → Type 0 = IsOwnAccess core asks bytes in
-    let Writes : List Write → Type 0 = All (IsOwnWrite core asks bytes) in
+    let is = located_granted core request bytes in
+    let answer = answered_granted core choices request bytes before.value now is.places in
+    let Q : Accessed → Type 0 = IsAskedFor core request bytes in
     let Answers : Result AccessResult Exception → Type 0 =
     λ a. IfOk (after_access core i a) (λ done. IfSome done.access Q) in
     record {
       reads = ap (λ t. t.reads) whole ∙ ap (λ r. before.reads ++ r) answer.reads ∙ append-nil before.reads ∙ is.reads;
-      writes = subst Writes
-          (sym (ap (λ t. t.wrote) whole ∙ ap (λ w. w ++ after.wrote) (placed_writes core request bytes))) answer.writes;
       access = subst Answers (sym (ap (λ t. t.value) whole)) (accessed_access core i Q after.value answer.access);
     }
+
+-- what an access stores
+access_stored : (core : Core) (choices : RowChoices) (request : MemoryRequest) (bytes : Bytes)
+    → AreStored core request bytes (access_stores core choices request bytes)
+access_stored core choices request bytes =
+    let found = (located_access core request).run bytes in
+    (answered_granted core choices request bytes found.value (after_writes found.wrote bytes)
+    (located_granted core request bytes).places).stores
+
+-- and what an instruction does
+holds_of_stores : (core : Core) (asks : Option IntResult) (bytes : Bytes)
+    → HoldsOfStores core bytes asks (ArePermittedStores core asks bytes)
+holds_of_stores core asks bytes = record {
+  none = stores_nothing core asks bytes;
+  asked =
+      λ choices request is.
+      subst (λ (a : Option IntResult). ArePermittedStores core a bytes (access_stores core choices request bytes))
+      (sym is) (access_stored core choices request bytes);
+}
 
 -- what makes no access
 nothing_done : (core : Core) (asks : Option IntResult) (start : Bytes) (done : Result Completion Exception)
@@ -405,18 +347,10 @@ nothing_done : (core : Core) (asks : Option IntResult) (start : Bytes) (done : R
     → IsDone core asks start ((pure done).run bytes)
 unfolding pure
 nothing_done core asks start (Err exception) bytes reads none =
-    record {
-      reads = ap (λ checks. reads_in checks) (sym reads);
-      writes = All-nil (IsOwnWrite core asks start);
-      access = tt;
-    }
+    record { reads = ap (λ checks. reads_in checks) (sym reads); access = tt }
 nothing_done core asks start (Ok done) bytes reads none =
-    let P : Option Accessed → Type 0 = λ a. IfSome a (IsOwnAccess core asks start) in
-    record {
-      reads = ap (λ checks. reads_in checks) (sym reads);
-      writes = All-nil (IsOwnWrite core asks start);
-      access = subst P (sym none) tt;
-    }
+    let P : Option Accessed → Type 0 = λ a. IfSome a (IsAskedAccess core asks start) in
+    record { reads = ap (λ checks. reads_in checks) (sym reads); access = subst P (sym none) tt }
 
 csr_none : (core : Core) (i : Instruction) (answer : Result (ℕ × Csrs) Illegal)
     → IfOk (after_csr core i answer) (λ d. d.access ≡ None)
@@ -467,8 +401,7 @@ OfAccess Q (Retired instruction access) = IfSome access Q
 record IsRan (core : Core) (asks : Option IntResult) (start : Bytes) (checks : List CheckedRead)
     (run : Run InstructionRun) : Type 0 where
   pub reads : run.reads ≡ reads_in checks
-  pub writes : All (IsOwnWrite core asks start) run.wrote
-  pub access : OfAccess (IsOwnAccess core asks start) run.value.executed
+  pub access : OfAccess (IsAskedAccess core asks start) run.value.executed
 
 ended_access : (core : Core) (i : Instruction) (Q : Accessed → Type 0) (done : Result Completion Exception)
     → IfOk done (λ d. IfSome d.access Q) → OfAccess Q (run_of_result core i done).executed
@@ -480,7 +413,7 @@ decoded_granted : (core : Core) (shown : Shown) (bits len : ℕ) (op : Option Op
     ((run_of_decoded core shown bits len op).run bytes)
 unfolding pure mapped execution_of
 decoded_granted core shown bits len None bytes =
-    record { reads = refl; writes = All-nil (IsOwnWrite core None bytes); access = tt }
+    record { reads = refl; access = tt }
 decoded_granted core shown bits len (Some op) bytes =
     let i : Instruction = record { op = op; bits = bits; len = len } in
     let choices = choices_of shown (operands_of op).rd in
@@ -488,8 +421,7 @@ decoded_granted core shown bits len (Some op) bytes =
     let done = executed_by_granted core choices i result bytes in
     record {
       reads = done.reads;
-      writes = done.writes;
-      access = ended_access core i (IsOwnAccess core (Some result) bytes)
+      access = ended_access core i (IsAskedAccess core (Some result) bytes)
           ((execution_of core choices i).run bytes).value done.access;
     }
 
@@ -498,54 +430,46 @@ fetched_granted : (core : Core) (shown : Shown) (word : Result (ℕ × ℕ) Exce
     ((run_of_fetched core shown word).run bytes)
 unfolding pure
 fetched_granted core shown (Err exception) bytes =
-    record { reads = refl; writes = All-nil (IsOwnWrite core None bytes); access = tt }
-fetched_granted core shown (Ok word) bytes = decoded_granted core shown word.0 word.1 (op_of word.0 word.1) bytes
+    record { reads = refl; access = tt }
+fetched_granted core shown (Ok word) bytes = decoded_granted core shown word.0 word.1 (op_for core word.0 word.1) bytes
 
--- a fetch leaves memory as it is
-same_memory : (core : Core) (bytes : Bytes)
-    → after_writes ((fetch_result core.csrs core.map core.mode core.pc).run bytes).wrote bytes ≡ bytes
-unfolding after_writes
-same_memory core bytes =
-    ap (λ w. after_writes w bytes) (fetch_writes_nothing core.csrs core.map core.mode core.pc bytes)
-
-ran_granted : (core : Core) (shown : Shown) (bytes : Bytes) → IsRan core (request_at_pc core bytes) bytes
-    (instruction_reads_of core bytes) ((instruction_run core shown).run bytes)
-unfolding instruction_run request_at_pc instruction_reads_of
+ran_granted : (core : Core) (shown : Shown) (bytes : Bytes)
+    → IsRan core (request_at_pc core bytes) (bytes_after_fetch core bytes) (instruction_reads_of core bytes)
+    ((instruction_run core shown).run bytes)
+unfolding instruction_run request_at_pc bytes_after_fetch instruction_reads_of
 ran_granted core shown bytes =
-    let fetch = fetch_result core.csrs core.map core.mode core.pc in
-    let before = fetch.run bytes in
-    let after = (run_of_fetched core shown before.value).run bytes in
-    let whole = run_then-is fetch (run_of_fetched core shown) bytes
-    ∙ ap (λ m. followed_by before ((run_of_fetched core shown before.value).run m)) (same_memory core bytes) in
+    let before = (fetch_at_pc core).run bytes in
+    let now = after_writes before.wrote bytes in
+    let after = (run_of_fetched core shown before.value).run now in
+    let whole = run_then-is (fetch_at_pc core) (run_of_fetched core shown) bytes in
     let asks = request_from core before.value in
-    let later = fetched_granted core shown before.value bytes in
-    let checks = fetch_reads_of core.csrs core.map core.mode core.pc bytes in
-    let Writes : List Write → Type 0 = All (IsOwnWrite core asks bytes) in
-    let Access : InstructionOutcome → Type 0 = OfAccess (IsOwnAccess core asks bytes) in
+    let later = fetched_granted core shown before.value now in
+    let checks = fetch_reads_of core.csrs core.map core.choices core.mode core.pc bytes in
+    let Access : InstructionOutcome → Type 0 = OfAccess (IsAskedAccess core asks now) in
     record {
       reads = ap (λ t. t.reads) whole
-          ∙ ap (λ r. r ++ after.reads) (fetch_granted core.csrs core.map core.mode core.pc bytes).order
-          ∙ ap (λ r. reads_in checks ++ r) later.reads ∙ sym (reads_append checks (asked_reads_of core asks bytes));
-      writes = subst Writes
-          (sym (ap (λ t. t.wrote) whole
-          ∙ ap (λ w. w ++ after.wrote) (fetch_writes_nothing core.csrs core.map core.mode core.pc bytes))) later.writes;
+          ∙ ap (λ r. r ++ after.reads) (fetch_granted core.csrs core.map core.choices core.mode core.pc bytes).order
+          ∙ ap (λ r. reads_in checks ++ r) later.reads ∙ sym (reads_append checks (asked_reads_of core asks now));
       access = subst Access (sym (ap (λ t. t.value.executed) whole)) later.access;
     }
 
 asked_permitted : (core : Core) (asks : Option IntResult) (bytes : Bytes)
     → All (IsPermittedRead core.csrs core.map) (asked_reads_of core asks bytes)
 asked_permitted core (Some (results.Access request)) bytes =
-    data_permitted core.csrs core.map (check_of core request) (reads_its_bytes request.op) request.address bytes
+    data_permitted core.csrs core.map core.choices (check_of core request) (is_atomic request.op)
+    (reads_its_bytes request.op) request.address bytes
 asked_permitted core _ bytes = All-nil (IsPermittedRead core.csrs core.map)
 
 instruction_permitted : (core : Core) (bytes : Bytes) → All (IsPermittedRead core.csrs core.map)
     (instruction_reads_of core bytes)
 unfolding instruction_reads_of
 instruction_permitted core bytes =
-    All-append (IsPermittedRead core.csrs core.map) (fetch_reads_of core.csrs core.map core.mode core.pc bytes)
-    (asked_reads_of core (request_at_pc core bytes) bytes)
-    (fetch_granted core.csrs core.map core.mode core.pc bytes).permitted
-    (asked_permitted core (request_at_pc core bytes) bytes)
+    let asks = request_at_pc core bytes in
+    let after = bytes_after_fetch core bytes in
+    All-append (IsPermittedRead core.csrs core.map)
+    (fetch_reads_of core.csrs core.map core.choices core.mode core.pc bytes) (asked_reads_of core asks after)
+    (fetch_granted core.csrs core.map core.choices core.mode core.pc bytes).permitted
+    (asked_permitted core asks after)
 
 -- a step
 effects_granted : (Q : Accessed → Type 0) (before after : Core) (execution_of : InstructionOutcome)
@@ -561,17 +485,6 @@ unfolding expected_of
 expected_granted Q core shown done granted =
     effects_granted Q (before_instruction core shown) done.core done.executed granted
 
-pub some_weaker : (Q R : Accessed → Type 0) (access : Option Accessed) → ((a : Accessed) → Q a → R a)
-    → IfSome access Q → IfSome access R
-some_weaker Q R None more holds = tt
-some_weaker Q R (Some access) more holds = more access holds
-
-access_weaker : (Q R : Accessed → Type 0) (execution_of : InstructionOutcome) → ((a : Accessed) → Q a → R a)
-    → OfAccess Q execution_of
-    → OfAccess R execution_of
-access_weaker Q R (Trapped insn exception) more holds = tt
-access_weaker Q R (Retired instruction access) more holds = some_weaker Q R access more holds
-
 reads_running : (core : Core) (shown : Shown) (bytes : Bytes) → core.halted ≡ false
     → step_reads_of core shown bytes ≡ instruction_reads_of (before_instruction core shown) bytes
 unfolding step_reads_of
@@ -581,55 +494,73 @@ reads_halted : (core : Core) (shown : Shown) (bytes : Bytes) → core.halted ≡
 unfolding step_reads_of
 reads_halted core shown bytes halts = rw halts refl
 
-running_granted : (core : Core) (shown : Shown) (bytes : Bytes) → core.halted ≡ false → StepIsPermitted core shown bytes
+-- what it stores
+stores_granted : (core : Core) (shown : Shown) (bytes : Bytes)
+    → AreSetsAndStores (before_instruction core shown) bytes
+    (ArePermittedStores (before_instruction core shown) (request_at_pc (before_instruction core shown) bytes)
+    (bytes_after_fetch (before_instruction core shown) bytes))
+    ((step_of core shown).run bytes).wrote
+stores_granted core shown bytes =
+    let begins = before_instruction core shown in
+    let asks = request_at_pc begins bytes in
+    let after = bytes_after_fetch begins bytes in
+    step_stores core shown bytes (ArePermittedStores begins asks after) (holds_of_stores begins asks after)
+
+-- what it reads and what is expected
+record IsShown (begins : Core) (asks : Option IntResult) (start : Bytes) (checks : List CheckedRead)
+    (step : Run StepResult) : Type 0 where
+  pub reads : AreReads begins.csrs begins.map checks step.reads
+  pub access : OfExpected (IsAskedAccess begins asks start) step.value.expected
+
+abbrev StepIsShown : Core → Shown → Bytes → Type 0
+StepIsShown core shown bytes =
+    let begins = before_instruction core shown in
+    IsShown begins (request_at_pc begins bytes) (bytes_after_fetch begins bytes) (step_reads_of core shown bytes)
+    ((step_of core shown).run bytes)
+
+running_granted : (core : Core) (shown : Shown) (bytes : Bytes) → core.halted ≡ false → StepIsShown core shown bytes
 unfolding mapped step_result_of
 running_granted core shown bytes runs =
     let begins = before_instruction core shown in
     let asks = request_at_pc begins bytes in
+    let after = bytes_after_fetch begins bytes in
     let granted = ran_granted begins shown bytes in
     let done = ((instruction_run begins shown).run bytes).value in
-    let wrote = ((instruction_run begins shown).run bytes).wrote in
-    let Own : Accessed → Type 0 = IsOwnAccess begins asks bytes in
     let step = (mapped (step_result_of core shown) (instruction_run begins shown)).run bytes in
-    let Checks : List CheckedRead → Type 0 = λ checks. IsPermittedStep begins asks bytes checks step in
-    let Permitted : Run StepResult → Type 0 = IsPermittedStep begins asks bytes (step_reads_of core shown bytes) in
+    let Checks : List CheckedRead → Type 0 = λ checks. IsShown begins asks after checks step in
+    let Granted : Run StepResult → Type 0 = IsShown begins asks after (step_reads_of core shown bytes) in
     let here : Checks (instruction_reads_of begins bytes) = record {
       reads = record { order = granted.reads; permitted = instruction_permitted begins bytes };
-      writes = each_is (IsOwnWrite begins asks bytes) (IsStepWrite begins) wrote (λ write own. own.0) granted.writes;
-      asked_writes =
-          each_is (IsOwnWrite begins asks bytes) (IsAskedWrite begins asks bytes) wrote
-          (λ write own. own.1) granted.writes;
-      access = expected_granted (IsStepAccess begins) core shown done
-          (access_weaker Own (IsStepAccess begins) done.executed (λ access own. own.0) granted.access);
-      asked_access =
-          expected_granted (IsAskedAccess begins asks bytes) core shown done
-          (access_weaker Own (IsAskedAccess begins asks bytes) done.executed (λ access own. own.1) granted.access);
+      access = expected_granted (IsAskedAccess begins asks after) core shown done granted.access;
     } in
-    subst Permitted (sym (running core shown bytes runs))
+    subst Granted (sym (running core shown bytes runs))
     (subst Checks (sym (reads_running core shown bytes runs)) here)
 
-halted_granted : (core : Core) (shown : Shown) (bytes : Bytes) → core.halted ≡ true → StepIsPermitted core shown bytes
+halted_granted : (core : Core) (shown : Shown) (bytes : Bytes) → core.halted ≡ true → StepIsShown core shown bytes
 halted_granted core shown bytes halts =
     let begins = before_instruction core shown in
     let asks = request_at_pc begins bytes in
+    let after = bytes_after_fetch begins bytes in
     let step : Run StepResult = record { value = record { next = core; expected = Halted }; reads = []; wrote = [] } in
-    let Checks : List CheckedRead → Type 0 = λ checks. IsPermittedStep begins asks bytes checks step in
-    let Permitted : Run StepResult → Type 0 = IsPermittedStep begins asks bytes (step_reads_of core shown bytes) in
+    let Checks : List CheckedRead → Type 0 = λ checks. IsShown begins asks after checks step in
+    let Granted : Run StepResult → Type 0 = IsShown begins asks after (step_reads_of core shown bytes) in
     let here : Checks [] = record {
       reads = record { order = refl; permitted = All-nil (IsPermittedRead begins.csrs begins.map) };
-      writes = All-nil (IsStepWrite begins);
-      asked_writes = All-nil (IsAskedWrite begins asks bytes);
       access = tt;
-      asked_access = tt;
     } in
-    subst Permitted (sym (halting core shown bytes halts))
+    subst Granted (sym (halting core shown bytes halts))
     (subst Checks (sym (reads_halted core shown bytes halts)) here)
 
-pub step_granted : (core : Core) (shown : Shown) (bytes : Bytes) → StepIsPermitted core shown bytes
-step_granted core shown bytes = elim (cases_Bool core.halted) [
+step_shown : (core : Core) (shown : Shown) (bytes : Bytes) → StepIsShown core shown bytes
+step_shown core shown bytes = elim (cases_Bool core.halted) [
   | inl halts ↦ halted_granted core shown bytes halts
   | inr runs ↦ running_granted core shown bytes runs
 ]
+
+pub step_granted : (core : Core) (shown : Shown) (bytes : Bytes) → StepIsPermitted core shown bytes
+step_granted core shown bytes =
+    let is = step_shown core shown bytes in
+    record { reads = is.reads; writes = stores_granted core shown bytes; access = is.access }
 
 -- all that it reads is RAM
 pub step_reads_ram : (core : Core) (shown : Shown) (bytes : Bytes) → All
@@ -641,7 +572,40 @@ step_reads_ram core shown bytes =
     let granted = (step_granted core shown bytes).reads in
     let InRam : Read → Type 0 = λ read. holds_all begins.map.ram read.pa read.len ≡ true in
     let each : All (λ check. InRam check.read) checks =
-    each_is (IsPermittedRead begins.csrs begins.map) (λ check. InRam check.read) checks
-    (λ check permitted. permitted.0) granted.permitted in
+    All-weaker (IsPermittedRead begins.csrs begins.map) (λ check. InRam check.read)
+    (λ check permitted. permitted.0) checks granted.permitted in
     let Lie : List Read → Type 0 = All InRam in
     subst Lie (sym granted.order) (All-map InRam (λ check. check.read) checks each)
+
+-- so is all that it writes
+InRam : Core → Write → Type 0
+InRam core write = holds_all core.map.ram write.pa write.len ≡ true
+
+set_in_ram : (core : Core) (bytes : Bytes) (write : Write) → IsTableSet core.csrs core.map core.choices bytes write
+    → InRam core write
+unfolding InRam
+set_in_ram core bytes write set =
+    let may = is_allowed (pmp_entries_of core.csrs) Supervisor write.pa 8 kind.Store in
+    ap (λ w. holds_all core.map.ram write.pa w.len) set.value
+    ∙ (and_parts (holds_all core.map.ram write.pa 8) may set.settable).0
+
+sets_in_ram : (core : Core) (bytes : Bytes) (writes : List Write)
+    → AreTableSets core.csrs core.map core.choices bytes writes → All (InRam core) writes
+unfolding AreTableSets
+sets_in_ram core bytes [] sets = All-nil (InRam core)
+sets_in_ram core bytes (write ∷ writes) sets =
+    All-cons (InRam core) write writes (set_in_ram core bytes write sets.0)
+    (sets_in_ram core (bytes_after_store write.pa write.len write.value bytes) writes sets.1)
+
+pub step_writes_ram : (core : Core) (shown : Shown) (bytes : Bytes)
+    → All (λ write. holds_all (before_instruction core shown).map.ram write.pa write.len ≡ true)
+    ((step_of core shown).run bytes).wrote
+unfolding InRam
+step_writes_ram core shown bytes =
+    let begins = before_instruction core shown in
+    let writes = (step_granted core shown bytes).writes in
+    let stored = All-weaker (IsPermittedStore begins) (InRam begins) (λ write permitted. permitted.0) writes.stored
+    writes.stores.permitted in
+    subst (All (InRam begins)) (sym writes.order)
+    (All-append (InRam begins) writes.sets writes.stored (sets_in_ram begins bytes writes.sets writes.entries.sets)
+    stored)

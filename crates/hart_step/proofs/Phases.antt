@@ -4,12 +4,13 @@ use Rattle.std.proofs.Common.{Option, Some, None, if◌then◌else◌}
 use Rattle.std.specs.Option.{is_some, is_none}
 use Rattle.std.proofs.lemmas.Bool.Decides.{nat_tests}
 use Rattle.hart_words.specs.declared.privilege.Mode.{Mode}
+use Rattle.hart_words.specs.Options.{are_zero}
 use Rattle.hart_words.specs.Privilege.{mode_number}
 use Rattle.hart_words.specs.declared.signal.Signal.TheVariants.{Intr, PcRdata}
 use Rattle.hart_words.specs.Signals.{Shown}
 use Rattle.hart_words.specs.Memory.{Bytes}
 use Rattle.hart_words.specs.Actions.{pure, mapped}
-use Rattle.trap_entry.specs.Entries.{enter_of, pc_by_enter}
+use Rattle.trap_entry.specs.Entries.{enter_of, pc_by_enter, trap_value_of}
 use Rattle.trap_entry.proofs.Undone.{never_lowers}
 use Rattle.interrupt_pick.proofs.Taken.{picks_taken}
 use Rattle.interrupt_pick.proofs.Entered.{picks_where_entered}
@@ -22,7 +23,7 @@ use Rattle.hart_step.specs.Choices.{shows, asks_interrupt, pending_lines_of}
 use Rattle.hart_step.specs.Instructions.{instruction_run}
 use Rattle.hart_step.specs.Steps.{StepResult, core_after_count, core_after_entry, interrupt_of, core_after_interrupt_by}
 use Rattle.hart_step.specs.Steps.{core_after_interrupt, lacks_interrupt, before_instruction, core_after_run}
-use Rattle.hart_step.specs.Steps.{expected_of, step_result_of, step_of}
+use Rattle.hart_step.specs.Steps.{expected_of, step_result_of, step_of, written_trap_value}
 use Rattle.hart_step.specs.Laws.{next_of, enters_interrupt, AsksInterrupt, IsFetched, EntersInterrupt, LacksInterrupt}
 use Rattle.hart_step.specs.Laws.{LacksRightly}
 
@@ -187,6 +188,14 @@ fetched_at core shown bytes begun runs is =
     subst P (sym (expected_running core shown bytes runs))
     (ap (λ k. k.pc) is, (ap (λ k. k.mode) is, ap (λ k. k.csrs) is))
 
+-- the trap value of an interrupt is 0 in every core
+of_interrupts : (core : Core) → written_trap_value core 0 ≡ 0
+of_interrupts core = by (are_zero core.choices.trap_values)
+  where
+    by : (zero : Bool) → trap_value_of zero 0 ≡ 0
+    by true = refl
+    by false = refl
+
 pub enters : (core : Core) (shown : Shown) (bytes : Bytes) (code : ℕ) (taker : Mode) → core.halted ≡ false
     → asks_interrupt core shown ≡ true → interrupt_of core shown ≡ Some (code, taker)
     → EntersInterrupt core shown ((step_of core shown).run bytes).value.expected code taker
@@ -195,14 +204,16 @@ enters core shown bytes code taker runs asked picked =
     let is = begun_entered core shown code taker asked picked in
     let mode = picks_where_entered core.csrs core.mode (pending_lines_of shown).up code taker picked in
     let begun = core_after_entry (core_after_count core shown) true code 0 in
-    let InMode : Mode → Type 0 =
-    λ m. IsFetched ((step_of core shown).run bytes).value.expected
-    (pc_by_enter core.csrs core.mode true code) m (enter_of core.csrs core.mode true code 0 core.pc) in
+    let pc = pc_by_enter core.csrs core.mode true code in
+    let At : Mode → ℕ → Type 0 =
+    λ m value. IsFetched ((step_of core shown).run bytes).value.expected pc m
+    (enter_of core.csrs core.mode true code value core.pc) in
+    let here = subst (At begun.mode) (of_interrupts core) (fetched_at core shown bytes begun runs is) in
     record {
       taken = picks_taken core.csrs core.mode (pending_lines_of shown).up code taker picked;
       first = picks_first core.csrs core.mode (pending_lines_of shown).up code taker picked;
       mode = mode;
-      fetched = subst InMode (sym mode) (fetched_at core shown bytes begun runs is);
+      fetched = subst (λ m. At m 0) (sym mode) here;
     }
 
 pub stays : (core : Core) (shown : Shown) (bytes : Bytes) → core.halted ≡ false → enters_interrupt core shown ≡ false

@@ -1,16 +1,15 @@
 -- Which exception an instruction raises, by what it asks for.
 use Rattle.std.proofs.Common.{◌≡◌, ℕ, ◌+◌, ◌%◌, ◌^◌, ◌⊎◌, inl, inr, Bool, true, false, not, refl, sym, subst}
 use Rattle.std.proofs.Common.{Option, Some, None, Result, Ok, Err, if◌then◌else◌}
-use Rattle.std.specs.Prelude.{◌==◌, IfErr}
-use Rattle.hart_words.specs.declared.privilege.Mode.{Mode}
+use Rattle.std.specs.Prelude.{◌==◌, ◌&&◌, IfErr}
 use Rattle.hart_words.specs.declared.privilege.Cause.{Cause}
 use Rattle.hart_words.specs.declared.privilege.Cause.TheVariants.{IllegalInstruction, LoadAddressMisaligned}
 use Rattle.hart_words.specs.declared.privilege.Cause.TheVariants.{StoreAddressMisaligned}
-use Rattle.hart_words.specs.declared.map.Map.{Map}
 use Rattle.hart_words.specs.AccessSizes.{bytes_of}
+use Rattle.hart_words.specs.Options.{are_done}
 use Rattle.hart_words.specs.Memory.{Bytes, after_writes}
 use Rattle.hart_words.specs.Signals.{Shown}
-use Rattle.hart_words.specs.Actions.{Action, Run, pure, read_memory, mapped, ◌>>=◌}
+use Rattle.hart_words.specs.Actions.{Action, Run, pure, read_memory, mapped, run_then, ◌>>=◌}
 use Rattle.hart_words.proofs.Runs.{run_then-is}
 use Rattle.rv_decode.specs.declared.operation.Op.{Op}
 use Rattle.rv_decode.specs.Operands.{operands_of}
@@ -25,30 +24,34 @@ use Rattle.rv_integer.specs.Results.{result_of}
 use Rattle.csr_file.specs.declared.csrs.Csrs.{Csrs}
 use Rattle.csr_file.specs.declared.access.Illegal.{Illegal}
 use Rattle.csr_file.specs.declared.fields.TheConstants.{TSR, TVM}
+use Rattle.mem_access.specs.declared.place.AccessRequest.{AccessRequest}
 use Rattle.mem_access.specs.declared.place.Place.{Place}
 use Rattle.mem_access.specs.Translation.{virtual_place_of}
-use Rattle.mem_access.specs.Accesses.{Exception, parcel_fetch, data_load, data_store, parcel_from, parcel_at}
-use Rattle.mem_access.specs.Accesses.{with_second, after_first, fetch_result, value_at, load_from, load_result}
-use Rattle.mem_access.specs.Accesses.{with_address, store_place_of}
+use Rattle.mem_access.specs.Accesses.{Exception, Part, Places, parcel_fetch, data_load, data_store, parcel_from}
+use Rattle.mem_access.specs.Accesses.{parcel_at, with_second, after_first, fetch_result, first_part, second_part}
+use Rattle.mem_access.specs.Accesses.{has_second_part, request_for, with_address, part_place_of, alone, after_place}
+use Rattle.mem_access.specs.Accesses.{second_place_of, whole_place_of, split_places_of, is_split, data_places_of}
+use Rattle.mem_access.specs.Accesses.{value_at, load_from, load_result, store_place_of}
 use Rattle.hart_step.specs.declared.state.Core.{Core}
 use Rattle.hart_step.specs.declared.choices.RowChoices.{RowChoices}
 use Rattle.hart_step.specs.declared.instruction.Instruction.{Instruction}
 use Rattle.hart_step.specs.declared.memory.AccessResult.{AccessResult}
 use Rattle.hart_step.specs.Choices.{choices_of}
 use Rattle.hart_step.specs.MemoryAccess.{LocatedValue, found_without_value, found_with_read, located_access_by}
-use Rattle.hart_step.specs.MemoryAccess.{located_access, access_after_location, memory_access}
+use Rattle.hart_step.specs.MemoryAccess.{load_at, store_places, located_access, access_after_location, memory_access}
 use Rattle.hart_step.specs.CsrAccess.{csr_access_result}
 use Rattle.hart_step.specs.Returns.{may_use_supervisor_instruction, may_mret, core_after_mret, core_after_sret}
 use Rattle.hart_step.specs.Returns.{wfi_traps}
 use Rattle.hart_step.specs.Instructions.{Completion, InstructionRun, core_at_next, after_access, after_csr}
 use Rattle.hart_step.specs.Instructions.{completion_if, system_execution, execution_of, execution_by, first_value}
-use Rattle.hart_step.specs.Instructions.{second_value, run_of_result, op_of, run_of_decoded, run_of_fetched}
-use Rattle.hart_step.specs.Instructions.{instruction_run}
+use Rattle.hart_step.specs.Instructions.{second_value, run_of_result, op_for, run_of_decoded, run_of_fetched}
+use Rattle.hart_step.specs.Instructions.{fetch_at_pc, instruction_run}
 use Rattle.hart_step.specs.Steps.{before_instruction}
 use Rattle.hart_step.specs.Laws.{request_by}
-use Rattle.hart_step.specs.TrapLaws.{executed_at, Raises, IsRaisedAs, IsRaisedFrom, IsRaisedIn}
+use Rattle.hart_step.specs.TrapLaws.{executed_at, Raises, IsSecondAddress, IsPartAddress, IsRaisedAs, IsRaisedFrom}
+use Rattle.hart_step.specs.TrapLaws.{IsRaisedIn}
 
--- the trap value of an access that is refused is its address
+-- the trap value of a parcel, or of a part of an access, that is refused is its address
 abbrev IsAt : {A : Type 0} → ℕ → Result A Exception → Type 0
 IsAt va refused = IfErr refused (λ e. e.1 ≡ va)
 
@@ -69,11 +72,11 @@ unfolding pure mapped read_memory
 parcel_from_at at (Err cause) bytes = refl
 parcel_from_at at (Ok place) bytes = tt
 
-parcel_is_at : (csrs : Csrs) (map : Map) (mode : Mode) (at : ℕ) (bytes : Bytes)
-    → IsAt at ((parcel_at csrs map mode at).run bytes).value
+parcel_is_at : (core : Core) (at : ℕ) (bytes : Bytes)
+    → IsAt at ((parcel_at core.csrs core.map core.choices core.mode at).run bytes).value
 unfolding parcel_at
-parcel_is_at csrs map mode at bytes =
-    let first = virtual_place_of csrs map (parcel_fetch mode) at in
+parcel_is_at core at bytes =
+    let first = virtual_place_of core.csrs core.map core.choices (parcel_fetch core.mode) at in
     at_then first (parcel_from at) (IsAt at) bytes
     (parcel_from_at at (first.run bytes).value (after_writes (first.run bytes).wrote bytes))
 
@@ -82,131 +85,222 @@ second_is_at : (first pc : ℕ) (second : Result ℕ Exception) → IsAt ((pc + 
 second_is_at first pc (Err e) at = inr at
 second_is_at first pc (Ok second) at = tt
 
-after_by : (csrs : Csrs) (map : Map) (mode : Mode) (pc first : ℕ) (both : Bool) (bytes : Bytes)
+after_by : (core : Core) (pc first : ℕ) (both : Bool) (bytes : Bytes)
     → IsAtHalf pc
-    ((if both then mapped (with_second first) (parcel_at csrs map mode ((pc + 2) % 2 ^ 64)) else pure
-    (Ok (first, 2))).run bytes).value
+    ((if both
+    then mapped (with_second first) (parcel_at core.csrs core.map core.choices core.mode ((pc + 2) % 2 ^ 64))
+    else pure (Ok (first, 2))).run bytes).value
 unfolding pure mapped
-after_by csrs map mode pc first true bytes =
-    second_is_at first pc ((parcel_at csrs map mode ((pc + 2) % 2 ^ 64)).run bytes).value
-    (parcel_is_at csrs map mode ((pc + 2) % 2 ^ 64) bytes)
-after_by csrs map mode pc first false bytes = tt
+after_by core pc first true bytes =
+    second_is_at first pc ((parcel_at core.csrs core.map core.choices core.mode ((pc + 2) % 2 ^ 64)).run bytes).value
+    (parcel_is_at core ((pc + 2) % 2 ^ 64) bytes)
+after_by core pc first false bytes = tt
 
-after_is_at : (csrs : Csrs) (map : Map) (mode : Mode) (pc : ℕ) (first : Result ℕ Exception) (bytes : Bytes)
-    → IsAt pc first → IsAtHalf pc ((after_first csrs map mode pc first).run bytes).value
+after_is_at : (core : Core) (pc : ℕ) (first : Result ℕ Exception) (bytes : Bytes) → IsAt pc first
+    → IsAtHalf pc ((after_first core.csrs core.map core.choices core.mode pc first).run bytes).value
 unfolding pure
-after_is_at csrs map mode pc (Err e) bytes at = inl at
-after_is_at csrs map mode pc (Ok first) bytes at = after_by csrs map mode pc first (first % 4 == 3) bytes
+after_is_at core pc (Err e) bytes at = inl at
+after_is_at core pc (Ok first) bytes at = after_by core pc first (first % 4 == 3) bytes
 
-fetched_is_at : (csrs : Csrs) (map : Map) (mode : Mode) (pc : ℕ) (bytes : Bytes)
-    → IsAtHalf pc ((fetch_result csrs map mode pc).run bytes).value
+fetched_is_at : (core : Core) (bytes : Bytes) → IsAtHalf core.pc ((fetch_at_pc core).run bytes).value
 unfolding fetch_result
-fetched_is_at csrs map mode pc bytes =
-    let first = parcel_at csrs map mode pc in
-    at_then first (after_first csrs map mode pc) (IsAtHalf pc) bytes
-    (after_is_at csrs map mode pc (first.run bytes).value (after_writes (first.run bytes).wrote bytes)
-    (parcel_is_at csrs map mode pc bytes))
+fetched_is_at core bytes =
+    let first = parcel_at core.csrs core.map core.choices core.mode core.pc in
+    at_then first (after_first core.csrs core.map core.choices core.mode core.pc) (IsAtHalf core.pc) bytes
+    (after_is_at core core.pc (first.run bytes).value (after_writes (first.run bytes).wrote bytes)
+    (parcel_is_at core core.pc bytes))
 
-value_is_at : (place : Place) (len va : ℕ) (io : Bool) (bytes : Bytes)
-    → IsAt va ((value_at place len io).run bytes).value
-unfolding pure mapped read_memory
-value_is_at place len va true bytes = tt
-value_is_at place len va false bytes = tt
+-- the trap value of a data access that is refused is its address, or that of its second part
+abbrev IsAtPart : {A : Type 0} → Core → ℕ → ℕ → Result A Exception → Type 0
+IsAtPart core va len refused = IfErr refused (λ e. (e.1 ≡ va) ⊎ IsSecondAddress core va len e.1)
 
-load_from_at : (va len : ℕ) (place : Result Place Cause) (bytes : Bytes)
-    → IsAt va ((load_from va len place).run bytes).value
-unfolding pure
-load_from_at va len (Err cause) bytes = refl
-load_from_at va len (Ok place) bytes = value_is_at place len va place.io bytes
+at_first : {A : Type 0} (core : Core) (va len : ℕ) (refused : Result A Exception) → IsAt va refused
+    → IsAtPart core va len refused
+at_first core va len (Err e) at = inl at
+at_first core va len (Ok x) at = tt
 
-loaded_by : (csrs : Csrs) (map : Map) (mode : Mode) (va len : ℕ) (atomic aligned : Bool) (bytes : Bytes)
-    → IsAt va
-    ((if aligned then virtual_place_of csrs map (data_load csrs mode len atomic) va >>= load_from va len else pure
-    (Err (LoadAddressMisaligned, va))).run bytes).value
-unfolding pure
-loaded_by csrs map mode va len atomic true bytes =
-    let first = virtual_place_of csrs map (data_load csrs mode len atomic) va in
-    at_then first (load_from va len) (IsAt va) bytes
-    (load_from_at va len (first.run bytes).value (after_writes (first.run bytes).wrote bytes))
-loaded_by csrs map mode va len atomic false bytes = refl
+-- an access has a second part
+record HasSecond (core : Core) (va len : ℕ) : Type 0 where
+  pub done : are_done core.choices.misaligned ≡ true
+  pub runs_over : has_second_part va len ≡ true
 
-loaded_is_at : (csrs : Csrs) (map : Map) (mode : Mode) (va len : ℕ) (atomic : Bool) (bytes : Bytes)
-    → IsAt va ((load_result csrs map mode va len atomic).run bytes).value
-unfolding load_result
-loaded_is_at csrs map mode va len atomic bytes = loaded_by csrs map mode va len atomic (va % len == 0) bytes
+at_second : {A : Type 0} (core : Core) (va len : ℕ) (refused : Result A Exception) → HasSecond core va len
+    → IsAt (second_part va len).va refused → IsAtPart core va len refused
+at_second core va len (Err e) has at =
+    inr (record { done = has.done; runs_over = has.runs_over; second = at })
+at_second core va len (Ok x) has at = tt
 
 with_address_at : (va : ℕ) (place : Result Place Cause) → IsAt va (with_address va place)
 with_address_at va (Err cause) = refl
 with_address_at va (Ok place) = tt
 
-store_by : (csrs : Csrs) (map : Map) (mode : Mode) (va len : ℕ) (atomic aligned : Bool) (bytes : Bytes)
-    → IsAt va
-    ((if aligned then mapped (with_address va) (virtual_place_of csrs map (data_store csrs mode len atomic) va)
-    else pure
-    (Err (StoreAddressMisaligned, va))).run bytes).value
+place_is_at : (core : Core) (request : AccessRequest) (part : Part) (bytes : Bytes)
+    → IsAt part.va ((part_place_of core.csrs core.map core.choices request part).run bytes).value
+unfolding part_place_of mapped
+place_is_at core request part bytes =
+    let found = virtual_place_of core.csrs core.map core.choices (request_for request part) part.va in
+    with_address_at part.va (found.run bytes).value
+
+alone_at : (va : ℕ) (place : Result Place Exception) → IsAt va place → IsAt va (alone place)
+alone_at va (Err e) at = at
+alone_at va (Ok place) at = tt
+
+whole_is_at : (core : Core) (request : AccessRequest) (va : ℕ) (bytes : Bytes)
+    → IsAtPart core va request.len ((whole_place_of core.csrs core.map core.choices request va).run bytes).value
+unfolding mapped
+whole_is_at core request va bytes =
+    let part : Part = record { va = va; len = request.len } in
+    let place = ((part_place_of core.csrs core.map core.choices request part).run bytes).value in
+    at_first core va request.len (alone place) (alone_at va place (place_is_at core request part bytes))
+
+after_at : (first : Place) (va : ℕ) (second : Result Place Exception) → IsAt va second
+    → IsAt va (after_place first second)
+after_at first va (Err e) at = at
+after_at first va (Ok second) at = tt
+
+rest_is_at : (core : Core) (request : AccessRequest) (va : ℕ) (first : Result Place Exception) (bytes : Bytes)
+    → HasSecond core va request.len → IsAt va first
+    → IsAtPart core va request.len
+    ((second_place_of core.csrs core.map core.choices request (second_part va request.len) first).run bytes).value
 unfolding pure mapped
-store_by csrs map mode va len atomic true bytes =
-    with_address_at va ((virtual_place_of csrs map (data_store csrs mode len atomic) va).run bytes).value
-store_by csrs map mode va len atomic false bytes = refl
+rest_is_at core request va (Err e) bytes has at = inl at
+rest_is_at core request va (Ok first) bytes has at =
+    let part = second_part va request.len in
+    let second = ((part_place_of core.csrs core.map core.choices request part).run bytes).value in
+    at_second core va request.len (after_place first second) has
+    (after_at first part.va second (place_is_at core request part bytes))
 
-store_is_at : (csrs : Csrs) (map : Map) (mode : Mode) (va len : ℕ) (atomic : Bool) (bytes : Bytes)
-    → IsAt va ((store_place_of csrs map mode va len atomic).run bytes).value
-unfolding store_place_of
-store_is_at csrs map mode va len atomic bytes = store_by csrs map mode va len atomic (va % len == 0) bytes
+split_by : (core : Core) (request : AccessRequest) (va : ℕ) (both : Bool) (bytes : Bytes)
+    → are_done core.choices.misaligned ≡ true → has_second_part va request.len ≡ both
+    → IsAtPart core va request.len
+    ((if both
+    then (part_place_of core.csrs core.map core.choices request (first_part va request.len)
+    >>= second_place_of core.csrs core.map core.choices request (second_part va request.len))
+    else whole_place_of core.csrs core.map core.choices request va).run bytes).value
+split_by core request va true bytes done runs_over =
+    let len = request.len in
+    let first = part_place_of core.csrs core.map core.choices request (first_part va len) in
+    at_then first (second_place_of core.csrs core.map core.choices request (second_part va len))
+    (IsAtPart core va len) bytes
+    (rest_is_at core request va (first.run bytes).value (after_writes (first.run bytes).wrote bytes)
+    (record { done = done; runs_over = runs_over }) (place_is_at core request (first_part va len) bytes))
+split_by core request va false bytes done runs_over = whole_is_at core request va bytes
 
-unread_at : (va : ℕ) (place : Result Place Exception) → IsAt va place → IsAt va (found_without_value place)
-unread_at va (Err e) at = at
-unread_at va (Ok place) at = tt
+split_is_at : (core : Core) (request : AccessRequest) (va : ℕ) (bytes : Bytes)
+    → are_done core.choices.misaligned ≡ true
+    → IsAtPart core va request.len ((split_places_of core.csrs core.map core.choices request va).run bytes).value
+unfolding split_places_of
+split_is_at core request va bytes done =
+    split_by core request va (has_second_part va request.len) bytes done refl
 
-read_is_at : (va len : ℕ) (place : Result Place Exception) (bytes : Bytes) → IsAt va place
-    → IsAt va ((found_with_read len place).run bytes).value
+right_of : (one other : Bool) → (one && other) ≡ true → other ≡ true
+right_of true other both = both
+right_of false other both = cc
+
+data_is_at : (core : Core) (request : AccessRequest) (atomic : Bool) (misaligned : Cause) (va : ℕ) (bytes : Bytes)
+    → IsAtPart core va request.len
+    ((data_places_of core.csrs core.map core.choices request atomic misaligned va).run bytes).value
+unfolding data_places_of pure
+data_is_at core request atomic misaligned va bytes =
+    by (va % request.len == 0) (is_split core.choices request atomic va) refl
+  where
+    by : (aligned split : Bool) → is_split core.choices request atomic va ≡ split
+        → IsAtPart core va request.len
+        ((if aligned then whole_place_of core.csrs core.map core.choices request va
+        else if split
+        then split_places_of core.csrs core.map core.choices (record request { devices = false }) va
+        else pure (Err (misaligned, va))).run bytes).value
+    by true split is = whole_is_at core request va bytes
+    by false true is =
+        split_is_at core (record request { devices = false }) va bytes
+        (right_of (not (va % request.len == 0) && not atomic) (are_done core.choices.misaligned) is)
+    by false false is = inl refl
+
+value_is_at : (core : Core) (place : Place) (va len : ℕ) (io : Bool) (bytes : Bytes)
+    → IsAtPart core va len ((value_at place len io).run bytes).value
 unfolding pure mapped read_memory
-read_is_at va len (Err e) bytes at = at
-read_is_at va len (Ok place) bytes at = tt
+value_is_at core place va len true bytes = tt
+value_is_at core place va len false bytes = tt
+
+load_from_at : (core : Core) (va len : ℕ) (places : Result Places Exception) (bytes : Bytes)
+    → IsAtPart core va len places → IsAtPart core va len ((load_from va len places).run bytes).value
+unfolding pure mapped read_memory ◌>>=◌ run_then
+load_from_at core va len (Err e) bytes at = at
+load_from_at core va len (Ok (place, None)) bytes at = value_is_at core place va len place.io bytes
+load_from_at core va len (Ok (first, Some second)) bytes at = tt
+
+loaded_is_at : (core : Core) (va len : ℕ) (atomic : Bool) (bytes : Bytes)
+    → IsAtPart core va len ((load_at core va len atomic).run bytes).value
+unfolding load_result
+loaded_is_at core va len atomic bytes =
+    let request = data_load core.csrs core.mode len atomic in
+    let places = data_places_of core.csrs core.map core.choices request atomic LoadAddressMisaligned va in
+    at_then places (load_from va len) (IsAtPart core va len) bytes
+    (load_from_at core va len (places.run bytes).value (after_writes (places.run bytes).wrote bytes)
+    (data_is_at core request atomic LoadAddressMisaligned va bytes))
+
+store_is_at : (core : Core) (va len : ℕ) (atomic : Bool) (bytes : Bytes)
+    → IsAtPart core va len ((store_places core va len atomic).run bytes).value
+unfolding store_place_of
+store_is_at core va len atomic bytes =
+    data_is_at core (data_store core.csrs core.mode len atomic) atomic StoreAddressMisaligned va bytes
+
+unread_at : (core : Core) (va len : ℕ) (places : Result Places Exception) → IsAtPart core va len places
+    → IsAtPart core va len (found_without_value places)
+unread_at core va len (Err e) at = at
+unread_at core va len (Ok (first, second)) at = tt
+
+read_is_at : (core : Core) (va len : ℕ) (places : Result Places Exception) (bytes : Bytes) → IsAtPart core va len places
+    → IsAtPart core va len ((found_with_read len places).run bytes).value
+unfolding pure mapped read_memory
+read_is_at core va len (Err e) bytes at = at
+read_is_at core va len (Ok (first, second)) bytes at = tt
 
 placed_by_at : (core : Core) (va len : ℕ) (op : MemoryOp) (bytes : Bytes)
-    → IsAt va ((located_access_by core va len op).run bytes).value
+    → IsAtPart core va len ((located_access_by core va len op).run bytes).value
 unfolding mapped
-placed_by_at core va len (memory.Load signed) bytes = loaded_is_at core.csrs core.map core.mode va len false bytes
-placed_by_at core va len memory.LoadReserved bytes = loaded_is_at core.csrs core.map core.mode va len true bytes
+placed_by_at core va len (memory.Load signed) bytes = loaded_is_at core va len false bytes
+placed_by_at core va len memory.LoadReserved bytes = loaded_is_at core va len true bytes
 placed_by_at core va len (memory.Store value) bytes =
-    unread_at va ((store_place_of core.csrs core.map core.mode va len false).run bytes).value
-    (store_is_at core.csrs core.map core.mode va len false bytes)
+    unread_at core va len ((store_places core va len false).run bytes).value (store_is_at core va len false bytes)
 placed_by_at core va len (memory.StoreConditional value) bytes =
-    unread_at va ((store_place_of core.csrs core.map core.mode va len true).run bytes).value
-    (store_is_at core.csrs core.map core.mode va len true bytes)
+    unread_at core va len ((store_places core va len true).run bytes).value (store_is_at core va len true bytes)
 placed_by_at core va len (memory.Amo op width b) bytes =
-    let first = store_place_of core.csrs core.map core.mode va len true in
-    at_then first (found_with_read len) (IsAt va) bytes
-    (read_is_at va len (first.run bytes).value (after_writes (first.run bytes).wrote bytes)
-    (store_is_at core.csrs core.map core.mode va len true bytes))
+    let first = store_places core va len true in
+    at_then first (found_with_read len) (IsAtPart core va len) bytes
+    (read_is_at core va len (first.run bytes).value (after_writes (first.run bytes).wrote bytes)
+    (store_is_at core va len true bytes))
+
+-- so is that of the access of an instruction
+abbrev IsAtAccess : {A : Type 0} → Core → MemoryRequest → Result A Exception → Type 0
+IsAtAccess core request refused = IfErr refused (λ e. IsPartAddress core request e.1)
 
 placed_is_at : (core : Core) (request : MemoryRequest) (bytes : Bytes)
-    → IsAt request.address ((located_access core request).run bytes).value
+    → IsAtAccess core request ((located_access core request).run bytes).value
 unfolding located_access
 placed_is_at core request bytes = placed_by_at core request.address (bytes_of request.size) request.op bytes
 
 answered_is_at : (core : Core) (choices : RowChoices) (request : MemoryRequest) (found : Result LocatedValue Exception)
-    (bytes : Bytes) → IsAt request.address found
-    → IsAt request.address ((access_after_location core choices request found).run bytes).value
+    (bytes : Bytes) → IsAtAccess core request found
+    → IsAtAccess core request ((access_after_location core choices request found).run bytes).value
 unfolding pure mapped
 answered_is_at core choices request (Err e) bytes at = at
-answered_is_at core choices request (Ok found) bytes at = tt
+answered_is_at core choices request (Ok (first, second, held)) bytes at = tt
 
 accessed_is_at : (core : Core) (choices : RowChoices) (request : MemoryRequest) (bytes : Bytes)
-    → IsAt request.address ((memory_access core choices request).run bytes).value
+    → IsAtAccess core request ((memory_access core choices request).run bytes).value
 unfolding memory_access
 accessed_is_at core choices request bytes =
     let first = located_access core request in
-    at_then first (access_after_location core choices request) (IsAt request.address) bytes
+    at_then first (access_after_location core choices request) (IsAtAccess core request) bytes
     (answered_is_at core choices request (first.run bytes).value (after_writes (first.run bytes).wrote bytes)
     (placed_is_at core request bytes))
 
-access_raises : (core : Core) (i : Instruction) (va : ℕ) (answer : Result AccessResult Exception) → IsAt va answer
-    → IsAt va (after_access core i answer)
+access_raises : (core : Core) (i : Instruction) (request : MemoryRequest) (answer : Result AccessResult Exception)
+    → IsAtAccess core request answer → IsAtAccess core request (after_access core i answer)
 unfolding after_access
-access_raises core i va (Err e) at = at
-access_raises core i va (Ok answer) at = tt
+access_raises core i request (Err e) at = at
+access_raises core i request (Ok answer) at = tt
 
 -- an instruction of the opcode SYSTEM
 abbrev RaisesAs : Core → Instruction → SystemRequest → Result Completion Exception → Type 0
@@ -244,7 +338,7 @@ executed_by_raises core choices i (results.Value value) bytes = tt
 executed_by_raises core choices i (results.Jump link target) bytes = tt
 executed_by_raises core choices i (results.Continue next_pc) bytes = tt
 executed_by_raises core choices i (results.Access request) bytes =
-    access_raises core i request.address ((memory_access core choices request).run bytes).value
+    access_raises core i request ((memory_access core choices request).run bytes).value
     (accessed_is_at core choices request bytes)
 executed_by_raises core choices i (results.System request) bytes = system_raises core choices i request
 
@@ -273,19 +367,17 @@ unfolding pure
 fetched_raises core shown (Err e) bytes exception at is =
     (sym is, subst (λ (x : Exception). (x.1 ≡ core.pc) ⊎ (x.1 ≡ (core.pc + 2) % 2 ^ 64)) is at)
 fetched_raises core shown (Ok word) bytes exception at is =
-    decoded_raises core shown word.0 word.1 (op_of word.0 word.1) bytes exception is
+    decoded_raises core shown word.0 word.1 (op_for core word.0 word.1) bytes exception is
 
 ran_raises : (core : Core) (shown : Shown) (bytes : Bytes) (exception : Exception)
     → Raises ((instruction_run core shown).run bytes).value.executed exception
-    → IsRaisedFrom core ((fetch_result core.csrs core.map core.mode core.pc).run bytes).value exception
+    → IsRaisedFrom core ((fetch_at_pc core).run bytes).value exception
 unfolding instruction_run
 ran_raises core shown bytes exception is =
-    let fetch = fetch_result core.csrs core.map core.mode core.pc in
-    let before = fetch.run bytes in
+    let before = (fetch_at_pc core).run bytes in
     let P : Run InstructionRun → Type 0 = λ r. Raises r.value.executed exception in
     fetched_raises core shown before.value (after_writes before.wrote bytes) exception
-    (fetched_is_at core.csrs core.map core.mode core.pc bytes)
-    (subst P (run_then-is fetch (run_of_fetched core shown) bytes) is)
+    (fetched_is_at core bytes) (subst P (run_then-is (fetch_at_pc core) (run_of_fetched core shown) bytes) is)
 
 pub raised_from : (core : Core) (shown : Shown) (bytes : Bytes) (exception : Exception)
     → Raises (executed_at core shown bytes) exception

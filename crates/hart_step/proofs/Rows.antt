@@ -1,9 +1,9 @@
 -- What rows in S and U leave, one after another.
 use Rattle.std.proofs.Common.{◌≡◌, ◌≢◌, ◌⊎◌, ℕ, ◌+◌, ◌<◌, ◌≤◌, Bool, true, false, List, [], ◌∷◌, refl, sym, ap, ◌∙◌}
-use Rattle.std.proofs.Common.{subst, arith, All}
+use Rattle.std.proofs.Common.{subst, arith, All, Option}
 use Rattle.std.specs.Prelude.{nat_lt, nat_le, ◌&&◌}
 use Rattle.std.proofs.lemmas.Bool.Decides.{nat_tests}
-use Rattle.std.proofs.lemmas.List.Elements.{All-head, All-tail, All-weaker}
+use Rattle.std.proofs.lemmas.List.Elements.{All-append, All-head, All-tail, All-weaker}
 use Rattle.hart_words.specs.declared.privilege.Access.TheVariants as kind
 use Rattle.hart_words.specs.declared.privilege.Mode.{Mode}
 use Rattle.hart_words.specs.declared.privilege.Mode.TheVariants.{User, Supervisor, Machine}
@@ -16,6 +16,7 @@ use Rattle.pmp_check.specs.Covering.{IsRegister, NoneCovers, SomeByte, CoversAt,
 use Rattle.pmp_check.specs.Protection.{is_allowed, entry_permits}
 use Rattle.pmp_check.proofs.Deciding.{none_decides, whole_decides}
 use Rattle.pmp_check.proofs.Parts.{byte_allowed, both_alike}
+use Rattle.rv_integer.specs.declared.int_result.IntResult.{IntResult}
 use Rattle.csr_file.specs.declared.csrs.Csrs.{Csrs}
 use Rattle.csr_file.specs.Registers.{pmp_entries_of}
 use Rattle.csr_file.specs.Legal.{IsLegal, IsLegalEntry}
@@ -24,10 +25,13 @@ use Rattle.hart_step.specs.declared.state.Core.{Core}
 use Rattle.hart_step.specs.Cores.{IsSound}
 use Rattle.hart_step.specs.Rows.{HartState, RunBelowMachine, after_row, after_rows}
 use Rattle.hart_step.specs.Steps.{before_instruction, step_of}
-use Rattle.hart_step.specs.ProtectionLaws.{LocksArePreserved, IsStepWrite, IsPreserved, IsRefused, ForbidsStores}
+use Rattle.hart_step.specs.Laws.{AreSetsAndStores}
+use Rattle.hart_step.specs.ProtectionLaws.{ArePermittedStores, ForbidsStores, IsPermittedStore, IsPreserved, IsRefused}
+use Rattle.hart_step.specs.ProtectionLaws.{LocksArePreserved}
 use Rattle.hart_step.proofs.Entries.{SameEntries, begun_entries, lower_modes_leave}
 use Rattle.hart_step.proofs.Permitted.{step_granted}
 use Rattle.hart_step.proofs.Locks.{locks_outlast, locks_after, same_outlasts}
+use Rattle.hart_step.proofs.StepSets.{IsSettable, are_settable}
 
 -- a byte that no write reaches
 abbrev pub Misses : ℕ → Write → Type 0
@@ -58,10 +62,10 @@ lower_allowed csrs Machine entries byte lower allowed = absurd (lower refl)
 lower_allowed csrs Supervisor entries byte lower allowed = allowed
 lower_allowed csrs User entries byte lower allowed = sym (both_alike entries byte 1 kind.Store) ∙ allowed
 
--- a write that is granted does not reach a byte that is refused to every mode
+-- a store that is granted does not reach a byte that is refused to every mode
 pub refused_misses : (core : Core) (byte : ℕ) (write : Write)
-    → ((mode : Mode) → is_allowed (pmp_entries_of core.csrs) mode byte 1 kind.Store ≡ false) → IsStepWrite core write
-    → Misses byte write
+    → ((mode : Mode) → is_allowed (pmp_entries_of core.csrs) mode byte 1 kind.Store ≡ false)
+    → IsPermittedStore core write → Misses byte write
 refused_misses core byte write refused granted = unless_reached byte write (λ low high.
     let mode = data_mode_of core.csrs core.mode in
     let alone = byte_allowed (pmp_entries_of core.csrs) mode write.pa write.len kind.Store granted.1 byte low high in
@@ -70,12 +74,33 @@ refused_misses core byte write refused granted = unless_reached byte write (λ l
 
 -- so does one that is granted below M with a byte that is refused there
 write_misses : (core : Core) (byte : ℕ) (write : Write) → core.mode ≢ Machine → IsRefused core byte
-    → IsStepWrite core write → Misses byte write
+    → IsPermittedStore core write → Misses byte write
 write_misses core byte write lower refused granted = unless_reached byte write (λ low high.
     let alone = byte_allowed (pmp_entries_of core.csrs) (data_mode_of core.csrs core.mode) write.pa write.len
     kind.Store granted.1 byte low high in
     let allowed = lower_allowed core.csrs core.mode (pmp_entries_of core.csrs) byte lower alone in
     cc)
+
+-- so does an entry that is set, which S may store
+settable_misses : (core : Core) (byte : ℕ) (write : Write) → IsRefused core byte → IsSettable core write
+    → Misses byte write
+settable_misses core byte write refused settable = unless_reached byte write (λ low high.
+    let entries = pmp_entries_of core.csrs in
+    let alone = byte_allowed entries Supervisor write.pa write.len kind.Store settable byte low high in
+    cc)
+
+-- all that a step writes misses a byte that is refused to S and that its stores miss
+pub writes_miss : {asks : Option IntResult} {start : Bytes} (core : Core) (bytes : Bytes) (byte : ℕ)
+    (wrote : List Write)
+    → IsRefused core byte → ((write : Write) → IsPermittedStore core write → Misses byte write)
+    → AreSetsAndStores core bytes (ArePermittedStores core asks start) wrote → All (Misses byte) wrote
+writes_miss core bytes byte wrote refused stores_miss are =
+    let settable = are_settable core bytes are.sets are.entries.sets in
+    subst (All (Misses byte)) (sym are.order)
+    (All-append (Misses byte) are.sets are.stored
+    (All-weaker (IsSettable core) (Misses byte) (λ write may. settable_misses core byte write refused may) are.sets
+    settable)
+    (All-weaker (IsPermittedStore core) (Misses byte) stores_miss are.stored are.stores.permitted))
 
 same_refused : (before after : Core) (byte : ℕ) → SameEntries before.csrs after.csrs → IsRefused before byte
     → IsRefused after byte
@@ -90,8 +115,8 @@ byte_outlasts_row state shown byte lower refused =
     let wrote = ((step_of state.core shown).run state.bytes).wrote in
     let still = same_refused state.core begins byte (begun_entries state.core shown) refused in
     unreached wrote state.bytes byte
-    (All-weaker (IsStepWrite begins) (Misses byte)
-    (λ write granted. write_misses begins byte write lower still granted) wrote
+    (writes_miss begins state.bytes byte wrote still
+    (λ write granted. write_misses begins byte write lower still granted)
     (step_granted state.core shown state.bytes).writes)
 
 pub refused_outlasts : (state : HartState) (rows : List Shown) (byte : ℕ) → IsRefused state.core byte

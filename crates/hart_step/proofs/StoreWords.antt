@@ -53,6 +53,10 @@ of_form (forms.CsrImmediate op) word = refl
 of_form (forms.LoadReserved width) word = refl
 of_form (forms.StoreConditional width) word = refl
 of_form (forms.Amo op width) word = refl
+of_form (forms.BitsRegister op) word = refl
+of_form (forms.BitsShift op) word = refl
+of_form (forms.BitsShiftWord op) word = refl
+of_form (forms.BitsUnary op) word = refl
 
 -- the row's form is no store, or the row fixes the opcode STORE
 abbrev is_told : Pattern → Bool

@@ -1,19 +1,17 @@
 -- What a step accesses under translation is where leaves of page tables put it.
-use Rattle.std.proofs.Common.{◌≡◌, ℕ, ◌+◌, ◌*◌, ◌/◌, ◌%◌, ◌^◌, Bool, true, false, ◌&&◌, [], inl, inr, refl, sym, ◌∙◌}
-use Rattle.std.proofs.Common.{subst, arith, Ok, Result, Option, Some, None, All, if◌then◌else◌}
-use Rattle.std.specs.Prelude.{◌==◌, IfOk, IfSome}
+use Rattle.std.proofs.Common.{◌≡◌, ℕ, ◌+◌, ◌*◌, ◌/◌, ◌%◌, ◌^◌, ◌≤◌, Bool, true, false, ◌&&◌, List, [], inl, inr, refl}
+use Rattle.std.proofs.Common.{arith, Option, Some, None, All, if◌then◌else◌}
+use Rattle.std.specs.Prelude.{◌==◌, IfOk}
 use Rattle.std.proofs.lemmas.List.Elements.{All-append, All-nil, All-weaker}
 use Rattle.std.proofs.lemmas.Result.{IfOk-weaker}
 use Rattle.hart_words.specs.declared.access_size.AccessSize.{AccessSize}
 use Rattle.hart_words.specs.declared.access_size.AccessSize.TheVariants.{Byte, Halfword, Word, Doubleword}
+use Rattle.hart_words.specs.declared.choices.Choices.{Choices}
 use Rattle.hart_words.specs.declared.map.Map.{Map}
-use Rattle.hart_words.specs.declared.privilege.Access.{Access}
-use Rattle.hart_words.specs.declared.privilege.Access.TheVariants as kind
-use Rattle.hart_words.specs.declared.privilege.Cause.{Cause}
 use Rattle.hart_words.specs.declared.privilege.Mode.{Mode}
 use Rattle.hart_words.specs.declared.accesses.Write.{Write}
 use Rattle.hart_words.specs.AccessSizes.{IsLength, bytes_of}
-use Rattle.hart_words.specs.Memory.{Bytes}
+use Rattle.hart_words.specs.Memory.{Bytes, after_writes}
 use Rattle.hart_words.specs.Signals.{Shown}
 use Rattle.rv_integer.specs.declared.int_result.IntResult.{IntResult}
 use Rattle.rv_integer.specs.declared.int_result.IntResult.TheVariants as results
@@ -22,121 +20,144 @@ use Rattle.csr_file.specs.declared.csrs.Csrs.{Csrs}
 use Rattle.csr_file.specs.declared.stored_csr.StoredCsr.TheVariants.{Mtvec, Stvec}
 use Rattle.csr_file.specs.Registers.{at}
 use Rattle.trap_entry.specs.Entries.{handler_address, is_delegated, pc_by_enter}
-use Rattle.rvfi_rows.specs.declared.expected.Accessed.{Accessed}
-use Rattle.rvfi_rows.specs.declared.expected.Expected.{Expected}
-use Rattle.rvfi_rows.specs.declared.expected.Expected.TheVariants.{Halted, Retired}
 use Rattle.mem_access.specs.declared.place.AccessRequest.{AccessRequest}
-use Rattle.mem_access.specs.declared.place.Place.{Place}
-use Rattle.mem_access.specs.Accesses.{parcel_fetch}
-use Rattle.mem_access.specs.Places.{data_mode_of}
-use Rattle.mem_access.specs.Reads.{AreMapped, access_reads_of, fetch_reads_of, place_found}
+use Rattle.mem_access.specs.Accesses.{parcel_fetch, request_for}
+use Rattle.mem_access.specs.Laws.{AreTableSets, IsMappedPart}
+use Rattle.mem_access.specs.Reads.{AreMapped, IsMapped, PlacedPart, access_reads_of, bytes_after_walk, fetch_reads_of}
+use Rattle.mem_access.specs.Reads.{has_second, own_read, place_found, walk_sets_of}
+use Rattle.mem_access.proofs.Granted.{HoldsOfOwn, access_all, all_if, data_all, look_place, look_places}
+use Rattle.mem_access.proofs.Kept.{mapped_before, places_mapped}
 use Rattle.mem_access.proofs.Mapped.{place_mapped}
-use Rattle.mem_access.proofs.Orders.{HoldsOfReads, access_all, data_all, fetch_all, walk_all}
+use Rattle.mem_access.proofs.Sets.{walk_sets}
 use Rattle.hart_step.specs.declared.state.Core.{Core}
 use Rattle.hart_step.specs.Choices.{asks_interrupt}
 use Rattle.hart_step.specs.Cores.{IsSound}
+use Rattle.hart_step.specs.Instructions.{fetch_at_pc}
 use Rattle.hart_step.specs.Steps.{before_instruction, core_after_count, core_after_entry, interrupt_of}
-use Rattle.hart_step.specs.Steps.{core_after_interrupt, core_after_interrupt_by, step_of}
-use Rattle.hart_step.specs.Laws.{request_at_pc}
-use Rattle.hart_step.specs.ProtectionLaws.{asked_reads_of, check_of, instruction_reads_of, kind_by, reads_its_bytes}
-use Rattle.hart_step.specs.ProtectionLaws.{step_reads_of, IsAskedAccess, IsAskedWrite, IsFoundFor, OfExpected}
-use Rattle.hart_step.specs.TranslationLaws.{IsMappedAccess, IsMappedRead, IsMappedWrite, StepIsMapped}
-use Rattle.hart_step.proofs.Alike.{check_mode}
-use Rattle.hart_step.proofs.Permitted.{check_len, some_weaker, step_granted}
+use Rattle.hart_step.specs.Steps.{core_after_interrupt, core_after_interrupt_by}
+use Rattle.hart_step.specs.Laws.{bytes_after_fetch, request_at_pc}
+use Rattle.hart_step.specs.ProtectionLaws.{asked_places, asked_reads_of, check_of, instruction_reads_of, is_atomic}
+use Rattle.hart_step.specs.ProtectionLaws.{reads_its_bytes, step_reads_of}
+use Rattle.hart_step.specs.TranslationLaws.{AreMappedPlaces, IsMappedRead, StepIsMapped}
+use Rattle.hart_step.proofs.Alike.{look_of}
+use Rattle.hart_step.proofs.StepSets.{fetch_sets}
 
-found_mapped : (csrs : Csrs) (map : Map) (request : AccessRequest) (va : ℕ) (bytes : Bytes) {place : Place}
-    → IsLength request.len → va % request.len ≡ 0
-    → place_found csrs map request va bytes ≡ Ok place
-    → AreMapped csrs map request.mode request.access bytes va place.pa request.len
-found_mapped csrs map request va bytes sized aligned is =
-    let P : Result Place Cause → Type 0 =
-    λ placed. IfOk placed (λ p. AreMapped csrs map request.mode request.access bytes va p.pa request.len) in
-    subst P is (place_mapped csrs map request va bytes sized aligned)
+-- what is mapped by page tables in which entries are set is mapped by them as they were before
+before_sets : {csrs : Csrs} {map : Map} {choices : Choices} {request : AccessRequest} {bytes : Bytes} (va pa : ℕ)
+    (writes : List Write) → AreTableSets csrs map choices bytes writes
+    → AreMapped csrs map choices request (after_writes writes bytes) va pa
+    → AreMapped csrs map choices request bytes va pa
+before_sets {csrs} {map} {choices} {request} {bytes} va pa writes sets mapped = λ on i below.
+    mapped_before csrs map choices request bytes writes sets (mapped on i below)
 
+-- a fetch
+fits_in_page : (va : ℕ) → va % 2 ≡ 0 → va % 4096 + 2 ≤ 4096
+fits_in_page va even = omega arith
+
+-- a parcel, in memory in which entries are set
+parcel_mapped : (core : Core) (va : ℕ) (bytes : Bytes) (sets : List Write) → va % 2 ≡ 0
+    → AreTableSets core.csrs core.map core.choices bytes sets
+    → All (IsMappedRead core bytes)
+    (access_reads_of core.csrs core.map core.choices (parcel_fetch core.mode) va (after_writes sets bytes))
+parcel_mapped core va bytes sets even are =
+    let request = parcel_fetch core.mode in
+    let now = after_writes sets bytes in
+    let look = look_of core request now in
+    access_all (IsMappedRead core bytes) look va (λ pa can. tt)
+    (IfOk-weaker (look_place look va)
+    (λ place. AreMapped core.csrs core.map core.choices request now va place.pa)
+    (λ place. place.io ≡ false → IsMappedRead core bytes (own_read request va place))
+    (λ place mapped memory. before_sets va place.pa sets are mapped)
+    (place_mapped core.csrs core.map core.choices request va now (fits_in_page va even)))
+
+fetch_mapped : (core : Core) (bytes : Bytes) → core.pc % 2 ≡ 0 → All (IsMappedRead core bytes)
+    (fetch_reads_of core.csrs core.map core.choices core.mode core.pc bytes)
+unfolding fetch_reads_of AreTableSets after_writes
+fetch_mapped core bytes even =
+    let request = parcel_fetch core.mode in
+    let next = (core.pc + 2) % 2 ^ 64 in
+    let sets = walk_sets_of core.csrs core.map core.choices request core.pc bytes in
+    let now = bytes_after_walk core.csrs core.map core.choices request core.pc bytes in
+    let first = access_reads_of core.csrs core.map core.choices request core.pc bytes in
+    let second = access_reads_of core.csrs core.map core.choices request next now in
+    let has = has_second now (place_found core.csrs core.map core.choices request core.pc bytes) in
+    All-append (IsMappedRead core bytes) first (if has then second else [])
+    (parcel_mapped core core.pc bytes [] even tt)
+    (all_if (IsMappedRead core bytes) second has
+    (parcel_mapped core next bytes sets (omega arith)
+    (walk_sets core.csrs core.map core.choices request core.pc bytes)))
+
+-- what an instruction asks for
 length_of : (size : AccessSize) → IsLength (bytes_of size)
 length_of Byte = inl refl
 length_of Halfword = inr (inl refl)
 length_of Word = inr (inr (inl refl))
 length_of Doubleword = inr (inr (inr refl))
 
-check_length : (core : Core) (request : MemoryRequest) → IsLength (check_of core request).len
-check_length core request =
-    let same = check_len core (bytes_of request.size) request.op in subst IsLength (sym same) (length_of request.size)
-
--- what an instruction asks for
-asked_mapped : (core : Core) (request : MemoryRequest) (bytes : Bytes) (access : Access) (pa len : ℕ) (io : Bool)
-    → IsFoundFor core request bytes access pa len io
-    → AreMapped core.csrs core.map (data_mode_of core.csrs core.mode) access bytes request.address pa len
-asked_mapped core request bytes access pa len io is =
+asked_parts : (core : Core) (request : MemoryRequest) (bytes : Bytes)
+    → IfOk (asked_places core request (bytes_after_fetch core bytes))
+    (All (IsMappedPart core.csrs core.map core.choices (check_of core request) bytes))
+unfolding bytes_after_fetch
+asked_parts core request bytes =
     let check = check_of core request in
-    let va = request.address in
-    let mode = data_mode_of core.csrs core.mode in
-    let same : check.len ≡ bytes_of request.size = check_len core (bytes_of request.size) request.op in
-    let Aligned : ℕ → Type 0 = λ n. va % n ≡ 0 in
-    let here = found_mapped core.csrs core.map check va bytes
-    (check_length core request) (subst Aligned (sym same) is.aligned) is.found in
-    let InMode : Mode → Type 0 = λ m. AreMapped core.csrs core.map m check.access bytes va pa check.len in
-    let OfKind : Access → Type 0 = λ a. AreMapped core.csrs core.map mode a bytes va pa check.len in
-    let OfLength : ℕ → Type 0 = λ n. AreMapped core.csrs core.map mode access bytes va pa n in
-    subst OfLength (same ∙ sym is.whole)
-    (subst OfKind is.kind (subst InMode (check_mode core (bytes_of request.size) request.op) here))
+    let sets = ((fetch_at_pc core).run bytes).wrote in
+    let after = after_writes sets bytes in
+    let Mapped : Bytes → PlacedPart → Type 0 = IsMappedPart core.csrs core.map core.choices check in
+    IfOk-weaker (asked_places core request after) (All (Mapped after)) (All (Mapped bytes))
+    (λ placed. All-weaker (Mapped after) (Mapped bytes)
+    (λ one mapped. before_sets one.part.va one.place.pa sets (fetch_sets core bytes).sets mapped) placed)
+    (places_mapped core.csrs core.map core.choices check (is_atomic request.op) request.address after
+    (length_of request.size))
 
-write_mapped : (core : Core) (asks : Option IntResult) (bytes : Bytes) (write : Write)
-    → IsAskedWrite core asks bytes write → IsMappedWrite core asks bytes write
-write_mapped core (Some (results.Access request)) bytes write is =
-    asked_mapped core request bytes kind.Store write.pa write.len false is
-write_mapped core _ bytes write is = absurd is
+asked_places_mapped : (core : Core) (asks : Option IntResult) (bytes : Bytes) → AreMappedPlaces core asks bytes
+asked_places_mapped core (Some (results.Access request)) bytes = asked_parts core request bytes
+asked_places_mapped core _ bytes = tt
 
-access_mapped : (core : Core) (asks : Option IntResult) (bytes : Bytes) (access : Accessed)
-    → IsAskedAccess core asks bytes access → IsMappedAccess core bytes access
-access_mapped core (Some (results.Access request)) bytes access is =
-    let P : ℕ → Type 0 =
-    λ va. AreMapped core.csrs core.map (data_mode_of core.csrs core.mode)
-    (kind_by access.written) bytes va access.pa access.len in
-    subst P (sym is.va) (asked_mapped core request bytes (kind_by access.written) access.pa access.len is.io is.place)
-access_mapped core _ bytes access is = absurd is
+-- the own bytes of a part are read as the part is mapped
+as_read : {csrs : Csrs} {map : Map} {choices : Choices} {bytes : Bytes} (request : AccessRequest) (len va pa : ℕ)
+    → IsMapped csrs map choices request bytes va pa
+    → IsMapped csrs map choices
+    (record { mode = request.mode; access = request.access; len = len; devices = false }) bytes va pa
+as_read request len va pa is = record {
+  number = is.number;
+  visit = is.visit;
+  exists = is.exists;
+  in_chain = is.in_chain;
+  readable = is.readable;
+  leaf = is.leaf;
+  allows = is.allows;
+  marks = is.marks;
+  address = is.address;
+}
 
-expected_weaker : (Q R : Accessed → Type 0) (expected : Expected) → ((a : Accessed) → Q a → R a)
-    → OfExpected Q expected → OfExpected R expected
-expected_weaker Q R Halted more holds = tt
-expected_weaker Q R (Retired retired) more holds =
-    IfOk-weaker retired.effects (λ effects. IfSome effects.access Q) (λ effects. IfSome effects.access R)
-    (λ effects. some_weaker Q R effects.access more) holds
-
--- what is read
-own_mapped : (core : Core) (request : AccessRequest) (va : ℕ) (bytes : Bytes) → IsLength request.len
-    → va % request.len ≡ 0 → All (IsMappedRead core bytes) (access_reads_of core.csrs core.map request va bytes)
-own_mapped core request va bytes sized aligned =
-    access_all (IsMappedRead core bytes) core.csrs core.map request va bytes (λ pa can. tt)
-    (λ place is memory. found_mapped core.csrs core.map request va bytes sized aligned is)
-
-fetch_mapped : (core : Core) (bytes : Bytes) → core.pc % 2 ≡ 0 → All (IsMappedRead core bytes)
-    (fetch_reads_of core.csrs core.map core.mode core.pc bytes)
-fetch_mapped core bytes even =
-    let request = parcel_fetch core.mode in
-    let two : IsLength request.len = inr (inl refl) in
-    fetch_all (IsMappedRead core bytes) core.csrs core.map core.mode core.pc bytes
-    (own_mapped core request core.pc bytes two even)
-    (own_mapped core request ((core.pc + 2) % 2 ^ 64) bytes two (omega arith))
+part_read : (core : Core) (request : AccessRequest) (bytes : Bytes) (placed : PlacedPart)
+    → IsMappedPart core.csrs core.map core.choices request bytes placed
+    → HoldsOfOwn (IsMappedRead core bytes) request placed
+part_read core request bytes placed mapped memory = λ on i below.
+    as_read (request_for request placed.part) placed.part.len (placed.part.va + i) (placed.place.pa + i)
+    (mapped on i below)
 
 asked_reads_mapped : (core : Core) (asks : Option IntResult) (bytes : Bytes)
-    → All (IsMappedRead core bytes) (asked_reads_of core asks bytes)
+    → All (IsMappedRead core bytes) (asked_reads_of core asks (bytes_after_fetch core bytes))
 asked_reads_mapped core (Some (results.Access request)) bytes =
     let check = check_of core request in
-    let holds : HoldsOfReads (IsMappedRead core bytes) core.csrs core.map check request.address bytes = record {
-      whole = λ aligned. own_mapped core check request.address bytes (check_length core request) aligned;
-      walk = walk_all (IsMappedRead core bytes) core.csrs core.map check.mode request.address bytes (λ pa can. tt);
-    } in
-    data_all (reads_its_bytes request.op) holds
+    let look = look_of core check (bytes_after_fetch core bytes) in
+    let Mapped : PlacedPart → Type 0 = IsMappedPart core.csrs core.map core.choices check bytes in
+    let Own : PlacedPart → Type 0 = HoldsOfOwn (IsMappedRead core bytes) check in
+    data_all (IsMappedRead core bytes) look (is_atomic request.op) (reads_its_bytes request.op) request.address
+    (λ pa can. tt)
+    (IfOk-weaker (look_places look (is_atomic request.op) request.address) (All Mapped) (All Own)
+    (λ placed. All-weaker Mapped Own (part_read core check bytes) placed) (asked_parts core request bytes))
 asked_reads_mapped core _ bytes = All-nil (IsMappedRead core bytes)
 
 instruction_mapped : (core : Core) (bytes : Bytes) → core.pc % 2 ≡ 0 → All (IsMappedRead core bytes)
     (instruction_reads_of core bytes)
 unfolding instruction_reads_of
 instruction_mapped core bytes even =
-    All-append (IsMappedRead core bytes) (fetch_reads_of core.csrs core.map core.mode core.pc bytes)
-    (asked_reads_of core (request_at_pc core bytes) bytes)
-    (fetch_mapped core bytes even) (asked_reads_mapped core (request_at_pc core bytes) bytes)
+    let asks = request_at_pc core bytes in
+    All-append (IsMappedRead core bytes) (fetch_reads_of core.csrs core.map core.choices core.mode core.pc bytes)
+    (asked_reads_of core asks (bytes_after_fetch core bytes))
+    (fetch_mapped core bytes even) (asked_reads_mapped core asks bytes)
 
 step_reads_mapped : (core : Core) (shown : Shown) (bytes : Bytes) → (before_instruction core shown).pc % 2 ≡ 0
     → All (IsMappedRead (before_instruction core shown) bytes) (step_reads_of core shown bytes)
@@ -175,13 +196,7 @@ begun_even core shown even =
 pub step_mapped : (core : Core) (shown : Shown) (bytes : Bytes) → IsSound core → StepIsMapped core shown bytes
 step_mapped core shown bytes sound =
     let begins = before_instruction core shown in
-    let asks = request_at_pc begins bytes in
-    let step = (step_of core shown).run bytes in
-    let granted = step_granted core shown bytes in
     record {
       reads = step_reads_mapped core shown bytes (begun_even core shown sound.even);
-      writes = All-weaker (IsAskedWrite begins asks bytes) (IsMappedWrite begins asks bytes)
-          (λ write is. write_mapped begins asks bytes write is) step.wrote granted.asked_writes;
-      access = expected_weaker (IsAskedAccess begins asks bytes) (IsMappedAccess begins bytes) step.value.expected
-          (λ access is. access_mapped begins asks bytes access is) granted.asked_access;
+      places = asked_places_mapped begins (request_at_pc begins bytes) bytes;
     }

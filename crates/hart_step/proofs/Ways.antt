@@ -1,15 +1,16 @@
 -- Each way through a step does what its definition says there.
-use Rattle.std.proofs.Common.{◌≡◌, ℕ, Bool, true, false, List, [], ◌∷◌, ◌++◌, sym, ap, ◌∙◌, subst, Ok, Err, Result}
-use Rattle.std.proofs.Common.{Option, Some, None, if◌then◌else◌}
+use Rattle.std.proofs.Common.{◌≡◌, ℕ, ◌-◌, ◌/◌, ◌^◌, Bool, true, false, List, [], ◌∷◌, ◌++◌, sym, ap, ◌∙◌, subst, Ok}
+use Rattle.std.proofs.Common.{Err, Result, append_assoc, append-nil}
+use Rattle.std.proofs.Common.{Option, Some, None, if◌then◌else◌, refl}
 use Rattle.hart_words.specs.declared.accesses.Read.{Read}
 use Rattle.hart_words.specs.declared.accesses.Write.{Write}
 use Rattle.hart_words.specs.AccessSizes.{bytes_of}
-use Rattle.hart_words.specs.Memory.{Bytes, number_at, bytes_after_store}
+use Rattle.hart_words.specs.Memory.{Bytes, number_at, after_writes}
 use Rattle.hart_words.specs.Signals.{Shown}
-use Rattle.hart_words.specs.Actions.{Observes, Performs, pure, mapped, read_memory, ◌>>=◌}
-use Rattle.hart_words.proofs.Runs.{Observes-pure, Observes-read_memory, Observes-mapped, Observes-then}
-use Rattle.hart_words.proofs.Runs.{Performs-observed, Performs-pure, Performs-then, Performs-mapped}
-use Rattle.hart_words.proofs.Runs.{Performs-write_memory}
+use Rattle.hart_words.specs.Actions.{Performs, Notes, Action, pure, mapped, read_memory, write_memory}
+use Rattle.hart_words.proofs.Runs.{Observes-read_memory, Notes-observed, Notes-pure, Notes-then, Notes-mapped}
+use Rattle.hart_words.proofs.Runs.{Notes-write_memory}
+use Rattle.hart_words.proofs.Runs.{Performs-noted, Performs-pure, Performs-mapped}
 use Rattle.rv_decode.specs.declared.operation.Op.{Op}
 use Rattle.hart_words.specs.Registers.{register_of}
 use Rattle.rv_decode.specs.declared.operation.Operands.{Operands}
@@ -22,208 +23,288 @@ use Rattle.rvfi_rows.specs.declared.expected.Expected.TheVariants.{Halted, Retir
 use Rattle.rvfi_rows.specs.declared.expected.Effects.{Effects}
 use Rattle.hart_words.specs.declared.privilege.Cause.{Cause}
 use Rattle.mem_access.specs.declared.place.Place.{Place}
-use Rattle.mem_access.specs.Accesses.{Exception, fetch_result, store_place_of}
+use Rattle.mem_access.specs.Accesses.{Exception, Places, fetch_result, first_len}
 use Rattle.hart_step.specs.declared.state.Core.{Core}
 use Rattle.hart_step.specs.declared.choices.RowChoices.{RowChoices}
 use Rattle.hart_step.specs.declared.choices.Lines.{Lines}
 use Rattle.hart_step.specs.declared.instruction.Instruction.{Instruction}
 use Rattle.hart_step.specs.declared.memory.AccessResult.{AccessResult}
-use Rattle.hart_step.specs.Choices.{choices_of, pending_lines_of}
-use Rattle.hart_step.specs.MemoryAccess.{LocatedValue, found_with_read, located_access, located_access_by}
-use Rattle.hart_step.specs.MemoryAccess.{access_result_of, number_written, put_to, put, access_after_location}
-use Rattle.hart_step.specs.MemoryAccess.{memory_access}
-use Rattle.hart_step.specs.Instructions.{Completion, core_at_next, after_access, execution_of, execution_by}
+use Rattle.hart_step.specs.Choices.{choices_of, pending_lines_of, asks_interrupt}
+use Rattle.hart_step.specs.MemoryAccess.{LocatedValue, found_without_value, found_with_read, store_places, exchange_at}
+use Rattle.hart_step.specs.MemoryAccess.{located_access}
+use Rattle.hart_step.specs.MemoryAccess.{located_access_by, access_result_of, access_result_by, number_written, put_to}
+use Rattle.hart_step.specs.MemoryAccess.{put_at, put, access_after_location, memory_access}
+use Rattle.hart_step.specs.declared.changes.Retirement.{Retirement}
+use Rattle.hart_step.specs.declared.changes.Change.TheVariants.{Nothing, Registers, Access}
+use Rattle.hart_step.specs.declared.changes.InstructionNotes.{InstructionNotes}
+use Rattle.hart_step.specs.declared.instruction.InstructionOutcome.TheVariants.{Trapped}
+use Rattle.hart_step.specs.Changes.{retirement_of, completion_by, run_by}
+use Rattle.hart_step.specs.Instructions.{Completion, completion_of, next_address, core_after_retirement}
+use Rattle.hart_step.specs.Instructions.{after_access, execution_of, execution_by}
 use Rattle.hart_step.specs.Instructions.{first_value, second_value, InstructionRun, run_of_exception, run_of_result}
-use Rattle.hart_step.specs.Instructions.{op_of, run_of_decoded, run_of_fetched, instruction_run}
+use Rattle.hart_step.specs.Instructions.{op_for, run_of_decoded, run_of_fetched, instruction_run}
 use Rattle.hart_step.specs.Steps.{StepResult, core_after_count, core_after_interrupt, lacks_interrupt}
 use Rattle.hart_step.specs.Steps.{before_instruction, core_after_run, insn_of, effects_of, expected_of, step_result_of}
-use Rattle.hart_step.specs.Steps.{step_of}
+use Rattle.hart_step.specs.Steps.{step_of, core_after_entry, interrupt_of, core_after_interrupt_by}
+use Rattle.std.specs.Option.{is_none}
+use Rattle.hart_words.specs.declared.privilege.Mode.{Mode}
 
 -- a place is looked for as the kind of the access has it
-pub placed_as : (core : Core) (request : MemoryRequest) {op : MemoryOp} {len : ℕ}
-    {found : Result LocatedValue Exception} {s0 s1 : List Read} {bytes : Bytes}
-    → request.op ≡ op → len ≡ bytes_of request.size
-    → Observes (located_access_by core request.address len op) found s0 s1 bytes
-    → Observes (located_access core request) found s0 s1 bytes
+pub located_as : (core : Core) (request : MemoryRequest) {op : MemoryOp} {found : Result LocatedValue Exception}
+    {s0 s1 : List Read} {w0 w1 : List Write} {bytes : Bytes}
+    → request.op ≡ op
+    → Notes (located_access_by core request.address (bytes_of request.size) op) found s0 s1 w0 w1 bytes
+    → Notes (located_access core request) found s0 s1 w0 w1 bytes
 unfolding located_access
-placed_as core request {op} {found} {s0} {s1} {bytes} is length look =
+located_as core request {found} {s0} {s1} {w0} {w1} {bytes} is look =
     let P : MemoryOp → Type 0 =
-    λ o. Observes (located_access_by core request.address (bytes_of request.size) o) found s0 s1 bytes in
-    let Q : ℕ → Type 0 = λ n. Observes (located_access_by core request.address n op) found s0 s1 bytes in
-    subst P (sym is) (subst Q length look)
+    λ o. Notes (located_access_by core request.address (bytes_of request.size) o) found s0 s1 w0 w1 bytes in
+    subst P (sym is) look
 
-pub exchange_refused : (core : Core) (va len : ℕ) (exception : Exception) (s0 s1 : List Read) (bytes : Bytes)
-    → Observes (store_place_of core.csrs core.map core.mode va len true) (Err exception) s0 s1 bytes
-    → Observes (store_place_of core.csrs core.map core.mode va len true >>= found_with_read len) (Err exception) s0 s1
-    bytes
-exchange_refused core va len exception s0 s1 bytes look =
-    Observes-then (store_place_of core.csrs core.map core.mode va len true) (found_with_read len) look
-    (Observes-pure (Err exception) s1 bytes)
+-- an action of a length that is known by another name
+pub of_length : {A : Type 0} (action : ℕ → Action A) {len known : ℕ} {x : A} {s0 s1 : List Read} {w0 w1 : List Write}
+    {bytes : Bytes} → len ≡ known → Notes (action len) x s0 s1 w0 w1 bytes → Notes (action known) x s0 s1 w0 w1 bytes
+of_length action {x} {s0} {s1} {w0} {w1} {bytes} is noted =
+    let P : ℕ → Type 0 = λ n. Notes (action n) x s0 s1 w0 w1 bytes in
+    subst P is noted
 
-pub exchange_placed : (core : Core) (va len : ℕ) {place : Place} {held : ℕ} {s0 s1 s2 : List Read} {bytes : Bytes}
-    → Observes (store_place_of core.csrs core.map core.mode va len true) (Ok place) s0 s1 bytes
-    → held ≡ number_at bytes place.pa len
-    → s2 ≡ s1 ++ record { pa = place.pa; len = len } ∷ []
-    → Observes (store_place_of core.csrs core.map core.mode va len true >>= found_with_read len)
-    (Ok (place, held)) s0 s2 bytes
-exchange_placed core va len {place} {held} {s0} {s1} {s2} {bytes} look read noted =
-    let asked : Read = record { pa = place.pa; len = len } in
-    let P : List Read → Type 0 = λ s. Observes (found_with_read len (Ok place)) (Ok (place, held)) s1 s bytes in
+-- a store's places, with no value
+pub located_store : (core : Core) (request : MemoryRequest) (atomic : Bool) {op : MemoryOp}
+    {found : Result Places Exception} {located : Result LocatedValue Exception} {s0 s1 : List Read}
+    {w0 w1 : List Write} {bytes : Bytes}
+    → request.op ≡ op
+    → located_access_by core request.address (bytes_of request.size) op
+    ≡ mapped found_without_value (store_places core request.address (bytes_of request.size) atomic)
+    → located ≡ found_without_value found
+    → Notes (store_places core request.address (bytes_of request.size) atomic) found s0 s1 w0 w1 bytes
+    → Notes (located_access core request) located s0 s1 w0 w1 bytes
+located_store core request atomic {located} {s0} {s1} {w0} {w1} {bytes} is looks without look =
+    let places = store_places core request.address (bytes_of request.size) atomic in
+    let P : Result LocatedValue Exception → Type 0 =
+    λ l. Notes (mapped found_without_value places) l s0 s1 w0 w1 bytes in
+    let Q : Action (Result LocatedValue Exception) → Type 0 = λ a. Notes a located s0 s1 w0 w1 bytes in
+    located_as core request is
+    (subst Q (sym looks) (subst P (sym without) (Notes-mapped found_without_value places look)))
+
+-- what an atomic memory operation finds
+pub exchange_refused : (core : Core) (va len : ℕ) {exception : Exception} {s0 s1 : List Read} {w0 w1 : List Write}
+    {bytes : Bytes}
+    → Notes (store_places core va len true) (Err exception) s0 s1 w0 w1 bytes
+    → Notes (exchange_at core va len) (Err exception) s0 s1 w0 w1 bytes
+exchange_refused core va len {exception} {s1} {w1} {bytes} look =
+    Notes-then (store_places core va len true) (found_with_read len) look (Notes-pure (Err exception) s1 w1 bytes)
+
+pub exchange_placed : (core : Core) (va len : ℕ) {places : Places} {held : ℕ} {s0 s1 s2 : List Read}
+    {w0 w1 : List Write} {bytes : Bytes}
+    → Notes (store_places core va len true) (Ok places) s0 s1 w0 w1 bytes
+    → held ≡ number_at (after_writes w1 bytes) places.0.pa len
+    → s2 ≡ s1 ++ record { pa = places.0.pa; len = len } ∷ []
+    → Notes (exchange_at core va len) (Ok (places.0, places.1, held)) s0 s2 w0 w1 bytes
+exchange_placed core va len {places} {held} {s1} {s2} {w1} {bytes} look read noted =
+    let asked : Read = record { pa = places.0.pa; len = len } in
+    let gives : ℕ → Result LocatedValue Exception = λ n. Ok (places.0, places.1, n) in
+    let P : List Read → Type 0 =
+    λ s. Notes (found_with_read len (Ok places)) (Ok (places.0, places.1, held)) s1 s w1 w1 bytes in
     let reads =
     subst P (sym noted)
-    (Observes-mapped (λ n. Ok (place, n)) (read_memory asked) held s1 (s1 ++ asked ∷ []) bytes
-    (Observes-read_memory asked held s1 bytes read)) in
-    Observes-then (store_place_of core.csrs core.map core.mode va len true) (found_with_read len) look reads
+    (Notes-mapped gives (read_memory asked)
+    (Notes-observed (read_memory asked) (Observes-read_memory asked held s1 (after_writes w1 bytes) read))) in
+    Notes-then (store_places core va len true) (found_with_read len) look reads
 
--- what is written
-pub put_nothing : (place : Place) (len : ℕ) (seen : List Read) (wrote : List Write) (bytes : Bytes)
-    → Performs (put place len None) tt seen seen wrote wrote bytes bytes
-unfolding put
-put_nothing place len seen wrote bytes = Performs-pure tt seen wrote bytes
-
-pub put_as : (place : Place) (len : ℕ) {written known : Option ℕ} {seen : List Read} {wrote wrote' : List Write}
-    {bytes bytes' : Bytes}
-    → written ≡ known → Performs (put place len known) tt seen seen wrote wrote' bytes bytes'
-    → Performs (put place len written) tt seen seen wrote wrote' bytes bytes'
-put_as place len {seen} {wrote} {wrote'} {bytes} {bytes'} is did =
-    let P : Option ℕ → Type 0 = λ w. Performs (put place len w) tt seen seen wrote wrote' bytes bytes' in
+-- what is to be written
+pub put_as : (places : Places) (request : MemoryRequest) {written known : Option ℕ} {seen : List Read}
+    {w0 w1 : List Write} {bytes : Bytes}
+    → written ≡ known → Notes (put places request known) tt seen seen w0 w1 bytes
+    → Notes (put places request written) tt seen seen w0 w1 bytes
+put_as places request {seen} {w0} {w1} {bytes} is did =
+    let P : Option ℕ → Type 0 = λ w. Notes (put places request w) tt seen seen w0 w1 bytes in
     subst P (sym is) did
 
-pub put_device : (place : Place) (len value : ℕ) (seen : List Read) (wrote : List Write) (bytes : Bytes)
-    → place.io ≡ true → Performs (put place len (Some value)) tt seen seen wrote wrote bytes bytes
+pub puts_nothing : (places : Places) (request : MemoryRequest) {written : Option ℕ} (seen : List Read)
+    (wrote : List Write) (bytes : Bytes) → written ≡ None
+    → Notes (put places request written) tt seen seen wrote wrote bytes
 unfolding put
-put_device place len value seen wrote bytes io =
-    let P : Bool → Type 0 = λ b. Performs (put_to place len value b) tt seen seen wrote wrote bytes bytes in
-    subst P (sym io) (Performs-pure tt seen wrote bytes)
+puts_nothing places request seen wrote bytes is = put_as places request is (Notes-pure tt seen wrote bytes)
 
-pub put_memory : (place : Place) (len value : ℕ) {seen : List Read} {wrote wrote' : List Write} {bytes bytes' : Bytes}
-    → place.io ≡ false
-    → wrote' ≡ wrote ++ record { pa = place.pa; len = len; value = value } ∷ []
-    → bytes' ≡ bytes_after_store place.pa len value bytes
-    → Performs (put place len (Some value)) tt seen seen wrote wrote' bytes bytes'
+pub puts_value : (places : Places) (request : MemoryRequest) {written : Option ℕ} {value : ℕ} {seen : List Read}
+    {w0 w1 : List Write} {bytes : Bytes} → written ≡ Some value
+    → Notes (put_at places request value) tt seen seen w0 w1 bytes
+    → Notes (put places request written) tt seen seen w0 w1 bytes
 unfolding put
-put_memory place len value {seen} {wrote} {wrote'} {bytes} {bytes'} io noted is =
-    let P : Bool → Type 0 = λ b. Performs (put_to place len value b) tt seen seen wrote wrote' bytes bytes' in
-    subst P (sym io)
-    (rw (noted, is) (Performs-write_memory (record { pa = place.pa; len = len; value = value }) seen wrote bytes))
+puts_value places request is did = put_as places request is did
+
+-- nothing is stored before an access notes its store
+pub nothing_stored : {A : Type 0} (action : Action A) {x : A} {s0 s1 : List Read} {w0 sets stores : List Write}
+    {bytes : Bytes} → stores ≡ [] → Notes action x s0 s1 w0 sets bytes
+    → Notes action x s0 s1 w0 (sets ++ stores) bytes
+nothing_stored action {x} {s0} {s1} {w0} {sets} {bytes} blank noted =
+    let P : List Write → Type 0 = λ w. Notes action x s0 s1 w0 w bytes in
+    subst P (sym (ap (λ w. sets ++ w) blank ∙ append-nil sets)) noted
+
+-- a device takes a number; memory gets it at one place or at two
+pub stored_by_device : (first : Place) (request : MemoryRequest) (value : ℕ) {stores : List Write} (seen : List Read)
+    (sets : List Write) (bytes : Bytes)
+    → first.io ≡ true → stores ≡ []
+    → Notes (put_at (first, None) request value) tt seen seen sets (sets ++ stores) bytes
+stored_by_device first request value {stores} seen sets bytes io blank =
+    let P : Bool → Type 0 =
+    λ b. Notes (put_to first (bytes_of request.size) value b) tt seen seen sets (sets ++ stores) bytes in
+    subst P (sym io) (nothing_stored (pure tt) blank (Notes-pure tt seen sets bytes))
+
+pub stored_at_one : (first : Place) (request : MemoryRequest) (value : ℕ) {stores : List Write} (seen : List Read)
+    (sets : List Write) (bytes : Bytes)
+    → first.io ≡ false
+    → stores ≡ record { pa = first.pa; len = bytes_of request.size; value = value } ∷ []
+    → Notes (put_at (first, None) request value) tt seen seen sets (sets ++ stores) bytes
+stored_at_one first request value {stores} seen sets bytes memory is =
+    let P : Bool → Type 0 =
+    λ b. Notes (put_to first (bytes_of request.size) value b) tt seen seen sets (sets ++ stores) bytes in
+    subst P (sym memory)
+    (rw is
+    (Notes-write_memory (record { pa = first.pa; len = bytes_of request.size; value = value }) seen sets bytes))
+
+-- the writes of a number in two parts
+abbrev pub low_write : Place → MemoryRequest → ℕ → Write
+low_write first request value =
+    record { pa = first.pa; len = first_len request.address (bytes_of request.size); value = value }
+
+abbrev pub high_write : Place → MemoryRequest → ℕ → Write
+high_write second request value =
+    let low_len = first_len request.address (bytes_of request.size) in
+    record { pa = second.pa; len = bytes_of request.size - low_len; value = value / 256 ^ low_len }
+
+pub stored_at_two : (first second : Place) (request : MemoryRequest) (value : ℕ) {stores : List Write}
+    (seen : List Read) (sets : List Write) (bytes : Bytes)
+    → stores ≡ low_write first request value ∷ high_write second request value ∷ []
+    → Notes (put_at (first, Some second) request value) tt seen seen sets (sets ++ stores) bytes
+stored_at_two first second request value {stores} seen sets bytes is =
+    let low : Write = low_write first request value in
+    let high : Write = high_write second request value in
+    let P : List Write → Type 0 =
+    λ w. Notes (put_at (first, Some second) request value) tt seen seen sets w bytes in
+    subst P (append_assoc sets (low ∷ []) (high ∷ []) ∙ ap (λ w. sets ++ w) (sym is))
+    (Notes-then (write_memory low) (λ _. write_memory high) (Notes-write_memory low seen sets bytes)
+    (Notes-write_memory high seen (sets ++ low ∷ []) bytes))
 
 -- an access that is refused, and one that is made
 pub access_refused : (core : Core) (choices : RowChoices) (request : MemoryRequest) {exception : Exception}
-    {s0 s1 : List Read} {wrote : List Write} {bytes : Bytes}
-    → Observes (located_access core request) (Err exception) s0 s1 bytes
-    → Performs (memory_access core choices request) (Err exception) s0 s1 wrote wrote bytes bytes
+    {s0 s1 : List Read} {w0 w1 : List Write} {bytes : Bytes}
+    → Notes (located_access core request) (Err exception) s0 s1 w0 w1 bytes
+    → Notes (memory_access core choices request) (Err exception) s0 s1 w0 w1 bytes
 unfolding memory_access
-access_refused core choices request {exception} {s0} {s1} {wrote} {bytes} look =
-    Performs-then (located_access core request) (access_after_location core choices request)
-    (Performs-observed (located_access core request) (Err exception) s0 s1 wrote bytes look)
-    (Performs-pure (Err exception) s1 wrote bytes)
+access_refused core choices request {exception} {s1} {w1} {bytes} looked =
+    Notes-then (located_access core request) (access_after_location core choices request) looked
+    (Notes-pure (Err exception) s1 w1 bytes)
 
-pub access_made : (core : Core) (choices : RowChoices) (request : MemoryRequest) {found : LocatedValue}
-    {answer : AccessResult} {s0 s1 : List Read} {wrote wrote' : List Write} {bytes bytes' : Bytes}
-    → Observes (located_access core request) (Ok found) s0 s1 bytes
-    → answer ≡ access_result_of core choices request found
-    → Performs (put found.0 (bytes_of request.size) (number_written answer.access)) tt s1 s1 wrote wrote' bytes bytes'
-    → Performs (memory_access core choices request) (Ok answer) s0 s1 wrote wrote' bytes bytes'
-unfolding memory_access
-access_made core choices request {found} {answer} {s0} {s1} {wrote} {wrote'} {bytes} {bytes'} look is made =
+pub access_made : (core : Core) (choices : RowChoices) (request : MemoryRequest) {first : Place}
+    {second : Option Place} {held : ℕ} {answer : AccessResult} {s0 s1 : List Read} {w0 w1 w2 : List Write}
+    {bytes : Bytes}
+    → Notes (located_access core request) (Ok (first, second, held)) s0 s1 w0 w1 bytes
+    → answer ≡ access_result_by core choices request first held request.op
+    → Notes (put (first, second) request (number_written answer.access)) tt s1 s1 w1 w2 bytes
+    → Notes (memory_access core choices request) (Ok answer) s0 s1 w0 w2 bytes
+unfolding memory_access access_result_of
+access_made core choices request {first} {second} {answer} {s1} {w1} {w2} {bytes} looked is made =
     let given : AccessResult → Unit {0} → Result AccessResult Exception = λ a _. Ok a in
     let P : AccessResult → Type 0 =
-    λ a. Performs (mapped (given a) (put found.0 (bytes_of request.size) (number_written a.access))) (Ok answer)
-    s1 s1 wrote wrote' bytes bytes' in
-    Performs-then (located_access core request) (access_after_location core choices request)
-    (Performs-observed (located_access core request) (Ok found) s0 s1 wrote bytes look)
+    λ a. Notes (mapped (given a) (put (first, second) request (number_written a.access))) (Ok answer) s1 s1 w1 w2
+    bytes in
+    Notes-then (located_access core request) (access_after_location core choices request) looked
     (subst P is
-    (Performs-mapped (given answer) (put found.0 (bytes_of request.size) (number_written answer.access)) made))
+    (Notes-mapped (given answer) (put (first, second) request (number_written answer.access)) made))
 
 -- an instruction does what its result asks for
 pub executed_as : (core : Core) (choices : RowChoices) (i : Instruction) {result : IntResult} {operands : Operands}
-    {a b : ℕ} {done : Result Completion Exception} {s0 s1 : List Read} {w0 w1 : List Write} {b0 b1 : Bytes}
+    {a b : ℕ} {done : Result Completion Exception} {s0 s1 : List Read} {w0 w1 : List Write} {bytes : Bytes}
     → operands ≡ operands_of i.op → a ≡ register_of core.registers operands.rs1
     → b ≡ register_of core.registers operands.rs2 → result ≡ result_of i.op a b core.pc i.len
-    → Performs (execution_by core choices i result) done s0 s1 w0 w1 b0 b1
-    → Performs (execution_of core choices i) done s0 s1 w0 w1 b0 b1
+    → Notes (execution_by core choices i result) done s0 s1 w0 w1 bytes
+    → Notes (execution_of core choices i) done s0 s1 w0 w1 bytes
 unfolding execution_of
-executed_as core choices i {a} {b} {done} {s0} {s1} {w0} {w1} {b0} {b1} from first second is did =
+executed_as core choices i {a} {b} {done} {s0} {s1} {w0} {w1} {bytes} from first second is did =
     let one : a ≡ first_value core i.op = first ∙ ap (λ o. register_of core.registers o.rs1) from in
     let two : b ≡ second_value core i.op = second ∙ ap (λ o. register_of core.registers o.rs2) from in
     let P : ℕ → Type 0 =
-    λ n. Performs (execution_by core choices i (result_of i.op (first_value core i.op) n core.pc i.len)) done s0
-    s1 w0 w1 b0 b1 in
+    λ n. Notes (execution_by core choices i (result_of i.op (first_value core i.op) n core.pc i.len)) done s0 s1
+    w0 w1 bytes in
     let Q : ℕ → Type 0 =
-    λ n. Performs (execution_by core choices i (result_of i.op n b core.pc i.len)) done s0 s1 w0 w1 b0 b1 in
-    let R : IntResult → Type 0 = λ r. Performs (execution_by core choices i r) done s0 s1 w0 w1 b0 b1 in
+    λ n. Notes (execution_by core choices i (result_of i.op n b core.pc i.len)) done s0 s1 w0 w1 bytes in
+    let R : IntResult → Type 0 = λ r. Notes (execution_by core choices i r) done s0 s1 w0 w1 bytes in
     subst P two (subst Q one (subst R is did))
 
 -- one that does not access memory
 pub executed_pure : {A : Type 0} (meant done : A) (seen : List Read) (wrote : List Write) (bytes : Bytes)
-    → done ≡ meant → Performs (pure meant) done seen seen wrote wrote bytes bytes
-executed_pure meant done seen wrote bytes is = rw is (Performs-pure meant seen wrote bytes)
+    → done ≡ meant → Notes (pure meant) done seen seen wrote wrote bytes
+executed_pure meant done seen wrote bytes is = rw is (Notes-pure meant seen wrote bytes)
+
+-- the destination's value, as it is noted
+pub retired_as : (core : Core) (i : Instruction) (value next_pc : ℕ) {done : Retirement}
+    → done ≡ retirement_of i value next_pc
+    → completion_by core (Ok (Registers done, None)) ≡ completion_of (core_after_retirement core i value next_pc)
+unfolding core_after_retirement
+retired_as core i value next_pc is = ap (λ d. completion_by core (Ok (Registers d, None))) is
 
 -- one that does
 pub executed_access : (core : Core) (choices : RowChoices) (i : Instruction) (request : MemoryRequest)
-    (answer : Result AccessResult Exception) {s0 s1 : List Read} {w0 w1 : List Write} {b0 b1 : Bytes}
-    → Performs (memory_access core choices request) answer s0 s1 w0 w1 b0 b1
-    → Performs (mapped (after_access core i) (memory_access core choices request)) (after_access core i answer) s0
-    s1 w0 w1 b0 b1
-executed_access core choices i request answer did =
-    Performs-mapped (after_access core i) (memory_access core choices request) did
+    {answer : Result AccessResult Exception} {done : Result Completion Exception} {s0 s1 : List Read}
+    {w0 w1 : List Write} {bytes : Bytes}
+    → done ≡ after_access core i answer
+    → Notes (memory_access core choices request) answer s0 s1 w0 w1 bytes
+    → Notes (mapped (after_access core i) (memory_access core choices request)) done s0 s1 w0 w1 bytes
+executed_access core choices i request {s0} {s1} {w0} {w1} {bytes} is did =
+    let P : Result Completion Exception → Type 0 =
+    λ d. Notes (mapped (after_access core i) (memory_access core choices request)) d s0 s1 w0 w1 bytes in
+    subst P (sym is) (Notes-mapped (after_access core i) (memory_access core choices request) did)
 
-pub executed_answer : (core : Core) (choices : RowChoices) (i : Instruction) (request : MemoryRequest)
-    (answer : AccessResult) {next : Core} {s0 s1 : List Read} {w0 w1 : List Write} {b0 b1 : Bytes}
-    → next ≡ core_at_next (record core { reservation = answer.reservation }) i answer.value
-    → Performs (memory_access core choices request) (Ok answer) s0 s1 w0 w1 b0 b1
-    → Performs (mapped (after_access core i) (memory_access core choices request))
-    (Ok (record { core = next; access = answer.access })) s0 s1 w0 w1 b0 b1
-unfolding after_access
-executed_answer core choices i request answer {s0} {s1} {w0} {w1} {b0} {b1} is did =
-    let P : Core → Type 0 =
-    λ k. Performs (mapped (after_access core i) (memory_access core choices request))
-    (Ok (record { core = k; access = answer.access })) s0 s1 w0 w1 b0 b1 in
-    subst P (sym is) (executed_access core choices i request (Ok answer) did)
+pub accessed_as : (core : Core) (i : Instruction) (answer : AccessResult) {done : Retirement}
+    → done ≡ retirement_of i answer.value (next_address core i)
+    → completion_by core (Ok (Access done answer.reservation, answer.access)) ≡ after_access core i (Ok answer)
+unfolding after_access core_after_retirement
+accessed_as core i answer is =
+    ap (λ d. completion_by core (Ok (Access d answer.reservation, answer.access))) is
 
 -- what stands at pc
-pub ran_refused : (core : Core) (shown : Shown) (exception : Exception) (s0 s1 : List Read) (wrote : List Write)
-    (bytes : Bytes)
-    → Observes (fetch_result core.csrs core.map core.mode core.pc) (Err exception) s0 s1 bytes
-    → Performs (instruction_run core shown) (run_of_exception core None exception) s0 s1 wrote wrote bytes bytes
+pub ran_refused : (core : Core) (shown : Shown) (exception : Exception) {s0 s1 : List Read} {w0 w1 : List Write}
+    {bytes : Bytes}
+    → Notes (fetch_result core.csrs core.map core.choices core.mode core.pc) (Err exception) s0 s1 w0 w1 bytes
+    → Notes (instruction_run core shown) (run_of_exception core None exception) s0 s1 w0 w1 bytes
 unfolding instruction_run
-ran_refused core shown exception s0 s1 wrote bytes look =
-    Performs-then (fetch_result core.csrs core.map core.mode core.pc) (run_of_fetched core shown)
-    (Performs-observed (fetch_result core.csrs core.map core.mode core.pc) (Err exception) s0 s1 wrote bytes look)
-    (Performs-pure (run_of_exception core None exception) s1 wrote bytes)
+ran_refused core shown exception {s1} {w1} {bytes} looked =
+    Notes-then (fetch_result core.csrs core.map core.choices core.mode core.pc) (run_of_fetched core shown) looked
+    (Notes-pure (run_of_exception core None exception) s1 w1 bytes)
 
 pub ran_decoded : (core : Core) (shown : Shown) (word len : ℕ) {op : Option Op} {done : InstructionRun}
-    {s0 s1 s2 : List Read} {w0 w1 : List Write} {b0 b1 : Bytes}
-    → Observes (fetch_result core.csrs core.map core.mode core.pc) (Ok (word, len)) s0 s1 b0 → op ≡ op_of word len
-    → Performs (run_of_decoded core shown word len op) done s1 s2 w0 w1 b0 b1
-    → Performs (instruction_run core shown) done s0 s2 w0 w1 b0 b1
+    {s0 s1 s2 : List Read} {w0 w1 w2 : List Write} {bytes : Bytes}
+    → Notes (fetch_result core.csrs core.map core.choices core.mode core.pc) (Ok (word, len)) s0 s1 w0 w1 bytes
+    → op ≡ op_for core word len
+    → Notes (run_of_decoded core shown word len op) done s1 s2 w1 w2 bytes
+    → Notes (instruction_run core shown) done s0 s2 w0 w2 bytes
 unfolding instruction_run
-ran_decoded core shown word len {done} {s0} {s1} {s2} {w0} {w1} {b0} {b1} look is did =
-    let P : Option Op → Type 0 = λ o. Performs (run_of_decoded core shown word len o) done s1 s2 w0 w1 b0 b1 in
-    Performs-then (fetch_result core.csrs core.map core.mode core.pc) (run_of_fetched core shown)
-    (Performs-observed (fetch_result core.csrs core.map core.mode core.pc) (Ok (word, len)) s0 s1 w0 b0 look)
+ran_decoded core shown word len {done} {s1} {s2} {w1} {w2} {bytes} looked is did =
+    let P : Option Op → Type 0 = λ o. Notes (run_of_decoded core shown word len o) done s1 s2 w1 w2 bytes in
+    Notes-then (fetch_result core.csrs core.map core.choices core.mode core.pc) (run_of_fetched core shown) looked
     (subst P is did)
 
-pub ran_executed : (core : Core) (shown : Shown) (word len : ℕ) (op : Op) (done : Result Completion Exception)
-    {choices : RowChoices} {s0 s1 : List Read} {w0 w1 : List Write} {b0 b1 : Bytes}
+pub ran_executed : (core : Core) (shown : Shown) (word len : ℕ) (op : Op) {done : Result Completion Exception}
+    {choices : RowChoices} {s0 s1 : List Read} {w0 w1 : List Write} {bytes : Bytes}
     → choices ≡ choices_of shown (operands_of op).rd
-    → Performs (execution_of core choices (record { op = op; bits = word; len = len })) done s0 s1 w0 w1 b0 b1
-    → Performs (run_of_decoded core shown word len (Some op))
-    (run_of_result core (record { op = op; bits = word; len = len }) done) s0 s1 w0 w1 b0 b1
-ran_executed core shown word len op done {s0} {s1} {w0} {w1} {b0} {b1} chosen did =
+    → Notes (execution_of core choices (record { op = op; bits = word; len = len })) done s0 s1 w0 w1 bytes
+    → Notes (run_of_decoded core shown word len (Some op))
+    (run_of_result core (record { op = op; bits = word; len = len }) done) s0 s1 w0 w1 bytes
+ran_executed core shown word len op {done} {s0} {s1} {w0} {w1} {bytes} chosen did =
     let i : Instruction = record { op = op; bits = word; len = len } in
-    let P : RowChoices → Type 0 = λ c. Performs (execution_of core c i) done s0 s1 w0 w1 b0 b1 in
-    Performs-mapped (run_of_result core i) (execution_of core (choices_of shown (operands_of op).rd) i)
+    let P : RowChoices → Type 0 = λ c. Notes (execution_of core c i) done s0 s1 w0 w1 bytes in
+    Notes-mapped (run_of_result core i) (execution_of core (choices_of shown (operands_of op).rd) i)
     (subst P chosen did)
 
--- an exception leaves the hart
-pub ran_raised : (core : Core) (shown : Shown) (insn : Option ℕ) (exception : Exception) {next : Core}
-    {s0 s1 : List Read} {w0 w1 : List Write} {b0 b1 : Bytes}
-    → next ≡ core → Performs (instruction_run core shown) (run_of_exception core insn exception) s0 s1 w0 w1 b0 b1
-    → Performs (instruction_run core shown) (run_of_exception next insn exception) s0 s1 w0 w1 b0 b1
-ran_raised core shown insn exception {s0} {s1} {w0} {w1} {b0} {b1} is did =
-    let P : Core → Type 0 =
-    λ k. Performs (instruction_run core shown) (run_of_exception k insn exception) s0 s1 w0 w1 b0 b1 in
+-- an exception, as it is noted
+pub ran_raised : (core : Core) (shown : Shown) (insn : Option ℕ) (exception : Exception) {notes : InstructionNotes}
+    {s0 s1 : List Read} {w0 w1 : List Write} {bytes : Bytes}
+    → notes ≡ record { executed = Trapped insn exception; change = Nothing }
+    → Notes (instruction_run core shown) (run_of_exception core insn exception) s0 s1 w0 w1 bytes
+    → Notes (instruction_run core shown) (run_by core notes) s0 s1 w0 w1 bytes
+ran_raised core shown insn exception {s0} {s1} {w0} {w1} {bytes} is did =
+    let P : InstructionNotes → Type 0 = λ n. Notes (instruction_run core shown) (run_by core n) s0 s1 w0 w1 bytes in
     subst P (sym is) did
 
 -- a step
@@ -257,24 +338,72 @@ step_done core shown done {gave} {s0} {s1} {w0} {w1} {b0} {b1} running is did =
     (subst Q (sym is)
     (Performs-mapped (step_result_of core shown) (instruction_run (before_instruction core shown) shown) did))
 
--- the hart as the row's instruction finds it
-pub began : (core counts before : Core) (shown : Shown) → counts ≡ core_after_count core shown
-    → before ≡ core_after_interrupt counts shown → before ≡ before_instruction core shown
-unfolding before_instruction
-began core counts before shown count is = is ∙ ap (λ c. core_after_interrupt c shown) count
+-- what was noted of the instruction was written
+pub run_performed : (core : Core) (shown : Shown) {done : InstructionRun} {seen : List Read} {wrote : List Write}
+    {bytes now : Bytes}
+    → Notes (instruction_run core shown) done [] seen [] wrote bytes → now ≡ after_writes wrote bytes
+    → Performs (instruction_run core shown) done [] seen [] wrote bytes now
+unfolding after_writes
+run_performed core shown noted written = Performs-noted (instruction_run core shown) noted written
+
+-- it ran on the hart as the row's instruction finds it
+pub step_began : (core : Core) (shown : Shown) {before : Core} {done : InstructionRun} {s0 s1 : List Read}
+    {w0 w1 : List Write} {b0 b1 : Bytes}
+    → before ≡ before_instruction core shown
+    → Performs (instruction_run before shown) done s0 s1 w0 w1 b0 b1
+    → Performs (instruction_run (before_instruction core shown) shown) done s0 s1 w0 w1 b0 b1
+step_began core shown {done} {s0} {s1} {w0} {w1} {b0} {b1} is did =
+    let P : Core → Type 0 = λ b. Performs (instruction_run b shown) done s0 s1 w0 w1 b0 b1 in
+    subst P is did
+
+-- the hart as a row's instruction finds it, but for the order index, which has still to move on
+pub record Enters (core : Core) (shown : Shown) (entered : Core) (lacks : Bool) : Type 0 where
+  pub before : core_after_count entered shown ≡ before_instruction core shown
+  pub lacks_is : lacks ≡ lacks_interrupt (core_after_count core shown) shown
+
+-- no interrupt is asked for, and one that is asked for is entered where it can be
+pub enters_at_once : (core : Core) (shown : Shown) → asks_interrupt core shown ≡ false → Enters core shown core false
+unfolding before_instruction core_after_interrupt lacks_interrupt core_after_count asks_interrupt
+enters_at_once core shown quiet = record {
+  before = ap (λ b. if b then core_after_interrupt_by (core_after_count core shown)
+      (interrupt_of (core_after_count core shown) shown) else core_after_count core shown) (sym quiet);
+  lacks_is = ap (λ b. if b then is_none (interrupt_of (core_after_count core shown) shown) else false) (sym quiet);
+}
+
+-- the order index moves on after an interrupt's entry as before it
+entered_by : (core : Core) (shown : Shown) (interrupt : Option (ℕ × Mode))
+    → core_after_count (core_after_interrupt_by core interrupt) shown
+    ≡ core_after_interrupt_by (core_after_count core shown) interrupt
+unfolding core_after_count core_after_entry
+entered_by core shown None = refl
+entered_by core shown (Some interrupt) = refl
+
+pub enters_interrupt : (core : Core) (shown : Shown) {entered : Core} {lacks : Bool} → asks_interrupt core shown ≡ true
+    → entered ≡ core_after_interrupt core shown → lacks ≡ lacks_interrupt core shown
+    → Enters core shown entered lacks
+unfolding before_instruction core_after_interrupt lacks_interrupt core_after_count asks_interrupt
+enters_interrupt core shown {entered} asks is lacks =
+    let found = interrupt_of core shown in
+    let so : entered ≡ core_after_interrupt_by core found =
+    is ∙ ap (λ b. if b then core_after_interrupt_by core found else core) asks in
+    record {
+      before =
+          ap (λ c. core_after_count c shown) so ∙ entered_by core shown found
+          ∙ ap (λ b. if b then core_after_interrupt_by (core_after_count core shown) found
+          else core_after_count core shown) (sym asks);
+      lacks_is = lacks;
+    }
 
 -- what each phase of a step gives
 pub record StepParts (core : Core) (shown : Shown) (done : InstructionRun) : Type 0 where
-  pub counts : Core
   pub before : Core
   pub next : Core
   pub lacks : Bool
   pub insn : Option ℕ
   pub effects : Result Effects Cause
   pub lines : Lines
-  pub counts_is : counts ≡ core_after_count core shown
-  pub before_is : before ≡ core_after_interrupt counts shown
-  pub lacks_is : lacks ≡ lacks_interrupt counts shown
+  pub before_is : before ≡ before_instruction core shown
+  pub lacks_is : lacks ≡ lacks_interrupt (core_after_count core shown) shown
   pub insn_is : insn ≡ insn_of done.executed
   pub effects_are : effects ≡ effects_of before done.core done.executed
   pub next_is : next ≡ core_after_run done shown
@@ -306,8 +435,8 @@ pub gave_parts : (core : Core) (shown : Shown) (done : InstructionRun) (parts : 
     ≡ step_result_of core shown done
 unfolding step_result_of expected_of
 gave_parts core shown done parts =
-    let p = began core parts.counts parts.before shown parts.counts_is parts.before_is in
-    let l = parts.lacks_is ∙ ap (λ c. lacks_interrupt c shown) parts.counts_is in
+    let p = parts.before_is in
+    let l = parts.lacks_is in
     let e = parts.effects_are ∙ ap (λ b. effects_of b done.core done.executed) p in
     let bits = parts.insn_is in
     let after = parts.next_is in

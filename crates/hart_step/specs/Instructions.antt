@@ -12,7 +12,7 @@ use Rattle.hart_words.specs.Signals.{Shown}
 use Rattle.hart_words.specs.Actions.{Action, pure, mapped, ◌>>=◌}
 use Rattle.rv_decode.specs.declared.operation.Op.{Op}
 use Rattle.rv_decode.specs.Operands.{operands_of}
-use Rattle.rv_decode.specs.Table.{decoded_op_of}
+use Rattle.rv_decode.specs.Table.{decoded_op_of, decoded_op_with}
 use Rattle.rv_compressed.specs.Table.{expanded_op_of}
 use Rattle.rv_integer.specs.declared.int_result.IntResult.{IntResult}
 use Rattle.rv_integer.specs.declared.int_result.IntResult.TheVariants as results
@@ -126,15 +126,6 @@ execution_of core choices instruction =
     (result_of instruction.op (first_value core instruction.op) (second_value core instruction.op)
     core.pc instruction.len)
 
--- a call's result with the hart that it leaves
-abbrev pub completion_with : Core → Result (Option Accessed) Exception → Result Completion Exception
-completion_with core (Err exception) = Err exception
-completion_with core (Ok access) = Ok (record { core = core; access = access })
-
-abbrev pub without_access : Core → Result (Unit {0}) Exception → Result Completion Exception
-without_access core (Err exception) = Err exception
-without_access core (Ok nothing) = completion_of core
-
 -- the hart after what stands at pc, short of a trap's entry, and what became of it
 pub record InstructionRun : Type 0 where
   pub core : Core
@@ -153,6 +144,10 @@ run_of_result core instruction (Ok completion_of) =
 abbrev pub op_of : ℕ → ℕ → Option Op
 op_of bits len = if len == 2 then expanded_op_of bits else decoded_op_of bits
 
+-- and what they mean to a hart, which may have the instructions of bit manipulation
+abbrev pub op_for : Core → ℕ → ℕ → Option Op
+op_for core bits len = if len == 2 then expanded_op_of bits else decoded_op_with bits core.choices.bits
+
 -- a word that means nothing is illegal
 abbrev pub run_of_decoded : Core → Shown → ℕ → ℕ → Option Op → Action InstructionRun
 run_of_decoded core shown bits len None = pure (run_of_exception core (Some bits) (IllegalInstruction, bits))
@@ -162,8 +157,12 @@ run_of_decoded core shown bits len (Some op) =
 
 abbrev pub run_of_fetched : Core → Shown → Result (ℕ × ℕ) Exception → Action InstructionRun
 run_of_fetched core shown (Err exception) = pure (run_of_exception core None exception)
-run_of_fetched core shown (Ok word) = run_of_decoded core shown word.0 word.1 (op_of word.0 word.1)
+run_of_fetched core shown (Ok word) = run_of_decoded core shown word.0 word.1 (op_for core word.0 word.1)
 
--- what stands at pc is fetched, decoded and executed
+-- what stands at pc is fetched
+abbrev pub fetch_at_pc : Core → Action (Result (ℕ × ℕ) Exception)
+fetch_at_pc core = fetch_result core.csrs core.map core.choices core.mode core.pc
+
+-- and decoded and executed
 unfoldable pub instruction_run : Core → Shown → Action InstructionRun
-instruction_run core shown = fetch_result core.csrs core.map core.mode core.pc >>= run_of_fetched core shown
+instruction_run core shown = fetch_at_pc core >>= run_of_fetched core shown

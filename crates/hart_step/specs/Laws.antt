@@ -1,5 +1,6 @@
 -- What holds of every step, in the words of a designer of cores.
-use Rattle.std.specs.Prelude.{◌≡◌, ◌≢◌, ◌≤◌, ℕ, List, Bool, true, false, ◌&&◌, Option, Some, None, Result, Ok, Err, All}
+use Rattle.std.specs.Prelude.{◌≡◌, ◌≢◌, ◌≤◌, ℕ, List, ◌++◌, Bool, true, false, ◌&&◌, Option, Some, None, Result, Ok}
+use Rattle.std.specs.Prelude.{Err, All}
 use Rattle.std.specs.Option.{is_some}
 use Rattle.hart_words.specs.declared.privilege.Mode.{Mode}
 use Rattle.hart_words.specs.Privilege.{mode_number}
@@ -35,11 +36,12 @@ use Rattle.trap_entry.specs.Returns.{mode_by_mret, mode_by_sret}
 use Rattle.interrupt_pick.specs.Laws.{IsTaken, IsPicked, TakesNone}
 use Rattle.rvfi_rows.specs.declared.expected.Expected.{Expected}
 use Rattle.rvfi_rows.specs.declared.expected.Expected.TheVariants as expected
-use Rattle.mem_access.specs.Accesses.{Exception, fetch_result}
+use Rattle.mem_access.specs.Accesses.{Exception}
+use Rattle.mem_access.specs.Laws.{SetsAlone}
 use Rattle.hart_step.specs.declared.state.Core.{Core}
 use Rattle.hart_step.specs.Choices.{asks_interrupt, pending_lines_of, shows}
 use Rattle.hart_step.specs.MemoryAccess.{LocatedValue, located_access}
-use Rattle.hart_step.specs.Instructions.{first_value, second_value, op_of}
+use Rattle.hart_step.specs.Instructions.{fetch_at_pc, first_value, second_value, op_for}
 use Rattle.hart_step.specs.Steps.{before_instruction, interrupt_of, step_of}
 
 -- what the instruction at pc asks for, where it can be fetched and is in the table
@@ -49,10 +51,14 @@ request_by core len (Some op) = Some (result_of op (first_value core op) (second
 
 abbrev pub request_from : Core → Result (ℕ × ℕ) Exception → Option IntResult
 request_from core (Err exception) = None
-request_from core (Ok word) = request_by core word.1 (op_of word.0 word.1)
+request_from core (Ok word) = request_by core word.1 (op_for core word.0 word.1)
 
 unfoldable pub request_at_pc : Core → Bytes → Option IntResult
-request_at_pc core bytes = request_from core ((fetch_result core.csrs core.map core.mode core.pc).run bytes).value
+request_at_pc core bytes = request_from core ((fetch_at_pc core).run bytes).value
+
+-- memory as the fetch leaves it, with the entries of page tables that it sets
+unfoldable pub bytes_after_fetch : Core → Bytes → Bytes
+bytes_after_fetch core bytes = after_writes ((fetch_at_pc core).run bytes).wrote bytes
 
 -- the hart after a step
 abbrev pub next_of : Core → Shown → Bytes → Core
@@ -115,7 +121,7 @@ AgreeOnAccess found (memory.Load signed) one other =
 AgreeOnAccess found (memory.StoreConditional value) one other = SameAt RdWdata one other × SameAt MemWmask one other
 AgreeOnAccess found _ one other = Unit {0}
 
--- what an instruction takes from its row besides
+-- what an instruction takes from its row besides, where memory is as its fetch leaves it
 abbrev pub AgreeOnInstruction : Core → Bytes → Option IntResult → Shown → Shown → Type 0
 AgreeOnInstruction core bytes (Some (Access request)) one other =
     AgreeOnAccess ((located_access core request).run bytes).value request.op one other
@@ -126,15 +132,20 @@ AgreeOnInstruction core bytes _ one other = Unit {0}
 abbrev pub RowsDecideAlike : Core → Bytes → Shown → Shown → Type 0
 RowsDecideAlike core bytes one other =
     AgreeOnRow one other
-    → AgreeOnInstruction (before_instruction core one) bytes (request_at_pc (before_instruction core one) bytes) one
-    other
+    → AgreeOnInstruction (before_instruction core one) (bytes_after_fetch (before_instruction core one) bytes)
+    (request_at_pc (before_instruction core one) bytes) one other
     → (step_of core other).run bytes ≡ (step_of core one).run bytes
 
--- a step that takes a synchronous trap leaves the registers, what is reserved, and every byte
-pub record TrapsWriteNothing (core : Core) (shown : Shown) (bytes : Bytes) : Type 0 where
+-- what is written is entries of page tables that are set, by the hart as its instruction finds it
+abbrev pub SetsEntriesAlone : Core → Bytes → List Write → Type 0
+SetsEntriesAlone core bytes writes = SetsAlone core.csrs core.map core.choices bytes writes
+
+-- a step that takes a synchronous trap leaves the registers, what is reserved, and every byte but those of entries that
+-- it sets
+pub record TrapsStoreNothing (core : Core) (shown : Shown) (bytes : Bytes) : Type 0 where
   pub registers : (next_of core shown bytes).registers ≡ core.registers
   pub reservation : (next_of core shown bytes).reservation ≡ core.reservation
-  pub memory : (address : ℕ) → after_writes ((step_of core shown).run bytes).wrote bytes address ≡ bytes address
+  pub writes : SetsEntriesAlone (before_instruction core shown) bytes ((step_of core shown).run bytes).wrote
 
 -- an interrupt is entered
 abbrev pub enters_interrupt : Core → Shown → Bool
@@ -191,6 +202,19 @@ pub record LacksRightly (core : Core) (shown : Shown) (expected : Expected) : Ty
   pub asks : LacksInterrupt expected → asks_interrupt core shown ≡ true
   pub takes_none : LacksInterrupt expected → TakesNone core.csrs core.mode (pending_lines_of shown).up
 
--- the block that an SC stores in
+-- the writes of a step: first the entries that it sets, and then what it stores
+pub record AreSetsAndStores (core : Core) (bytes : Bytes) (P : List Write → Type 0) (writes : List Write)
+    : Type 0 where
+  pub sets : List Write
+  pub stored : List Write
+  pub order : writes ≡ sets ++ stored
+  pub entries : SetsEntriesAlone core bytes sets
+  pub stores : P stored
+
+-- what an SC stores lies in the block that is reserved
 abbrev pub InReservedBlock : Core → List Write → Type 0
-InReservedBlock core wrote = All (λ write. is_covered core.reservation.block write.pa write.len ≡ true) wrote
+InReservedBlock core stored = All (λ write. is_covered core.reservation.block write.pa write.len ≡ true) stored
+
+abbrev pub StoresInReservedBlock : Core → Shown → Bytes → Type 0
+StoresInReservedBlock core shown bytes =
+    AreSetsAndStores (before_instruction core shown) bytes (InReservedBlock core) ((step_of core shown).run bytes).wrote

@@ -5,6 +5,7 @@ pub mod CsrAccess
 pub mod Returns
 pub mod Instructions
 pub mod Steps
+pub mod Changes
 pub mod PlainRows
 pub mod Laws
 pub mod TrapLaws

@@ -1,6 +1,6 @@
 -- The access of an instruction to memory: its place, what comes of it, and what is written. From the Unprivileged ISA's
 -- chapters "RV32I Base Integer Instruction Set" and "A Extension for Atomic Instructions".
-use Rattle.std.specs.Prelude.{ℕ, ◌*◌, Bool, true, false, ◌&&◌, if◌then◌else◌, Option, Some, None, Result, Ok, Err}
+use Rattle.std.specs.Prelude.{ℕ, ◌-◌, ◌*◌, ◌/◌, ◌^◌, Bool, true, false, ◌&&◌, if◌then◌else◌, Option, Some, None, Result, Ok, Err}
 use Rattle.hart_words.specs.Words.{sign_extended}
 use Rattle.hart_words.specs.AccessSizes.{bytes_of}
 use Rattle.hart_words.specs.Actions.{Action, pure, read_memory, write_memory, mapped, ◌>>=◌}
@@ -11,41 +11,51 @@ use Rattle.rv_atomic.specs.Operations.{amo_of}
 use Rattle.rv_atomic.specs.Blocks.{block_of, is_covered}
 use Rattle.rvfi_rows.specs.declared.expected.Accessed.{Accessed}
 use Rattle.mem_access.specs.declared.place.Place.{Place}
-use Rattle.mem_access.specs.Accesses.{Exception, load_result, store_place_of}
+use Rattle.mem_access.specs.Accesses.{Exception, Loaded, Places, first_len, load_result, store_place_of}
 use Rattle.hart_step.specs.declared.state.Core.{Core}
 use Rattle.hart_step.specs.declared.choices.RowChoices.{RowChoices}
 use Rattle.hart_step.specs.declared.memory.AccessResult.{AccessResult}
 use Rattle.hart_step.specs.Choices.{device_value, says_stored}
 
--- a place, with what memory has there
+-- the places of an access, with what memory has there
 abbrev pub LocatedValue : Type 0
-LocatedValue = Place × ℕ
+LocatedValue = Loaded
 
 -- a store does not look at what memory has
-abbrev pub found_without_value : Result Place Exception → Result LocatedValue Exception
+abbrev pub found_without_value : Result Places Exception → Result LocatedValue Exception
 found_without_value (Err exception) = Err exception
-found_without_value (Ok place) = Ok (place, 0)
+found_without_value (Ok (first, second)) = Ok (first, second, 0)
 
--- an atomic memory operation does
-abbrev pub found_with_read : ℕ → Result Place Exception → Action (Result LocatedValue Exception)
+-- an atomic memory operation does, at its one place
+abbrev pub found_with_read : ℕ → Result Places Exception → Action (Result LocatedValue Exception)
 found_with_read len (Err exception) = pure (Err exception)
-found_with_read len (Ok place) = mapped (λ held. Ok (place, held)) (read_memory (record { pa = place.pa; len = len }))
+found_with_read len (Ok (first, second)) =
+    mapped (λ held. Ok (first, second, held)) (read_memory (record { pa = first.pa; len = len }))
+
+-- the places of a store
+abbrev pub store_places : Core → ℕ → ℕ → Bool → Action (Result Places Exception)
+store_places core va len atomic = store_place_of core.csrs core.map core.choices core.mode va len atomic
+
+-- a load with its places
+abbrev pub load_at : Core → ℕ → ℕ → Bool → Action (Result LocatedValue Exception)
+load_at core va len atomic = load_result core.csrs core.map core.choices core.mode va len atomic
+
+-- the place of an atomic memory operation, with what memory has there
+abbrev pub exchange_at : Core → ℕ → ℕ → Action (Result LocatedValue Exception)
+exchange_at core va len = store_places core va len true >>= found_with_read len
 
 abbrev pub located_access_by : Core → ℕ → ℕ → MemoryOp → Action (Result LocatedValue Exception)
-located_access_by core va len (Load signed) = load_result core.csrs core.map core.mode va len false
-located_access_by core va len LoadReserved = load_result core.csrs core.map core.mode va len true
-located_access_by core va len (Store value) =
-    mapped found_without_value (store_place_of core.csrs core.map core.mode va len false)
-located_access_by core va len (StoreConditional value) =
-    mapped found_without_value (store_place_of core.csrs core.map core.mode va len true)
-located_access_by core va len (Amo op width b) =
-    store_place_of core.csrs core.map core.mode va len true >>= found_with_read len
+located_access_by core va len (Load signed) = load_at core va len false
+located_access_by core va len LoadReserved = load_at core va len true
+located_access_by core va len (Store value) = mapped found_without_value (store_places core va len false)
+located_access_by core va len (StoreConditional value) = mapped found_without_value (store_places core va len true)
+located_access_by core va len (Amo op width b) = exchange_at core va len
 
 -- where the access goes, with what memory has there as far as the access reads it
 unfoldable pub located_access : Core → MemoryRequest → Action (Result LocatedValue Exception)
 located_access core request = located_access_by core request.address (bytes_of request.size) request.op
 
--- the access, as the comparison sees it
+-- the access, as the comparison sees it: its physical address is that of its first byte
 abbrev pub expected_access : MemoryRequest → Place → Option ℕ → Option ℕ → Option Accessed
 expected_access request place read written =
     Some (record { va = request.address; pa = place.pa; len = bytes_of request.size; read = read; written = written })
@@ -76,7 +86,7 @@ access_result_by core choices request place held (Load signed) = record {
 access_result_by core choices request place held LoadReserved = record {
   value = loaded_value true request held;
   access = expected_access request place (Some held) None;
-  reservation = record { block = Some (block_of place.pa) };
+  reservation = record { block = Some (block_of core.choices.block_size place.pa) };
 }
 access_result_by core choices request place held (Store value) = record {
   value = 0;
@@ -99,7 +109,8 @@ access_result_by core choices request place held (Amo op width b) = record {
 }
 
 unfoldable pub access_result_of : Core → RowChoices → MemoryRequest → LocatedValue → AccessResult
-access_result_of core choices request found = access_result_by core choices request found.0 found.1 request.op
+access_result_of core choices request (first, second, held) =
+    access_result_by core choices request first held request.op
 
 -- the number that is written
 abbrev pub number_written : Option Accessed → Option ℕ
@@ -111,17 +122,26 @@ abbrev pub put_to : Place → ℕ → ℕ → Bool → Action (Unit {0})
 put_to place len value true = pure tt
 put_to place len value false = write_memory (record { pa = place.pa; len = len; value = value })
 
-unfoldable pub put : Place → ℕ → Option ℕ → Action (Unit {0})
-put place len None = pure tt
-put place len (Some value) = put_to place len value place.io
+-- a number at its one place, or its low bytes at the first and the others at the second
+abbrev pub put_at : Places → MemoryRequest → ℕ → Action (Unit {0})
+put_at (first, None) request value = put_to first (bytes_of request.size) value first.io
+put_at (first, Some second) request value =
+    let low_len = first_len request.address (bytes_of request.size) in
+    write_memory (record { pa = first.pa; len = low_len; value = value })
+    >>= λ _. write_memory
+    (record { pa = second.pa; len = bytes_of request.size - low_len; value = value / 256 ^ low_len })
+
+unfoldable pub put : Places → MemoryRequest → Option ℕ → Action (Unit {0})
+put places request None = pure tt
+put places request (Some value) = put_at places request value
 
 -- nothing is written before the access is known to be allowed
 abbrev pub access_after_location : Core → RowChoices → MemoryRequest → Result LocatedValue Exception
     → Action (Result AccessResult Exception)
 access_after_location core choices request (Err exception) = pure (Err exception)
-access_after_location core choices request (Ok found) =
-    let answer = access_result_of core choices request found in
-    mapped (λ _. Ok answer) (put found.0 (bytes_of request.size) (number_written answer.access))
+access_after_location core choices request (Ok (first, second, held)) =
+    let answer = access_result_of core choices request (first, second, held) in
+    mapped (λ _. Ok answer) (put (first, second) request (number_written answer.access))
 
 -- an access
 unfoldable pub memory_access : Core → RowChoices → MemoryRequest → Action (Result AccessResult Exception)

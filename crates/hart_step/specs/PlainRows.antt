@@ -59,11 +59,25 @@ shows_store shown = let word = insn_shown shown in is_store (op_of (insn_bits_of
 abbrev pub translates_data : Core → Bool
 translates_data core = is_translated core.csrs (data_mode_of core.csrs core.mode)
 
+-- how many bytes there are from an address to the end of its page
+abbrev pub bytes_to_page_end : ℕ → ℕ
+bytes_to_page_end address = PAGE_SIZE - address % PAGE_SIZE
+
+-- the bytes that a mask has, counted from an address on, lie in two pages: some before the page's end, and some after
+unfoldable pub lies_in_two_pages : ℕ → ℕ → Bool
+lies_in_two_pages address mask =
+    let here = bytes_to_page_end address in not (mask % 2 ^ here == 0) && not (mask / 2 ^ here == 0)
+
+-- the physical address that a row shows is that of all its bytes
+abbrev pub shows_place : Shown → Bool
+shows_place shown =
+    is_some (shown MemPaddr) && not (lies_in_two_pages (unwrap_or (shown MemAddr) 0) (unwrap_or (shown MemWmask) 0))
+
 -- a store's place and its bytes are known
 unfoldable pub shows_bytes : Core → Shown → Bool
 shows_bytes core shown =
     is_some (shown MemAddr) && is_some (shown MemWmask) && is_some (shown MemWdata)
-    && (is_some (shown MemPaddr) || not (translates_data core))
+    && (not (translates_data core) || shows_place shown)
 
 -- neither a trap nor an interrupt nor a halt is shown
 abbrev pub is_undisturbed : Shown → Bool

@@ -1,6 +1,6 @@
 -- What physical memory protection comes to over steps, in the words of a designer of cores.
-use Rattle.std.specs.Prelude.{◌≡◌, ◌≢◌, ◌↔◌, ℕ, ◌%◌, ◌<◌, ◌≤◌, Bool, true, false, if◌then◌else◌, IsTrue, List, [], ◌++◌}
-use Rattle.std.specs.Prelude.{All, length, Option, Some, None, Ok, IfSome, IfOk}
+use Rattle.std.specs.Prelude.{◌≡◌, ◌≢◌, ◌↔◌, ℕ, ◌<◌, ◌≤◌, Bool, true, false, if◌then◌else◌, IsTrue, List, [], ◌++◌}
+use Rattle.std.specs.Prelude.{◌∷◌, All, length, map, Option, Some, None, Result, Ok, IfSome, IfOk}
 use Rattle.hart_words.specs.declared.privilege.Access.{Access}
 use Rattle.hart_words.specs.declared.privilege.Access.TheVariants as kind
 use Rattle.hart_words.specs.declared.privilege.Mode.TheVariants.{Supervisor, Machine}
@@ -28,14 +28,14 @@ use Rattle.rvfi_rows.specs.declared.expected.Accessed.{Accessed}
 use Rattle.rvfi_rows.specs.declared.expected.Expected.{Expected}
 use Rattle.rvfi_rows.specs.declared.expected.Expected.TheVariants.{Halted, Retired}
 use Rattle.mem_access.specs.declared.place.AccessRequest.{AccessRequest}
-use Rattle.mem_access.specs.Accesses.{data_load, data_store}
+use Rattle.mem_access.specs.Accesses.{Exception, data_request}
 use Rattle.mem_access.specs.Laws.{AreReads}
 use Rattle.mem_access.specs.Places.{data_mode_of}
-use Rattle.mem_access.specs.Reads.{CheckedRead, data_reads_of, fetch_reads_of, place_found}
+use Rattle.mem_access.specs.Reads.{CheckedRead, PlacedPart, data_reads_of, fetch_reads_of, places_found}
 use Rattle.hart_step.specs.declared.state.Core.{Core}
 use Rattle.hart_step.specs.Rows.{HartState, RunBelowMachine, after_rows}
 use Rattle.hart_step.specs.Steps.{StepResult, before_instruction, step_of}
-use Rattle.hart_step.specs.Laws.{request_at_pc, next_of}
+use Rattle.hart_step.specs.Laws.{AreSetsAndStores, bytes_after_fetch, request_at_pc, next_of}
 
 -- the entry with this number is locked
 abbrev pub is_locked : Csrs → ℕ → Bool
@@ -62,16 +62,25 @@ LowerModesLeaveProtection core shown bytes =
     (before_instruction core shown).mode ≢ Machine
     → pmp_entries_of (next_of core shown bytes).csrs ≡ pmp_entries_of core.csrs
 
+-- LR, SC and the AMOs are atomic
+abbrev pub is_atomic : MemoryOp → Bool
+is_atomic (Load signed) = false
+is_atomic LoadReserved = true
+is_atomic (Store value) = false
+is_atomic (StoreConditional value) = true
+is_atomic (Amo op width b) = true
+
 -- what the access of an instruction is checked as: SC and the AMOs are stores
-abbrev pub check_by : Core → ℕ → MemoryOp → AccessRequest
-check_by core len (Load signed) = data_load core.csrs core.mode len false
-check_by core len LoadReserved = data_load core.csrs core.mode len true
-check_by core len (Store value) = data_store core.csrs core.mode len false
-check_by core len (StoreConditional value) = data_store core.csrs core.mode len true
-check_by core len (Amo op width b) = data_store core.csrs core.mode len true
+abbrev pub access_kind_of : MemoryOp → Access
+access_kind_of (Load signed) = kind.Load
+access_kind_of LoadReserved = kind.Load
+access_kind_of (Store value) = kind.Store
+access_kind_of (StoreConditional value) = kind.Store
+access_kind_of (Amo op width b) = kind.Store
 
 abbrev pub check_of : Core → MemoryRequest → AccessRequest
-check_of core request = check_by core (bytes_of request.size) request.op
+check_of core request =
+    data_request core.csrs core.mode (access_kind_of request.op) (bytes_of request.size) (is_atomic request.op)
 
 -- it reads the bytes that stand at its place
 abbrev pub reads_its_bytes : MemoryOp → Bool
@@ -81,16 +90,19 @@ reads_its_bytes (Store value) = false
 reads_its_bytes (StoreConditional value) = false
 reads_its_bytes (Amo op width b) = true
 
--- the reads of what an instruction asks for: its access's walk, and its own bytes where it reads them
+-- the reads of what an instruction asks for: the walks of its access's parts, and its own bytes where it reads them
 abbrev pub asked_reads_of : Core → Option IntResult → Bytes → List CheckedRead
 asked_reads_of core (Some (results.Access request)) bytes =
-    data_reads_of core.csrs core.map (check_of core request) (reads_its_bytes request.op) request.address bytes
+    data_reads_of core.csrs core.map core.choices (check_of core request) (is_atomic request.op)
+    (reads_its_bytes request.op) request.address bytes
 asked_reads_of core _ bytes = []
 
--- the reads of an instruction, in order: those of its fetch at pc, and then those of what it asks for
+-- the reads of an instruction, in order: those of its fetch at pc, and then those of what it asks for, where memory is
+-- as the fetch leaves it
 unfoldable pub instruction_reads_of : Core → Bytes → List CheckedRead
 instruction_reads_of core bytes =
-    fetch_reads_of core.csrs core.map core.mode core.pc bytes ++ asked_reads_of core (request_at_pc core bytes) bytes
+    fetch_reads_of core.csrs core.map core.choices core.mode core.pc bytes
+    ++ asked_reads_of core (request_at_pc core bytes) (bytes_after_fetch core bytes)
 
 -- those of a step; a halted hart reads nothing
 unfoldable pub step_reads_of : Core → Shown → Bytes → List CheckedRead
@@ -101,41 +113,61 @@ abbrev pub MayAccess : Core → Access → ℕ → ℕ → Type 0
 MayAccess core access pa len =
     IsTrue (is_allowed (pmp_entries_of core.csrs) (data_mode_of core.csrs core.mode) pa len access)
 
--- a write of bytes of RAM that this mode may store
-abbrev pub IsStepWrite : Core → Write → Type 0
-IsStepWrite core write =
+-- a store to bytes of RAM that this mode may store
+abbrev pub IsPermittedStore : Core → Write → Type 0
+IsPermittedStore core write =
     IsTrue (holds_all core.map.ram write.pa write.len) × MayAccess core kind.Store write.pa write.len
 
--- the access that is expected of a row is one that this mode may make, at memory or at a device: a store where it
--- writes, and else a load
+-- the places that are found for the parts of what an instruction asks for
+abbrev pub asked_places : Core → MemoryRequest → Bytes → Result (List PlacedPart) Exception
+asked_places core request bytes =
+    places_found core.csrs core.map core.choices (check_of core request) (is_atomic request.op) request.address bytes
+
+-- where a write goes, and where a part lies
+abbrev pub written_range : Write → ℕ × ℕ
+written_range write = (write.pa, write.len)
+
+abbrev pub placed_range : PlacedPart → ℕ × ℕ
+placed_range placed = (placed.place.pa, placed.part.len)
+
+-- the stores of an instruction that asks for one: one to each of its parts, in their order, at the places that are found
+pub record AreStoresOf (core : Core) (request : MemoryRequest) (bytes : Bytes) (stores : List Write) : Type 0 where
+  pub kind : access_kind_of request.op ≡ kind.Store
+  pub placed : List PlacedPart
+  pub found : asked_places core request bytes ≡ Ok placed
+  pub ranges : map written_range stores ≡ map placed_range placed
+
+-- or nothing is stored
+abbrev pub AreAskedStores : Core → Option IntResult → Bytes → List Write → Type 0
+AreAskedStores core asks bytes [] = Unit {0}
+AreAskedStores core (Some (results.Access request)) bytes (store ∷ stores) =
+    AreStoresOf core request bytes (store ∷ stores)
+AreAskedStores core _ bytes (store ∷ stores) = ⊥
+
+-- the access that is expected of a row, at memory or at a device: a store where it writes, and else a load
 abbrev pub kind_by : Option ℕ → Access
 kind_by (Some written) = kind.Store
 kind_by None = kind.Load
 
-abbrev pub IsStepAccess : Core → Accessed → Type 0
-IsStepAccess core access = MayAccess core (kind_by access.written) access.pa access.len
+-- this mode may make it at a part
+abbrev pub MayAccessPart : Core → Access → PlacedPart → Type 0
+MayAccessPart core access placed = MayAccess core access placed.place.pa placed.part.len
 
--- an access of this kind, to all the bytes at the place that is found for the instruction's address, a multiple of
--- their number
-pub record IsFoundFor (core : Core) (request : MemoryRequest) (bytes : Bytes) (access : Access) (pa len : ℕ)
-    (io : Bool) : Type 0 where
-  pub kind : (check_of core request).access ≡ access
-  pub whole : len ≡ bytes_of request.size
-  pub aligned : request.address % bytes_of request.size ≡ 0
-  pub found : place_found core.csrs core.map (check_of core request) request.address bytes
-      ≡ Ok (record { pa = pa; io = io })
+-- the first of the places is this one
+abbrev pub BeginsAt : ℕ → List PlacedPart → Type 0
+BeginsAt pa [] = ⊥
+BeginsAt pa (first ∷ more) = pa ≡ first.place.pa
 
--- a write is such a store in RAM
-abbrev pub IsAskedWrite : Core → Option IntResult → Bytes → Write → Type 0
-IsAskedWrite core (Some (results.Access request)) bytes write =
-    IsFoundFor core request bytes kind.Store write.pa write.len false
-IsAskedWrite core _ bytes write = ⊥
-
--- the access that is expected of a row is such a one, at the instruction's address
+-- it is the one that the instruction asks for, at its address and from the place of its first part on, and this mode
+-- may make it at each of its parts
 pub record IsAskedFor (core : Core) (request : MemoryRequest) (bytes : Bytes) (access : Accessed) : Type 0 where
   pub va : access.va ≡ request.address
-  pub io : Bool
-  pub place : IsFoundFor core request bytes (kind_by access.written) access.pa access.len io
+  pub whole : access.len ≡ bytes_of request.size
+  pub kind : access_kind_of request.op ≡ kind_by access.written
+  pub placed : List PlacedPart
+  pub found : asked_places core request bytes ≡ Ok placed
+  pub begins : BeginsAt access.pa placed
+  pub permitted : All (MayAccessPart core (kind_by access.written)) placed
 
 abbrev pub IsAskedAccess : Core → Option IntResult → Bytes → Accessed → Type 0
 IsAskedAccess core (Some (results.Access request)) bytes access = IsAskedFor core request bytes access
@@ -146,15 +178,21 @@ abbrev pub OfExpected : (Accessed → Type 0) → Expected → Type 0
 OfExpected P Halted = Unit {0}
 OfExpected P (Retired retired) = IfOk retired.effects (λ effects. IfSome effects.access P)
 
--- what a step reads, writes and expects is what its instruction asks for, at the places that are found, and is granted
--- to the hart as the instruction finds it
+-- what a step stores is what its instruction asks for, and this mode may store it
+pub record ArePermittedStores (core : Core) (asks : Option IntResult) (bytes : Bytes) (stores : List Write)
+    : Type 0 where
+  pub permitted : All (IsPermittedStore core) stores
+  pub asked : AreAskedStores core asks bytes stores
+
+-- what a step reads, writes and expects is what its instruction asks for, at the places that are found where memory is
+-- as its fetch leaves it, and is granted to the hart as the instruction finds it; what it writes besides are entries of
+-- page tables that it sets
 pub record IsPermittedStep (begins : Core) (asks : Option IntResult) (bytes : Bytes) (checks : List CheckedRead)
     (step : Run StepResult) : Type 0 where
   pub reads : AreReads begins.csrs begins.map checks step.reads
-  pub writes : All (IsStepWrite begins) step.wrote
-  pub asked_writes : All (IsAskedWrite begins asks bytes) step.wrote
-  pub access : OfExpected (IsStepAccess begins) step.value.expected
-  pub asked_access : OfExpected (IsAskedAccess begins asks bytes) step.value.expected
+  pub writes : AreSetsAndStores begins bytes (ArePermittedStores begins asks (bytes_after_fetch begins bytes))
+      step.wrote
+  pub access : OfExpected (IsAskedAccess begins asks (bytes_after_fetch begins bytes)) step.value.expected
 
 abbrev pub StepIsPermitted : Core → Shown → Bytes → Type 0
 StepIsPermitted core shown bytes =

@@ -8,12 +8,13 @@ use Rattle.std.specs.Option.{is_none}
 use Rattle.hart_words.specs.declared.privilege.Mode.{Mode}
 use Rattle.hart_words.specs.declared.privilege.Cause.{Cause}
 use Rattle.hart_words.specs.Privilege.{cause_code}
+use Rattle.hart_words.specs.Options.{are_zero}
 use Rattle.hart_words.specs.declared.signal.Signal.TheVariants.{Order, Halt}
 use Rattle.hart_words.specs.Signals.{Shown}
 use Rattle.hart_words.specs.Registers.{register_of}
 use Rattle.hart_words.specs.Actions.{Action, pure, mapped}
 use Rattle.rv_decode.specs.Operands.{operands_of}
-use Rattle.trap_entry.specs.Entries.{enter_of, mode_by_enter, pc_by_enter}
+use Rattle.trap_entry.specs.Entries.{enter_of, mode_by_enter, pc_by_enter, trap_value_of}
 use Rattle.interrupt_pick.specs.Interrupts.{pick_of}
 use Rattle.rvfi_rows.specs.declared.expected.Expected.{Expected}
 use Rattle.rvfi_rows.specs.declared.expected.Expected.TheVariants as expected
@@ -33,10 +34,14 @@ pub record StepResult : Type 0 where
 unfoldable pub core_after_count : Core → Shown → Core
 core_after_count core shown = record core { next_order = order_after core.next_order (shown Order) }
 
+-- the trap value that is written: 0 where every one is
+abbrev pub written_trap_value : Core → ℕ → ℕ
+written_trap_value core value = trap_value_of (are_zero core.choices.trap_values) value
+
 -- a trap is entered: an interrupt or an exception, by its code, with a trap value
 unfoldable pub core_after_entry : Core → Bool → ℕ → ℕ → Core
 core_after_entry core interrupt code value = record core {
-  csrs = enter_of core.csrs core.mode interrupt code value core.pc;
+  csrs = enter_of core.csrs core.mode interrupt code (written_trap_value core value) core.pc;
   mode = mode_by_enter core.csrs core.mode interrupt code;
   pc = pc_by_enter core.csrs core.mode interrupt code;
 }

@@ -8,7 +8,10 @@ use Rattle.hart_words.specs.declared.privilege.Cause.TheVariants.{IllegalInstruc
 use Rattle.hart_words.specs.Privilege.{cause_code}
 use Rattle.hart_words.specs.Memory.{Bytes}
 use Rattle.hart_words.specs.Signals.{Shown}
+use Rattle.hart_words.specs.AccessSizes.{bytes_of}
+use Rattle.hart_words.specs.Options.{are_done}
 use Rattle.rv_integer.specs.declared.int_result.IntResult.{IntResult}
+use Rattle.rv_integer.specs.declared.int_result.MemoryRequest.{MemoryRequest}
 use Rattle.rv_integer.specs.declared.int_result.IntResult.TheVariants.{Access, System}
 use Rattle.rv_integer.specs.declared.int_result.SystemRequest.TheVariants as system
 use Rattle.csr_file.specs.declared.stored_csr.StoredCsr.TheVariants.{Mstatus, Medeleg, Mtvec, Mepc, Mcause, Mtval}
@@ -19,12 +22,12 @@ use Rattle.trap_entry.specs.Laws.{ChangesOnly, IsStackedForMachine, IsStackedFor
 use Rattle.trap_entry.specs.Laws.{is_of_supervisor}
 use Rattle.rvfi_rows.specs.declared.expected.Expected.{Expected}
 use Rattle.rvfi_rows.specs.declared.expected.Expected.TheVariants as expected
-use Rattle.mem_access.specs.Accesses.{Exception, fetch_result}
+use Rattle.mem_access.specs.Accesses.{Exception, has_second_part, second_part}
 use Rattle.hart_step.specs.declared.state.Core.{Core}
 use Rattle.hart_step.specs.declared.instruction.InstructionOutcome.{InstructionOutcome}
 use Rattle.hart_step.specs.declared.instruction.InstructionOutcome.TheVariants.{Trapped, Retired}
-use Rattle.hart_step.specs.Instructions.{call_from, op_of, instruction_run}
-use Rattle.hart_step.specs.Steps.{before_instruction}
+use Rattle.hart_step.specs.Instructions.{call_from, fetch_at_pc, op_for, instruction_run}
+use Rattle.hart_step.specs.Steps.{before_instruction, written_trap_value}
 use Rattle.hart_step.specs.Laws.{request_by}
 
 -- what became of the instruction of a step
@@ -36,11 +39,22 @@ abbrev pub Raises : InstructionOutcome → Exception → Type 0
 Raises (Trapped insn raised) exception = raised ≡ exception
 Raises (Retired instruction access) exception = ⊥
 
--- the exception by what the instruction asks for: the trap value is the address of an access that is refused, 0 of a
--- call, pc of a breakpoint, and the bits of an instruction that is illegal
+-- the address of the second part of an access: of one that runs into the next page, where misaligned ones are done
+pub record IsSecondAddress (before : Core) (va len address : ℕ) : Type 0 where
+  pub done : are_done before.choices.misaligned ≡ true
+  pub runs_over : has_second_part va len ≡ true
+  pub second : address ≡ (second_part va len).va
+
+-- the address of an access, or of its second part
+abbrev pub IsPartAddress : Core → MemoryRequest → ℕ → Type 0
+IsPartAddress before request address =
+    (address ≡ request.address) ⊎ IsSecondAddress before request.address (bytes_of request.size) address
+
+-- the exception by what the instruction asks for: the trap value is the address of an access, or of its part, that is
+-- refused, 0 of a call, pc of a breakpoint, and the bits of an instruction that is illegal
 abbrev pub IsRaisedAs : Core → ℕ → Option IntResult → Exception → Type 0
 IsRaisedAs before bits None exception = exception ≡ (IllegalInstruction, bits)
-IsRaisedAs before bits (Some (Access request)) exception = exception.1 ≡ request.address
+IsRaisedAs before bits (Some (Access request)) exception = IsPartAddress before request exception.1
 IsRaisedAs before bits (Some (System system.EnvironmentCall)) exception = exception ≡ (call_from before.mode, 0)
 IsRaisedAs before bits (Some (System system.Breakpoint)) exception = exception ≡ (Breakpoint, before.pc)
 IsRaisedAs before bits (Some (System request)) exception = exception ≡ (IllegalInstruction, bits)
@@ -51,11 +65,11 @@ abbrev pub IsRaisedFrom : Core → Result (ℕ × ℕ) Exception → Exception �
 IsRaisedFrom before (Err refused) exception =
     (exception ≡ refused) × ((exception.1 ≡ before.pc) ⊎ (exception.1 ≡ (before.pc + 2) % 2 ^ 64))
 IsRaisedFrom before (Ok word) exception =
-    IsRaisedAs before word.0 (request_by before word.1 (op_of word.0 word.1)) exception
+    IsRaisedAs before word.0 (request_by before word.1 (op_for before word.0 word.1)) exception
 
 abbrev pub IsRaisedIn : Core → Bytes → Exception → Type 0
 IsRaisedIn before bytes exception =
-    IsRaisedFrom before ((fetch_result before.csrs before.map before.mode before.pc).run bytes).value exception
+    IsRaisedFrom before ((fetch_at_pc before).run bytes).value exception
 
 -- an exception is delegated to S where it is raised in S or U and medeleg has the bit of its code
 pub record IsDelegatedToSupervisor (before : Core) (cause : Cause) : Type 0 where
@@ -72,7 +86,7 @@ pub record LeadsToMachine (before after : Core) (exception : Exception) : Type 0
   pub pc : after.pc ≡ vector_base (at before.csrs Mtvec)
   pub mepc : at after.csrs Mepc ≡ before.pc
   pub mcause : at after.csrs Mcause ≡ cause_code exception.0
-  pub mtval : at after.csrs Mtval ≡ exception.1
+  pub mtval : at after.csrs Mtval ≡ written_trap_value before exception.1
   pub mstatus : IsStackedForMachine (at before.csrs Mstatus) before.mode (at after.csrs Mstatus)
   pub others : ChangesOnly is_of_machine before.csrs after.csrs
 
@@ -82,7 +96,7 @@ pub record LeadsToSupervisor (before after : Core) (exception : Exception) : Typ
   pub pc : after.pc ≡ vector_base (at before.csrs Stvec)
   pub sepc : at after.csrs Sepc ≡ before.pc
   pub scause : at after.csrs Scause ≡ cause_code exception.0
-  pub stval : at after.csrs Stval ≡ exception.1
+  pub stval : at after.csrs Stval ≡ written_trap_value before exception.1
   pub mstatus : IsStackedForSupervisor (at before.csrs Mstatus) before.mode (at after.csrs Mstatus)
   pub others : ChangesOnly is_of_supervisor before.csrs after.csrs
 

@@ -1,25 +1,55 @@
-//! What a step reads from memory and writes to it.
+//! What a step reads from memory, and what it is to write.
 
-ghost use Rattle.std.specs.Prelude.{◌≡◌, []};
+ghost use Rattle.std.specs.Prelude.{◌≡◌, ◌≤◌, ◌+◌, ◌++◌, [], length};
+ghost use Rattle.hart_words.specs.declared.accesses.TheConstants.{MOST_WRITES};
 
-use hart_words::{Seen, Wrote};
+use hart_words::{Seen, Sets, Write, Wrote};
 
-/// What a step read from memory and what it wrote to it, both in their order.
+/// What a step read from memory, the entries of page tables that it sets, and what it stores, each in
+/// their order. Memory gets what is set, and then what is stored, at the end of the step.
 #[derive(Debug, Drop)]
 pub struct Accesses {
     pub seen: Seen,
-    pub wrote: Wrote,
+    pub sets: Sets,
+    pub stores: Wrote,
 }
 
 impl Accesses {
     /// Nothing yet.
     pub fn nothing() -> Accesses
         ensures seen { result.seen ≡ [] }
-        ensures wrote { result.wrote ≡ [] }
+        ensures sets { result.sets ≡ [] }
+        ensures stores { result.stores ≡ [] }
     {
         Accesses {
             seen: Seen::empty(),
-            wrote: Wrote::empty(),
+            sets: Sets::empty(),
+            stores: Wrote::empty(),
         }
+    }
+
+    /// Puts what is set before what is stored: `stores` is then all that the step writes.
+    pub fn put_sets_first(&mut self)
+        requires { length self.old.sets + length self.old.stores ≤ MOST_WRITES }
+        ensures seen { self.new.seen ≡ self.old.seen }
+        ensures writes { self.new.stores ≡ self.old.sets ++ self.old.stores }
+    {
+        if self.sets.is_empty() {
+            return;
+        }
+        let mut writes = Wrote::empty();
+        put_all(&mut writes, self.sets.as_slice());
+        put_all(&mut writes, self.stores.as_slice());
+        self.stores = writes;
+    }
+}
+
+/// Notes writes after those that are noted.
+fn put_all(wrote: &mut Wrote, writes: &[Write])
+    requires { length wrote.old + length writes.now ≤ MOST_WRITES }
+    ensures { wrote.new ≡ wrote.old ++ writes.now }
+{
+    for write in writes {
+        wrote.put(write.pa, write.len, write.value);
     }
 }

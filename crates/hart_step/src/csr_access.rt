@@ -1,31 +1,34 @@
 //! The accesses of instructions to control and status registers. From the Unprivileged ISA's
 //! chapter ""Zicsr", Control and Status Register (CSR) Instructions".
 
-ghost use Rattle.std.specs.Prelude.{◌≡◌, IfOk};
-ghost use Rattle.csr_file.specs.Legal.{IsLegal};
+ghost use Rattle.std.specs.Prelude.{◌≡◌, ℕ};
+ghost use Rattle.std.specs.Result.{is_ok};
 ghost use Rattle.hart_step.specs.CsrAccess.{with_choices, traps_at, old_value_by, old_value_of, new_value_of, csrs_after_request, csr_access_result};
+ghost use Rattle.csr_file.specs.Access.{csr_write_at};
+ghost use Rattle.hart_step.specs.Changes.{csr_access_by, csrs_by};
 
+use crate::changes::CsrWrite;
 use crate::choices::RowChoices;
 use crate::state::Core;
-use csr_file::{CsrRead, Csrs, Illegal};
+use csr_file::{CsrRead, Illegal};
 use csr_table::{Csr, CsrRow, row};
 use rv_decode::CsrOp;
 use rv_integer::CsrRequest;
 
 impl Core {
-    /// Makes an access: the destination's value, and the registers after it.
+    /// An access: the destination's value, and what it writes.
     #[tactic(auto, unfolding(crate::specs::CsrAccess::csr_access_result))]
     pub(crate) fn access_csr(
         &self,
         request: &CsrRequest,
         choices: &RowChoices,
-    ) -> Result<(u64, Csrs), Illegal>
-        ensures accessed { result ≡ csr_access_result self.now choices.now request.now }
-        ensures legal { IsLegal self.now.csrs → IfOk result (λ done. IsLegal done.1) }
+    ) -> Result<(u64, Option<CsrWrite>), Illegal>
+        ensures accessed { csr_access_by self.now result
+            ≡ csr_access_result self.now choices.now request.now }
     {
         let (value, base) = self.old(request, choices)?;
-        let csrs = self.written(request, base)?;
-        Ok((value, csrs))
+        let write = self.write_of(request, base)?;
+        Ok((value, write))
     }
 
     /// What a read gives: the value for the destination, and what the set and clear forms start
@@ -72,17 +75,32 @@ impl Core {
         )
     }
 
-    /// The registers after the form's write.
-    fn written(&self, request: &CsrRequest, base: u64) -> Result<Csrs, Illegal>
-        ensures written { result ≡ csrs_after_request self.now request.now base }
-        ensures legal { IsLegal self.now.csrs → IfOk result IsLegal }
+    /// The form's write, where it is legal.
+    fn write_of(&self, request: &CsrRequest, base: u64) -> Result<Option<CsrWrite>, Illegal>
+        ensures { csrs_by self.now result ≡ csrs_after_request self.now request.now base }
     {
-        let mut csrs = self.csrs;
-        if request.writes {
-            let value = new_of(request.op, base, request.operand);
-            csrs.write(request.address, self.mode, value)?;
+        if !request.writes {
+            return Ok(None);
         }
-        Ok(csrs)
+        if !self.may_write_csr(request.address) {
+            return Err(Illegal);
+        }
+        Ok(Some(CsrWrite {
+            address: request.address,
+            value: new_of(request.op, base, request.operand),
+        }))
+    }
+
+    /// Whether a write is legal: of a register that may be read, and is not read-only.
+    #[tactic(auto, unfolding(csr_file::specs::Access::csr_read_at, csr_file::specs::Access::csr_write_at, csr_file::specs::Access::may_write))]
+    fn may_write_csr(&self, address: u16) -> bool
+        ensures { (value : ℕ)
+            → is_ok (csr_write_at self.now.csrs address self.now.mode value) ≡ result }
+    {
+        match row(address) {
+            None => false,
+            Some(row) => !row.read_only && self.csrs.read(address, self.mode, 0).is_ok(),
+        }
     }
 }
 

@@ -1,46 +1,50 @@
 //! The instruction at pc: fetched, decoded and executed.
 
-ghost use Rattle.std.specs.Prelude.{◌≡◌, ◌≤◌, ◌<◌, ◌+◌, ◌^◌, ◌%◌, ◌⊎◌, length, IfOk, IfSome, OnErr};
-ghost use Rattle.hart_words.specs.Actions.{Performs};
+ghost use Rattle.std.specs.Prelude.{◌≡◌, ◌≤◌, ◌<◌, ◌+◌, ◌^◌, ◌%◌, ◌⊎◌, ◌++◌, [], length, IfOk, IfSome};
+ghost use Rattle.hart_words.specs.Actions.{Notes};
 ghost use Rattle.rvfi_rows.specs.Cells.{shown_in};
 ghost use Rattle.rv_decode.specs.Operands.{HasEvenOffset};
 ghost use Rattle.hart_step.specs.Cores.{IsSound};
 ghost use Rattle.hart_step.specs.CsrAccess.{csr_access_result};
-ghost use Rattle.hart_step.specs.Instructions.{next_address, core_after_retirement, core_at_next, call_from, after_csr, completion_with, without_access, system_execution, execution_of, op_of, instruction_run};
+ghost use Rattle.hart_step.specs.Instructions.{next_address, call_from, after_csr, system_execution, execution_of, op_for, op_of, instruction_run};
+ghost use Rattle.hart_step.specs.declared.changes.Change.{Change};
+ghost use Rattle.hart_step.specs.declared.instruction.InstructionOutcome.TheVariants.{Trapped};
+ghost use Rattle.hart_step.specs.Changes.{retirement_of, completion_by, completion_by_change, HasEvenAddress, run_by, AreInRam, AreStores};
 
 use crate::accesses::Accesses;
+use crate::changes::{Change, InstructionNotes, Retirement};
 use crate::choices::{RowChoices, choices_of};
 use crate::instruction::{Exception, Instruction, InstructionOutcome};
 use crate::state::Core;
 use csr_file::fields::{TSR, TVM};
-use hart_words::{Cause, Mode, NoMemory, PhysMem};
-use mem_access::{FETCH_READS, fetch};
+use hart_words::{Cause, MOST_SETS, Mode, PhysMem};
+use mem_access::{ACCESS_SETS, FETCH_READS, FETCH_SETS, fetch};
 use rv_compressed::expand;
-use rv_decode::{Op, decode};
+use rv_decode::{Op, decode, decode_with};
 use rv_integer::{CsrRequest, IntResult, SystemRequest, compute};
 use rvfi_rows::{Accessed, Row};
 
 impl Core {
-    /// Fetches, decodes and executes what stands at pc. Where it raises an exception the hart is as
-    /// it was; without memory no byte changes.
+    /// Fetches, decodes and executes what stands at pc: what becomes of it, and what it changes in
+    /// the hart. What it reads and what it writes is noted.
     pub(crate) fn run<M: PhysMem>(
-        &mut self,
-        mem: &mut M,
+        &self,
+        mem: &M,
         row: &Row,
         accesses: &mut Accesses,
-    ) -> Result<InstructionOutcome, NoMemory>
-        requires sound { IsSound self.old }
-        requires ram { M.ram mem.old ≡ self.old.map.ram }
+    ) -> InstructionNotes
+        requires sound { IsSound self.now }
+        requires ram { M.ram mem.now ≡ self.now.map.ram }
         requires room { length accesses.old.seen ≤ 0 }
-        requires blank { length accesses.old.wrote ≤ 1 }
-        ensures ran { IfOk result (λ done. Performs (instruction_run self.old (shown_in row.now))
-            (record { core = self.new; executed = done })
-            accesses.old.seen accesses.new.seen accesses.old.wrote accesses.new.wrote
-            (M.bytes mem.old) (M.bytes mem.new)) }
-        ensures err { OnErr result (M.bytes mem.new ≡ M.bytes mem.old) }
-        ensures sound { IsSound self.new }
-        ensures map { self.new.map ≡ self.old.map }
-        ensures ram_stays { M.ram mem.new ≡ M.ram mem.old }
+        requires unset { length accesses.old.sets ≤ 0 }
+        requires blank { accesses.old.stores ≡ [] }
+        ensures ran { Notes (instruction_run self.now (shown_in row.now)) (run_by self.now result)
+            accesses.old.seen accesses.new.seen accesses.old.sets
+            (accesses.new.sets ++ accesses.new.stores) (M.bytes mem.now) }
+        ensures even { HasEvenAddress result.change }
+        ensures set { length accesses.new.sets ≤ MOST_SETS }
+        ensures set_in_ram { AreInRam self.now.map.ram accesses.new.sets }
+        ensures stored { AreStores self.now.map.ram accesses.new.stores }
     {
         let fetched = fetch(
             mem,
@@ -48,22 +52,18 @@ impl Core {
             &self.map,
             self.mode,
             self.pc,
+            &self.choices,
             &mut accesses.seen,
+            &mut accesses.sets,
         );
         let (word, len) = match fetched {
             Ok(word) => word,
-            Err(exception) => return Ok(InstructionOutcome::Trapped {
-                insn: None,
-                exception,
-            }),
+            Err(exception) => return trapped(None, exception),
         };
         let bits = u64::from(word);
-        let op = match op_of(word, len) {
+        let op = match self.op_for(word, len) {
             Some(op) => op,
-            None => return Ok(InstructionOutcome::Trapped {
-                insn: Some(bits),
-                exception: (Cause::IllegalInstruction, bits),
-            }),
+            None => return trapped(Some(bits), (Cause::IllegalInstruction, bits)),
         };
         let instruction = Instruction {
             op,
@@ -71,91 +71,102 @@ impl Core {
             len: u64::from(len),
         };
         let choices = choices_of(row, op.operands().rd);
-        match self.execute(&instruction, &choices, mem, accesses)? {
-            Ok(access) => Ok(InstructionOutcome::Retired {
-                instruction,
-                access,
-            }),
-            Err(exception) => Ok(InstructionOutcome::Trapped {
-                insn: Some(bits),
-                exception,
-            }),
+        match self.execute(&instruction, &choices, mem, accesses) {
+            Ok((change, access)) => InstructionNotes {
+                executed: InstructionOutcome::Retired {
+                    instruction,
+                    access,
+                },
+                change,
+            },
+            Err(exception) => trapped(Some(bits), exception),
         }
     }
 
-    /// Executes an instruction: the access that it makes, or the exception that it raises, which
-    /// leaves the hart as it was.
+    /// What the bits of an instruction of this length mean to the hart.
+    fn op_for(&self, word: u32, len: u8) -> Option<Op>
+        requires lengths { (len ≡ 2) ⊎ (len ≡ 4) }
+        requires short { len ≡ 2 → word < 2 ^ 16 }
+        ensures meaning { result ≡ op_for self.now word len }
+        ensures even { IfSome result HasEvenOffset }
+    {
+        if len == 2 {
+            expand(word as u16)
+        } else {
+            decode_with(word, self.choices.bits)
+        }
+    }
+
+    /// An instruction: what it changes in the hart and the access that it makes, or the exception
+    /// that it raises.
     fn execute<M: PhysMem>(
-        &mut self,
+        &self,
         instruction: &Instruction,
         choices: &RowChoices,
-        mem: &mut M,
+        mem: &M,
         accesses: &mut Accesses,
-    ) -> Result<Result<Option<Accessed>, Exception>, NoMemory>
-        requires sound { IsSound self.old }
-        requires ram { M.ram mem.old ≡ self.old.map.ram }
+    ) -> Result<(Change, Option<Accessed>), Exception>
+        requires sound { IsSound self.now }
+        requires ram { M.ram mem.now ≡ self.now.map.ram }
         requires room { length accesses.old.seen ≤ FETCH_READS }
-        requires blank { length accesses.old.wrote ≤ 1 }
+        requires sets { length accesses.old.sets ≤ FETCH_SETS }
+        requires sets_in_ram { AreInRam self.now.map.ram accesses.old.sets }
+        requires blank { accesses.old.stores ≡ [] }
         requires even { instruction.now.len % 2 ≡ 0 }
         requires offset { HasEvenOffset instruction.now.op }
-        ensures executed { IfOk result (λ done. Performs
-            (execution_of self.old choices.now instruction.now) (completion_with self.new done)
-            accesses.old.seen accesses.new.seen accesses.old.wrote accesses.new.wrote
-            (M.bytes mem.old) (M.bytes mem.new)) }
-        ensures trapped { IfOk result (λ done. OnErr done (self.new ≡ self.old)) }
-        ensures err { OnErr result (M.bytes mem.new ≡ M.bytes mem.old) }
-        ensures sound { IsSound self.new }
-        ensures map { self.new.map ≡ self.old.map }
-        ensures ram_stays { M.ram mem.new ≡ M.ram mem.old }
+        ensures executed { Notes (execution_of self.now choices.now instruction.now)
+            (completion_by self.now result)
+            accesses.old.seen accesses.new.seen accesses.old.sets
+            (accesses.new.sets ++ accesses.new.stores) (M.bytes mem.now) }
+        ensures even { IfOk result (λ noted. HasEvenAddress noted.0) }
+        ensures set { length accesses.new.sets ≤ FETCH_SETS + ACCESS_SETS }
+        ensures set_in_ram { AreInRam self.now.map.ram accesses.new.sets }
+        ensures stored { AreStores self.now.map.ram accesses.new.stores }
     {
         let operands = instruction.op.operands();
         let a = self.registers.get(operands.rs1);
         let b = self.registers.get(operands.rs2);
         match compute(instruction.op, a, b, self.pc, instruction.len) {
             IntResult::Value(value) => {
-                self.go_on(instruction, value);
-                Ok(Ok(None))
+                let done = self.to_next(instruction, value);
+                Ok((Change::Registers(done), None))
             }
             IntResult::Jump { link, target } => {
-                self.retire(instruction, link, target);
-                Ok(Ok(None))
+                let done = Retirement::of(instruction, link, target);
+                Ok((Change::Registers(done), None))
             }
             IntResult::Continue { next_pc } => {
-                self.retire(instruction, 0, next_pc);
-                Ok(Ok(None))
+                let done = Retirement::of(instruction, 0, next_pc);
+                Ok((Change::Registers(done), None))
             }
-            IntResult::Access(request) => {
-                let answer = match self.access(&request, choices, mem, accesses)? {
-                    Ok(answer) => answer,
-                    Err(exception) => return Ok(Err(exception)),
-                };
-                self.reservation = answer.reservation;
-                self.go_on(instruction, answer.value);
-                Ok(Ok(answer.access))
-            }
+            IntResult::Access(request) => match self.access(&request, choices, mem, accesses) {
+                Ok(answer) => {
+                    let done = self.to_next(instruction, answer.value);
+                    Ok((Change::Access(done, answer.reservation), answer.access))
+                }
+                Err(exception) => Err(exception),
+            },
             IntResult::System(request) => match self.execute_system(instruction, request, choices) {
-                Ok(()) => Ok(Ok(None)),
-                Err(exception) => Ok(Err(exception)),
+                Ok(change) => Ok((change, None)),
+                Err(exception) => Err(exception),
             },
         }
     }
 
-    /// Executes an instruction of the opcode SYSTEM, or gives the exception that it raises, which
-    /// leaves the hart as it was.
-    #[tactic(auto, unfolding(crate::specs::Instructions::system_execution))]
+    /// An instruction of the opcode SYSTEM: what it changes in the hart, or the exception that it
+    /// raises.
+    #[tactic(auto, unfolding(crate::specs::Instructions::system_execution, crate::specs::Instructions::core_after_retirement))]
     fn execute_system(
-        &mut self,
+        &self,
         instruction: &Instruction,
         request: SystemRequest,
         choices: &RowChoices,
-    ) -> Result<(), Exception>
-        requires sound { IsSound self.old }
+    ) -> Result<Change, Exception>
+        requires sound { IsSound self.now }
         requires even { instruction.now.len % 2 ≡ 0 }
-        ensures executed { without_access self.new result
-            ≡ system_execution self.old choices.now instruction.now request }
-        ensures trapped { OnErr result (self.new ≡ self.old) }
-        ensures sound { IsSound self.new }
-        ensures map { self.new.map ≡ self.old.map }
+        ensures executed { completion_by_change self.now result
+            ≡ system_execution self.now choices.now instruction.now request }
+        ensures even { IfOk result HasEvenAddress }
     {
         match request {
             SystemRequest::Csr(request) => self.execute_csr(instruction, &request, choices),
@@ -165,81 +176,70 @@ impl Core {
                 if !self.may_mret() {
                     return Err(illegal(instruction));
                 }
-                self.return_by_mret();
-                Ok(())
+                Ok(Change::MachineReturn)
             }
             SystemRequest::SupervisorReturn => {
                 if !self.may_use_supervisor_instruction(TSR) {
                     return Err(illegal(instruction));
                 }
-                self.return_by_sret();
-                Ok(())
+                Ok(Change::SupervisorReturn)
             }
             SystemRequest::WaitForInterrupt => {
                 if self.wfi_traps(choices) {
                     return Err(illegal(instruction));
                 }
-                self.go_on(instruction, 0);
-                Ok(())
+                Ok(Change::Registers(self.to_next(instruction, 0)))
             }
             SystemRequest::TranslationFence => {
                 if !self.may_use_supervisor_instruction(TVM) {
                     return Err(illegal(instruction));
                 }
-                self.go_on(instruction, 0);
-                Ok(())
+                Ok(Change::Registers(self.to_next(instruction, 0)))
             }
         }
     }
 
-    /// Executes an access to a control and status register.
-    #[tactic(auto, unfolding(crate::specs::Instructions::after_csr))]
+    /// An access to a control and status register.
+    #[tactic(auto, unfolding(crate::specs::Instructions::after_csr, crate::specs::Instructions::core_after_retirement))]
     fn execute_csr(
-        &mut self,
+        &self,
         instruction: &Instruction,
         request: &CsrRequest,
         choices: &RowChoices,
-    ) -> Result<(), Exception>
-        requires sound { IsSound self.old }
+    ) -> Result<Change, Exception>
+        requires sound { IsSound self.now }
         requires even { instruction.now.len % 2 ≡ 0 }
-        ensures executed { without_access self.new result ≡ after_csr self.old instruction.now
-            (csr_access_result self.old choices.now request.now) }
-        ensures trapped { OnErr result (self.new ≡ self.old) }
-        ensures sound { IsSound self.new }
-        ensures map { self.new.map ≡ self.old.map }
+        ensures executed { completion_by_change self.now result ≡ after_csr self.now instruction.now
+            (csr_access_result self.now choices.now request.now) }
+        ensures even { IfOk result HasEvenAddress }
     {
         match self.access_csr(request, choices) {
-            Ok((value, csrs)) => {
-                self.csrs = csrs;
-                self.go_on(instruction, value);
-                Ok(())
-            }
+            Ok((value, write)) => Ok(Change::Csr(self.to_next(instruction, value), write)),
             Err(_) => Err(illegal(instruction)),
         }
     }
 
-    /// The destination gets its value, and the hart goes on after the instruction.
-    fn go_on(&mut self, instruction: &Instruction, value: u64)
-        ensures state { self.new ≡ core_at_next self.old instruction.now value }
-        ensures sound { IsSound self.old → instruction.now.len % 2 ≡ 0 → IsSound self.new }
-        ensures map { self.new.map ≡ self.old.map }
+    /// The destination's value, where the hart goes on after the instruction.
+    fn to_next(&self, instruction: &Instruction, value: u64) -> Retirement
+        ensures value { result
+            ≡ retirement_of instruction.now value (next_address self.now instruction.now) }
+        ensures even { self.now.pc % 2 ≡ 0 → instruction.now.len % 2 ≡ 0 → result.next_pc % 2 ≡ 0 }
     {
-        self.retire(instruction, value, self.pc.wrapping_add(instruction.len));
-    }
-
-    /// The destination gets its value, and the hart goes on at `next_pc`.
-    #[tactic(auto, unfolding(crate::specs::Instructions::core_after_retirement))]
-    fn retire(&mut self, instruction: &Instruction, value: u64, next_pc: u64)
-        ensures state { self.new ≡ core_after_retirement self.old instruction.now value next_pc }
-        ensures sound { IsSound self.old → next_pc % 2 ≡ 0 → IsSound self.new }
-        ensures map { self.new.map ≡ self.old.map }
-    {
-        self.registers.set(instruction.op.operands().rd, value);
-        self.pc = next_pc;
+        Retirement::of(instruction, value, self.pc.wrapping_add(instruction.len))
     }
 }
 
-/// What the bits of an instruction of this length mean.
+/// An exception, which changes nothing before its entry.
+fn trapped(insn: Option<u64>, exception: Exception) -> InstructionNotes
+    ensures { result ≡ record { executed = Trapped insn exception; change = Change.Nothing } }
+{
+    InstructionNotes {
+        executed: InstructionOutcome::Trapped { insn, exception },
+        change: Change::Nothing,
+    }
+}
+
+/// What the bits of an instruction of this length mean, without bit manipulation.
 pub(crate) fn op_of(word: u32, len: u8) -> Option<Op>
     requires lengths { (len ≡ 2) ⊎ (len ≡ 4) }
     requires short { len ≡ 2 → word < 2 ^ 16 }

@@ -5,7 +5,7 @@ ghost use Rattle.hart_words.specs.Actions.{Performs};
 ghost use Rattle.rvfi_rows.specs.Cells.{shown_in};
 
 use crate::state::Core;
-use hart_words::{Map, NoMemory, PhysMem};
+use hart_words::{Choices, Map, NoMemory, PhysMem};
 use rvfi_rows::{Row, Stepped};
 
 /// A hart: its state, and the memory that it runs over, whose RAM is that of its map.
@@ -20,16 +20,16 @@ impl<M: PhysMem + Drop> Hart<M> {
     ghost use Rattle.hart_step.specs.Steps.{step_of};
 
     /// A hart at reset over a memory: in M, at `pc`, with all registers 0.
-    pub fn reset(mem: M, pc: u64, map: Map) -> Hart<M>
+    pub fn reset(mem: M, pc: u64, map: Map, choices: Choices) -> Hart<M>
         requires even { pc % 2 ≡ 0 }
         requires ram { M.ram mem ≡ map.ram }
-        ensures core { result.core ≡ core_at_reset pc map }
+        ensures core { result.core ≡ core_at_reset pc map choices }
         ensures mem { result.mem ≡ mem }
         ensures sound { IsSound result.core }
         ensures ram_stays { M.ram result.mem ≡ result.core.map.ram }
     {
         Hart {
-            core: Core::reset(pc, map),
+            core: Core::reset(pc, map, choices),
             mem,
         }
     }

@@ -14,7 +14,7 @@ ghost use Rattle.hart_step.specs.declared.state.Core.{Core};
 ghost use Rattle.hart_step.specs.Cores.{IsSound};
 ghost use Rattle.hart_step.specs.Choices.{asks_interrupt, pending_lines_of};
 ghost use Rattle.hart_step.specs.Steps.{before_instruction, interrupt_of, step_of};
-ghost use Rattle.hart_step.specs.Laws.{request_at_pc, next_of, RowsDecideAlike, TrapsWriteNothing, enters_interrupt, RisesByTrapsOnly, FallsByReturnsOnly, ReturnsTo, AsksInterrupt, IsFetched, EntersInterrupt, LacksRightly, InReservedBlock};
+ghost use Rattle.hart_step.specs.Laws.{request_at_pc, next_of, RowsDecideAlike, TrapsStoreNothing, enters_interrupt, RisesByTrapsOnly, FallsByReturnsOnly, ReturnsTo, AsksInterrupt, IsFetched, EntersInterrupt, LacksRightly, StoresInReservedBlock};
 ghost use Rattle.hart_step.specs.TrapLaws.{executed_at, Raises, IsRaisedIn, LeadsToHandler, HasCause};
 
 /// Memories that agree on what a step reads give the same step: the same state after it, the same
@@ -31,11 +31,12 @@ pub fn rows_decide_choices_alone()
         → RowsDecideAlike core bytes one other }
 {}
 
-/// A step that takes a synchronous trap leaves x1 to x31, the reservation and every byte; that an
-/// interrupt was entered before, in the same row, is another matter.
-pub fn traps_write_nothing()
+/// A step that takes a synchronous trap leaves x1 to x31, the reservation and every byte, but for A
+/// and D in entries of page tables where the hart sets them: where they are page faults it writes
+/// nothing. That an interrupt was entered before, in the same row, is another matter.
+pub fn traps_store_nothing()
     ensures { (core : Core) (shown : Shown) (bytes : Bytes)
-        → (next_of core shown bytes).trapped_last ≡ true → TrapsWriteNothing core shown bytes }
+        → (next_of core shown bytes).trapped_last ≡ true → TrapsStoreNothing core shown bytes }
 {}
 
 /// Privilege rises only by a trap or an interrupt, and falls only by MRET and SRET, at the first
@@ -85,8 +86,8 @@ pub fn interrupts_are_entered_where_asked()
 /// A step whose instruction raises an exception leads to the handler of S, where the instruction
 /// ran in S or U and medeleg has the bit of the cause, and else to that of M: at the vector's base,
 /// with the cause, the trap value and the instruction's pc in the registers of that mode. The trap
-/// value is the address of a fetch or an access that is refused, 0 of a call, pc of a breakpoint,
-/// and the bits of an illegal instruction.
+/// value is the address of a fetch, or of the part of an access, that is refused, 0 of a call, pc of
+/// a breakpoint, and the bits of an illegal instruction; or 0 in every trap, where a core has it so.
 pub fn exceptions_lead_to_handlers()
     ensures leads { (core : Core) (shown : Shown) (bytes : Bytes) (exception : Exception)
         → IsSound core → core.halted ≡ false → Raises (executed_at core shown bytes) exception
@@ -102,10 +103,11 @@ pub fn exceptions_lead_to_handlers()
         → (exception : Exception) × Raises (executed_at core shown bytes) exception }
 {}
 
-/// No row makes an SC store outside the reserved block.
+/// No row makes an SC store outside the reserved block; what it writes besides are A and D in
+/// entries of page tables.
 pub fn no_row_stores_unreserved()
     ensures { (core : Core) (shown : Shown) (bytes : Bytes) (request : MemoryRequest) (value : ℕ)
         → request_at_pc (before_instruction core shown) bytes ≡ Some (Access request)
         → request.op ≡ StoreConditional value
-        → InReservedBlock core ((step_of core shown).run bytes).wrote }
+        → StoresInReservedBlock core shown bytes }
 {}

@@ -12,6 +12,7 @@
 #![tactic(auto)]
 
 mod accesses;
+mod changes;
 mod choices;
 mod csr_access;
 mod execution;

@@ -1,18 +1,24 @@
 //! The accesses of instructions to memory.
 
-ghost use Rattle.std.specs.Prelude.{◌≡◌, ◌≤◌, ◌<◌, ◌*◌, ◌^◌, false, List, length, IfOk, OnErr};
+ghost use Rattle.std.specs.Prelude.{◌≡◌, ◌≤◌, ◌<◌, ◌+◌, ◌*◌, ◌^◌, ◌++◌, false, true, List, [], None, length, IfOk, IfSome};
 ghost use Rattle.hart_words.specs.declared.accesses.Read.{Read};
-ghost use Rattle.hart_words.specs.Spans.{IsPlace};
-ghost use Rattle.hart_words.specs.Actions.{Observes, Performs};
-ghost use Rattle.hart_words.specs.AccessSizes.{IsLength, bytes_of};
-ghost use Rattle.hart_step.specs.MemoryAccess.{located_access, expected_access, value_found, loaded_value, is_stored, access_result_of, number_written, put, memory_access};
+ghost use Rattle.hart_words.specs.declared.accesses.Write.{Write};
+ghost use Rattle.hart_words.specs.declared.span.Span.{Span};
+ghost use Rattle.hart_words.specs.Memory.{Bytes};
+ghost use Rattle.hart_words.specs.Actions.{Notes};
+ghost use Rattle.hart_words.specs.AccessSizes.{bytes_of};
+ghost use Rattle.hart_step.specs.MemoryAccess.{located_access, load_at, store_places, exchange_at, found_without_value, expected_access, value_found, loaded_value, is_stored, access_result_by, number_written, put_at, memory_access};
+ghost use Rattle.mem_access.specs.Accesses.{LieInRam, first_len};
+ghost use Rattle.hart_step.specs.Changes.{AreInRam, AreStores};
 
 use crate::accesses::Accesses;
 use crate::choices::RowChoices;
 use crate::instruction::Exception;
 use crate::state::Core;
-use hart_words::{AccessSize, NoMemory, PhysMem, Seen, Wrote, sext};
-use mem_access::{FETCH_READS, Place, load, store_place};
+use hart_words::{MOST_READS, PhysMem, Wrote, sext};
+use mem_access::{
+    ACCESS_SETS, AddressSpace, FETCH_READS, FETCH_SETS, Place, first_len, load, store_place,
+};
 use rv_atomic::{Reservation, amo};
 use rv_integer::{MemoryOp, MemoryRequest};
 use rvfi_rows::Accessed;
@@ -29,86 +35,182 @@ pub struct AccessResult {
 }
 
 impl Core {
-    /// Makes an access: what comes of it, or the exception that it raises. Without memory no byte
-    /// changes.
+    /// An access: what comes of it, or the exception that it raises. What it reads, what it sets in
+    /// page tables and what it stores is noted.
     pub(crate) fn access<M: PhysMem>(
         &self,
         request: &MemoryRequest,
         choices: &RowChoices,
-        mem: &mut M,
+        mem: &M,
         accesses: &mut Accesses,
-    ) -> Result<Result<AccessResult, Exception>, NoMemory>
-        requires ram { M.ram mem.old ≡ self.now.map.ram }
+    ) -> Result<AccessResult, Exception>
+        requires ram { M.ram mem.now ≡ self.now.map.ram }
         requires room { length accesses.old.seen ≤ FETCH_READS }
-        requires blank { length accesses.old.wrote ≤ 1 }
-        ensures accessed { IfOk result (λ done. Performs
-            (memory_access self.now choices.now request.now) done
-            accesses.old.seen accesses.new.seen accesses.old.wrote accesses.new.wrote
-            (M.bytes mem.old) (M.bytes mem.new)) }
-        ensures err { OnErr result (M.bytes mem.new ≡ M.bytes mem.old) }
-        ensures ram_stays { M.ram mem.new ≡ M.ram mem.old }
+        requires sets { length accesses.old.sets ≤ FETCH_SETS }
+        requires sets_in_ram { AreInRam self.now.map.ram accesses.old.sets }
+        requires blank { accesses.old.stores ≡ [] }
+        ensures accessed { Notes (memory_access self.now choices.now request.now) result
+            accesses.old.seen accesses.new.seen accesses.old.sets
+            (accesses.new.sets ++ accesses.new.stores) (M.bytes mem.now) }
+        ensures set { length accesses.new.sets ≤ FETCH_SETS + ACCESS_SETS }
+        ensures set_in_ram { AreInRam self.now.map.ram accesses.new.sets }
+        ensures stored { AreStores self.now.map.ram accesses.new.stores }
     {
-        let (place, held) = match self.place(request, mem, &mut accesses.seen) {
+        let (first, second, held) = match self.locate(request, mem, accesses) {
             Ok(found) => found,
-            Err(exception) => return Ok(Err(exception)),
+            Err(exception) => return Err(exception),
         };
-        let answer = self.answer(request, choices, place, held);
-        put(
-            place,
-            request.size,
-            written_by(answer.access),
-            mem,
-            &mut accesses.wrote,
-        )?;
-        Ok(Ok(answer))
+        let answer = self.answer(request, choices, first, held);
+        if let Some(value) = written_by(answer.access) {
+            note_store(request, first, second, value, &mut accesses.stores);
+        }
+        Ok(answer)
     }
 
     /// Where an access goes, with what memory has there as far as the access reads it.
     #[tactic(auto, unfolding(crate::specs::MemoryAccess::located_access))]
-    fn place<M: PhysMem>(
+    fn locate<M: PhysMem>(
         &self,
         request: &MemoryRequest,
         mem: &M,
-        seen: &mut Seen,
-    ) -> Result<(Place, u64), Exception>
+        accesses: &mut Accesses,
+    ) -> Result<(Place, Option<Place>, u64), Exception>
         requires ram { M.ram mem.now ≡ self.now.map.ram }
-        requires room { length seen.old ≤ FETCH_READS }
-        ensures placed { Observes (located_access self.now request.now) result
-            seen.old seen.new (M.bytes mem.now) }
-        ensures in_ram { IfOk result (λ found. found.0.io ≡ false
-            → IsPlace self.now.map.ram found.0.pa (bytes_of request.now.size)) }
+        requires room { length accesses.old.seen ≤ FETCH_READS }
+        requires sets { length accesses.old.sets ≤ FETCH_SETS }
+        requires sets_in_ram { AreInRam self.now.map.ram accesses.old.sets }
+        ensures located { Notes (located_access self.now request.now) result
+            accesses.old.seen accesses.new.seen accesses.old.sets accesses.new.sets
+            (M.bytes mem.now) }
+        ensures set { length accesses.new.sets ≤ FETCH_SETS + ACCESS_SETS }
+        ensures set_in_ram { AreInRam self.now.map.ram accesses.new.sets }
+        ensures stores { accesses.new.stores ≡ accesses.old.stores }
+        ensures in_ram { IfOk result (λ found. LieInRam self.now.map.ram request.now.address
+            (bytes_of request.now.size) (found.0, found.1)) }
     {
-        let va = request.address;
-        let len = request.size.bytes();
         match request.op {
-            MemoryOp::Load { .. } => load(
-                mem, &self.csrs, &self.map, self.mode, va, len, false, seen,
-            ),
-            MemoryOp::LoadReserved => load(
-                mem, &self.csrs, &self.map, self.mode, va, len, true, seen,
-            ),
+            MemoryOp::Load { .. } => self.load_at(request, false, mem, accesses),
+            MemoryOp::LoadReserved => self.load_at(request, true, mem, accesses),
             MemoryOp::Store { .. } => {
-                match store_place(mem, &self.csrs, &self.map, self.mode, va, len, false, seen) {
-                    Ok(place) => Ok((place, 0)),
-                    Err(exception) => Err(exception),
-                }
+                without_value(self.store_places(request, false, mem, accesses))
             }
             MemoryOp::StoreConditional { .. } => {
-                match store_place(mem, &self.csrs, &self.map, self.mode, va, len, true, seen) {
-                    Ok(place) => Ok((place, 0)),
-                    Err(exception) => Err(exception),
-                }
+                without_value(self.store_places(request, true, mem, accesses))
             }
-            MemoryOp::Amo { .. } => {
-                match store_place(mem, &self.csrs, &self.map, self.mode, va, len, true, seen) {
-                    Ok(place) => {
-                        seen.put(place.pa, len);
-                        Ok((place, mem.read(place.pa, len)))
-                    }
-                    Err(exception) => Err(exception),
-                }
-            }
+            MemoryOp::Amo { .. } => self.exchange_at(request, mem, accesses),
         }
+    }
+
+    /// The place of an atomic memory operation, with what memory has there.
+    fn exchange_at<M: PhysMem>(
+        &self,
+        request: &MemoryRequest,
+        mem: &M,
+        accesses: &mut Accesses,
+    ) -> Result<(Place, Option<Place>, u64), Exception>
+        requires ram { M.ram mem.now ≡ self.now.map.ram }
+        requires room { length accesses.old.seen ≤ FETCH_READS }
+        requires sets { length accesses.old.sets ≤ FETCH_SETS }
+        requires sets_in_ram { AreInRam self.now.map.ram accesses.old.sets }
+        ensures located { Notes
+            (exchange_at self.now request.now.address (bytes_of request.now.size)) result
+            accesses.old.seen accesses.new.seen accesses.old.sets accesses.new.sets
+            (M.bytes mem.now) }
+        ensures set { length accesses.new.sets ≤ FETCH_SETS + ACCESS_SETS }
+        ensures set_in_ram { AreInRam self.now.map.ram accesses.new.sets }
+        ensures stores { accesses.new.stores ≡ accesses.old.stores }
+        ensures in_ram { IfOk result (λ found. LieInRam self.now.map.ram request.now.address
+            (bytes_of request.now.size) (found.0, found.1)) }
+    {
+        let (first, second) = match self.store_places(request, true, mem, accesses) {
+            Ok(places) => places,
+            Err(exception) => return Err(exception),
+        };
+        let len = request.size.bytes();
+        accesses.seen.put(first.pa, len);
+        let space = AddressSpace {
+            mem,
+            csrs: &self.csrs,
+            map: &self.map,
+            choices: &self.choices,
+        };
+        let held = space.number(first.pa, len, &accesses.sets);
+        Ok((first, second, held))
+    }
+
+    /// A load with its places.
+    fn load_at<M: PhysMem>(
+        &self,
+        request: &MemoryRequest,
+        atomic: bool,
+        mem: &M,
+        accesses: &mut Accesses,
+    ) -> Result<(Place, Option<Place>, u64), Exception>
+        requires ram { M.ram mem.now ≡ self.now.map.ram }
+        requires room { length accesses.old.seen ≤ FETCH_READS }
+        requires sets { length accesses.old.sets ≤ FETCH_SETS }
+        requires sets_in_ram { AreInRam self.now.map.ram accesses.old.sets }
+        ensures located { Notes
+            (load_at self.now request.now.address (bytes_of request.now.size) atomic) result
+            accesses.old.seen accesses.new.seen accesses.old.sets accesses.new.sets
+            (M.bytes mem.now) }
+        ensures set { length accesses.new.sets ≤ FETCH_SETS + ACCESS_SETS }
+        ensures set_in_ram { AreInRam self.now.map.ram accesses.new.sets }
+        ensures stores { accesses.new.stores ≡ accesses.old.stores }
+        ensures in_ram { IfOk result (λ found. LieInRam self.now.map.ram request.now.address
+            (bytes_of request.now.size) (found.0, found.1)) }
+    {
+        load(
+            mem,
+            &self.csrs,
+            &self.map,
+            self.mode,
+            request.address,
+            request.size.bytes(),
+            atomic,
+            &self.choices,
+            &mut accesses.seen,
+            &mut accesses.sets,
+        )
+    }
+
+    /// The places of a store.
+    fn store_places<M: PhysMem>(
+        &self,
+        request: &MemoryRequest,
+        atomic: bool,
+        mem: &M,
+        accesses: &mut Accesses,
+    ) -> Result<(Place, Option<Place>), Exception>
+        requires ram { M.ram mem.now ≡ self.now.map.ram }
+        requires room { length accesses.old.seen ≤ FETCH_READS }
+        requires sets { length accesses.old.sets ≤ FETCH_SETS }
+        requires sets_in_ram { AreInRam self.now.map.ram accesses.old.sets }
+        ensures located { Notes
+            (store_places self.now request.now.address (bytes_of request.now.size) atomic) result
+            accesses.old.seen accesses.new.seen accesses.old.sets accesses.new.sets
+            (M.bytes mem.now) }
+        ensures room_left { length accesses.new.seen < MOST_READS }
+        ensures set { length accesses.new.sets ≤ FETCH_SETS + ACCESS_SETS }
+        ensures set_in_ram { AreInRam self.now.map.ram accesses.new.sets }
+        ensures stores { accesses.new.stores ≡ accesses.old.stores }
+        ensures memory { atomic ≡ true → IfOk result (λ places. places.0.io ≡ false) }
+        ensures one { atomic ≡ true → IfOk result (λ places. places.1 ≡ None) }
+        ensures in_ram { IfOk result (LieInRam self.now.map.ram request.now.address
+            (bytes_of request.now.size)) }
+    {
+        store_place(
+            mem,
+            &self.csrs,
+            &self.map,
+            self.mode,
+            request.address,
+            request.size.bytes(),
+            atomic,
+            &self.choices,
+            &mut accesses.seen,
+            &mut accesses.sets,
+        )
     }
 
     /// What comes of an access to a place where memory has this number.
@@ -120,7 +222,7 @@ impl Core {
         place: Place,
         held: u64,
     ) -> AccessResult
-        ensures { result ≡ access_result_of self.now choices.now request.now (place, held) }
+        ensures { result ≡ access_result_by self.now choices.now request.now place held request.now.op }
     {
         match request.op {
             MemoryOp::Load { signed } => {
@@ -133,7 +235,7 @@ impl Core {
             }
             MemoryOp::LoadReserved => {
                 let mut reservation = self.reservation;
-                reservation.set(place.pa);
+                reservation.set(place.pa, self.choices.block_size);
                 AccessResult {
                     value: extended(true, request, held),
                     access: access_at(request, place, Some(held), None),
@@ -167,6 +269,18 @@ impl Core {
         ensures { result ≡ is_stored self.now choices.now request.now place }
     {
         self.reservation.covers(place.pa, request.size.bytes()) && choices.says_stored()
+    }
+}
+
+/// The places of a store, which does not look at what memory has.
+fn without_value(
+    found: Result<(Place, Option<Place>), Exception>,
+) -> Result<(Place, Option<Place>, u64), Exception>
+    ensures { result ≡ found_without_value found }
+{
+    match found {
+        Ok((first, second)) => Ok((first, second, 0)),
+        Err(exception) => Err(exception),
     }
 }
 
@@ -220,29 +334,36 @@ fn written_by(access: Option<Accessed>) -> Option<u64>
     }
 }
 
-/// Puts a number at its place, unless a device takes it. A refused write changes nothing.
-#[tactic(auto, unfolding(crate::specs::MemoryAccess::put))]
-fn put<M: PhysMem>(
-    place: Place,
-    size: AccessSize,
-    written: Option<u64>,
-    mem: &mut M,
-    wrote: &mut Wrote,
-) -> Result<(), NoMemory>
-    requires place { place.io ≡ false → IsPlace (M.ram mem.old) place.pa (bytes_of size) }
-    requires blank { length wrote.old ≤ 1 }
-    ensures put { IfOk result (λ done. (seen : List Read)
-        → Performs (put place (bytes_of size) written) done seen seen wrote.old wrote.new
-        (M.bytes mem.old) (M.bytes mem.new)) }
-    ensures err { OnErr result (M.bytes mem.new ≡ M.bytes mem.old) }
-    ensures ram { M.ram mem.new ≡ M.ram mem.old }
+/// Notes that a number is to be stored at its place, unless a device takes it; or its low bytes at
+/// the first place and the others at the second.
+fn note_store(
+    request: &MemoryRequest,
+    first: Place,
+    second: Option<Place>,
+    value: u64,
+    stores: &mut Wrote,
+)
+    requires blank { stores.old ≡ [] }
+    requires parts { IfSome second (λ _. first_len request.now.address (bytes_of request.now.size)
+        < bytes_of request.now.size) }
+    ensures put { (seen : List Read) (sets : List Write) (bytes : Bytes)
+        → Notes (put_at (first, second) request.now value) tt seen seen sets (sets ++ stores.new)
+        bytes }
+    ensures stored { (ram : Span)
+        → LieInRam ram request.now.address (bytes_of request.now.size) (first, second)
+        → AreStores ram stores.new }
 {
-    if let Some(value) = written {
-        if place.io {
-            return Ok(());
+    let len = request.size.bytes();
+    match second {
+        None => {
+            if !first.io {
+                stores.put(first.pa, len, value);
+            }
         }
-        mem.write(place.pa, size.bytes(), value)?;
-        wrote.put(place.pa, size.bytes(), value);
+        Some(second) => {
+            let low = first_len(request.address, len);
+            stores.put(first.pa, low, value);
+            stores.put(second.pa, len - low, value >> (8 * u32::from(low)));
+        }
     }
-    Ok(())
 }

@@ -3,13 +3,13 @@
 ghost use Rattle.std.specs.Prelude.{◌≡◌, ◌⊎◌, ◌<◌, ◌%◌, ◌^◌, Option, true};
 ghost use Rattle.rvfi_rows.specs.Cells.{shown_in};
 ghost use Rattle.hart_step.specs.Instructions.{op_of};
-ghost use Rattle.hart_step.specs.PlainRows.{insn_bits_of, insn_shown, is_plain, is_store, is_system_or_atomic, is_undisturbed, insn_length_of, shows_bytes, shows_store, translates_data};
+ghost use Rattle.hart_step.specs.PlainRows.{insn_bits_of, insn_shown, is_plain, is_store, is_system_or_atomic, is_undisturbed, insn_length_of, lies_in_two_pages, shows_bytes, shows_place, shows_store, translates_data};
 
 use crate::choices::row_shows;
 use crate::execution::op_of;
 use crate::hart::Hart;
 use crate::state::Core;
-use hart_words::{PhysMem, Signal};
+use hart_words::{PAGE_SIZE, PhysMem, Signal};
 use mem_access::{data_mode, is_translated};
 use rv_decode::Op;
 use rv_decode::opcodes::{AMO, STORE, SYSTEM};
@@ -48,7 +48,7 @@ impl Core {
         row.shown(Signal::MemAddr).is_some()
             && row.shown(Signal::MemWmask).is_some()
             && row.shown(Signal::MemWdata).is_some()
-            && (row.shown(Signal::MemPaddr).is_some() || !self.translates_data())
+            && (!self.translates_data() || shows_place(row))
     }
 
     /// Whether the addresses of loads and stores are translated.
@@ -57,6 +57,27 @@ impl Core {
     {
         is_translated(&self.csrs, data_mode(&self.csrs, self.mode))
     }
+}
+
+/// Whether the physical address that the row shows is that of all its bytes.
+fn shows_place(row: &Row) -> bool
+    ensures { result ≡ shows_place (shown_in row.now) }
+{
+    let address = row.shown(Signal::MemAddr).unwrap_or(0);
+    let mask = row.shown(Signal::MemWmask).unwrap_or(0);
+    row.shown(Signal::MemPaddr).is_some() && !lies_in_two_pages(address, mask)
+}
+
+/// Whether the bytes that a mask has, counted from an address on, lie in two pages.
+#[tactic(auto, unfolding(crate::specs::PlainRows::lies_in_two_pages), using(crate::proofs::PageEnds::none_after))]
+fn lies_in_two_pages(address: u64, mask: u64) -> bool
+    ensures { result ≡ lies_in_two_pages address mask }
+{
+    let here = PAGE_SIZE - address % PAGE_SIZE;
+    if here >= 64 {
+        return false;
+    }
+    mask % (1 << here) != 0 && mask >> here != 0
 }
 
 /// Neither a trap nor an interrupt nor a halt is shown.

@@ -5,8 +5,10 @@ ghost use Rattle.std.specs.Prelude.{◌≡◌, Decides, IfOk};
 use crate::hart::Hart;
 use crate::state::Core;
 use csr_file::Csrs;
-use hart_words::{Map, Mode, NoMemory, PhysMem, PmpEntry, Registers, Span};
-use rv_atomic::Reservation;
+use hart_words::{
+    Choices, Map, Marks, Misaligned, Mode, NoMemory, PhysMem, PmpEntry, Registers, Span, TrapValues,
+};
+use rv_atomic::{Block, Reservation};
 
 impl<M: PhysMem + Drop> Hart<M> {
     /// The same hart again, over a memory with the same bytes.
@@ -22,7 +24,7 @@ impl<M: PhysMem + Drop> Hart<M> {
     }
 
     /// Whether all but the memories is the same: registers, pc, mode, control and status registers,
-    /// reservation, order index, flags and map.
+    /// reservation, order index, flags, map and choices.
     pub fn same_but_memory<N: PhysMem + Drop>(&self, other: &Hart<N>) -> bool
         ensures { Decides result (self.now.core ≡ other.now.core) }
     {
@@ -44,6 +46,7 @@ impl Core {
             && self.trapped_last == other.trapped_last
             && self.halted == other.halted
             && same_map(&self.map, &other.map)
+            && same_choices(&self.choices, &other.choices)
     }
 }
 
@@ -74,7 +77,19 @@ fn same_entries(one: &[PmpEntry; 16], other: &[PmpEntry; 16]) -> bool
 fn same_reservation(one: Reservation, other: Reservation) -> bool
     ensures { Decides result (one ≡ other) }
 {
-    same_number(one.block, other.block)
+    match one.block {
+        None => other.block.is_none(),
+        Some(block) => match other.block {
+            None => false,
+            Some(second) => same_block(block, second),
+        },
+    }
+}
+
+fn same_block(one: Block, other: Block) -> bool
+    ensures { Decides result (one ≡ other) }
+{
+    one.address == other.address && one.size == other.size
 }
 
 fn same_number(one: Option<u64>, other: Option<u64>) -> bool
@@ -111,4 +126,32 @@ fn same_span(one: &Span, other: &Span) -> bool
     ensures { Decides result (one.now ≡ other.now) }
 {
     one.base == other.base && one.size == other.size
+}
+
+fn same_choices(one: &Choices, other: &Choices) -> bool
+    ensures { Decides result (one.now ≡ other.now) }
+{
+    same_misaligned(one.misaligned, other.misaligned)
+        && same_trap_values(one.trap_values, other.trap_values)
+        && same_marks(one.marks, other.marks)
+        && one.block_size == other.block_size
+        && one.bits == other.bits
+}
+
+fn same_misaligned(one: Misaligned, other: Misaligned) -> bool
+    ensures { Decides result (one ≡ other) }
+{
+    one.are_done() == other.are_done()
+}
+
+fn same_trap_values(one: TrapValues, other: TrapValues) -> bool
+    ensures { Decides result (one ≡ other) }
+{
+    one.are_zero() == other.are_zero()
+}
+
+fn same_marks(one: Marks, other: Marks) -> bool
+    ensures { Decides result (one ≡ other) }
+{
+    one.are_set() == other.are_set()
 }

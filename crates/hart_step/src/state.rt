@@ -3,7 +3,7 @@
 ghost use Rattle.std.specs.Prelude.{◌≡◌, ◌%◌};
 
 use csr_file::Csrs;
-use hart_words::{Map, Mode, Registers};
+use hart_words::{Choices, Map, Mode, Registers};
 use rv_atomic::Reservation;
 
 /// All of a hart but its memory.
@@ -25,6 +25,8 @@ pub struct Core {
     pub halted: bool,
     /// What stands at which physical address. No step changes it.
     pub map: Map,
+    /// What the standard leaves to the maker of the core. No step changes it.
+    pub choices: Choices,
 }
 
 impl Core {
@@ -32,9 +34,9 @@ impl Core {
 
     /// A hart at reset: in M, at `pc`, with all registers 0.
     #[tactic(auto, unfolding(crate::specs::Cores::core_at_reset))]
-    pub fn reset(pc: u64, map: Map) -> Core
+    pub fn reset(pc: u64, map: Map, choices: Choices) -> Core
         requires even { pc % 2 ≡ 0 }
-        ensures state { result ≡ core_at_reset pc map }
+        ensures state { result ≡ core_at_reset pc map choices }
         ensures map { result.map ≡ map }
         ensures sound { IsSound result }
     {
@@ -48,6 +50,7 @@ impl Core {
             trapped_last: false,
             halted: false,
             map,
+            choices,
         }
     }
 }

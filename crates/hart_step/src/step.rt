@@ -1,24 +1,30 @@
 //! The step by one row, in its phases.
 
-ghost use Rattle.std.specs.Prelude.{◌≡◌, ◌%◌, [], IfOk, OnErr};
+ghost use Rattle.std.specs.Prelude.{◌≡◌, ◌%◌, true, [], IfOk, IsOk, OnOk, OnErr};
+ghost use Rattle.hart_words.specs.Memory.{after_writes};
 ghost use Rattle.hart_words.specs.Actions.{Performs};
 ghost use Rattle.rvfi_rows.specs.Cells.{shown_in};
+ghost use Rattle.hart_step.specs.declared.state.Core.{Core};
 ghost use Rattle.hart_step.specs.Cores.{IsSound};
 ghost use Rattle.hart_step.specs.Choices.{asks_interrupt};
-ghost use Rattle.hart_step.specs.Steps.{core_after_count, core_after_entry, core_after_interrupt, lacks_interrupt, core_after_run, effects_of, step_of};
+ghost use Rattle.hart_step.specs.Steps.{before_instruction, core_after_count, core_after_entry, core_after_interrupt, lacks_interrupt, core_after_run, effects_of, step_of};
+ghost use Rattle.hart_step.specs.Instructions.{instruction_run};
+ghost use Rattle.hart_step.specs.Changes.{run_by, HasEvenAddress, AreInRam, AreReady};
 
 use crate::accesses::Accesses;
+use crate::changes::InstructionNotes;
 use crate::choices::{lines_of, order_after, row_shows};
 use crate::instruction::InstructionOutcome;
 use crate::state::Core;
-use hart_words::{Cause, NoMemory, PhysMem, Signal};
+use hart_words::{Cause, NoMemory, PhysMem, Registers, Signal, Write};
 use interrupt_pick::pick;
 use rvfi_rows::{Effects, Expected, Retired, Row, Stepped};
 use trap_entry::enter;
 
 impl Core {
     /// Steps the hart by a valid row over its memory, and says what it did and what it read and
-    /// wrote. It works on a copy, so that without memory neither the hart nor a byte changes.
+    /// wrote. Without memory neither the hart nor a byte changes: what the instruction changes is
+    /// noted until memory has what it writes.
     pub fn step<M: PhysMem>(&mut self, mem: &mut M, row: &Row) -> Result<Stepped, NoMemory>
         requires sound { IsSound self.old }
         requires ram { M.ram mem.old ≡ self.old.map.ram }
@@ -31,37 +37,146 @@ impl Core {
         ensures ram { M.ram mem.new ≡ M.ram mem.old }
     {
         let mut accesses = Accesses::nothing();
+        let order = self.next_order;
         if self.halted {
             return Ok(Stepped {
                 expected: Expected::Halted,
                 seen: accesses.seen,
-                wrote: accesses.wrote,
+                wrote: accesses.stores,
             });
         }
-        let mut next = *self;
-        next.count(row);
-        let lacks_interrupt = next.take_interrupt(row);
-        let before = next;
-        let executed = next.run(mem, row, &mut accesses)?;
-        let effects = effects_of(&before, &next, &executed);
-        next.finish(&executed, row);
-        let retired = Retired {
-            order: self.next_order,
-            lacks_interrupt,
-            pc: before.pc,
-            mode: before.mode,
-            insn: executed.insn(),
-            effects,
-            csrs_before: before.csrs,
-            csrs_after: next.csrs,
-            lines: lines_of(row).up,
+        let (notes, lacks_interrupt) = match self.begin(mem, row, &mut accesses) {
+            Ok(begun) => begun,
+            Err(NoMemory) => return Err(NoMemory),
         };
-        *self = next;
+        let (pc, mode) = (self.pc, self.mode);
+        let registers = self.registers;
+        let csrs_before = self.csrs;
+        self.apply(&notes.change);
+        let effects = effects_of(&registers, self, &notes.executed);
+        self.finish(&notes.executed, row);
         Ok(Stepped {
-            expected: Expected::Retired(retired),
+            expected: Expected::Retired(Retired {
+                order,
+                lacks_interrupt,
+                pc,
+                mode,
+                insn: notes.executed.insn(),
+                effects,
+                csrs_before,
+                csrs_after: self.csrs,
+                lines: lines_of(row).up,
+            }),
             seen: accesses.seen,
-            wrote: accesses.wrote,
+            wrote: accesses.stores,
         })
+    }
+
+    /// Brings the hart to where the row's instruction finds it, and memory to after that: what is
+    /// noted of the instruction, and whether the row asks for an interrupt and none can be taken.
+    fn begin<M: PhysMem>(
+        &mut self,
+        mem: &mut M,
+        row: &Row,
+        accesses: &mut Accesses,
+    ) -> Result<(InstructionNotes, bool), NoMemory>
+        requires sound { IsSound self.old }
+        requires ram { M.ram mem.old ≡ self.old.map.ram }
+        requires nothing { (accesses.old.seen ≡ []) × (accesses.old.sets ≡ [])
+            × (accesses.old.stores ≡ []) }
+        ensures ran { IfOk result (λ begun. Performs (instruction_run self.new (shown_in row.now))
+            (run_by self.new begun.0) [] accesses.new.seen [] accesses.new.stores (M.bytes mem.old)
+            (M.bytes mem.new)) }
+        ensures state { OnOk result (self.new ≡ before_instruction self.old (shown_in row.now)) }
+        ensures lacks { IfOk result (λ begun. begun.1
+            ≡ lacks_interrupt (core_after_count self.old (shown_in row.now)) (shown_in row.now)) }
+        ensures even { IfOk result (λ begun. HasEvenAddress begun.0.change) }
+        ensures err { OnErr result ((self.new ≡ self.old) × (M.bytes mem.new ≡ M.bytes mem.old)) }
+        ensures sound { IsSound self.new }
+        ensures map { self.new.map ≡ self.old.map }
+        ensures ram { M.ram mem.new ≡ M.ram mem.old }
+    {
+        if self.asks_interrupt(row) {
+            return self.begin_by_interrupt(mem, row, accesses);
+        }
+        match self.run_written(mem, row, accesses) {
+            Ok(notes) => Ok((notes, false)),
+            Err(NoMemory) => Err(NoMemory),
+        }
+    }
+
+    /// The same by a row that asks for an interrupt. This is rare, and works on a copy, in which
+    /// the interrupt is entered.
+    #[cold]
+    #[inline(never)]
+    fn begin_by_interrupt<M: PhysMem>(
+        &mut self,
+        mem: &mut M,
+        row: &Row,
+        accesses: &mut Accesses,
+    ) -> Result<(InstructionNotes, bool), NoMemory>
+        requires sound { IsSound self.old }
+        requires ram { M.ram mem.old ≡ self.old.map.ram }
+        requires nothing { (accesses.old.seen ≡ []) × (accesses.old.sets ≡ [])
+            × (accesses.old.stores ≡ []) }
+        requires asks { asks_interrupt self.old (shown_in row.now) ≡ true }
+        ensures ran { IfOk result (λ begun. Performs (instruction_run self.new (shown_in row.now))
+            (run_by self.new begun.0) [] accesses.new.seen [] accesses.new.stores (M.bytes mem.old)
+            (M.bytes mem.new)) }
+        ensures state { OnOk result (self.new ≡ before_instruction self.old (shown_in row.now)) }
+        ensures lacks { IfOk result (λ begun. begun.1
+            ≡ lacks_interrupt (core_after_count self.old (shown_in row.now)) (shown_in row.now)) }
+        ensures even { IfOk result (λ begun. HasEvenAddress begun.0.change) }
+        ensures err { OnErr result ((self.new ≡ self.old) × (M.bytes mem.new ≡ M.bytes mem.old)) }
+        ensures sound { IsSound self.new }
+        ensures map { self.new.map ≡ self.old.map }
+        ensures ram { M.ram mem.new ≡ M.ram mem.old }
+    {
+        let mut next = *self;
+        let lacks_interrupt = next.take_interrupt(row);
+        match next.run_written(mem, row, accesses) {
+            Ok(notes) => {
+                *self = next;
+                Ok((notes, lacks_interrupt))
+            }
+            Err(NoMemory) => Err(NoMemory),
+        }
+    }
+
+    /// Moves the order index on, runs the instruction, and writes what it writes: what is noted of
+    /// it is still to be put in place. Without memory the order index is put back.
+    #[tactic(auto, unfolding(crate::specs::Steps::core_after_count))]
+    fn run_written<M: PhysMem>(
+        &mut self,
+        mem: &mut M,
+        row: &Row,
+        accesses: &mut Accesses,
+    ) -> Result<InstructionNotes, NoMemory>
+        requires sound { IsSound self.old }
+        requires ram { M.ram mem.old ≡ self.old.map.ram }
+        requires nothing { (accesses.old.seen ≡ []) × (accesses.old.sets ≡ [])
+            × (accesses.old.stores ≡ []) }
+        ensures ran { IfOk result (λ notes. Performs (instruction_run self.new (shown_in row.now))
+            (run_by self.new notes) [] accesses.new.seen [] accesses.new.stores (M.bytes mem.old)
+            (M.bytes mem.new)) }
+        ensures state { OnOk result (self.new ≡ core_after_count self.old (shown_in row.now)) }
+        ensures even { IfOk result (λ notes. HasEvenAddress notes.change) }
+        ensures err { OnErr result ((self.new ≡ self.old) × (M.bytes mem.new ≡ M.bytes mem.old)) }
+        ensures sound { IsSound self.new }
+        ensures map { self.new.map ≡ self.old.map }
+        ensures ram { M.ram mem.new ≡ M.ram mem.old }
+    {
+        let order = self.next_order;
+        self.count(row);
+        let notes = self.run(mem, row, accesses);
+        accesses.put_sets_first();
+        match write_all(mem, accesses.stores.as_slice()) {
+            Ok(()) => Ok(notes),
+            Err(NoMemory) => {
+                self.next_order = order;
+                Err(NoMemory)
+            }
+        }
     }
 
     /// The order index moves on.
@@ -111,7 +226,15 @@ impl Core {
         ensures sound { IsSound self.old → IsSound self.new }
         ensures map { self.new.map ≡ self.old.map }
     {
-        (self.mode, self.pc) = enter(&mut self.csrs, self.mode, interrupt, code, value, self.pc);
+        (self.mode, self.pc) = enter(
+            &mut self.csrs,
+            self.mode,
+            interrupt,
+            code,
+            value,
+            self.pc,
+            self.choices.trap_values.are_zero(),
+        );
     }
 
     /// An exception is entered, an instruction that retired is done; and the hart halts where the
@@ -136,9 +259,61 @@ impl Core {
     }
 }
 
-/// What the instruction did, from the hart before it to the hart after it, or the cause of its trap.
-fn effects_of(before: &Core, after: &Core, executed: &InstructionOutcome) -> Result<Effects, Cause>
-    ensures { result ≡ effects_of before.now after.now executed.now }
+/// Writes what a step noted. Where memory is refused no byte changes: one write is refused by
+/// itself, and before the first of several the pages of all are made ready.
+#[tactic(auto, unfolding(hart_words::specs::Memory::after_writes))]
+fn write_all<M: PhysMem>(mem: &mut M, writes: &[Write]) -> Result<(), NoMemory>
+    requires in_ram { AreInRam (M.ram mem.old) writes.now }
+    ensures ok { OnOk result (M.bytes mem.new ≡ after_writes writes.now (M.bytes mem.old)) }
+    ensures err { OnErr result (M.bytes mem.new ≡ M.bytes mem.old) }
+    ensures ram { M.ram mem.new ≡ M.ram mem.old }
+{
+    match writes {
+        [] => Ok(()),
+        [write] => mem.write(write.pa, write.len, write.value),
+        _ => {
+            ready_all(mem, writes)?;
+            write_ready(mem, writes)
+        }
+    }
+}
+
+/// Takes what memory the pages of writes need.
+fn ready_all<M: PhysMem>(mem: &mut M, writes: &[Write]) -> Result<(), NoMemory>
+    requires in_ram { AreInRam (M.ram mem.old) writes.now }
+    ensures bytes { M.bytes mem.new ≡ M.bytes mem.old }
+    ensures ok { OnOk result (AreReady (M.is_ready mem.new) writes.now) }
+    ensures ram { M.ram mem.new ≡ M.ram mem.old }
+{
+    for write in writes {
+        mem.ready(write.pa)?;
+    }
+    Ok(())
+}
+
+/// Writes where no write is refused.
+fn write_ready<M: PhysMem>(mem: &mut M, writes: &[Write]) -> Result<(), NoMemory>
+    requires in_ram { AreInRam (M.ram mem.old) writes.now }
+    requires ready { AreReady (M.is_ready mem.old) writes.now }
+    ensures ok { IsOk result }
+    ensures bytes { M.bytes mem.new ≡ after_writes writes.now (M.bytes mem.old) }
+    ensures ram { M.ram mem.new ≡ M.ram mem.old }
+{
+    for write in writes {
+        mem.write(write.pa, write.len, write.value)?;
+    }
+    Ok(())
+}
+
+/// What the instruction did, from the registers before it to the hart after it, or the cause of its
+/// trap.
+fn effects_of(
+    before: &Registers,
+    after: &Core,
+    executed: &InstructionOutcome,
+) -> Result<Effects, Cause>
+    ensures { (core : Core) → core.registers ≡ before.now
+        → result ≡ effects_of core after.now executed.now }
 {
     match executed {
         InstructionOutcome::Trapped { exception, .. } => Err(exception.0),
@@ -148,7 +323,7 @@ fn effects_of(before: &Core, after: &Core, executed: &InstructionOutcome) -> Res
         } => {
             let operands = instruction.op.operands();
             Ok(Effects {
-                registers: before.registers,
+                registers: *before,
                 rs1: operands.rs1,
                 rs2: operands.rs2,
                 rd: operands.rd,

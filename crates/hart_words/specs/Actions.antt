@@ -91,3 +91,11 @@ pub record Observes {A : Type 0} (action : Action A) (value : A) (seen seen' : L
   pub value_is : value ≡ (action.run bytes).value
   pub seen_is : seen' ≡ seen ++ (action.run bytes).reads
   pub writes_none : (action.run bytes).wrote ≡ []
+
+-- a call noted what the action does to a memory in which what was noted before is written: it gave its value, and
+-- noted its reads and writes after those; the memory itself stays as it is
+pub record Notes {A : Type 0} (action : Action A) (value : A) (seen seen' : List Read) (wrote wrote' : List Write)
+    (bytes : Bytes) : Type 0 where
+  pub value_is : value ≡ (action.run (after_writes wrote bytes)).value
+  pub seen_is : seen' ≡ seen ++ (action.run (after_writes wrote bytes)).reads
+  pub wrote_is : wrote' ≡ wrote ++ (action.run (after_writes wrote bytes)).wrote

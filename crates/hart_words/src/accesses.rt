@@ -8,7 +8,7 @@ use arrayvec::ArrayVec;
 use std::marker::Model;
 
 /// The most reads of one step: those of a fetch, of a data access, and room for what comes.
-pub const MOST_READS: usize = 16;
+pub const MOST_READS: usize = 24;
 
 /// The most writes of one step.
 pub const MOST_WRITES: usize = 8;

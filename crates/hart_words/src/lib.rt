@@ -7,13 +7,16 @@
 
 mod access_size;
 mod accesses;
+mod choices;
 mod fault;
 pub mod laws;
 mod map;
 mod memory;
 mod numbers;
+mod options;
 mod privilege;
 mod registers;
+mod sets;
 mod signal;
 mod span;
 pub mod word_laws;
@@ -21,12 +24,15 @@ mod words;
 
 pub use access_size::AccessSize;
 pub use accesses::{MOST_READS, MOST_WRITES, Read, Seen, Write, Wrote};
+pub use choices::Choices;
 pub use fault::NoMemory;
 pub use map::Map;
 pub use memory::{PhysMem, WalkMem};
 pub use numbers::{NumberFault, read_number};
+pub use options::{Marks, Misaligned, TrapValues};
 pub use privilege::{Access, Cause, Mode, PmpEntry, WalkFlags};
 pub use registers::Registers;
+pub use sets::{MOST_SETS, Sets};
 pub use signal::{CsrName, CsrSide, Difference, SIGNALS, Signal, SignalEntry};
 pub use span::{PAGE_BYTES, PAGE_SIZE, Span};
 pub use words::{div, divu, mulh, mulhsu, mulhu, rem, remu, sext};

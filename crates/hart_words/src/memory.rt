@@ -53,7 +53,7 @@ pub trait PhysMem: Sized {
     ghost bytes_are_bytes: { (mem : Self) (at : ℕ) → bytes mem at < 256 };
 }
 
-/// What a translation reads: the entries of page tables.
+/// What a translation reads, and where it may set A and D: the entries of page tables.
 pub trait WalkMem {
     /// The byte at each address.
     ghost bytes: { Self → Bytes };
@@ -61,8 +61,16 @@ pub trait WalkMem {
     /// The addresses at which an entry of 8 bytes may be read.
     ghost is_readable: { Self → ℕ → Bool };
 
+    /// The addresses at which an entry of 8 bytes may be set.
+    ghost is_settable: { Self → ℕ → Bool };
+
     /// The entry at an address, which is a multiple of 8, or none where the read is refused.
     fn entry(&self, pa: u64) -> Option<u64>
         requires { pa % 8 ≡ 0 }
         ensures { result ≡ entry_of (is_readable self.now) (bytes self.now) pa };
+
+    /// Whether the entry at an address, which is a multiple of 8, may be set.
+    fn may_set(&self, pa: u64) -> bool
+        requires { pa % 8 ≡ 0 }
+        ensures { result ≡ is_settable self.now pa };
 }

@@ -175,6 +175,76 @@ fn accesses_are_noted_in_order(rt: HostRuntime) {
     assert_eq!(rt; wrote.as_slice(), writes.as_slice());
 }
 
+/// The sizes of blocks about those that are allowed, and the choices where none is said.
+#[test]
+fn choices_have_a_block_size(rt: HostRuntime) -> Result<(), Fail> {
+    for (size, is_allowed) in [
+        (0, false),
+        (4, false),
+        (8, true),
+        (16, true),
+        (32, true),
+        (48, false),
+        (64, true),
+        (128, true),
+        (256, true),
+        (512, true),
+        (1024, true),
+        (2048, true),
+        (4096, true),
+        (4097, false),
+        (8192, false),
+        (65535, false),
+    ] {
+        let choices = Choices::new(Misaligned::Done, TrapValues::Zero, Marks::Set, size, true);
+        assert_eq!(rt; choices.is_some(), is_allowed, "{size}");
+    }
+    let all = Choices::new(Misaligned::Done, TrapValues::Zero, Marks::Set, 8, true);
+    let all = all.ok_or("no choices")?;
+    assert!(rt; all.misaligned.are_done() && all.trap_values.are_zero() && all.marks.are_set());
+    assert_eq!(rt; (all.block_size, all.bits), (8, true));
+    let plain = Choices::plain();
+    assert!(rt; !plain.misaligned.are_done() && !plain.trap_values.are_zero());
+    assert!(rt; !plain.marks.are_set() && !plain.bits);
+    assert_eq!(rt; plain.block_size, 64);
+    Ok(())
+}
+
+/// The last entry that was set at an address stands for it, byte by byte too.
+#[test]
+fn sets_are_read_again(rt: HostRuntime) {
+    let mut sets = Sets::empty();
+    assert!(rt; sets.is_empty());
+    assert_eq!(rt;
+        (sets.entry(0x8000_0008), sets.byte(0x8000_0008)),
+        (None, None)
+    );
+    sets.put(0x8000_0008, 0x1122_3344_5566_7788);
+    sets.put(0x8000_0010, 1);
+    sets.put(0x8000_0008, 0x1122_3344_5566_77c8);
+    assert!(rt; !sets.is_empty());
+    assert_eq!(rt; sets.as_slice().len(), 3);
+    for (pa, entry) in [
+        (0x8000_0000, None),
+        (0x8000_0008, Some(0x1122_3344_5566_77c8)),
+        (0x8000_0010, Some(1)),
+        (0x8000_0018, None),
+    ] {
+        assert_eq!(rt; sets.entry(pa), entry);
+    }
+    for (pa, byte) in [
+        (0x8000_0007, None),
+        (0x8000_0008, Some(0xc8)),
+        (0x8000_0009, Some(0x77)),
+        (0x8000_000f, Some(0x11)),
+        (0x8000_0010, Some(1)),
+        (0x8000_0017, Some(0)),
+        (0x8000_0018, None),
+    ] {
+        assert_eq!(rt; sets.byte(pa), byte);
+    }
+}
+
 /// The encodings of modes, and mcause of exceptions.
 #[test]
 fn encodings(rt: HostRuntime) {

@@ -1,3 +1,4 @@
 pub mod Pages
+pub mod Runs
 pub mod TokenLemmas
 pub mod ImageLemmas

@@ -1,4 +1,5 @@
 pub mod Bytes
+pub mod Runs
 pub mod Tokens
 pub mod Fronts
 pub mod Steps

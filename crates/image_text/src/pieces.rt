@@ -15,8 +15,9 @@ pub struct PiecePage {
 }
 
 impl PiecePage {
-    ghost use Rattle.std.specs.Prelude.{◌≡◌, ℕ, ◌<◌, None, unwrap_or, length, slice_index};
+    ghost use Rattle.std.specs.Prelude.{◌≡◌, ℕ, ◌+◌, ◌<◌, ◌≤◌, None, unwrap_or, length, slice_index};
     ghost use Rattle.std.specs.List.{slice_index_or};
+    ghost use Rattle.image_text.specs.Runs.{with_bytes};
 
     /// The bytes of the page, 0 where it has none.
     pub fn plain(&self) -> [u8; PAGE_BYTES]
@@ -31,6 +32,17 @@ impl PiecePage {
         }
         plain
     }
+
+    /// Puts bytes from an offset on.
+    fn put_bytes(&mut self, offset: usize, bytes: &[u8])
+        requires { offset + length bytes.now ≤ PAGE_SIZE }
+        ensures { (k : ℕ) → slice_index_or self.new.bytes k None
+            ≡ with_bytes (λ k. slice_index_or self.old.bytes k None) offset bytes.now k }
+    {
+        for (k, byte) in bytes.iter().enumerate() {
+            self.bytes[offset + k] = Some(*byte);
+        }
+    }
 }
 
 /// The bytes of an image, in pages by their number.
@@ -40,8 +52,9 @@ pub struct Pieces {
 }
 
 impl Pieces {
-    ghost use Rattle.std.specs.Prelude.{◌≡◌, ◌/◌, None, OnOk, OnErr, IsTrue};
+    ghost use Rattle.std.specs.Prelude.{◌≡◌, ◌+◌, ◌/◌, ◌%◌, ◌≤◌, None, OnOk, OnErr, IsTrue, length};
     ghost use Rattle.image_text.specs.Bytes.{byte_at, with_byte, has_page};
+    ghost use Rattle.image_text.specs.Runs.{with_bytes};
 
     /// No bytes.
     #[tactic(auto, unfolding(crate::specs::Bytes::byte_at))]
@@ -79,6 +92,18 @@ impl Pieces {
         Ok(())
     }
 
+    /// Puts bytes from an address on, all of them in one page. Without memory no byte changes.
+    pub fn put_bytes(&mut self, alloc: Global, address: u64, bytes: &[u8]) -> Result<(), AllocError>
+        requires { address % PAGE_SIZE + length bytes.now ≤ PAGE_SIZE }
+        ensures put { OnOk result
+            (byte_at self.new ≡ with_bytes (byte_at self.old) address bytes.now) }
+        ensures err { OnErr result (byte_at self.new ≡ byte_at self.old) }
+    {
+        self.ready(alloc, address / PAGE_SIZE)?;
+        self.set_bytes(address, bytes);
+        Ok(())
+    }
+
     /// Adds a page with no byte, unless it is there.
     fn ready(&mut self, alloc: Global, number: u64) -> Result<(), AllocError>
         ensures ready { OnOk result (IsTrue (has_page self.new number)) }
@@ -102,6 +127,17 @@ impl Pieces {
     {
         match self.pages.get_mut(&(address / PAGE_SIZE)) {
             Some(page) => page.bytes[(address % PAGE_SIZE) as usize] = Some(value),
+            None => unreachable!(),
+        }
+    }
+    /// Puts bytes into a page that is there.
+    fn set_bytes(&mut self, address: u64, bytes: &[u8])
+        requires page { IsTrue (has_page self.old (address / PAGE_SIZE)) }
+        requires within { address % PAGE_SIZE + length bytes.now ≤ PAGE_SIZE }
+        ensures { byte_at self.new ≡ with_bytes (byte_at self.old) address bytes.now }
+    {
+        match self.pages.get_mut(&(address / PAGE_SIZE)) {
+            Some(page) => page.put_bytes((address % PAGE_SIZE) as usize, bytes),
             None => unreachable!(),
         }
     }

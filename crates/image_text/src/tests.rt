@@ -30,6 +30,25 @@ fn bytes_of_a_text(rt: HostRuntime) -> Result<(), Fail> {
 }
 
 #[test]
+fn bytes_put_together(rt: HostRuntime) -> Result<(), Fail> {
+    let mut pieces = Pieces::empty(rt.alloc());
+    pieces.put(rt.alloc(), 0xffe, 0x42)?;
+    pieces.put_bytes(rt.alloc(), 0xffd, b"\x11\x22\x00")?;
+    pieces.put_bytes(rt.alloc(), 0x5000, b"")?;
+    for (address, byte) in [
+        (0xffc, None),
+        (0xffd, Some(0x11)),
+        (0xffe, Some(0x22)),
+        (0xfff, Some(0x00)),
+        (0x1000, None),
+        (0x5000, None),
+    ] {
+        assert_eq!(rt; pieces.byte(address), byte);
+    }
+    Ok(())
+}
+
+#[test]
 fn faults_with_their_lines(rt: HostRuntime) -> Result<(), Fail> {
     for (text, kind, line) in [
         ("@80000000 9", FaultKind::BadByte, 1),

@@ -15,7 +15,7 @@ use Rattle.csr_file.specs.Values.{pending_interrupts_of}
 use Rattle.interrupt_pick.specs.Interrupts.{is_pending_and_enabled, machine_takes, supervisor_takes, is_for_machine}
 use Rattle.interrupt_pick.specs.Interrupts.{is_for_supervisor, pick_of}
 use Rattle.interrupt_pick.specs.Laws.{standard_order, IsTakenByMachine, IsTakenBySupervisor, HoldsOfNone, IsFirst}
-use Rattle.interrupt_pick.specs.Laws.{IsPicked, TakesNone, PicksFirst, PicksNoneRightly}
+use Rattle.interrupt_pick.specs.Laws.{IsPicked, PicksFirst, PicksNoneRightly}
 use Rattle.interrupt_pick.proofs.Taken.{wrong, both, off}
 
 -- a test that decides what holds of an element

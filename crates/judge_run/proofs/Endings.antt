@@ -26,7 +26,7 @@ use Rattle.judge_run.specs.declared.progress.Progress.{Progress}
 use Rattle.judge_run.specs.declared.progress.TraceEnd.{TraceEnd}
 use Rattle.judge_run.specs.Parts.{IsEndTold, RowsEnd, end_after, end_in, end_of, position_of}
 use Rattle.judge_run.proofs.Passing.{counted_from_none}
-use Rattle.judge_run.specs.Answer.{Step, columns_in, ruling_at_end, first_pc_of, lines_outcome, outcome_of}
+use Rattle.judge_run.specs.Answer.{Step, columns_in, StartView, ruling_at_end, lines_outcome, outcome_of}
 use Rattle.judge_run.specs.Answer.{trace_outcome, verdict_on}
 use Rattle.judge_run.specs.Stops.{MeantBy, MeantWhereKnown, MissesStop, LacksFile, line_stop}
 
@@ -45,40 +45,40 @@ first_columns : (job : JobView) (left first : RemainingLines) → first ≡ fron
 first_columns job left first front =
     sym (columns_of_front job left.lines left.ending) ∙ ap (λ view. columns_in job view) (sym front)
 
--- no row was judged yet, and the hart is at reset over this memory
-pub record IsAtReset {M : Type 0} (bytes_of : M → Bytes) (job : JobView) (memory : ℕ → ℕ) (progress : Progress M)
+-- no row was judged yet, and the hart is at reset where the run starts
+pub record IsAtReset {M : Type 0} (bytes_of : M → Bytes) (job : JobView) (start : StartView) (progress : Progress M)
     : Type 0 where
-  pub core : progress.hart.core ≡ core_at_reset (first_pc_of job) job.map
-  pub bytes : bytes_of progress.hart.mem ≡ memory
+  pub core : progress.hart.core ≡ core_at_reset start.pc job.map job.choices
+  pub bytes : bytes_of progress.hart.mem ≡ start.memory
   pub rows : progress.counts.rows ≡ 0
   pub valid : progress.counts.valid ≡ 0
 
 -- what the first line and then the others come to, from a hart at reset
-lines_give : {M : Type 0} {bytes_of : M → Bytes} {memory : ℕ → ℕ} {first : RemainingLines} {columns : ColumnList}
+lines_give : {M : Type 0} {bytes_of : M → Bytes} {start : StartView} {first : RemainingLines} {columns : ColumnList}
     (job : JobView) (left : RemainingLines) (progress : Progress M) → first ≡ front_of 1 left
-    → columns_in job first ≡ Ok columns → IsAtReset bytes_of job memory progress
-    → lines_outcome job memory left
+    → columns_in job first ≡ Ok columns → IsAtReset bytes_of job start progress
+    → lines_outcome job start left
     ≡ Ok (end_after job columns (position_of bytes_of progress) (back_of 1 left)).outcome
 unfolding lines_outcome end_after back_of conclusion_from
-lines_give {M} {bytes_of} {memory} {first} {columns} job left progress front named reset =
+lines_give {M} {bytes_of} {start} {first} {columns} job left progress front named reset =
     let here : columns_in job left ≡ Ok columns = first_columns job left first front ∙ named in
-    let verdict = verdict_on job memory (rows_of columns (drop 1 left.lines)) in
+    let verdict = verdict_on job start (rows_of columns (drop 1 left.lines)) in
     rw (here, reset.core, reset.bytes, reset.rows, reset.valid)
     (ap (λ whole. Ok (outcome_of job (ruling_at_end job left.ending whole))) (sym (counted_from_none verdict)))
 
-lines_stop : (job : JobView) (memory : ℕ → ℕ) (left first : RemainingLines) (stop : Option Outcome)
-    → first ≡ front_of 1 left → columns_in job first ≡ Err stop → lines_outcome job memory left ≡ Err stop
+lines_stop : (job : JobView) (start : StartView) (left first : RemainingLines) (stop : Option Outcome)
+    → first ≡ front_of 1 left → columns_in job first ≡ Err stop → lines_outcome job start left ≡ Err stop
 unfolding lines_outcome
-lines_stop job memory left first stop front stopped =
+lines_stop job start left first stop front stopped =
     let here : columns_in job left ≡ Err stop = first_columns job left first front ∙ stopped in
     rw here refl
 
 -- where a text is there, the trace is that text
-text_decides : (job : JobView) (memory : ℕ → ℕ) (trace : Option (List ℕ)) (text : List ℕ) (outcome : Step Outcome)
-    → trace ≡ Some text → lines_outcome job memory (file_lines job.max_trace text) ≡ outcome
-    → trace_outcome job memory trace ≡ outcome
+text_decides : (job : JobView) (start : StartView) (trace : Option (List ℕ)) (text : List ℕ) (outcome : Step Outcome)
+    → trace ≡ Some text → lines_outcome job start (file_lines job.max_trace text) ≡ outcome
+    → trace_outcome job start trace ≡ outcome
 unfolding trace_outcome
-text_decides job memory trace text outcome here is = rw here is
+text_decides job start trace text outcome here is = rw here is
 
 -- a taker that was opened has all lines left
 all_left : (job : JobView) (name file : List ℕ) (taker : LineTaker) → Opens name job.max_trace taker
@@ -93,21 +93,36 @@ pub record TakesHeader (files : Option Files) (name : List ℕ) (job : JobView) 
   pub file_exists : IsThere files (string_bytes taker.name)
   pub takes : TakesWhereKnown (file_of files (string_bytes taker.name)) 1 taker first after
 
+-- a file whose header was taken is there
+is_there : {name : List ℕ} {job : JobView} {taker : LineTaker} {first : Piece} (files : Option Files)
+    (after : LineTaker) → TakesHeader files name job taker first after → IsMissing files (string_bytes after.name) → ⊥
+is_there None after header missing = missing
+is_there {taker = taker} {first = first} (Some files) after header missing =
+    of (files (string_bytes taker.name)) refl header.file_exists header.takes
+  where
+    of : (file : Option (List ℕ)) → files (string_bytes taker.name) ≡ file → IsSome file
+        → TakesWhereKnown file 1 taker first after → ⊥
+    of None e is one = absurd cc
+    of (Some file) e is one =
+        let again : files (string_bytes after.name) ≡ Some file =
+        ap (λ text. files (string_bytes text)) one.name ∙ e in
+        cc
+
 -- what the rest of a told file comes to, after its first line
-pub trace_told : {M : Type 0} {bytes_of : M → Bytes} {name : List ℕ} {job : JobView} {memory : ℕ → ℕ}
+pub trace_told : {M : Type 0} {bytes_of : M → Bytes} {name : List ℕ} {job : JobView} {start : StartView}
     {taker : LineTaker} {first : Piece} {columns : ColumnList} (files : Option Files) (progress : Progress M)
     (end : TraceEnd M) → TakesHeader files name job taker first progress.taker
-    → columns_in job (piece_view first) ≡ Ok columns → IsAtReset bytes_of job memory progress
+    → columns_in job (piece_view first) ≡ Ok columns → IsAtReset bytes_of job start progress
     → IsEndTold job columns bytes_of (file_of files (string_bytes progress.taker.name)) progress end
     → MeantWhereKnown files (λ outcome. outcome) (Ok (end_of job bytes_of end).outcome)
-    (λ files. trace_outcome job memory (files name))
+    (λ files. trace_outcome job start (files name))
 trace_told None progress end header named reset gives = tt
-trace_told {M} {bytes_of} {name} {job} {memory} {taker} {first} {columns} (Some files) progress end header named reset
+trace_told {M} {bytes_of} {name} {job} {start} {taker} {first} {columns} (Some files) progress end header named reset
     gives = of (files (string_bytes taker.name)) refl header.file_exists header.takes
   where
     of : (file : Option (List ℕ)) → files (string_bytes taker.name) ≡ file → IsSome file
         → TakesWhereKnown file 1 taker first progress.taker
-        → trace_outcome job memory (files name) ≡ Ok (end_of job bytes_of end).outcome
+        → trace_outcome job start (files name) ≡ Ok (end_of job bytes_of end).outcome
     of None e is one = absurd cc
     of (Some file) e is one =
         let here : files name ≡ Some file = ap files (sym header.opens.name) ∙ e in
@@ -120,32 +135,32 @@ trace_told {M} {bytes_of} {name} {job} {memory} {taker} {first} {columns} (Some 
         let front : piece_view first ≡ front_of 1 (file_lines job.max_trace file) = one.taken ∙ ap (front_of 1) all in
         let back : remaining_lines_of file progress.taker ≡ back_of 1 (file_lines job.max_trace file) =
         one.left ∙ ap (back_of 1) all in
-        text_decides job memory (files name) file (Ok (end_of job bytes_of end).outcome) here
+        text_decides job start (files name) file (Ok (end_of job bytes_of end).outcome) here
         (lines_give job (file_lines job.max_trace file) progress front named reset
         ∙ ap (λ left. Ok (end_after job columns (position_of bytes_of progress) left).outcome) (sym back)
         ∙ ap (λ (end : RowsEnd). Ok end.outcome) (sym whole))
 
 -- a header that stops the run
 pub trace_stops : {name : List ℕ} {job : JobView} {taker after : LineTaker} {first : Piece} (files : Option Files)
-    (memory : ℕ → ℕ) (stop : Stop) → TakesHeader files name job taker first after
+    (start : StartView) (stop : Stop) → TakesHeader files name job taker first after
     → MeantBy {X = ColumnList} {Y = ColumnList} (λ columns. columns) (Err stop) (columns_in job (piece_view first))
     → MeantWhereKnown {X = Outcome} files (λ outcome. outcome) (Err stop)
-    (λ files. trace_outcome job memory (files name))
-trace_stops None memory stop header meant = tt
-trace_stops (Some files) memory ReadFault header meant = tt
-trace_stops (Some files) memory NoMemory header meant = tt
-trace_stops {name} {job} {taker} {after} {first} (Some files) memory (Known outcome) header meant =
+    (λ files. trace_outcome job start (files name))
+trace_stops None start stop header meant = tt
+trace_stops (Some files) start ReadFault header meant = tt
+trace_stops (Some files) start NoMemory header meant = tt
+trace_stops {name} {job} {taker} {after} {first} (Some files) start (Known outcome) header meant =
     of (files (string_bytes taker.name)) refl header.file_exists header.takes
   where
     of : (file : Option (List ℕ)) → files (string_bytes taker.name) ≡ file → IsSome file
-        → TakesWhereKnown file 1 taker first after → trace_outcome job memory (files name) ≡ Err (Some outcome)
+        → TakesWhereKnown file 1 taker first after → trace_outcome job start (files name) ≡ Err (Some outcome)
     of None e is one = absurd cc
     of (Some file) e is one =
         let here : files name ≡ Some file = ap files (sym header.opens.name) ∙ e in
         let front : piece_view first ≡ front_of 1 (file_lines job.max_trace file) =
         one.taken ∙ ap (front_of 1) (all_left job name file taker header.opens) in
-        text_decides job memory (files name) file (Err (Some outcome)) here
-        (lines_stop job memory (file_lines job.max_trace file) (piece_view first) (Some outcome) front meant)
+        text_decides job start (files name) file (Err (Some outcome)) here
+        (lines_stop job start (file_lines job.max_trace file) (piece_view first) (Some outcome) front meant)
 
 -- a file that was there once is there later
 pub still_there : (known_files : Option Files) (taker middle : LineTaker) (first : Piece)
@@ -170,11 +185,11 @@ not_missed None name is missing = missing
 not_missed (Some files) name is missing = cc
 
 -- a file that is missed is one that the trace lacks
-pub trace_lacks : (known_files : Option Files) (name : List ℕ) (job : JobView) (memory : ℕ → ℕ)
-    → IsMissing known_files name → LacksFile known_files (λ files. trace_outcome job memory (files name))
+pub trace_lacks : (known_files : Option Files) (name : List ℕ) (job : JobView) (start : StartView)
+    → IsMissing known_files name → LacksFile known_files (λ files. trace_outcome job start (files name))
 unfolding trace_outcome
-trace_lacks None name job memory missing = missing
-trace_lacks (Some files) name job memory missing = rw missing refl
+trace_lacks None name job start missing = missing
+trace_lacks (Some files) name job start missing = rw missing refl
 
 -- a failed call for lines misses what the trace lacks
 pub lines_missed : (error : LineError) (known_files : Option Files) (name : List ℕ) (meant : Files → Step Outcome)
@@ -183,3 +198,13 @@ pub lines_missed : (error : LineError) (known_files : Option Files) (name : List
     → MissesStop {X = Outcome} (Err (line_stop error)) known_files meant before now
 lines_missed lines.ReadFault known_files name meant before now lacks misses = λ rise. lacks (misses rise)
 lines_missed lines.NoMemory known_files name meant before now lacks misses = misses
+
+-- a read that fails after the header was taken misses no file
+pub later_missed : {name : List ℕ} {job : JobView} {taker : LineTaker} {first : Piece} {after : LineTaker}
+    (error : LineError) (files : Option Files) (meant : Files → Step Outcome) (before now : ℕ)
+    → TakesHeader files name job taker first after
+    → MissesWhere (is_read_fault error) files (string_bytes after.name) before now
+    → MissesStop {X = Outcome} (Err (line_stop error)) files meant before now
+later_missed {after = after} error files meant before now header misses =
+    lines_missed error files (string_bytes after.name) meant before now
+    (λ missing. absurd (is_there files after header missing)) misses

@@ -1,4 +1,4 @@
-pub mod Memories
+pub mod Starts
 pub mod Taking
 pub mod Passing
 pub mod Endings

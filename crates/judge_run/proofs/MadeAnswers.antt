@@ -1,6 +1,6 @@
 -- The answer to words that ask for a made trace.
 use Rattle.std.proofs.Common.{◌≡◌, ◌∙◌, ◌≤◌, ◌^◌, ◌+◌, ◌*◌, ℕ, false, List, ◌∷◌, length, nat_lt, Option, Some, Ok, refl}
-use Rattle.std.proofs.Common.{ap, arith}
+use Rattle.std.proofs.Common.{ap, ap₂, arith}
 use Rattle.std.proofs.lemmas.Bool.{le-ltb}
 use Rattle.std.specs.Prelude.{unwrap_or}
 use Rattle.outside_ports.specs.Ports.{Files}
@@ -27,40 +27,46 @@ use Rattle.made_runs.specs.States.{IsMadeMap}
 use Rattle.made_runs.proofs.ImageTexts.{image_len}
 use Rattle.made_runs.proofs.MadeTexts.{texts_agree}
 use Rattle.made_runs.proofs.TraceLines.{trace_len}
-use Rattle.judge_run.specs.Answer.{answer, as_memory, columns_in, ruling_at_end, image_in, job_outcome, outcome_step_of}
-use Rattle.judge_run.specs.Answer.{lines_outcome, made_of, memory_of, outcome_of, outcome_of_step, text_memory}
+use Rattle.judge_run.specs.Answer.{answer, StartView, columns_in, is_elf, start_at, ruling_at_end, image_in}
+use Rattle.judge_run.specs.Answer.{job_outcome, outcome_step_of}
+use Rattle.judge_run.specs.Answer.{lines_outcome, made_of, start_of, outcome_of, outcome_of_step, text_start, start_in}
 use Rattle.judge_run.specs.Answer.{trace_in, trace_outcome, verdict_on}
 
 -- an image that is not too long and has no fault
-memory_is : (job : JobView) (text : List ℕ) (image : ℕ → Option ℕ) → length text ≤ job.max_image
-    → image_of job.map.ram text ≡ Ok image
-    → memory_of job (Some text) ≡ Ok (λ address. unwrap_or (image address) 0)
-unfolding memory_of text_memory
-memory_is job text image fits read =
+start_is : (job : JobView) (text : List ℕ) (image : ℕ → Option ℕ) → length text ≤ job.max_image
+    → is_elf text ≡ false → image_of job.map.ram text ≡ Ok image
+    → start_of job (Some text) ≡ Ok (start_at job image FIRST_PC)
+unfolding start_of start_in
+start_is job text image fits plain read =
     let under : nat_lt job.max_image (length text) ≡ false = le-ltb job.max_image (length text) fits in
-    rw under (ap (as_memory job) read)
+    rw (under, plain) (ap (text_start job) read)
+
+-- the text that is made is no ELF file
+made_is_text : (number : ℕ) → is_elf (made_image number) ≡ false
+unfolding made_image
+made_is_text number = refl
 
 -- a trace whose lines are a header and rows
-lines_are : (job : JobView) (memory : ℕ → ℕ) (header : List ℕ) (rows : List (List ℕ)) (columns : ColumnList)
+lines_are : (job : JobView) (start : StartView) (header : List ℕ) (rows : List (List ℕ)) (columns : ColumnList)
     (verdict : Verdict)
-    → header_columns header ≡ Ok columns → verdict_on job memory (rows_of columns rows) ≡ verdict
-    → lines_outcome job memory (record { lines = header ∷ rows; ending = End })
+    → header_columns header ≡ Ok columns → verdict_on job start (rows_of columns rows) ≡ verdict
+    → lines_outcome job start (record { lines = header ∷ rows; ending = End })
     ≡ Ok (outcome_of job (ruling_at_end job End verdict))
 unfolding lines_outcome columns_in
-lines_are job memory header rows columns verdict named is =
+lines_are job start header rows columns verdict named is =
     rw named (ap (λ verdict. Ok (outcome_of job (ruling_at_end job End verdict))) is)
 
-trace_is : (job : JobView) (memory : ℕ → ℕ) (text : List ℕ) (left : RemainingLines)
+trace_is : (job : JobView) (start : StartView) (text : List ℕ) (left : RemainingLines)
     → file_lines job.max_trace text ≡ left
-    → trace_outcome job memory (Some text) ≡ lines_outcome job memory left
+    → trace_outcome job start (Some text) ≡ lines_outcome job start left
 unfolding trace_outcome
-trace_is job memory text left is = ap (lines_outcome job memory) is
+trace_is job start text left is = ap (lines_outcome job start) is
 
 -- the image, then the trace
-both_are : (job : JobView) (image trace : Option (List ℕ)) (memory : ℕ → ℕ) → memory_of job image ≡ Ok memory
-    → job_outcome job image trace ≡ trace_outcome job memory trace
+both_are : (job : JobView) (image trace : Option (List ℕ)) (start : StartView) → start_of job image ≡ Ok start
+    → job_outcome job image trace ≡ trace_outcome job start trace
 unfolding job_outcome
-both_are job image trace memory read = rw read refl
+both_are job image trace start read = rw read refl
 
 -- the words, then image and trace
 words_ask : (words : List (List ℕ)) (files : Files) (job : JobView) → job_of words ≡ Some job
@@ -83,14 +89,14 @@ job_agrees job number rows plain =
     let is : IsMadeMap job.map = record { base = plain.base; size = plain.size } in
     let run : MadeRunAgrees job.map number rows job.max_trace =
     texts_agree job.map number rows job.max_trace is (omega arith) trace_fits in
-    let memory : ℕ → ℕ = λ address. unwrap_or (run.image.bytes address) 0 in
-    both_are job (Some (made_image number)) (Some (made_trace number rows)) memory
-    (memory_is job (made_image number) run.image.bytes image_fits run.image.image)
-    ∙ trace_is job memory (made_trace number rows) (made_left number rows) run.lines
-    ∙ lines_are job memory header_line (made_lines number rows) made_columns (Agrees rows rows) run.columns
-    (ap
-    (λ pc. (judgement_of by_hart (core_at_reset (unwrap_or pc FIRST_PC) job.map)
-    (rows_of made_columns (made_lines number rows)) memory).verdict) plain.pc ∙ run.verdict)
+    let start : StartView = start_at job run.image.bytes FIRST_PC in
+    both_are job (Some (made_image number)) (Some (made_trace number rows)) start
+    (start_is job (made_image number) run.image.bytes image_fits (made_is_text number) run.image.image)
+    ∙ trace_is job start (made_trace number rows) (made_left number rows) run.lines
+    ∙ lines_are job start header_line (made_lines number rows) made_columns (Agrees rows rows) run.columns
+    (ap₂
+    (λ pc choices. (judgement_of by_hart (core_at_reset (unwrap_or pc FIRST_PC) job.map choices)
+    (rows_of made_columns (made_lines number rows)) start.memory).verdict) plain.pc plain.choices ∙ run.verdict)
 
 pub made_agree : (words : List (List ℕ)) (job : JobView) (files : Files) (number rows : ℕ) → job_of words ≡ Some job
     → job.command ≡ Make number rows

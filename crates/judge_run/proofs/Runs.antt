@@ -138,6 +138,7 @@ ruling_small : (ruling : Ruling) → ruling_status ruling ≤ 4
 ruling_small rulings.NoJob = omega arith
 ruling_small (rulings.ImageTooLarge most) = omega arith
 ruling_small (rulings.ImageFault fault) = omega arith
+ruling_small (rulings.ElfFault fault) = omega arith
 ruling_small rulings.NoHeader = omega arith
 ruling_small (rulings.HeaderFault fault) = omega arith
 ruling_small (rulings.TooLong line) = omega arith
@@ -203,6 +204,7 @@ refused rulings.NoJob None same = (λ _. refl, λ _. refl)
 refused rulings.NoJob (Some job) same = absurd cc
 refused (rulings.ImageTooLarge most) job same = (λ two. absurd (omega arith), λ none. absurd (apart job same none))
 refused (rulings.ImageFault fault) job same = (λ two. absurd (omega arith), λ none. absurd (apart job same none))
+refused (rulings.ElfFault fault) job same = (λ two. absurd (omega arith), λ none. absurd (apart job same none))
 refused rulings.NoHeader job same = (λ two. absurd (omega arith), λ none. absurd (apart job same none))
 refused (rulings.HeaderFault fault) job same = (λ two. absurd (omega arith), λ none. absurd (apart job same none))
 refused (rulings.TooLong line) job same = (λ two. absurd (omega arith), λ none. absurd (apart job same none))

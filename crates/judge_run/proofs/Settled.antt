@@ -5,6 +5,7 @@ use Rattle.std.proofs.Common.{ap₂, ◌∙◌, subst, arith}
 use Rattle.std.specs.List.{flat_map}
 use Rattle.std.proofs.lemmas.List.{length-append, length-drop, length-map, take-append-drop, take_all}
 use Rattle.std.proofs.lemmas.List.Concat.{flat_map-append}
+use Rattle.hart_words.specs.declared.options.Marks.TheVariants.{Fault}
 use Rattle.hart_words.specs.declared.span.Span.{Span}
 use Rattle.hart_words.specs.Memory.{Bytes}
 use Rattle.rvfi_rows.specs.declared.segment.Segment.{Segment}
@@ -591,14 +592,15 @@ come_to {M} {bytes_of} {columns} {segments} {start} {before} {now} joined settle
 
 pub none_rejudged : {M : Type 0} {bytes_of : M → Bytes} {columns : ColumnList} {segments : List Segment}
     {start : HartState} {before now : ℕ} (joined : JoinedSegments M) → IsSound start.core → HoldsWords start
-    → ShowChanges (rows_of columns (flat_map segment_lines segments))
+    → start.core.choices.marks ≡ Fault → ShowChanges (rows_of columns (flat_map segment_lines segments))
     → SettlesInRounds bytes_of columns segments start before now joined → joined.rejudged ≡ 0
-none_rejudged {M} {bytes_of} {columns} {segments} {start} joined sound words shows settles =
+none_rejudged {M} {bytes_of} {columns} {segments} {start} joined sound words faults shows settles =
     let shown : ShowsFrom start columns (map segment_lines segments) =
     record {
       sound =
           sound;
       words = words;
+      faults = faults;
       shows = subst (λ lines. ShowChanges (rows_of columns lines)) (through segments) shows;
     } in
     settles.rejudged ∙ none_again start columns (map segment_lines segments) settles.rounds settles.are shown
@@ -624,7 +626,7 @@ settled_by_rounds {M} {E} {bytes_of} {ram_of} {columns} {segments} {start} {befo
       end = all.end;
       can_step = promised.can_step;
       again = by all.at_most_segments all.count;
-      once = λ shows. none_rejudged joined sound words shows promised.settles;
+      once = λ faults shows. none_rejudged joined sound words faults shows promised.settles;
     }
   where
     by : now ≤ before + length segments → (now ≡ before + joined.rejudged) ⊎ (now ≡ before + joined.rejudged + 1)

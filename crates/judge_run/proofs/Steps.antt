@@ -1,6 +1,6 @@
 -- The steps towards the answer, one after the other.
 use Rattle.std.proofs.Common.{◌≡◌, ℕ, List, Bool, true, false, is_some, option_and_then, [], ◌∷◌, length, nat_lt}
-use Rattle.std.proofs.Common.{if◌then◌else◌, Option, Some, None, Result, Ok, Err, refl, sym, ap, ap₂, ◌∙◌, subst}
+use Rattle.std.proofs.Common.{if◌then◌else◌, Option, Some, None, Result, Ok, Err, refl, sym, ap, ◌∙◌, subst}
 use Rattle.std.proofs.Common.{string_bytes}
 use Rattle.outside_ports.specs.Ports.{Files}
 use Rattle.judge_words.specs.Job.{JobView, job_of, job_view, command_by}
@@ -10,17 +10,20 @@ use Rattle.judge_words.specs.declared.job.Command.TheVariants.{Judge, Make}
 use Rattle.trace_maker.specs.Texts.{made_image, made_trace}
 use Rattle.trace_report.specs.declared.outcome.Outcome.{Outcome}
 use Rattle.trace_report.specs.declared.outcome.Ruling.TheVariants.{ImageTooLarge, NoJob}
+use Rattle.elf_image.specs.declared.fault.ElfFault.{ElfFault}
+use Rattle.elf_image.specs.Image.{elf_of}
 use Rattle.image_text.specs.declared.fault.ImageFault.{ImageFault}
 use Rattle.image_text.specs.Image.{image_of}
-use Rattle.page_image.specs.declared.image.PageImage.{PageImage}
 use Rattle.trace_lines.specs.declared.piece.Ending.{Ending}
 use Rattle.trace_lines.specs.Lines.{file_lines}
 use Rattle.rvfi_rows.specs.declared.fault.HeaderFault.{HeaderFault}
 use Rattle.rvfi_rows.specs.Columns.{ColumnList, header_columns}
+use Rattle.judge_run.specs.declared.start.Start.{Start}
 use Rattle.judge_run.specs.declared.stop.Stop.{Stop}
 use Rattle.judge_run.specs.declared.stop.Stop.TheVariants.{Known, ReadFault, NoMemory}
-use Rattle.judge_run.specs.Answer.{Step, as_memory, columns_in, image_in, is_made, job_outcome, outcome_step_of}
-use Rattle.judge_run.specs.Answer.{lines_outcome, made_of, memory_of, outcome_of, text_memory, trace_in, trace_outcome}
+use Rattle.judge_run.specs.Answer.{Step, StartView, columns_in, elf_start, is_elf, text_start, image_in, is_made}
+use Rattle.judge_run.specs.Answer.{job_outcome, outcome_step_of}
+use Rattle.judge_run.specs.Answer.{lines_outcome, made_of, start_of, outcome_of, start_in, trace_in, trace_outcome}
 use Rattle.judge_run.specs.Stops.{MeantBy, MeantWhereKnown, MissesStop, LacksFile, WasRead}
 
 -- words that ask for no job
@@ -34,13 +37,13 @@ judged_no_job (Some files) words none = rw none refl
 -- ---- the image, then the trace
 
 -- an image that stops the run
-stopped_by : (job : JobView) (image trace : Option (List ℕ)) (stop : Option Outcome) → memory_of job image ≡ Err stop
+stopped_by : (job : JobView) (image trace : Option (List ℕ)) (stop : Option Outcome) → start_of job image ≡ Err stop
     → job_outcome job image trace ≡ Err stop
 unfolding job_outcome
 stopped_by job image trace stop refused = rw refused refl
 
-pub job_stop : {X : Type 0} (view : X → ℕ → ℕ) (known_files : Option Files) (job : JobView) (image trace : List ℕ)
-    (stop : Stop) → MeantWhereKnown known_files view (Err stop) (λ files. memory_of job (files image))
+pub job_stop : {X : Type 0} (view : X → StartView) (known_files : Option Files) (job : JobView) (image trace : List ℕ)
+    (stop : Stop) → MeantWhereKnown known_files view (Err stop) (λ files. start_of job (files image))
     → MeantWhereKnown {X = Outcome} known_files (λ outcome. outcome) (Err stop)
     (λ files. job_outcome job (files image) (files trace))
 job_stop view None job image trace stop meant = tt
@@ -49,29 +52,29 @@ job_stop view (Some files) job image trace (Known outcome) meant =
 job_stop view (Some files) job image trace ReadFault meant = tt
 job_stop view (Some files) job image trace NoMemory meant = tt
 
-lacks_memory : (known_files : Option Files) (job : JobView) (image trace : List ℕ)
-    → LacksFile known_files (λ files. memory_of job (files image))
+lacks_start : (known_files : Option Files) (job : JobView) (image trace : List ℕ)
+    → LacksFile known_files (λ files. start_of job (files image))
     → LacksFile known_files (λ files. job_outcome job (files image) (files trace))
-lacks_memory None job image trace lacks = lacks
-lacks_memory (Some files) job image trace lacks = stopped_by job (files image) (files trace) None lacks
+lacks_start None job image trace lacks = lacks
+lacks_start (Some files) job image trace lacks = stopped_by job (files image) (files trace) None lacks
 
--- the trace decides where there is a memory
-goes_on : (job : JobView) (image trace : Option (List ℕ)) (memory : ℕ → ℕ) → memory_of job image ≡ Ok memory
-    → job_outcome job image trace ≡ trace_outcome job memory trace
+-- the trace decides where there is a start
+goes_on : (job : JobView) (image trace : Option (List ℕ)) (start : StartView) → start_of job image ≡ Ok start
+    → job_outcome job image trace ≡ trace_outcome job start trace
 unfolding job_outcome
-goes_on job image trace memory read = rw read refl
+goes_on job image trace start read = rw read refl
 
 along : {X Y : Type 0} (view : X → Y) (result : Result X Stop) (one other : Step Y) → one ≡ other
     → MeantBy view result one → MeantBy view result other
 along view result one other same meant =
     let P : Step _ → Type 0 = λ step. MeantBy view result step in subst P same meant
 
--- the image of a job was read, and its memory is what this shows
-pub record ReadsImage {X : Type 0} (view : X → ℕ → ℕ) (files : Option Files) (job : JobView) (name : List ℕ)
+-- the image of a job was read, and the run starts where this shows
+pub record ReadsImage {X : Type 0} (view : X → StartView) (files : Option Files) (job : JobView) (name : List ℕ)
     (image : X) : Type 0 where
-  pub read : MeantWhereKnown files view (Ok image) (λ files. memory_of job (files name))
+  pub read : MeantWhereKnown files view (Ok image) (λ files. start_of job (files name))
 
-pub job_trace : {X : Type 0} {view : X → ℕ → ℕ} {job : JobView} {name : List ℕ} {image : X} (files : Option Files)
+pub job_trace : {X : Type 0} {view : X → StartView} {job : JobView} {name : List ℕ} {image : X} (files : Option Files)
     (trace : List ℕ) (result : Result Outcome Stop) → ReadsImage view files job name image
     → MeantWhereKnown files (λ outcome. outcome) result (λ files. trace_outcome job (view image) (files trace))
     → MeantWhereKnown files (λ outcome. outcome) result (λ files. job_outcome job (files name) (files trace))
@@ -81,7 +84,7 @@ job_trace {X} {view} {job} {name} {image} (Some files) trace result image_is mea
     (job_outcome job (files name) (files trace))
     (sym (goes_on job (files name) (files trace) (view image) image_is.read)) meant
 
-lacks_trace : {X : Type 0} {view : X → ℕ → ℕ} {job : JobView} {name : List ℕ} {image : X} (files : Option Files)
+lacks_trace : {X : Type 0} {view : X → StartView} {job : JobView} {name : List ℕ} {image : X} (files : Option Files)
     (trace : List ℕ) → ReadsImage view files job name image
     → LacksFile files (λ files. trace_outcome job (view image) (files trace))
     → LacksFile files (λ files. job_outcome job (files name) (files trace))
@@ -90,15 +93,15 @@ lacks_trace {X} {view} {job} {name} {image} (Some files) trace image_is lacks =
     goes_on job (files name) (files trace) (view image) image_is.read ∙ lacks
 
 -- the misses
-pub missed_memory : (files : Option Files) (job : JobView) (image trace : List ℕ) (stop : Stop)
-    (before now : ℕ) → MissesStop {X = PageImage} (Err stop) files (λ files. memory_of job (files image)) before now
+pub missed_start : (files : Option Files) (job : JobView) (image trace : List ℕ) (stop : Stop)
+    (before now : ℕ) → MissesStop {X = Start} (Err stop) files (λ files. start_of job (files image)) before now
     → MissesStop {X = Outcome} (Err stop) files (λ files. job_outcome job (files image) (files trace)) before now
-missed_memory files job image trace (Known outcome) before now misses = misses
-missed_memory files job image trace NoMemory before now misses = misses
-missed_memory files job image trace ReadFault before now misses =
-    λ rise. lacks_memory files job image trace (misses rise)
+missed_start files job image trace (Known outcome) before now misses = misses
+missed_start files job image trace NoMemory before now misses = misses
+missed_start files job image trace ReadFault before now misses =
+    λ rise. lacks_start files job image trace (misses rise)
 
-pub missed_trace : {X : Type 0} {view : X → ℕ → ℕ} {job : JobView} {name : List ℕ} {image : X} {before mid : ℕ}
+pub missed_trace : {X : Type 0} {view : X → StartView} {job : JobView} {name : List ℕ} {image : X} {before mid : ℕ}
     (files : Option Files) (trace : List ℕ) (result : Result Outcome Stop) (now : ℕ)
     → ReadsImage view files job name image → mid ≡ before
     → MissesStop result files (λ files. trace_outcome job (view image) (files trace)) mid now
@@ -192,35 +195,39 @@ files_are_not_made words job image trace is from made =
     ∙ ap (λ job. is_some (option_and_then (λ job. made_of job.command) job)) (sym is) ∙ made in cc
 
 -- where both texts are there, none is lacked
-memory_lacks_none : (job : JobView) (text : List ℕ) → text_memory job text ≡ Err None → ⊥
-unfolding text_memory
-memory_lacks_none job text lacks = by (nat_lt job.max_image (length text)) (image_of job.map.ram text) lacks
+start_lacks_none : (job : JobView) (text : List ℕ) → start_in job text ≡ Err None → ⊥
+unfolding start_in
+start_lacks_none job text lacks =
+    by (nat_lt job.max_image (length text)) (is_elf text) (elf_of job.map.ram text) (image_of job.map.ram text) lacks
   where
-    by : (large : Bool) (image : Result (ℕ → Option ℕ) ImageFault)
-        → (if large then Err (Some (outcome_of job (ImageTooLarge job.max_image))) else as_memory job image)
+    by : (large elf : Bool) (file : Result ((ℕ → Option ℕ) × ℕ) ElfFault) (image : Result (ℕ → Option ℕ) ImageFault)
+        → (if large then Err (Some (outcome_of job (ImageTooLarge job.max_image)))
+        else if elf then elf_start job file else text_start job image)
         ≡ Err None → ⊥
-    by true image lacks = cc
-    by false (Err fault) lacks = cc
-    by false (Ok bytes) lacks = cc
+    by true elf file image lacks = cc
+    by false true (Err fault) image lacks = cc
+    by false true (Ok read) image lacks = cc
+    by false false file (Err fault) lacks = cc
+    by false false file (Ok bytes) lacks = cc
 
-lines_lack_none : (job : JobView) (memory : ℕ → ℕ) (lines : List (List ℕ)) (ending : Ending)
-    → lines_outcome job memory (record { lines = lines; ending = ending }) ≡ Err None → ⊥
+lines_lack_none : (job : JobView) (start : StartView) (lines : List (List ℕ)) (ending : Ending)
+    → lines_outcome job start (record { lines = lines; ending = ending }) ≡ Err None → ⊥
 unfolding lines_outcome columns_in
-lines_lack_none job memory [] ending lacks = cc
-lines_lack_none job memory (header ∷ rows) ending lacks = by (header_columns header) refl
+lines_lack_none job start [] ending lacks = cc
+lines_lack_none job start (header ∷ rows) ending lacks = by (header_columns header) refl
   where
     by : (named : Result ColumnList HeaderFault) → header_columns header ≡ named → ⊥
     by (Err fault) is = let stopped = rw is at lacks in cc
     by (Ok columns) is = let stopped = rw is at lacks in cc
 
 pub lacks_none : (job : JobView) (image trace : List ℕ) → job_outcome job (Some image) (Some trace) ≡ Err None → ⊥
-unfolding job_outcome memory_of trace_outcome
-lacks_none job image trace lacks = by (text_memory job image) refl
+unfolding job_outcome start_of trace_outcome
+lacks_none job image trace lacks = by (start_in job image) refl
   where
-    by : (read : Step (ℕ → ℕ)) → text_memory job image ≡ read → ⊥
-    by (Err None) is = memory_lacks_none job image is
+    by : (read : Step StartView) → start_in job image ≡ read → ⊥
+    by (Err None) is = start_lacks_none job image is
     by (Err (Some outcome)) is = let stopped = rw is at lacks in cc
-    by (Ok memory) is =
+    by (Ok start) is =
         let left = file_lines job.max_trace trace in
-        let outcome_step_of : lines_outcome job memory left ≡ Err None = rw is at lacks in
-        lines_lack_none job memory left.lines left.ending outcome_step_of
+        let outcome_step_of : lines_outcome job start left ≡ Err None = rw is at lacks in
+        lines_lack_none job start left.lines left.ending outcome_step_of

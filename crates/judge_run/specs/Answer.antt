@@ -1,12 +1,15 @@
 -- The answer of a run: what the words, the image and the trace come to.
-use Rattle.std.specs.Prelude.{ℕ, Bool, nat_lt, if◌then◌else◌, List, [], ◌∷◌, drop, length, Option, Some, None, is_some}
-use Rattle.std.specs.Prelude.{option_and_then, Result, Ok, Err, unwrap_or}
+use Rattle.std.specs.Prelude.{ℕ, Bool, nat_lt, ◌==◌, ◌&&◌, if◌then◌else◌, List, [], ◌∷◌, drop, length, slice_index}
+use Rattle.std.specs.Prelude.{Option}
+use Rattle.std.specs.Prelude.{Some, None, is_some, option_and_then, Result, Ok, Err, unwrap_or}
 use Rattle.outside_ports.specs.Ports.{Files}
 use Rattle.judge_words.specs.Job.{JobView, job_of}
 use Rattle.judge_words.specs.declared.values.TheConstants.{FIRST_PC}
 use Rattle.judge_words.specs.declared.job.Command.{Command}
 use Rattle.judge_words.specs.declared.job.Command.TheVariants.{Judge, Make}
 use Rattle.trace_maker.specs.Texts.{made_image, made_trace}
+use Rattle.elf_image.specs.declared.fault.ElfFault.{ElfFault}
+use Rattle.elf_image.specs.Image.{elf_of}
 use Rattle.image_text.specs.declared.fault.ImageFault.{ImageFault}
 use Rattle.image_text.specs.Image.{image_of}
 use Rattle.trace_lines.specs.declared.piece.Ending.{Ending}
@@ -56,21 +59,45 @@ abbrev pub required_job : Option JobView → Step JobView
 required_job None = Err (Some (record { made = None; ruling = rulings.NoJob }))
 required_job (Some job) = Ok job
 
--- the memory is the image, and 0 elsewhere
-abbrev pub as_memory : JobView → Result (ℕ → Option ℕ) ImageFault → Step (ℕ → ℕ)
-as_memory job (Err fault) = Err (Some (outcome_of job (rulings.ImageFault fault)))
-as_memory job (Ok bytes) = Ok (λ address. unwrap_or (bytes address) 0)
+-- where a run starts: its memory and the first pc
+pub record StartView : Type 0 where
+  pub memory : ℕ → ℕ
+  pub pc : ℕ
 
--- a text of too many bytes is refused before anything else in it
-unfoldable pub text_memory : JobView → List ℕ → Step (ℕ → ℕ)
-text_memory job text =
-    if nat_lt job.max_image (length text) then Err (Some (outcome_of job (rulings.ImageTooLarge job.max_image)))
-    else as_memory job (image_of job.map.ram text)
+-- the memory is the image, and 0 elsewhere; the first pc is the one that the words give, or else the image's
+abbrev pub start_at : JobView → (ℕ → Option ℕ) → ℕ → StartView
+start_at job bytes pc = record { memory = λ address. unwrap_or (bytes address) 0; pc = unwrap_or job.pc pc }
 
-unfoldable pub memory_of : JobView → Option (List ℕ) → Step (ℕ → ℕ)
-memory_of job image = do
-  text ← required_text image
-  text_memory job text
+-- a Verilog text has no first pc of its own
+abbrev pub text_start : JobView → Result (ℕ → Option ℕ) ImageFault → Step StartView
+text_start job (Err fault) = Err (Some (outcome_of job (rulings.ImageFault fault)))
+text_start job (Ok bytes) = Ok (start_at job bytes FIRST_PC)
+
+-- an ELF file has its entry point
+abbrev pub elf_start : JobView → Result ((ℕ → Option ℕ) × ℕ) ElfFault → Step StartView
+elf_start job (Err fault) = Err (Some (outcome_of job (rulings.ElfFault fault)))
+elf_start job (Ok image) = Ok (start_at job image.0 image.1)
+
+-- the first four bytes are those of an ELF file
+abbrev pub is_elf : List ℕ → Bool
+is_elf image =
+    (slice_index image 0 == 0x7f) && (slice_index image 1 == 0x45)
+    && (slice_index image 2 == 0x4c) && (slice_index image 3 == 0x46)
+
+abbrev pub image_start : JobView → List ℕ → Step StartView
+image_start job image =
+    if is_elf image then elf_start job (elf_of job.map.ram image) else text_start job (image_of job.map.ram image)
+
+-- an image of too many bytes is refused before anything else in it
+unfoldable pub start_in : JobView → List ℕ → Step StartView
+start_in job image =
+    if nat_lt job.max_image (length image) then Err (Some (outcome_of job (rulings.ImageTooLarge job.max_image)))
+    else image_start job image
+
+unfoldable pub start_of : JobView → Option (List ℕ) → Step StartView
+start_of job image = do
+  bytes ← required_text image
+  start_in job bytes
 
 -- a trace without a line; the lines of a whole text never end in `More` (trace_lines says so in
 -- `laws::pieces_are_the_file`), so its cases here and below never come
@@ -101,31 +128,27 @@ columns_in job left = by_first left.lines
     by_first [] = Err (Some (outcome_of job (without_header job left.ending)))
     by_first (header ∷ rows) = as_columns job (header_columns header)
 
--- where the hart of a job begins
-abbrev pub first_pc_of : JobView → ℕ
-first_pc_of job = unwrap_or job.pc FIRST_PC
-
--- the verdict on rows, by which a hart is stepped from reset over the memory
-abbrev pub verdict_on : JobView → (ℕ → ℕ) → List RowReading → Verdict
-verdict_on job memory rows = (judgement_of by_hart (core_at_reset (first_pc_of job) job.map) rows memory).verdict
+-- the verdict on rows, by which a hart is stepped from reset at the first pc over the memory
+abbrev pub verdict_on : JobView → StartView → List RowReading → Verdict
+verdict_on job start rows = (judgement_of by_hart (core_at_reset start.pc job.map job.choices) rows start.memory).verdict
 
 -- the first line is the header, each other a row
-unfoldable pub lines_outcome : JobView → (ℕ → ℕ) → RemainingLines → Step Outcome
-lines_outcome job memory left = do
+unfoldable pub lines_outcome : JobView → StartView → RemainingLines → Step Outcome
+lines_outcome job start left = do
   columns ← columns_in job left
-  let verdict = verdict_on job memory (rows_of columns (drop 1 left.lines))
+  let verdict = verdict_on job start (rows_of columns (drop 1 left.lines))
   Ok (outcome_of job (ruling_at_end job left.ending verdict))
 
-unfoldable pub trace_outcome : JobView → (ℕ → ℕ) → Option (List ℕ) → Step Outcome
-trace_outcome job memory trace = do
+unfoldable pub trace_outcome : JobView → StartView → Option (List ℕ) → Step Outcome
+trace_outcome job start trace = do
   text ← required_text trace
-  lines_outcome job memory (file_lines job.max_trace text)
+  lines_outcome job start (file_lines job.max_trace text)
 
 -- the image, then the trace
 unfoldable pub job_outcome : JobView → Option (List ℕ) → Option (List ℕ) → Step Outcome
 job_outcome job image trace = do
-  memory ← memory_of job image
-  trace_outcome job memory trace
+  start ← start_of job image
+  trace_outcome job start trace
 
 -- words, then image and trace
 unfoldable pub outcome_step_of : List (List ℕ) → Files → Step Outcome

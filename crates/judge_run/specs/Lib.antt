@@ -1,5 +1,6 @@
 pub mod Answer
 pub mod Stops
+pub mod Starts
 pub mod Ends
 pub mod Events
 pub mod Taking

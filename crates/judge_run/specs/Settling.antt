@@ -3,6 +3,7 @@ use Rattle.std.specs.Prelude.{◌≡◌, ℕ, ◌+◌, ◌<◌, ◌≤◌, List,
 use Rattle.std.specs.Prelude.{IfSome, Vec}
 use Rattle.std.specs.Global.{Global}
 use Rattle.std.specs.List.{All, flat_map}
+use Rattle.hart_words.specs.declared.options.Marks.TheVariants.{Fault}
 use Rattle.hart_words.specs.declared.span.Span.{Span}
 use Rattle.hart_words.specs.Memory.{Bytes}
 use Rattle.rvfi_rows.specs.declared.segment.Segment.{Segment}
@@ -104,7 +105,8 @@ pub record IsPartOver {M : Type 0} (bytes_of : M → Bytes) (ram_of : M → Span
       ≡ (conclusion_from by_hart start (rows_of columns (flat_map segment_lines (take part.settled segments)))).end
   pub can_step : IfSome part.end (CanStep ram_of)
 
--- what all of the segments come to; where their rows show what they change, none is judged again
+-- what all of the segments come to; where their rows show what they change, none is judged again: A and D that are clear
+-- are page faults then, since no row shows the entries that a hart sets
 pub record IsSettled {M : Type 0} (bytes_of : M → Bytes) (ram_of : M → Span) (columns : ColumnList)
     (segments : List Segment) (start : HartState) (joined : JoinedSegments M) : Type 0 where
   pub verdict : joined.verdict
@@ -113,7 +115,8 @@ pub record IsSettled {M : Type 0} (bytes_of : M → Bytes) (ram_of : M → Span)
       ≡ (conclusion_from by_hart start (rows_of columns (flat_map segment_lines segments))).end
   pub can_step : IfSome joined.end (CanStep ram_of)
   pub again : joined.rejudged ≤ length segments
-  pub once : ShowChanges (rows_of columns (flat_map segment_lines segments)) → joined.rejudged ≡ 0
+  pub once : start.core.choices.marks ≡ Fault → ShowChanges (rows_of columns (flat_map segment_lines segments))
+      → joined.rejudged ≡ 0
 
 -- segments were read under these columns, and have the lines of others
 pub record IsReadPart (columns : Columns) (others : List Segment) (part : Vec Segment Global) : Type 0 where

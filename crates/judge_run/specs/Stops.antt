@@ -3,6 +3,8 @@ use Rattle.std.specs.Prelude.{◌≡◌, ℕ, ◌<◌, ◌≤◌, Bool, true, fa
 use Rattle.outside_ports.specs.Counts.{Rose}
 use Rattle.outside_ports.specs.Ports.{Files}
 use Rattle.judge_words.specs.Job.{JobView}
+use Rattle.elf_image.specs.declared.fault.ElfError.{ElfError}
+use Rattle.elf_image.specs.declared.fault.ElfError.TheVariants as elf
 use Rattle.image_text.specs.declared.fault.ImageError.{ImageError}
 use Rattle.image_text.specs.declared.fault.ImageError.TheVariants as errors
 use Rattle.trace_lines.specs.declared.piece.LineError.{LineError}
@@ -77,6 +79,10 @@ IsJobsOutcome (Err NoMemory) = Unit {0}
 abbrev pub image_stop : JobView → ImageError → Stop
 image_stop job (errors.Fault fault) = Known (outcome_of job (rulings.ImageFault fault))
 image_stop job errors.NoMemory = NoMemory
+
+abbrev pub elf_stop : JobView → ElfError → Stop
+elf_stop job (elf.Fault fault) = Known (outcome_of job (rulings.ElfFault fault))
+elf_stop job elf.NoMemory = NoMemory
 
 -- how a trace whose lines cannot be taken stops the run
 abbrev pub line_stop : LineError → Stop

@@ -8,7 +8,7 @@ ghost use Rattle.trace_maker.specs.Texts.{made_image, made_trace};
 ghost use Rattle.judge_run.specs.Answer.{is_made, job_outcome, outcome_step_of};
 ghost use Rattle.judge_run.specs.Stops.{MeantBy, MeantWhereKnown, CountsStop, IsJobsOutcome, MissesStop, WasRead, WordsTell};
 
-use crate::images::read_memory;
+use crate::images::read_start;
 use crate::outcomes::no_job;
 use crate::stop::Stop;
 use crate::traces::judge_trace;
@@ -83,11 +83,11 @@ where
         (λ files. job_outcome (job_view job.now) (files image.now) (files trace.now))
         (H.misses shelf.old) (H.misses shelf.new) }
 {
-    let image = match read_memory(workers.alloc, job, image, shelf) {
-        Ok(image) => image,
+    let start = match read_start(workers.alloc, job, image, shelf) {
+        Ok(start) => start,
         Err(stop) => return Err(stop),
     };
-    judge_trace(workers, job, trace, &image, shelf)
+    judge_trace(workers, job, trace, &start, shelf)
 }
 
 /// The outcome of a job over what is made, by the path of files, from a shelf in memory.

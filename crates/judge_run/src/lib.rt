@@ -16,6 +16,7 @@ mod progress;
 mod remaining;
 mod rounds;
 mod segments;
+mod start;
 mod stop;
 mod taken;
 mod tally;

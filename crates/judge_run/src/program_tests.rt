@@ -86,6 +86,70 @@ const ENTRY_IMAGE: &[u8] = b"@80000000
     13 02 00 01 73 10 02 3a 83 32 01 10
 ";
 
+/// The trace of it, the load trapping.
+const ENTRY_TRACE: &[u8] = b"insn,pc_rdata,trap,csr_mcause_wdata,csr_mtval_wdata
+0x00000117,0x80000000,0,,
+0x00215193,0x80000004,0,,
+0x04018193,0x80000008,0,,
+0x3b019073,0x8000000c,0,,
+0x01000213,0x80000010,0,,
+0x3a021073,0x80000014,0,,
+0x10013283,0x80000018,1,5,0x80000100
+";
+
+/// The word 0x12345678 is loaded from 0x80000101.
+const ODD_IMAGE: &[u8] = b"@80000000 17 01 00 00 83 21 11 10 @80000101 78 56 34 12";
+
+const ODD_TRACE: &[u8] = b"insn,pc_rdata,trap,rd_wdata
+0x00000117,0x80000000,0,0x80000000
+0x10112183,0x80000004,0,0x12345678
+";
+
+/// Entry 0 of protection is given all addresses, and satp Sv39 with its root at 0x80001000. There
+/// the program stores a leaf of 1 GiB with V, R and W alone. With MPRV, and MPP as S, the load at 0
+/// reads the first two instructions, and the one at 0x1000 the leaf.
+const MARK_IMAGE: &[u8] = b"@80000000
+    93 00 f0 ff 73 90 00 3b 93 00 f0 01 73 90 00 3a 93 01 10 00 93 91 f1 03
+    37 02 08 00 13 02 12 00 b3 e1 41 00 73 90 01 18 b7 12 02 00 93 82 02 80
+    93 13 c2 00 37 04 00 20 13 04 74 00 23 b0 83 00 13 04 00 00 73 90 02 30
+    03 33 00 00 b7 14 00 00 03 b5 04 00
+";
+
+/// A was set by the first load, and D was not.
+const MARK_TRACE: &[u8] = b"insn,pc_rdata,trap,rd_addr,rd_wdata
+0xfff00093,0x80000000,0,1,0xffffffffffffffff
+0x3b009073,0x80000004,0,0,0
+0x01f00093,0x80000008,0,1,0x1f
+0x3a009073,0x8000000c,0,0,0
+0x00100193,0x80000010,0,3,1
+0x03f19193,0x80000014,0,3,0x8000000000000000
+0x00080237,0x80000018,0,4,0x80000
+0x00120213,0x8000001c,0,4,0x80001
+0x0041e1b3,0x80000020,0,3,0x8000000000080001
+0x18019073,0x80000024,0,0,0
+0x000212b7,0x80000028,0,5,0x21000
+0x80028293,0x8000002c,0,5,0x20800
+0x00c21393,0x80000030,0,7,0x80001000
+0x20000437,0x80000034,0,8,0x20000000
+0x00740413,0x80000038,0,8,0x20000007
+0x0083b023,0x8000003c,0,0,0
+0x00000413,0x80000040,0,8,0
+0x30029073,0x80000044,0,0,0
+0x00003303,0x80000048,0,6,0x3b009073fff00093
+0x000014b7,0x8000004c,0,9,0x1000
+0x0004b503,0x80000050,0,10,0x20000047
+";
+
+/// LR at 0x80001000, and then SC, which stores, at 0x80001008.
+const FAR_IMAGE: &[u8] = b"@80000000 17 11 00 00 af 31 01 10 13 01 81 00 2f 32 11 18";
+
+const FAR_TRACE: &[u8] = b"insn,pc_rdata,rd_wdata,mem_addr,mem_wmask
+0x00001117,0x80000000,0x80001000,,0
+0x100131af,0x80000004,0,0x80001000,0
+0x00810113,0x80000008,0x80001008,,0
+0x1811322f,0x8000000c,0,0x80001008,0xff
+";
+
 const COMPUTES: [Case; 3] = [
     Case {
         options: &[],
@@ -237,7 +301,7 @@ const PROTECTS: [Case; 3] = [
     Case {
         options: &[],
         image: ENTRY_IMAGE,
-        trace: b"insn,pc_rdata,trap,csr_mcause_wdata,csr_mtval_wdata\n0x00000117,0x80000000,0,,\n0x00215193,0x80000004,0,,\n0x04018193,0x80000008,0,,\n0x3b019073,0x8000000c,0,,\n0x01000213,0x80000010,0,,\n0x3a021073,0x80000014,0,,\n0x10013283,0x80000018,1,5,0x80000100\n",
+        trace: ENTRY_TRACE,
         text: b"agrees 7\n",
     },
     Case {
@@ -251,6 +315,63 @@ const PROTECTS: [Case; 3] = [
         image: ENTRY_IMAGE,
         trace: b"insn,pc_rdata,csr_pmpcfg0_wdata\n0x00000117,0x80000000,0\n0x00215193,0x80000004,0\n0x04018193,0x80000008,0\n0x3b019073,0x8000000c,0\n0x01000213,0x80000010,0\n0x3a021073,0x80000014,0x90\n",
         text: b"differs row 6: csr_pmpcfg0_wdata expected 0x0000000000000010 found 0x0000000000000090\n",
+    },
+];
+
+/// What the words say of the implementation.
+const CHOOSES: [Case; 8] = [
+    Case {
+        options: &["--misaligned", "done"],
+        image: ODD_IMAGE,
+        trace: ODD_TRACE,
+        text: b"agrees 2\n",
+    },
+    Case {
+        options: &["--mtval=zero", "--ad=set", "--reserve=8"],
+        image: ODD_IMAGE,
+        trace: ODD_TRACE,
+        text: b"differs row 2: trap expected 0x0000000000000001 found 0x0000000000000000\n",
+    },
+    Case {
+        options: &["--mtval", "zero"],
+        image: ENTRY_IMAGE,
+        trace: ENTRY_TRACE,
+        text: b"differs row 7: csr_mtval_wdata expected 0x0000000000000000 found 0x0000000080000100\n",
+    },
+    Case {
+        options: &["--misaligned=done", "--ad=set", "--reserve=8"],
+        image: ENTRY_IMAGE,
+        trace: ENTRY_TRACE,
+        text: b"agrees 7\n",
+    },
+    Case {
+        options: &["--ad", "set"],
+        image: MARK_IMAGE,
+        trace: MARK_TRACE,
+        text: b"agrees 21\n",
+    },
+    Case {
+        options: &["--misaligned=done", "--mtval=zero", "--reserve=8"],
+        image: MARK_IMAGE,
+        trace: MARK_TRACE,
+        text: b"differs row 19: trap expected 0x0000000000000001 found 0x0000000000000000\n",
+    },
+    Case {
+        options: &["--reserve", "8"],
+        image: FAR_IMAGE,
+        trace: FAR_TRACE,
+        text: b"differs row 4: rd_wdata expected 0x0000000000000001 found 0x0000000000000000\n",
+    },
+    Case {
+        options: &[
+            "--reserve=16",
+            "--misaligned=done",
+            "--mtval=zero",
+            "--ad=set",
+        ],
+        image: FAR_IMAGE,
+        trace: FAR_TRACE,
+        text: b"agrees 4\n",
     },
 ];
 
@@ -307,6 +428,14 @@ fn controls(rt: HostRuntime) -> Result<(), Fail> {
 #[test]
 fn protects(rt: HostRuntime) -> Result<(), Fail> {
     for case in &PROTECTS {
+        says(&rt, rt.alloc(), case)?;
+    }
+    Ok(())
+}
+
+#[test]
+fn chooses(rt: HostRuntime) -> Result<(), Fail> {
+    for case in &CHOOSES {
         says(&rt, rt.alloc(), case)?;
     }
     Ok(())

@@ -2,6 +2,7 @@
 
 ghost use Rattle.std.specs.Prelude.{◌≡◌, ◌≤◌, ◌<◌, ◌+◌, ◌⊎◌, ◌^◌, IfOk, IfSome, length, option_map};
 ghost use Rattle.std.specs.List.{flat_map};
+ghost use Rattle.hart_words.specs.declared.options.Marks.TheVariants.{Fault};
 ghost use Rattle.hart_step.specs.Harts.{CanStep, state_of};
 ghost use Rattle.rvfi_rows.specs.Rows.{rows_of};
 ghost use Rattle.rvfi_rows.specs.Segments.{row_count_of, segment_lines};
@@ -58,8 +59,10 @@ where
     ensures one_round { 0 < length segments.now → IfOk result (λ joined. steps.old < steps.new) }
     ensures count { IfOk result (λ joined. (steps.new ≡ steps.old + joined.rejudged)
         ⊎ (steps.new ≡ steps.old + joined.rejudged + 1)) }
-    // Where the valid rows show what they change, no segment is judged again.
-    ensures none { ShowChanges (rows_of columns.now (flat_map segment_lines segments.now))
+    // Where the valid rows show what they change, no segment is judged again. No row shows the
+    // entries of page tables that a hart sets.
+    ensures none { (state_of M.bytes start).core.choices.marks ≡ Fault
+        → ShowChanges (rows_of columns.now (flat_map segment_lines segments.now))
         → IfOk result (λ joined. joined.rejudged ≡ 0) }
     ensures can_step { IfOk result (λ joined. IfSome joined.end (CanStep M.ram)) }
 {

@@ -11,7 +11,7 @@ ghost use Rattle.rvfi_rows.specs.Segments.{line_count_of};
 use crate::settle;
 use boundary_guess::cut;
 use hart_step::Hart;
-use hart_words::{Map, Span};
+use hart_words::{Choices, Map, Span};
 use image_text::read_image;
 use line_text::Lines;
 use outside_ports::Gate;
@@ -242,7 +242,8 @@ fn settle_cut<R: Threads + Sync>(
     let map = Map::new(ram, None).ok_or("no map")?;
     let pieces = read_image(alloc, image, map.ram).map_err(|_| Fail::from("no image"))?;
     let image = PageImage::build(alloc, &pieces, map.ram)?;
-    let start = (alloc, Hart::reset(Layered::over(alloc, &image), CODE, map));
+    let memory = Layered::over(alloc, &image);
+    let start = (alloc, Hart::reset(memory, CODE, map, Choices::plain()));
     let columns = read_header(alloc, lines.0)?;
     let segments = cut(alloc, lines.1, most)?;
     settle_few::<R, Brand>(rt, start, &columns, &segments, workers, Blank::new(1))

@@ -38,6 +38,19 @@ fn files(alloc: Global, image: &[u8], trace: &[u8]) -> Result<MemShelf, AllocErr
     Ok(MemShelf::new(pair(alloc, image, trace)?))
 }
 
+/// An ELF file of one segment with IMAGE's bytes at 0x80000000, which is its entry point too.
+const ELF: [u8; 124] = [
+    0x7f, 0x45, 0x4c, 0x46, 2, 1, 1, 0, 0, 0, 0, 0, 0, 0, 0, 0, // class, encoding, version
+    2, 0, 243, 0, 1, 0, 0, 0, 0, 0, 0, 0x80, 0, 0, 0, 0, // kind, machine, version, entry
+    64, 0, 0, 0, 0, 0, 0, 0, 0, 0, 0, 0, 0, 0, 0, 0, // phoff, shoff
+    0, 0, 0, 0, 64, 0, 56, 0, 1, 0, 0, 0, 0, 0, 0, 0, // flags, ehsize, phentsize, phnum
+    1, 0, 0, 0, 5, 0, 0, 0, 120, 0, 0, 0, 0, 0, 0, 0, // kind, flags, offset
+    0, 0, 0, 0x40, 0, 0, 0, 0, 0, 0, 0, 0x80, 0, 0, 0, 0, // vaddr, paddr
+    4, 0, 0, 0, 0, 0, 0, 0, 8, 0, 0, 0, 0, 0, 0, 0, // filesz, memsz
+    4, 0, 0, 0, 0, 0, 0, 0, // align
+    0x93, 0x00, 0x50, 0x00,
+];
+
 /// ADDI x1, x0, -1; SLLI x1, x1, 63; ADDI x2, x0, -1; DIV x3, x1, x2; REM x4, x1, x0; DIVU x5, x1,
 /// x0.
 const SIX_IMAGE: &[u8] =
@@ -150,6 +163,65 @@ fn judges_words_images_and_traces(rt: HostRuntime) -> Result<(), Fail> {
         let (found, sink) = judged(&rt, rt.alloc(), words, image, trace)?;
         assert_eq!(rt; found, status);
         assert_eq!(rt; sink.held.as_slice(), text);
+    }
+    Ok(())
+}
+
+/// An ELF file is told by its first four bytes, and the run begins at its entry point unless the
+/// words say where.
+#[test]
+fn judges_elf_files(rt: HostRuntime) -> Result<(), Fail> {
+    let row: &[&str] = &["rvjudge", "judge", "i", "t"];
+    let there: &[&str] = &["rvjudge", "judge", "i", "t", "--pc", "0x80000000"];
+    let small: &[&str] = &["rvjudge", "judge", "i", "t", "--max-image", "123"];
+    let mut later = Vec::from_slice(rt.alloc(), &ELF)?;
+    if let Some(entry) = later.get_mut(24) {
+        *entry = 4;
+    }
+    let mut odd = Vec::from_slice(rt.alloc(), &ELF)?;
+    if let Some(entry) = odd.get_mut(24) {
+        *entry = 1;
+    }
+    let mut text = Vec::from_slice(rt.alloc(), &ELF)?;
+    if let Some(byte) = text.get_mut(3) {
+        *byte = 0x47;
+    }
+    let cases = [
+        (row, ELF.as_slice(), 0, b"agrees 1\n".as_slice()),
+        (
+            row,
+            later.as_slice(),
+            1,
+            b"differs row 1: pc_rdata expected 0x0000000080000004 found 0x0000000080000000\n",
+        ),
+        (there, later.as_slice(), 0, b"agrees 1\n"),
+        (there, odd.as_slice(), 3, b"refused image: elf entry odd\n"),
+        (row, &ELF[..63], 3, b"refused image: elf cut short\n"),
+        (row, &ELF[..4], 3, b"refused image: elf cut short\n"),
+        (row, &ELF[..3], 3, b"refused image: line 1: bad byte\n"),
+        (
+            row,
+            text.as_slice(),
+            3,
+            b"refused image: line 1: bad byte\n",
+        ),
+        (
+            row,
+            &ELF[..123],
+            3,
+            b"refused image: elf segment 0: bad size\n",
+        ),
+        (
+            small,
+            odd.as_slice(),
+            3,
+            b"refused image: more than 123 bytes\n",
+        ),
+    ];
+    for (words, image, status, line) in cases {
+        let (found, sink) = judged(&rt, rt.alloc(), words, image, TRACE)?;
+        assert_eq!(rt; found, status);
+        assert_eq!(rt; sink.held.as_slice(), line);
     }
     Ok(())
 }

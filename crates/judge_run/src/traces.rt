@@ -1,21 +1,21 @@
 //! Judging the trace of a job.
 
-ghost use Rattle.std.specs.Prelude.{◌≡◌, ◌%◌};
-ghost use Rattle.page_image.specs.Bytes.{byte_of};
+ghost use Rattle.std.specs.Prelude.{◌≡◌};
 ghost use Rattle.judge_words.specs.Job.{job_view, IsLawful};
 ghost use Rattle.trace_lines.specs.Pieces.{piece_view};
-ghost use Rattle.judge_run.specs.Answer.{columns_in, first_pc_of, trace_outcome};
+ghost use Rattle.judge_run.specs.Answer.{columns_in, trace_outcome};
+ghost use Rattle.judge_run.specs.Starts.{start_view};
 ghost use Rattle.judge_run.specs.Stops.{MeantBy, MeantWhereKnown, CountsStop, MissesStop, IsJobs, IsJobsOutcome, WasRead};
 
 use crate::outcomes::{outcome_of, ruling_at_end, without_header};
 use crate::progress::Progress;
 use crate::remaining::judge_rows;
+use crate::start::Start;
 use crate::stop::{Stop, line_stop};
 use crate::workers::Workers;
 use hart_step::Hart;
-use judge_words::{FIRST_PC, Job};
+use judge_words::Job;
 use outside_ports::{Gate, Shelf};
-use page_image::PageImage;
 use page_layers::Layered;
 use rvfi_rows::{Columns, HeaderError, RowCounts, read_header};
 use std::alloc::Global;
@@ -23,26 +23,26 @@ use std::thread::Threads;
 use trace_lines::{LineTaker, Piece};
 use trace_report::{Outcome, Ruling};
 
-/// Reads the trace of a job, a file of this name, and judges its rows over the memory. The lines
+/// Reads the trace of a job, a file of this name, and judges its rows from the start. The lines
 /// after the first are taken once that is known to be a header.
 pub fn judge_trace<R, G: Gate, H: Shelf>(
     workers: &Workers<R, G>,
     job: &Job,
     name: &str,
-    image: &PageImage,
+    start: &Start,
     shelf: &mut H,
 ) -> Result<Outcome, Stop>
 where
     R: Threads + Sync,
     requires lawful { IsLawful (job_view job.now) }
-    requires ram { image.now.ram ≡ job.now.map.ram }
+    requires ram { start.now.image.ram ≡ job.now.map.ram }
     ensures known_files { H.known_files shelf.new ≡ H.known_files shelf.old }
     ensures meant { MeantWhereKnown (H.known_files shelf.old) (λ outcome. outcome) result
-        (λ files. trace_outcome (job_view job.now) (byte_of image.now) (files name.now)) }
+        (λ files. trace_outcome (job_view job.now) (start_view start.now) (files name.now)) }
     ensures jobs { IsJobsOutcome result }
     ensures faults { CountsStop result (H.faults shelf.old) (H.faults shelf.new) }
     ensures misses { MissesStop result (H.known_files shelf.old)
-        (λ files. trace_outcome (job_view job.now) (byte_of image.now) (files name.now))
+        (λ files. trace_outcome (job_view job.now) (start_view start.now) (files name.now))
         (H.misses shelf.old) (H.misses shelf.new) }
 {
     let taker = LineTaker::open(workers.alloc, name, job.max_trace)?;
@@ -56,24 +56,17 @@ where
     };
     let progress = Progress {
         taker,
-        hart: Hart::reset(Layered::over(workers.alloc, image), first_pc(job), job.map),
+        hart: Hart::reset(
+            Layered::over(workers.alloc, &start.image),
+            start.pc,
+            job.map,
+            job.choices,
+        ),
         counts: RowCounts::zero(),
     };
     match judge_rows(workers, job, &columns, progress, shelf) {
         Ok(end) => Ok(outcome_of(job, ruling_at_end(job, end.ending, end.verdict))),
         Err(error) => Err(line_stop(error)),
-    }
-}
-
-/// Where the hart of a job begins.
-fn first_pc(job: &Job) -> u64
-    requires { IsLawful (job_view job.now) }
-    ensures value { result ≡ first_pc_of (job_view job.now) }
-    ensures even { result % 2 ≡ 0 }
-{
-    match job.pc {
-        Some(pc) => pc,
-        None => FIRST_PC,
     }
 }
 

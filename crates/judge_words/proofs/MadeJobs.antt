@@ -14,7 +14,8 @@ use Rattle.hart_words.specs.Numbers.{digits_number, number_of, number_within}
 use Rattle.judge_words.specs.Values.{◌>>=◌, at_most, image_limit_in, io_in, made_number_in, made_rows_in}
 use Rattle.judge_words.specs.Values.{number_at_most, number_in, number_up_to, pc_in, span_in, trace_limit_in}
 use Rattle.judge_words.specs.Commands.{command_line, command_entered, values_given_to}
-use Rattle.judge_words.specs.Job.{IsMadeJob, JobView, files_job, job_from, job_of, made_job, sharing_of}
+use Rattle.hart_words.specs.Choices.{plain_choices}
+use Rattle.judge_words.specs.Job.{IsMadeJob, JobView, choices_given, files_job, job_from, job_of, made_job, sharing_of}
 use Rattle.judge_words.specs.declared.job.Command.TheVariants.{Judge, Make}
 use Rattle.judge_words.specs.declared.values.TheConstants.{MOST_IMAGE_BYTES, MOST_MADE_NUMBER, MOST_MADE_ROWS}
 use Rattle.judge_words.specs.declared.values.TheConstants.{MOST_TRACE_BYTES, RAM_BASE, RAM_SIZE}
@@ -35,6 +36,7 @@ made_with number rows map sharing =
       map = map;
       max_image = MOST_IMAGE_BYTES;
       max_trace = MOST_TRACE_BYTES;
+      choices = plain_choices;
       sharing = sharing;
     }
 
@@ -80,7 +82,8 @@ files_named given =
     following IfMade (map_of ram io) _ (λ map e6.
     following IfMade (first_of (codes "max-image") given >>= image_limit_in) _ (λ max_image e7.
     following IfMade (first_of (codes "max-trace") given >>= trace_limit_in) _ (λ max_trace e8.
-    following IfMade (sharing_of given) _ (λ sharing e9.
+    following IfMade (choices_given given) _ (λ choices e9.
+    following IfMade (sharing_of given) _ (λ sharing e10.
     of_files
     (record {
       command =
@@ -89,9 +92,10 @@ files_named given =
       map = map;
       max_image = max_image;
       max_trace = max_trace;
+      choices = choices;
       sharing = sharing;
     })
-    image trace refl)))))))))
+    image trace refl))))))))))
 
 -- a range has the base and the size that it is made of
 span_has : (base size : ℕ) → ForSome (span_of base size) (λ span. (span.base ≡ base) × (span.size ≡ size))
@@ -135,6 +139,7 @@ of_made number rows map sharing small within_most plain job same n r made =
       io = ap (λ (map : Map). map.io) (sym over) ∙ plain.io;
       max_image = ap (λ (job : JobView). job.max_image) (sym one);
       max_trace = ap (λ (job : JobView). job.max_trace) (sym one);
+      choices = ap (λ (job : JobView). job.choices) (sym one);
     }
 
 made_given : (given : List Row) → ForSome (made_job given) IfMade

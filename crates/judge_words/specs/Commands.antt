@@ -21,6 +21,16 @@ option_or name default = record (new_rule name) { long = Some name; defaults = d
 abbrev pub option_of : Text → Rule
 option_of name = record (new_rule name) { long = Some name }
 
+-- the choices of the implementation that is judged
+abbrev pub choices_rules : List Rule
+choices_rules =
+    option_or (codes "misaligned") (codes "trap")
+    ∷ option_or (codes "mtval") (codes "value")
+    ∷ option_or (codes "ad") (codes "fault")
+    ∷ option_or (codes "reserve") (codes "64")
+    ∷ option_or (codes "bits") (codes "off")
+    ∷ []
+
 -- how the work is shared out
 abbrev pub sharing_rules : List Rule
 sharing_rules =
@@ -29,14 +39,14 @@ sharing_rules =
     ∷ option_or (codes "window") (codes "64")
     ∷ []
 
--- a command with what may follow its name, and how its work is shared out
+-- a command with more that may follow its name
 abbrev pub with_rules : App → List Rule → App
 with_rules command rules = fold with_rule command rules
 
 -- `judge`, with the names of two files
 abbrev pub judge_command : App
 judge_command =
-    with_rules (with_rules (new_app (codes "judge")) (
+    with_rules (with_rules (with_rules (new_app (codes "judge")) (
     required_word (codes "image")
     ∷ required_word (codes "trace")
     ∷ option_of (codes "pc")
@@ -45,7 +55,7 @@ judge_command =
     ∷ option_or (codes "max-image") (codes "0x40000000")
     ∷ option_or (codes "max-trace") (codes "0x10000000000")
     ∷ []
-    )) sharing_rules
+    )) choices_rules) sharing_rules
 
 -- `make`, with two numbers
 abbrev pub make_command : App

@@ -2,11 +2,14 @@
 use Rattle.std.specs.Prelude.{◌≡◌, ◌≤◌, ◌%◌, ℕ, List, Option, Some, None, IfSome, Result, Ok, Err, codes, string_bytes}
 use Rattle.hart_words.specs.declared.map.Map.{Map}
 use Rattle.hart_words.specs.Map.{map_of}
+use Rattle.hart_words.specs.declared.choices.Choices.{Choices}
+use Rattle.hart_words.specs.Choices.{choices_of, plain_choices}
 use Rattle.hart_words.specs.Spans.{span_of}
 use Rattle.clap.specs.Walk.{Row, first_of}
 use Rattle.judge_words.specs.Commands.{command_line, command_entered, values_given_to}
 use Rattle.judge_words.specs.Values.{◌>>=◌, pc_in, span_in, io_in, image_limit_in, trace_limit_in, workers_in}
-use Rattle.judge_words.specs.Values.{segment_in, window_in, made_number_in, made_rows_in}
+use Rattle.judge_words.specs.Values.{segment_in, window_in, made_number_in, made_rows_in, misaligned_in}
+use Rattle.judge_words.specs.Values.{trap_values_in, marks_in, block_size_in, bits_in}
 use Rattle.judge_words.specs.declared.values.TheConstants.{RAM_BASE, RAM_SIZE, MOST_IMAGE_BYTES, MOST_TRACE_BYTES}
 use Rattle.judge_words.specs.declared.values.TheConstants.{MOST_WORKERS, MOST_LINES, MOST_SEGMENTS, MOST_MADE_NUMBER}
 use Rattle.judge_words.specs.declared.values.TheConstants.{MOST_MADE_ROWS}
@@ -18,14 +21,25 @@ use Rattle.judge_words.specs.declared.job.WordError.{WordError}
 use Rattle.judge_words.specs.declared.job.WordError.TheVariants.{NotAJob, NoMemory}
 
 -- the command, the address of the first instruction where one is given, the map, the most bytes of
--- either text, and how the work is shared out
+-- either text, the choices of the implementation, and how the work is shared out
 pub record JobView : Type 0 where
   pub command : Command (List ℕ)
   pub pc : Option ℕ
   pub map : Map
   pub max_image : ℕ
   pub max_trace : ℕ
+  pub choices : Choices
   pub sharing : Sharing
+
+-- the choices of the implementation, where a reservation may have so many bytes
+unfoldable pub choices_given : List Row → Option Choices
+choices_given given = do
+  misaligned ← first_of (codes "misaligned") given >>= misaligned_in
+  trap_values ← first_of (codes "mtval") given >>= trap_values_in
+  marks ← first_of (codes "ad") given >>= marks_in
+  block_size ← first_of (codes "reserve") given >>= block_size_in
+  bits ← first_of (codes "bits") given >>= bits_in
+  choices_of misaligned trap_values marks block_size bits
 
 -- how the work is shared out: so many workers, lines of a segment and segments of a window
 unfoldable pub sharing_of : List Row → Option Sharing
@@ -46,6 +60,7 @@ files_job given = do
   map ← map_of ram io
   max_image ← first_of (codes "max-image") given >>= image_limit_in
   max_trace ← first_of (codes "max-trace") given >>= trace_limit_in
+  choices ← choices_given given
   sharing ← sharing_of given
   Some (record {
     command = Judge image trace;
@@ -53,10 +68,11 @@ files_job given = do
     map = map;
     max_image = max_image;
     max_trace = max_trace;
+    choices = choices;
     sharing = sharing;
   })
 
--- the job that is given to the command `make`: over RAM as `judge` has it where nothing else is said
+-- the job that is given to the command `make`: RAM and choices as `judge` has them where nothing else is said
 unfoldable pub made_job : List Row → Option JobView
 made_job given = do
   number ← first_of (codes "number") given >>= made_number_in
@@ -70,6 +86,7 @@ made_job given = do
     map = map;
     max_image = MOST_IMAGE_BYTES;
     max_trace = MOST_TRACE_BYTES;
+    choices = plain_choices;
     sharing = sharing;
   })
 
@@ -98,6 +115,7 @@ job_view job = record {
   map = job.map;
   max_image = job.max_image;
   max_trace = job.max_trace;
+  choices = job.choices;
   sharing = job.sharing;
 }
 
@@ -120,8 +138,9 @@ pub record IsLawful (job : JobView) : Type 0 where
   pub max_trace : job.max_trace ≤ MOST_TRACE_BYTES
   pub sharing : IsLawfulSharing job.sharing
 
--- what holds of every job of `make`: no address of the first instruction is given, RAM and the most
--- bytes of either text are those that stand where nothing else is said, and there are no devices
+-- what holds of every job of `make`: no address of the first instruction is given, RAM, the most
+-- bytes of either text and the choices are those that stand where nothing else is said, and there
+-- are no devices
 pub record IsMadeJob (job : JobView) (number rows : ℕ) : Type 0 where
   pub small : number ≤ MOST_MADE_NUMBER
   pub within_most_rows : rows ≤ MOST_MADE_ROWS
@@ -131,3 +150,4 @@ pub record IsMadeJob (job : JobView) (number rows : ℕ) : Type 0 where
   pub io : job.map.io ≡ None
   pub max_image : job.max_image ≡ MOST_IMAGE_BYTES
   pub max_trace : job.max_trace ≡ MOST_TRACE_BYTES
+  pub choices : job.choices ≡ plain_choices

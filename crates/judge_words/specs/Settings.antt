@@ -11,5 +11,6 @@ settings_view settings = record {
   map = settings.map;
   max_image = settings.max_image;
   max_trace = settings.max_trace;
+  choices = settings.choices;
   sharing = settings.sharing;
 }

@@ -1,12 +1,21 @@
 -- The values of the command line's options.
-use Rattle.std.specs.Prelude.{ℕ, ◌%◌, ◌==◌, ◌&&◌, nat_le, List, Option, Some, None, option_map, if◌then◌else◌}
+use Rattle.std.specs.Prelude.{ℕ, ◌%◌, ◌==◌, ◌&&◌, nat_le, Bool, true, false, List, Option, Some, None, option_map}
+use Rattle.std.specs.Prelude.{codes, if◌then◌else◌}
 use Rattle.std.specs.List.{before_first, after_first}
 use Rattle.std.specs.Result.{result_ok}
+use Rattle.std.specs.Str.{bytes_eq}
 use Rattle.hart_words.specs.Numbers.{number_within}
 use Rattle.hart_words.specs.Spans.{span_of}
 use Rattle.hart_words.specs.declared.span.Span.{Span}
+use Rattle.hart_words.specs.declared.options.Misaligned.{Misaligned}
+use Rattle.hart_words.specs.declared.options.Misaligned.TheVariants as misaligned
+use Rattle.hart_words.specs.declared.options.TrapValues.{TrapValues}
+use Rattle.hart_words.specs.declared.options.TrapValues.TheVariants as values
+use Rattle.hart_words.specs.declared.options.Marks.{Marks}
+use Rattle.hart_words.specs.declared.options.Marks.TheVariants as marks
 use Rattle.judge_words.specs.declared.values.TheConstants.{MOST_IMAGE_BYTES, MOST_TRACE_BYTES, MOST_WORKERS, MOST_LINES}
-use Rattle.judge_words.specs.declared.values.TheConstants.{MOST_SEGMENTS, MOST_MADE_NUMBER, MOST_MADE_ROWS}
+use Rattle.judge_words.specs.declared.values.TheConstants.{MOST_SEGMENTS, MOST_BLOCK_BYTES, MOST_MADE_NUMBER}
+use Rattle.judge_words.specs.declared.values.TheConstants.{MOST_MADE_ROWS}
 
 -- the next step at the value, where there is one
 infixl 10 ◌>>=◌
@@ -57,6 +66,31 @@ segment_in text = number_up_to MOST_LINES text
 -- a number of segments of a window, at least one
 abbrev pub window_in : List ℕ → Option ℕ
 window_in text = number_up_to MOST_SEGMENTS text
+
+-- a number of bytes of the block that LR reserves, at least one
+abbrev pub block_size_in : List ℕ → Option ℕ
+block_size_in text = number_up_to MOST_BLOCK_BYTES text
+
+-- the first value where a text is the first of two words, the second where it is the other
+abbrev pub one_of_two : {X : Type 0} → (first second : List ℕ) → X → X → List ℕ → Option X
+one_of_two first second x y text =
+    if bytes_eq text first then Some x else (if bytes_eq text second then Some y else None)
+
+-- what misaligned loads and stores do
+unfoldable pub misaligned_in : List ℕ → Option Misaligned
+misaligned_in text = one_of_two (codes "trap") (codes "done") misaligned.Trap misaligned.Done text
+
+-- what traps put into mtval and stval
+unfoldable pub trap_values_in : List ℕ → Option TrapValues
+trap_values_in text = one_of_two (codes "value") (codes "zero") values.Value values.Zero text
+
+-- what becomes of an access whose page lacks A or D
+unfoldable pub marks_in : List ℕ → Option Marks
+marks_in text = one_of_two (codes "fault") (codes "set") marks.Fault marks.Set text
+
+-- whether the extensions of bit manipulation are there
+unfoldable pub bits_in : List ℕ → Option Bool
+bits_in text = one_of_two (codes "on") (codes "off") true false text
 
 -- a number up to `most`
 abbrev pub at_most : ℕ → ℕ → Option ℕ

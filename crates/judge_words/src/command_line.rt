@@ -3,7 +3,7 @@
 ghost use Rattle.std.specs.Prelude.{◌≡◌, IfOk, MatchResult, None, true, false, map, option_map, string_bytes};
 ghost use Rattle.clap.specs.Words.{Row, app_of, first_of, found_of, is_simple_and_free, rows_of, rule_of, subcommand_rows_of};
 ghost use Rattle.clap.specs.declared.builder.command.Command.TheViews.{out-Command};
-ghost use Rattle.judge_words.specs.Commands.{IsCommand, command_line, command_entered, values_given_to, judge_command, make_command, option_of, option_or, required_word, sharing_rules, with_rules};
+ghost use Rattle.judge_words.specs.Commands.{IsCommand, command_line, command_entered, values_given_to, judge_command, make_command, option_of, option_or, required_word, choices_rules, sharing_rules, with_rules};
 ghost use Rattle.judge_words.specs.declared.job.WordError.TheVariants.{NotAJob};
 
 use crate::job::WordError;
@@ -11,7 +11,8 @@ use clap::error::ErrorKind;
 use clap::{Arg, ArgMatches, Command};
 use std::alloc::{AllocError, Global};
 
-/// `rvjudge judge IMAGE TRACE [--pc A] [--ram B:S] [--io B:S] [--max-image M] [--max-trace M]`
+/// `rvjudge judge IMAGE TRACE [--pc A] [--ram B:S] [--io B:S] [--max-image M] [--max-trace M]
+/// [--misaligned trap|done] [--mtval value|zero] [--ad fault|set] [--reserve R] [--bits on|off]`
 /// and `rvjudge make NUMBER ROWS`, each with `[--workers N] [--segment K] [--window W]`.
 pub fn command_line<'a>(alloc: Global) -> Result<Command<'a>, AllocError>
     ensures { IfOk result (λ line. app_of line ≡ command_line) }
@@ -33,7 +34,7 @@ fn judge_command<'a>(alloc: Global) -> Result<Command<'a>, AllocError>
         .arg(option(alloc, "io"))?
         .arg(option_or(alloc, "max-image", "0x40000000"))?
         .arg(option_or(alloc, "max-trace", "0x10000000000"))?;
-    with_sharing(alloc, judge)
+    with_sharing(alloc, with_choices(alloc, judge)?)
 }
 
 /// `make`, with two numbers.
@@ -44,6 +45,19 @@ fn make_command<'a>(alloc: Global) -> Result<Command<'a>, AllocError>
         .arg(required_word(alloc, "number"))?
         .arg(required_word(alloc, "rows"))?;
     with_sharing(alloc, make)
+}
+
+/// The command, and the options that say the choices of the implementation that is judged.
+fn with_choices<'a>(alloc: Global, command: Command<'a>) -> Result<Command<'a>, AllocError>
+    requires { (out-Command command).has_globals ≡ false }
+    ensures { IfOk result (IsCommand (with_rules (app_of command.entry) choices_rules)) }
+{
+    command
+        .arg(option_or(alloc, "misaligned", "trap"))?
+        .arg(option_or(alloc, "mtval", "value"))?
+        .arg(option_or(alloc, "ad", "fault"))?
+        .arg(option_or(alloc, "reserve", "64"))?
+        .arg(option_or(alloc, "bits", "off"))
 }
 
 /// The command, and the options that say how its work is shared out.

@@ -2,18 +2,19 @@
 
 ghost use Rattle.std.specs.Prelude.{◌≡◌, ◌≤◌, ◌%◌, ◌^◌, IfOk, IfSome, map, option_map, string_bytes};
 ghost use Rattle.clap.specs.Words.{found_of, rows_of};
-ghost use Rattle.judge_words.specs.Job.{GivesJob, IsLawful, IsLawfulSharing, files_job, job_of, job_view, made_job, sharing_of};
+ghost use Rattle.judge_words.specs.Job.{GivesJob, IsLawful, IsLawfulSharing, choices_given, files_job, job_of, job_view, made_job, sharing_of};
 ghost use Rattle.judge_words.specs.Settings.{settings_view};
 ghost use Rattle.judge_words.specs.declared.job.WordError.TheVariants.{NoMemory};
 
 use crate::command_line::{command_line, given_to, parse, text_of};
 use crate::values::{
-    MOST_IMAGE_BYTES, MOST_TRACE_BYTES, RAM_BASE, RAM_SIZE, read_image_limit, read_io,
-    read_made_number, read_made_rows, read_pc, read_segment, read_span, read_trace_limit,
-    read_window, read_workers,
+    MOST_IMAGE_BYTES, MOST_TRACE_BYTES, RAM_BASE, RAM_SIZE, read_bits, read_block_size,
+    read_image_limit, read_io, read_made_number, read_made_rows, read_marks, read_misaligned,
+    read_pc, read_segment, read_span, read_trace_limit, read_trap_values, read_window,
+    read_workers,
 };
 use clap::ArgMatches;
-use hart_words::{Map, Span};
+use hart_words::{Choices, Map, Span};
 use std::alloc::{AllocError, Global};
 use thiserror::Error;
 
@@ -38,7 +39,8 @@ pub struct Sharing {
 }
 
 /// What the judge is asked to do: the command, the address of the first instruction, the ranges of
-/// RAM and of devices, how many bytes either text may have, and how the work is to be shared out.
+/// RAM and of devices, how many bytes either text may have, the choices of the implementation, and
+/// how the work is to be shared out.
 #[derive(Debug, Drop)]
 pub struct Job {
     pub command: Command<String>,
@@ -49,6 +51,7 @@ pub struct Job {
     pub max_image: u64,
     /// The most bytes that the trace may have, from 1 to 2^40.
     pub max_trace: u64,
+    pub choices: Choices,
     pub sharing: Sharing,
 }
 
@@ -73,6 +76,7 @@ impl From<AllocError> for WordError {
 /// The job that the words of a command line ask for, the program's name first:
 ///
 /// `rvjudge judge IMAGE TRACE [--pc A] [--ram B:S] [--io B:S] [--max-image M] [--max-trace M]
+/// [--misaligned trap|done] [--mtval value|zero] [--ad fault|set] [--reserve R] [--bits on|off]
 /// [--workers N] [--segment K] [--window W]`
 ///
 /// `rvjudge make NUMBER ROWS [--workers N] [--segment K] [--window W]`
@@ -80,13 +84,19 @@ impl From<AllocError> for WordError {
 /// Each option stands at most once, as `--name value` or `--name=value`. Numbers are decimal, or
 /// hexadecimal after `0x`. A is even; B and S are multiples of 4,096, S at least 4,096 and B + S at
 /// most 2^56, and the two ranges have no byte in common; the M of the image is from 1 to 2^30, that
-/// of the trace to 2^40, N from 1 to 64, K from 1 to 2^20, and W from 1 to 2^10. NUMBER is below
-/// 2^32, ROWS at most 2^18.
+/// of the trace to 2^40, R a power of two from 8 to 4,096, N from 1 to 64, K from 1 to 2^20, and W
+/// from 1 to 2^10. NUMBER is below 2^32, ROWS at most 2^18.
 ///
-/// Left out, A is not given, and the hart begins at `FIRST_PC`; the B:S of RAM is
-/// 0x80000000:0x8000000, either M is the most that it may be, N is 4, K is 4,096, and W is 64;
-/// without `--io` there are no devices. So it is with `make` too. All other words are no job, those
-/// that ask for help among them.
+/// The choices are those of the implementation that is judged: what misaligned loads and stores do
+/// (`--misaligned`), what traps put into mtval and stval (`--mtval`), what becomes of an access
+/// whose page lacks A or D (`--ad`), the bytes of the block that LR reserves (`--reserve`), and
+/// whether Zba, Zbb and Zbs are there (`--bits`). Their words are taken as they are written here.
+///
+/// Left out, A is not given, and the hart begins where the image says, or else at `FIRST_PC`; the
+/// B:S of RAM is 0x80000000:0x8000000, either M is the most that it may be, N is 4, K is 4,096, and
+/// W is 64; the choices are `trap`, `value`, `fault`, 64 and `off`; without `--io` there are no
+/// devices. So it is with `make` too. All other words are no job, those that ask for help among
+/// them.
 #[tactic(auto, unfolding(crate::specs::Job::job_of))]
 pub fn read_words(alloc: Global, words: &Vec<String>) -> Result<Job, WordError>
     ensures job { GivesJob (job_of (map string_bytes words.now.items)) result }
@@ -118,6 +128,7 @@ fn files_job(alloc: Global, given: &ArgMatches<'_>) -> Result<Job, WordError>
             map: settings.map,
             max_image: settings.max_image,
             max_trace: settings.max_trace,
+            choices: settings.choices,
             sharing: settings.sharing,
         }),
     }
@@ -132,6 +143,7 @@ struct Settings<'a> {
     map: Map,
     max_image: u64,
     max_trace: u64,
+    choices: Choices,
     sharing: Sharing,
 }
 
@@ -151,6 +163,7 @@ fn settings_from<'a>(given: &ArgMatches<'a>) -> Option<Settings<'a>>
         map,
         max_image: read_image_limit(text_of(given, "max-image")?)?,
         max_trace: read_trace_limit(text_of(given, "max-trace")?)?,
+        choices: choices_given(given)?,
         sharing: sharing_of(given)?,
     })
 }
@@ -171,8 +184,23 @@ fn made_job(given: &ArgMatches<'_>) -> Option<Job>
         map,
         max_image: MOST_IMAGE_BYTES,
         max_trace: MOST_TRACE_BYTES,
+        choices: Choices::plain(),
         sharing: sharing_of(given)?,
     })
+}
+
+/// The choices of the implementation.
+#[tactic(auto, unfolding(crate::specs::Job::choices_given))]
+fn choices_given(given: &ArgMatches<'_>) -> Option<Choices>
+    ensures { result ≡ choices_given (rows_of (found_of given.now)) }
+{
+    Choices::new(
+        read_misaligned(text_of(given, "misaligned")?)?,
+        read_trap_values(text_of(given, "mtval")?)?,
+        read_marks(text_of(given, "ad")?)?,
+        read_block_size(text_of(given, "reserve")?)?,
+        read_bits(text_of(given, "bits")?)?,
+    )
 }
 
 /// How the work is to be shared out.

@@ -1,4 +1,5 @@
 use super::*;
+use hart_words::{Choices, Marks, Misaligned, TrapValues};
 use std::alloc::{AllocError, Global};
 use std::process::Abort;
 use std::test::Fail;
@@ -197,6 +198,72 @@ fn takes_shares(rt: HostRuntime) -> Result<(), Fail> {
     Ok(())
 }
 
+/// What `--misaligned`, `--mtval`, `--ad`, `--reserve` and `--bits` say.
+type Said = (Misaligned, TrapValues, Marks, u16, bool);
+
+fn said(choices: &Choices) -> Said {
+    (
+        choices.misaligned,
+        choices.trap_values,
+        choices.marks,
+        choices.block_size,
+        choices.bits,
+    )
+}
+
+/// What is said where none of them is given.
+const NONE_SAID: Said = (Misaligned::Trap, TrapValues::Value, Marks::Fault, 64, false);
+
+#[test]
+fn takes_choices(rt: HostRuntime) -> Result<(), Fail> {
+    let (misaligned, values, marks, size, bits) = NONE_SAID;
+    let lines: [(&[&str], Said); 14] = [
+        (&[], NONE_SAID),
+        (&["--misaligned", "trap"], NONE_SAID),
+        (
+            &["--misaligned=done"],
+            (Misaligned::Done, values, marks, size, bits),
+        ),
+        (&["--mtval=value"], NONE_SAID),
+        (
+            &["--mtval", "zero"],
+            (misaligned, TrapValues::Zero, marks, size, bits),
+        ),
+        (&["--ad", "fault"], NONE_SAID),
+        (
+            &["--ad", "set"],
+            (misaligned, values, Marks::Set, size, bits),
+        ),
+        (&["--reserve", "0x40"], NONE_SAID),
+        (&["--reserve", "8"], (misaligned, values, marks, 8, bits)),
+        (&["--reserve=016"], (misaligned, values, marks, 16, bits)),
+        (
+            &["--reserve=0X1000"],
+            (misaligned, values, marks, 4096, bits),
+        ),
+        (&["--bits", "off"], NONE_SAID),
+        (&["--bits=on"], (misaligned, values, marks, size, true)),
+        (
+            &[
+                "--bits=on",
+                "--ad=set",
+                "--reserve=2048",
+                "--mtval=zero",
+                "--misaligned=done",
+            ],
+            (Misaligned::Done, TrapValues::Zero, Marks::Set, 2048, true),
+        ),
+    ];
+    let alloc = rt.alloc();
+    for (more, wanted) in lines {
+        let mut words = Vec::new(alloc);
+        words.extend_from_slice(["rvjudge", "judge", "i", "t"].as_slice())?;
+        words.extend_from_slice(more)?;
+        assert_eq!(rt; said(&job_at(alloc, words.as_slice())??.choices), wanted);
+    }
+    Ok(())
+}
+
 #[test]
 fn takes_numbers_of_made_traces(rt: HostRuntime) -> Result<(), Fail> {
     let lines: [(&[&str], u32, u32); 6] = [
@@ -229,6 +296,7 @@ fn takes_numbers_of_made_traces(rt: HostRuntime) -> Result<(), Fail> {
         );
         assert_eq!(rt; (job.max_image, job.max_trace), (1 << 30, 1 << 40));
         assert!(rt; job.map.io.is_none());
+        assert_eq!(rt; said(&job.choices), NONE_SAID);
     }
     Ok(())
 }
@@ -236,7 +304,7 @@ fn takes_numbers_of_made_traces(rt: HostRuntime) -> Result<(), Fail> {
 #[test]
 fn refuses_other_words(rt: HostRuntime) -> Result<(), Fail> {
     let alloc = rt.alloc();
-    let lines: [&[&str]; 31] = [
+    let lines: [&[&str]; 32] = [
         &[],
         &["rvjudge"],
         &["rvjudge", "judge", "i"],
@@ -256,6 +324,7 @@ fn refuses_other_words(rt: HostRuntime) -> Result<(), Fail> {
         &["rvjudge", "judge", "i", "t", "--workers", "0"],
         &["rvjudge", "judge", "i", "t", "--workers=4", "--workers=4"],
         &["rvjudge", "judge", "i", "t", "--segment", "0"],
+        &["rvjudge", "judge", "i", "t", "--ad=set", "--ad=set"],
         &["rvjudge", "make"],
         &["rvjudge", "make", "7"],
         &["rvjudge", "make", "7", "1", "2"],
@@ -323,6 +392,36 @@ const OPTIONS: [&str; 36] = [
     "--max-trace=1099511627777",
 ];
 
+/// No word of these options in the case in which it stands, or no power of two from 8 to 4,096.
+const CHOICES: [&str; 17] = [
+    "--misaligned",
+    "--misaligned=",
+    "--misaligned=DONE",
+    "--misaligned=don",
+    "--misaligned=set",
+    "--mtval=Zero",
+    "--mtval=0",
+    "--ad=SET",
+    "--ad=faults",
+    "--reserve=",
+    "--reserve=0",
+    "--reserve=4",
+    "--reserve=48",
+    "--reserve=8192",
+    "--reserve=65600",
+    "--bits=1",
+    "--bits=ON",
+];
+
+/// Options that `make` does not know.
+const OF_JUDGE: [&str; 5] = [
+    "--misaligned=trap",
+    "--mtval=value",
+    "--ad=fault",
+    "--reserve=64",
+    "--bits=off",
+];
+
 /// The same of the options that both commands take.
 const SHARES: [&str; 12] = [
     "--workers",
@@ -344,6 +443,12 @@ fn refuses_other_numbers(rt: HostRuntime) -> Result<(), Fail> {
     let alloc = rt.alloc();
     for option in OPTIONS {
         refuses(&rt, alloc, &["rvjudge", "judge", "i", "t", option])?;
+    }
+    for choice in CHOICES {
+        refuses(&rt, alloc, &["rvjudge", "judge", "i", "t", choice])?;
+    }
+    for option in OF_JUDGE {
+        refuses(&rt, alloc, &["rvjudge", "make", "7", "10", option])?;
     }
     for share in SHARES {
         refuses(&rt, alloc, &["rvjudge", "judge", "i", "t", share])?;

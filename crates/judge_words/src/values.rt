@@ -1,9 +1,9 @@
 //! The values of options, read from their texts.
 
 ghost use Rattle.std.specs.Prelude.{◌≡◌, ◌≤◌, ◌%◌, IfSome, option_map};
-ghost use Rattle.judge_words.specs.Values.{number_in, number_up_to, even_in, image_limit_in, trace_limit_in, workers_in, segment_in, window_in, number_at_most, made_number_in, made_rows_in, span_in, io_in, pc_in};
+ghost use Rattle.judge_words.specs.Values.{number_in, number_up_to, even_in, image_limit_in, trace_limit_in, workers_in, segment_in, window_in, block_size_in, misaligned_in, trap_values_in, marks_in, bits_in, number_at_most, made_number_in, made_rows_in, span_in, io_in, pc_in};
 
-use hart_words::{Span, read_number};
+use hart_words::{Marks, Misaligned, Span, TrapValues, read_number};
 
 /// Where the hart begins where a job gives no address.
 pub const FIRST_PC: u64 = 0x8000_0000;
@@ -28,6 +28,9 @@ pub const MOST_LINES: u64 = 1 << 20;
 
 /// The most segments of a window.
 pub const MOST_SEGMENTS: u64 = 1 << 10;
+
+/// The most bytes of the block that LR reserves.
+pub const MOST_BLOCK_BYTES: u64 = 4096;
 
 /// The greatest number of a made trace.
 pub const MOST_MADE_NUMBER: u64 = 0xffff_ffff;
@@ -122,6 +125,62 @@ pub fn read_window(text: &str) -> Option<usize>
 {
     let window = read_up_to(text, MOST_SEGMENTS)?;
     Some(window as usize)
+}
+
+/// A number of bytes of the block that LR reserves, from 1 to 4,096.
+pub fn read_block_size(text: &str) -> Option<u16>
+    ensures { result ≡ block_size_in text.now }
+{
+    let size = read_up_to(text, MOST_BLOCK_BYTES)?;
+    Some(size as u16)
+}
+
+/// What misaligned loads and stores do: `trap` or `done`.
+#[tactic(auto, unfolding(crate::specs::Values::misaligned_in))]
+pub fn read_misaligned(text: &str) -> Option<Misaligned>
+    ensures { result ≡ misaligned_in text.now }
+{
+    match text {
+        "trap" => Some(Misaligned::Trap),
+        "done" => Some(Misaligned::Done),
+        _ => None,
+    }
+}
+
+/// What traps put into mtval and stval: `value` or `zero`.
+#[tactic(auto, unfolding(crate::specs::Values::trap_values_in))]
+pub fn read_trap_values(text: &str) -> Option<TrapValues>
+    ensures { result ≡ trap_values_in text.now }
+{
+    match text {
+        "value" => Some(TrapValues::Value),
+        "zero" => Some(TrapValues::Zero),
+        _ => None,
+    }
+}
+
+/// What becomes of an access whose page lacks A or D: `fault` or `set`.
+#[tactic(auto, unfolding(crate::specs::Values::marks_in))]
+pub fn read_marks(text: &str) -> Option<Marks>
+    ensures { result ≡ marks_in text.now }
+{
+    match text {
+        "fault" => Some(Marks::Fault),
+        "set" => Some(Marks::Set),
+        _ => None,
+    }
+}
+
+/// Whether the extensions of bit manipulation are there: `on` or `off`.
+#[tactic(auto, unfolding(crate::specs::Values::bits_in))]
+pub fn read_bits(text: &str) -> Option<bool>
+    ensures { result ≡ bits_in text.now }
+{
+    match text {
+        "on" => Some(true),
+        "off" => Some(false),
+        _ => None,
+    }
 }
 
 /// A number up to `most`.

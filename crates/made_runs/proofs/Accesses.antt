@@ -1,9 +1,13 @@
 -- The access of the loop to memory.
 use Rattle.std.proofs.Common.{◌≡◌, ℕ, ◌^◌, ◌<◌, true, false, [], ◌∷◌, Some, None, Ok, refl, sym, ◌∙◌, arith}
 use Rattle.hart_words.specs.declared.privilege.Mode.TheVariants.{Machine}
+use Rattle.hart_words.specs.declared.privilege.Access.{Access}
 use Rattle.hart_words.specs.declared.privilege.Access.TheVariants.{Load, Store}
+use Rattle.hart_words.specs.declared.privilege.Cause.{Cause}
+use Rattle.hart_words.specs.declared.privilege.Cause.TheVariants.{LoadAddressMisaligned, StoreAddressMisaligned}
 use Rattle.hart_words.specs.declared.access_size.AccessSize.TheVariants.{Doubleword}
 use Rattle.hart_words.specs.declared.map.Map.{Map}
+use Rattle.hart_words.specs.Choices.{plain_choices}
 use Rattle.hart_words.specs.Words.{sign_extended}
 use Rattle.hart_words.specs.Actions.{pure, mapped, read_memory, write_memory}
 use Rattle.hart_words.specs.Memory.{Bytes, number_at, after_writes}
@@ -15,8 +19,8 @@ use Rattle.csr_file.specs.Registers.{at, csrs_at_reset}
 use Rattle.rv_integer.specs.declared.int_result.MemoryRequest.{MemoryRequest}
 use Rattle.rv_integer.specs.declared.int_result.MemoryOp.TheVariants as memory
 use Rattle.mem_access.specs.Places.{data_mode_of}
-use Rattle.mem_access.specs.Translation.{virtual_place_of}
-use Rattle.mem_access.specs.Accesses.{load_from, load_result, store_place_of}
+use Rattle.mem_access.specs.Accesses.{data_load, data_places_of, data_request, load_from, load_result, part_place_of}
+use Rattle.mem_access.specs.Accesses.{store_place_of}
 use Rattle.hart_step.specs.declared.choices.RowChoices.{RowChoices}
 use Rattle.hart_step.specs.declared.state.Core.{Core}
 use Rattle.hart_step.specs.MemoryAccess.{memory_access, access_result_of, access_after_location, located_access, put}
@@ -32,31 +36,38 @@ mode_at_reset = refl
 cell_inside : (map : Map) → IsMadeMap map → holds_all map.ram 0x80001000 8 ≡ true
 cell_inside map made = rw (made.base, made.size) refl
 
+-- the one place of an access to the cell
+cell_place : (map : Map) (access : Access) (misaligned : Cause) (bytes : Bytes) → IsMadeMap map
+    → (data_places_of csrs_at_reset map plain_choices (data_request csrs_at_reset Machine access 8 false) false
+    misaligned 0x80001000).run bytes
+    ≡ record { value = Ok (record { pa = 0x80001000; io = false }, None); reads = []; wrote = [] }
+unfolding data_places_of part_place_of mapped
+cell_place map access misaligned bytes made =
+    rw (mode_at_reset, reached_at_reset map access 8 true 0x80001000 bytes, cell_inside map made) refl
+
 -- the place of the store
 stored_place : (map : Map) (bytes : Bytes) → IsMadeMap map
-    → (store_place_of csrs_at_reset map Machine 0x80001000 8 false).run bytes
-    ≡ record { value = Ok (record { pa = 0x80001000; io = false }); reads = []; wrote = [] }
-unfolding store_place_of mapped
-stored_place map bytes made =
-    rw (mode_at_reset, reached_at_reset map Store 8 true 0x80001000 bytes, cell_inside map made) refl
+    → (store_place_of csrs_at_reset map plain_choices Machine 0x80001000 8 false).run bytes
+    ≡ record { value = Ok (record { pa = 0x80001000; io = false }, None); reads = []; wrote = [] }
+unfolding store_place_of
+stored_place map bytes made = cell_place map Store StoreAddressMisaligned bytes made
 
 -- what the load finds
 loaded_cell : (map : Map) (bytes : Bytes) → IsMadeMap map
-    → (load_result csrs_at_reset map Machine 0x80001000 8 false).run bytes
+    → (load_result csrs_at_reset map plain_choices Machine 0x80001000 8 false).run bytes
     ≡ record {
       value =
-          Ok (record { pa = 0x80001000; io = false }, number_at bytes 0x80001000 8);
+          Ok (record { pa = 0x80001000; io = false }, None, number_at bytes 0x80001000 8);
       reads =
           record { pa = 0x80001000; len = 8 } ∷ [];
       wrote = [];
     }
 unfolding load_result mapped read_memory after_writes
 loaded_cell map bytes made =
-    rw mode_at_reset
-    (run_then-is
-    (virtual_place_of csrs_at_reset map (record { mode = Machine; access = Load; len = 8; devices = true })
-    0x80001000) (load_from 0x80001000 8) bytes
-    ∙ rw (reached_at_reset map Load 8 true 0x80001000 bytes, cell_inside map made) refl)
+    run_then-is
+    (data_places_of csrs_at_reset map plain_choices (data_load csrs_at_reset Machine 8 false) false
+    LoadAddressMisaligned 0x80001000) (load_from 0x80001000 8) bytes
+    ∙ rw (cell_place map Load LoadAddressMisaligned bytes made) refl
 
 abbrev pub store_request : ℕ → MemoryRequest
 store_request value = record { address = 0x80001000; size = Doubleword; op = memory.Store value }
@@ -73,6 +84,7 @@ as_at_reset map core = record core {
   trapped_last = false;
   halted = false;
   map = map;
+  choices = plain_choices;
 }
 
 -- the store

@@ -3,6 +3,7 @@ use Rattle.std.proofs.Common.{◌≡◌, ℕ, ◌+◌, ◌-◌, ◌*◌, ◌^◌
 use Rattle.std.proofs.Common.{◌∙◌, arith}
 use Rattle.std.specs.List.{range_with_len}
 use Rattle.std.proofs.lemmas.List.FromFn.{get_or-map-range_with_len}
+use Rattle.hart_words.specs.Choices.{plain_choices}
 use Rattle.hart_words.specs.Words.{sign_extended}
 use Rattle.rv_decode.specs.declared.operation.Op.{Op}
 use Rattle.rv_decode.specs.declared.operation.Op.TheVariants.{Auipc, Jal, Load, Store, Immediate, Register}
@@ -10,8 +11,13 @@ use Rattle.rv_decode.specs.declared.operation.LoadOp.TheVariants.{Ld}
 use Rattle.rv_decode.specs.declared.operation.StoreOp.TheVariants.{Sd}
 use Rattle.rv_decode.specs.declared.operation.ImmediateOp.TheVariants.{Addi}
 use Rattle.rv_decode.specs.declared.operation.RegisterOp.TheVariants.{Xor}
-use Rattle.rv_decode.specs.Table.{decoded_op_of, decoded_op_by, opcodes}
+use Rattle.rv_decode.specs.Table.{decoded_op_of, decoded_op_by, decoded_op_with, opcodes}
 use Rattle.trace_maker.specs.Rows.{addi_of, immediate_of}
+
+-- where none is said there is no bit manipulation
+pub decoded_plainly : (word : ℕ) → decoded_op_with word plain_choices.bits ≡ decoded_op_of word
+unfolding decoded_op_with decoded_op_of plain_choices
+decoded_plainly word = refl
 
 pub auipc_means : decoded_op_of 0x00001117 ≡ Some (Auipc 2 4096)
 unfolding decoded_op_of decoded_op_by opcodes sign_extended

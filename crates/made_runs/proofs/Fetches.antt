@@ -7,6 +7,7 @@ use Rattle.hart_words.specs.declared.privilege.Access.TheVariants.{Fetch}
 use Rattle.hart_words.specs.declared.privilege.Mode.TheVariants.{Machine}
 use Rattle.hart_words.specs.declared.map.Map.{Map}
 use Rattle.hart_words.specs.Actions.{pure, mapped, read_memory}
+use Rattle.hart_words.specs.Choices.{plain_choices}
 use Rattle.hart_words.specs.Memory.{Bytes, number_at, after_writes}
 use Rattle.hart_words.specs.Spans.{holds_all}
 use Rattle.hart_words.proofs.Runs.{run_then-is}
@@ -37,25 +38,25 @@ allowed_at_reset pa len access = off_allows 16 0 pa len access
 -- an access of M at reset goes where the map says
 pub reached_at_reset : (map : Map) (access : Access) (len : ℕ) (devices : Bool) (va : ℕ) (bytes : Bytes) →
     let request : AccessRequest = record { mode = Machine; access = access; len = len; devices = devices } in
-    (virtual_place_of csrs_at_reset map request va).run bytes
+    (virtual_place_of csrs_at_reset map plain_choices request va).run bytes
     ≡ record { value = place_in map request va; reads = []; wrote = [] }
 unfolding virtual_place_of physical_address_of is_translated place_of mapped pure
 reached_at_reset map access len devices va bytes = rw (allowed_at_reset va len access) refl
 
 -- two bytes of an instruction in RAM
 pub parcel_at_reset : (map : Map) (at : ℕ) (bytes : Bytes) → holds_all map.ram at 2 ≡ true
-    → (parcel_at csrs_at_reset map Machine at).run bytes
+    → (parcel_at csrs_at_reset map plain_choices Machine at).run bytes
     ≡ record { value = Ok (number_at bytes at 2); reads = record { pa = at; len = 2 } ∷ []; wrote = [] }
 unfolding parcel_at read_memory mapped after_writes
 parcel_at_reset map at bytes inside =
-    run_then-is (virtual_place_of csrs_at_reset map (parcel_fetch Machine) at) (parcel_from at) bytes
+    run_then-is (virtual_place_of csrs_at_reset map plain_choices (parcel_fetch Machine) at) (parcel_from at) bytes
     ∙ rw (reached_at_reset map Fetch 2 false at bytes, inside) refl
 
 -- a word in RAM
 pub fetched_at_reset : (map : Map) (pc word : ℕ) (bytes : Bytes) → holds_all map.ram pc 2 ≡ true
     → holds_all map.ram ((pc + 2) % 2 ^ 64) 2 ≡ true → number_at bytes pc 2 % 4 ≡ 3
     → number_at bytes pc 2 + 2 ^ 16 * number_at bytes ((pc + 2) % 2 ^ 64) 2 ≡ word
-    → (fetch_result csrs_at_reset map Machine pc).run bytes
+    → (fetch_result csrs_at_reset map plain_choices Machine pc).run bytes
     ≡ record {
       value =
           Ok (word, 4);
@@ -64,5 +65,6 @@ pub fetched_at_reset : (map : Map) (pc word : ℕ) (bytes : Bytes) → holds_all
     }
 unfolding fetch_result mapped after_writes
 fetched_at_reset map pc word bytes first second long is =
-    run_then-is (parcel_at csrs_at_reset map Machine pc) (after_first csrs_at_reset map Machine pc) bytes
+    run_then-is (parcel_at csrs_at_reset map plain_choices Machine pc)
+    (after_first csrs_at_reset map plain_choices Machine pc) bytes
     ∙ rw (parcel_at_reset map pc bytes first, long, parcel_at_reset map ((pc + 2) % 2 ^ 64) bytes second, is) refl

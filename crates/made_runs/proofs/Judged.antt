@@ -5,6 +5,7 @@ use Rattle.std.proofs.Math.Nat.{mod-eq_of_lt}
 use Rattle.std.proofs.lemmas.Nat.{mod_below, xor_lt}
 use Rattle.std.specs.List.{range_with_len}
 use Rattle.hart_words.specs.declared.map.Map.{Map}
+use Rattle.hart_words.specs.Choices.{plain_choices}
 use Rattle.hart_words.specs.declared.accesses.Write.{Write}
 use Rattle.hart_words.specs.Memory.{Bytes, after_writes, number_at, bytes_after_store}
 use Rattle.hart_words.proofs.Stores.{number_after_store, stored-outside}
@@ -206,7 +207,8 @@ mutual
 
 -- all rows agree, from reset on
 pub made_agree : (map : Map) (number rows : ℕ) (bytes : Bytes) → IsMadeMap map → HasImage number bytes → rows < 2 ^ 64
-    → (judgement_of by_hart (core_at_reset 0x80000000 map) (made_readings number rows) bytes).verdict ≡ Agrees rows rows
+    → (judgement_of by_hart (core_at_reset 0x80000000 map plain_choices) (made_readings number rows) bytes).verdict
+    ≡ Agrees rows rows
 unfolding core_at_reset registers_at_reset after_writes made_row
 made_agree map number zero bytes is_map image small = none_left number _ bytes 0
 made_agree map number (suc n) bytes is_map image small =

@@ -2,6 +2,7 @@
 use Rattle.std.proofs.Common.{ℕ, ◌^◌, ◌<◌, ◌≤◌, List, length, ap, ◌∙◌, arith}
 use Rattle.std.specs.Prelude.{unwrap_or}
 use Rattle.hart_words.specs.declared.map.Map.{Map}
+use Rattle.hart_words.specs.Choices.{plain_choices}
 use Rattle.rvfi_rows.specs.Rows.{RowReading}
 use Rattle.hart_step.specs.Cores.{core_at_reset}
 use Rattle.segment_judge.specs.Judgements.{by_hart, judgement_of}
@@ -26,7 +27,7 @@ texts_agree map number rows most is small fits =
       columns = header_named;
       verdict =
           ap (λ (readings : List RowReading).
-          (judgement_of by_hart (core_at_reset 0x80000000 map) readings memory).verdict)
+          (judgement_of by_hart (core_at_reset 0x80000000 map plain_choices) readings memory).verdict)
           (rows_back number rows (omega arith))
           ∙ made_agree map number rows memory is image.has_image small;
     }

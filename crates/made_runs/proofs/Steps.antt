@@ -5,6 +5,7 @@ use Rattle.hart_words.specs.declared.privilege.Mode.TheVariants.{Machine}
 use Rattle.hart_words.specs.declared.map.Map.{Map}
 use Rattle.hart_words.specs.declared.accesses.Read.{Read}
 use Rattle.hart_words.specs.declared.signal.TheConstants.{SIGNALS}
+use Rattle.hart_words.specs.Choices.{plain_choices}
 use Rattle.hart_words.specs.Signals.{Shown}
 use Rattle.hart_words.specs.Actions.{Run, pure, mapped}
 use Rattle.hart_words.specs.Memory.{Bytes, after_writes, number_at}
@@ -31,14 +32,14 @@ use Rattle.row_compare.specs.Difference.{difference_of}
 use Rattle.std.proofs.Common.{◌≤◌, arith, lit≤}
 use Rattle.std.proofs.lemmas.Bool.Decides.{nat_tests}
 use Rattle.std.proofs.Math.Nat.{mod-eq_of_lt}
-use Rattle.std.proofs.Common.{◌-◌, ◌<◌, bit_xor}
+use Rattle.std.proofs.Common.{◌<◌, bit_xor}
 use Rattle.trace_maker.specs.Rows.{addi_of, first_row, immediate_of, turn_row}
 use Rattle.made_runs.specs.Laws.{MadeState}
 use Rattle.made_runs.proofs.Differences.{done_agrees, load_memory, none_among, plain_memory, store_memory}
 use Rattle.made_runs.proofs.Accesses.{as_at_reset, load_accessed, same_extended, store_accessed}
 use Rattle.made_runs.proofs.Fetches.{fetched_at_reset}
 use Rattle.made_runs.proofs.Images.{IsWordAt, auipc_at, addi_at, xor_at, sd_at, ld_at, jal_at}
-use Rattle.made_runs.proofs.Decodes.{auipc_means, addi_means, xor_means, sd_means, ld_means, jal_means}
+use Rattle.made_runs.proofs.Decodes.{decoded_plainly, auipc_means, addi_means, xor_means, sd_means, ld_means, jal_means}
 use Rattle.trace_maker.specs.declared.made_row.MadeRow.{MadeRow}
 use Rattle.made_runs.specs.Shows.{shown_of}
 use Rattle.made_runs.specs.States.{core_with}
@@ -62,7 +63,7 @@ judged_by core row instruction reads run = record {
 
 -- a row is judged by what the instruction at pc does
 pub judged_as : {word : ℕ} {op : Op} {reads : List Read} (map : Map) (core : Core) (row : MadeRow) (bytes : Bytes)
-    → (fetch_result csrs_at_reset map Machine core.pc).run bytes
+    → (fetch_result csrs_at_reset map plain_choices Machine core.pc).run bytes
     ≡ record { value = Ok (word, 4); reads = reads; wrote = [] }
     → decoded_op_of word ≡ Some op →
     let core = as_at_reset map core in
@@ -81,8 +82,8 @@ judged_as {word} {op} {reads} map core row bytes fetch means =
     (execution_of now (choices_of shown (operands_of op).rd) instruction).run bytes in
     let all : (instruction_run now shown).run bytes
     ≡ record { value = run_of_result now instruction run.value; reads = reads ++ run.reads; wrote = run.wrote } =
-    run_then-is (fetch_result csrs_at_reset map Machine core.pc) (run_of_fetched now shown) bytes
-    ∙ rw (fetch, means) refl in
+    run_then-is (fetch_result csrs_at_reset map plain_choices Machine core.pc) (run_of_fetched now shown) bytes
+    ∙ rw (fetch, decoded_plainly word ∙ means) refl in
     let judge : Run InstructionRun → Run (RowJudgement Core) =
     λ (t : Run InstructionRun).
     record {
@@ -102,7 +103,7 @@ pub record AgreesTo (core : Core) (row : MadeRow) (bytes : Bytes) (next : Core) 
 -- the word at pc is fetched
 fetch_word : {number : ℕ} (made : MadeState number) (pc word : ℕ) → 0x80000000 ≤ pc → pc ≤ 0x80001000
     → IsWordAt made.bytes pc word
-    → (fetch_result csrs_at_reset made.map Machine pc).run made.bytes
+    → (fetch_result csrs_at_reset made.map plain_choices Machine pc).run made.bytes
     ≡ record {
       value =
           Ok (word, 4);

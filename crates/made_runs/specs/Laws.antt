@@ -2,6 +2,7 @@
 use Rattle.std.specs.Prelude.{◌≡◌, ℕ, ◌+◌, ◌*◌, ◌<◌, ◌≤◌, ◌^◌, List, length, Option, Ok, unwrap_or}
 use Rattle.hart_words.specs.declared.map.Map.{Map}
 use Rattle.hart_words.specs.Memory.{Bytes}
+use Rattle.hart_words.specs.Choices.{plain_choices}
 use Rattle.rvfi_rows.specs.Columns.{header_columns}
 use Rattle.rvfi_rows.specs.Rows.{rows_of}
 use Rattle.rvfi_rows.specs.declared.verdict.Verdict.{Verdict}
@@ -15,11 +16,11 @@ use Rattle.made_runs.specs.Lines.{made_left, made_lines}
 use Rattle.made_runs.specs.Shows.{header_line, made_columns, made_readings}
 use Rattle.made_runs.specs.States.{HasImage, IsMadeMap}
 
--- the hart agrees with so many rows, each of them valid, from reset on
+-- the hart, by the choices that stand where none is said, agrees with so many rows, each of them valid, from reset on
 abbrev pub MadeRowsAgree : Map → (number rows : ℕ) → Bytes → Type 0
 MadeRowsAgree map number rows bytes =
     IsMadeMap map → HasImage number bytes → rows < 2 ^ 64
-    → (judgement_of by_hart (core_at_reset 0x80000000 map) (made_readings number rows) bytes).verdict
+    → (judgement_of by_hart (core_at_reset 0x80000000 map plain_choices) (made_readings number rows) bytes).verdict
     ≡ Agrees rows rows
 
 -- a map and a memory that the law is about
@@ -44,12 +45,12 @@ abbrev pub MadeLinesReadBack : (number rows : ℕ) → Type 0
 MadeLinesReadBack number rows =
     rows ≤ 2 ^ 64 → rows_of made_columns (made_lines number rows) ≡ made_readings number rows
 
--- the hart's verdict on lines of a made trace, from reset on over the bytes of an image
+-- the verdict of such a hart on lines of a made trace, from reset on over the bytes of an image
 abbrev pub verdict_on_lines : Map → (ℕ → Option ℕ) → List (List ℕ) → Verdict
 verdict_on_lines map image lines =
     let memory : Bytes = λ address. unwrap_or (image address) 0 in
     let readings = rows_of made_columns lines in
-    (judgement_of by_hart (core_at_reset 0x80000000 map) readings memory).verdict
+    (judgement_of by_hart (core_at_reset 0x80000000 map plain_choices) readings memory).verdict
 
 -- from the two texts to the verdict: the image, the header and the rows after it
 pub record MadeRunAgrees (map : Map) (number rows most : ℕ) : Type 0 where

@@ -3,6 +3,7 @@ use Rattle.std.specs.Prelude.{◌≡◌, ℕ, ◌+◌, ◌<◌, ◌∷◌, repli
 use Rattle.hart_words.specs.declared.map.Map.{Map}
 use Rattle.hart_words.specs.declared.privilege.Mode.TheVariants.{Machine}
 use Rattle.hart_words.specs.Memory.{Bytes}
+use Rattle.hart_words.specs.Choices.{plain_choices}
 use Rattle.csr_file.specs.Registers.{csrs_at_reset}
 use Rattle.hart_step.specs.declared.state.Core.{Core}
 use Rattle.trace_maker.specs.Texts.{made_bytes}
@@ -19,6 +20,7 @@ core_with map pc x1 x2 x3 x4 order = record {
   trapped_last = false;
   halted = false;
   map = map;
+  choices = plain_choices;
 }
 
 -- the memory has the image's bytes

@@ -11,8 +11,9 @@ ghost use Rattle.made_runs.specs.Laws.{MadeTextsAgree, MadeTraceIsShort};
 ghost use Rattle.made_runs.specs.Shows.{header_line, made_columns};
 ghost use Rattle.made_runs.specs.States.{IsMadeMap};
 
-/// From reset at 0x80000000, where RAM is 0x80000000:0x8000000 and has the image of the number, the
-/// verdict on the first rows is that they agree, whatever else memory has.
+/// From reset at 0x80000000, with the choices that stand where none is said, where RAM is
+/// 0x80000000:0x8000000 and has the image of the number, the verdict on the first rows is that they
+/// agree, whatever else memory has.
 pub fn made_rows_agree()
     ensures { (map : Map) (number rows : ℕ) (bytes : Bytes) → MadeRowsAgree map number rows bytes }
 {}
@@ -51,7 +52,8 @@ pub fn made_images_read_back()
 /// From the two texts to the verdict, where RAM is 0x80000000:0x8000000 and as many bytes are read
 /// as the trace has: the image is read as a memory, the trace as a header that names the columns and
 /// as many lines as rows, and then it ends; and the verdict on these lines, from reset at 0x80000000
-/// over that memory, is that they agree, each of them valid.
+/// with the choices that stand where none is said, over that memory, is that they agree, each of
+/// them valid.
 pub fn made_texts_agree()
     ensures { (map : Map) (number rows most : ℕ) → MadeTextsAgree map number rows most }
 {}

@@ -1,35 +1,23 @@
 -- The place of an access is granted.
-use Rattle.std.proofs.Common.{◌≡◌, ℕ, Bool, true, false, ◌&&◌, List, [], ◌∷◌, ◌++◌, get_or, refl, sym, ap, subst}
+use Rattle.std.proofs.Common.{◌≡◌, ℕ, Bool, true, false, ◌&&◌, List, [], ◌∷◌, get_or, refl, sym, ap, subst}
 use Rattle.std.proofs.Common.{filter, Ok, Err, Result, if◌then◌else◌}
 use Rattle.std.specs.Prelude.{All, IfOk}
 use Rattle.std.proofs.lemmas.List.Elements.{All-nil, All-push, All-append}
 use Rattle.hart_words.specs.declared.privilege.Cause.{Cause}
 use Rattle.hart_words.specs.declared.map.Map.{Map}
-use Rattle.hart_words.specs.declared.accesses.Read.{Read}
 use Rattle.hart_words.specs.Memory.{Bytes, after_writes}
 use Rattle.hart_words.specs.Spans.{holds_all}
 use Rattle.hart_words.specs.Privilege.{access_fault_of}
-use Rattle.hart_words.specs.Actions.{Action, pure, read_memory, mapped, ◌>>=◌}
+use Rattle.hart_words.specs.Actions.{Action, ◌>>=◌}
 use Rattle.hart_words.proofs.Runs.{run_then-is}
 use Rattle.csr_file.specs.declared.csrs.Csrs.{Csrs}
 use Rattle.mem_access.specs.declared.place.AccessRequest.{AccessRequest}
 use Rattle.mem_access.specs.declared.place.Place.{Place}
 use Rattle.mem_access.specs.Places.{is_device, is_permitted, place_in, place_of}
 use Rattle.mem_access.specs.Translation.{place_after_translation}
-use Rattle.mem_access.specs.Accesses.{value_at, load_from, with_address}
 use Rattle.mem_access.specs.Laws.{IsPermittedPlace}
 
--- what two actions read, one after the other
-pub then_reads : {A B : Type 0} (P : Read → Type 0) (first : Action A) (next : A → Action B) (bytes : Bytes)
-    → All P (first.run bytes).reads → ((now : Bytes) → All P ((next (first.run bytes).value).run now).reads)
-    → All P ((first >>= next).run bytes).reads
-then_reads P first next bytes one more =
-    let before = first.run bytes in
-    let now = after_writes before.wrote bytes in
-    let both : ((first >>= next).run bytes).reads ≡ before.reads ++ ((next before.value).run now).reads =
-    ap (λ t. t.reads) (run_then-is first next bytes) in
-    subst (All P) (sym both) (All-append P before.reads ((next before.value).run now).reads one (more now))
-
+-- a list of one
 pub one_element : {X : Type 0} (P : X → Type 0) (x : X) → P x → All P (x ∷ [])
 one_element P x holds = All-push P [] x (All-nil P) holds
 
@@ -99,19 +87,6 @@ unfolding place_of
 behind_memory csrs map request (Err cause) none = tt
 behind_memory csrs map request (Ok pa) none = memory_by map request pa (is_permitted csrs request pa) none
 
--- the place of what is loaded is the place that was reached
-value_place : (place : Place) (len : ℕ) (io : Bool) (P : Place → Type 0) (bytes : Bytes) → P place
-    → IfOk ((value_at place len io).run bytes).value (λ found. P found.0)
-unfolding pure mapped read_memory
-value_place place len true P bytes holds = holds
-value_place place len false P bytes holds = holds
-
-pub load_from_place : (va len : ℕ) (place : Result Place Cause) (P : Place → Type 0) (bytes : Bytes) → IfOk place P
-    → IfOk ((load_from va len place).run bytes).value (λ found. P found.0)
-unfolding pure
-load_from_place va len (Err cause) P bytes holds = tt
-load_from_place va len (Ok place) P bytes holds = value_place place len place.io P bytes holds
-
 -- what two actions give, one after the other
 pub then_gives : {A B : Type 0} (P : B → Type 0) (first : Action A) (next : A → Action B) (bytes : Bytes)
     → ((now : Bytes) → P ((next (first.run bytes).value).run now).value) → P ((first >>= next).run bytes).value
@@ -119,8 +94,3 @@ then_gives P first next bytes more =
     let before = first.run bytes in
     let now = after_writes before.wrote bytes in
     subst P (sym (ap (λ t. t.value) (run_then-is first next bytes))) (more now)
-
-pub with_address_place : (va : ℕ) (place : Result Place Cause) (P : Place → Type 0) → IfOk place P
-    → IfOk (with_address va place) P
-with_address_place va (Err cause) P holds = tt
-with_address_place va (Ok place) P holds = holds

@@ -1,8 +1,11 @@
-pub mod Looks
+pub mod Granted
 pub mod Grants
+pub mod Joined
+pub mod Kept
+pub mod Looks
+pub mod Mapped
+pub mod Marks
 pub mod Orders
 pub mod Physical
-pub mod Mapped
+pub mod Sets
 pub mod Unconfigured
-pub mod Writes
-pub mod ZeroBytes

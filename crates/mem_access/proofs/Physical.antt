@@ -1,17 +1,20 @@
 -- Without translation the physical address is the virtual one.
-use Rattle.std.proofs.Common.{◌≡◌, ℕ, ◌+◌, ◌%◌, ◌^◌, Bool, true, false, not, ◌&&◌, [], refl, sym, ap, ◌∙◌, subst, inl}
-use Rattle.std.proofs.Common.{inr, Ok, Err, Result, if◌then◌else◌}
-use Rattle.std.specs.Prelude.{◌==◌, All, IfOk}
-use Rattle.std.proofs.lemmas.List.Elements.{All-nil}
+use Rattle.std.proofs.Common.{◌≡◌, ℕ, ◌+◌, ◌%◌, ◌^◌, ◌<◌, Bool, true, false, not, ◌&&◌, List, [], ◌∷◌, ◌++◌, get_or}
+use Rattle.std.proofs.Common.{refl, sym, ap, ◌∙◌, subst, inl, inr, arith, Ok, Err, Result, if◌then◌else◌}
+use Rattle.std.specs.Prelude.{◌==◌, All, Contains, IfOk}
+use Rattle.std.proofs.lemmas.List.{get_or-map, length-map}
+use Rattle.std.proofs.lemmas.List.Elements.{All-append, All-map}
+use Rattle.std.proofs.lemmas.Result.{IfOk-weaker}
 use Rattle.hart_words.specs.declared.privilege.Mode.{Mode}
 use Rattle.hart_words.specs.declared.privilege.Cause.{Cause}
 use Rattle.hart_words.specs.declared.privilege.Cause.TheVariants.{LoadAddressMisaligned, StoreAddressMisaligned}
 use Rattle.hart_words.specs.declared.map.Map.{Map}
+use Rattle.hart_words.specs.declared.choices.Choices.{Choices}
 use Rattle.hart_words.specs.declared.accesses.Read.{Read}
-use Rattle.hart_words.specs.Memory.{Bytes}
-use Rattle.hart_words.specs.Spans.{holds_all}
+use Rattle.hart_words.specs.declared.accesses.Write.{Write}
+use Rattle.hart_words.specs.Memory.{Bytes, after_writes}
 use Rattle.hart_words.specs.Privilege.{access_fault_of}
-use Rattle.hart_words.specs.Actions.{pure, read_memory, mapped, ◌>>=◌}
+use Rattle.hart_words.specs.Spans.{holds_all}
 use Rattle.csr_file.specs.declared.csrs.Csrs.{Csrs}
 use Rattle.csr_file.specs.declared.stored_csr.StoredCsr.TheVariants.{Satp}
 use Rattle.csr_file.specs.declared.fields.TheConstants.{BARE}
@@ -21,12 +24,19 @@ use Rattle.pmp_check.specs.Protection.{is_machine}
 use Rattle.mem_access.specs.declared.place.AccessRequest.{AccessRequest}
 use Rattle.mem_access.specs.declared.place.Place.{Place}
 use Rattle.mem_access.specs.Places.{is_device, is_permitted, place_of}
-use Rattle.mem_access.specs.Translation.{is_translated, physical_address_of, place_after_translation, virtual_place_of}
-use Rattle.mem_access.specs.Accesses.{Exception, parcel_fetch, data_load, data_store, parcel_from, parcel_at}
-use Rattle.mem_access.specs.Accesses.{after_first, with_second, fetch_result, value_at, load_from, load_result}
-use Rattle.mem_access.specs.Accesses.{with_address, store_place_of}
-use Rattle.mem_access.specs.Laws.{IsUntranslated, IsParcelOf, FetchIsPhysical, LoadIsPhysical, StoreIsPhysical}
-use Rattle.mem_access.proofs.Grants.{then_reads, then_gives, one_element, load_from_place, with_address_place}
+use Rattle.mem_access.specs.Translation.{is_translated}
+use Rattle.mem_access.specs.Accesses.{Exception, Loaded, Part, Places, data_load, data_store, first_part}
+use Rattle.mem_access.specs.Accesses.{has_second_part, is_split, parcel_fetch, request_for, second_part}
+use Rattle.mem_access.specs.Reads.{CheckedRead, PlacedPart, access_reads_of, address_found, bytes_after_walk}
+use Rattle.mem_access.specs.Reads.{data_reads_of, fetch_reads_of, has_second, own_read, own_reads_at, own_reads_of}
+use Rattle.mem_access.specs.Reads.{part_found, part_walks_of, parts_of, place_found, places_found}
+use Rattle.mem_access.specs.Reads.{reads_in, request_at, walk_reads_of, walk_sets_of, where_placed, whole_part}
+use Rattle.mem_access.specs.Laws.{ArePhysical, FetchIsPhysical, IsParcelOf, IsPartRead, IsUntranslated, LoadIsPhysical}
+use Rattle.mem_access.specs.Laws.{StoreIsPhysical, parts_in}
+use Rattle.mem_access.proofs.Granted.{HoldsOfOwn, Look, all_if, look_places, own_all, own_parts_all}
+use Rattle.mem_access.proofs.Granted.{parts_all, same_parts}
+use Rattle.mem_access.proofs.Orders.{data_sets_of, fetch_noted, load_from_places, load_noted, load_value, part_sets_of}
+use Rattle.mem_access.proofs.Orders.{places_by, store_noted, store_value}
 
 abbrev pub IsAt : ℕ → Place → Type 0
 IsAt pa place = place.pa ≡ pa
@@ -44,26 +54,16 @@ is_off csrs mode (inr bare) =
     let P : ℕ → Type 0 = λ n. (not (is_machine mode) && not (n == BARE)) ≡ false in
     subst P (sym bare) (both_off (not (is_machine mode)))
 
--- the physical address is the virtual one, and nothing is read for it
-bare : (csrs : Csrs) (map : Map) (request : AccessRequest) (va : ℕ) → is_translated csrs request.mode ≡ false
-    → physical_address_of csrs map request va ≡ pure (Ok va)
-unfolding physical_address_of
-bare csrs map request va off = rw off refl
+-- nothing is read or set on the way
+no_walk : (csrs : Csrs) (map : Map) (mode : Mode) (va : ℕ) (bytes : Bytes) → is_translated csrs mode ≡ false
+    → walk_reads_of csrs map mode va bytes ≡ []
+unfolding walk_reads_of
+no_walk csrs map mode va bytes off = rw off refl
 
-bare_reach : (csrs : Csrs) (map : Map) (request : AccessRequest) (va : ℕ) (bytes : Bytes)
-    → (mapped (place_after_translation csrs map request) (pure (Ok va))).run bytes
-    ≡ record { value = place_of csrs map request va; reads = []; wrote = [] }
-unfolding mapped pure
-bare_reach csrs map request va bytes = refl
-
-reached_at : (csrs : Csrs) (map : Map) (request : AccessRequest) (va : ℕ) (bytes : Bytes)
-    → is_translated csrs request.mode ≡ false
-    → (virtual_place_of csrs map request va).run bytes
-    ≡ record { value = place_of csrs map request va; reads = []; wrote = [] }
-unfolding virtual_place_of
-reached_at csrs map request va bytes off =
-    ap (λ way. (mapped (place_after_translation csrs map request) way).run bytes) (bare csrs map request va off)
-    ∙ bare_reach csrs map request va bytes
+no_sets : (csrs : Csrs) (map : Map) (choices : Choices) (request : AccessRequest) (va : ℕ) (bytes : Bytes)
+    → is_translated csrs request.mode ≡ false → walk_sets_of csrs map choices request va bytes ≡ []
+unfolding walk_sets_of
+no_sets csrs map choices request va bytes off = rw off refl
 
 place_by : (csrs : Csrs) (map : Map) (request : AccessRequest) (pa : ℕ) (held device granted : Bool)
     → IfOk
@@ -82,140 +82,259 @@ placed_at csrs map request pa =
     place_by csrs map request pa (holds_all map.ram pa request.len)
     (request.devices && is_device map.io pa request.len) (is_permitted csrs request pa)
 
-reach_at : (csrs : Csrs) (map : Map) (request : AccessRequest) (va : ℕ) (bytes : Bytes)
-    → is_translated csrs request.mode ≡ false → IfOk ((virtual_place_of csrs map request va).run bytes).value (IsAt va)
-reach_at csrs map request va bytes off =
-    subst (λ (placed : Result Place Cause). IfOk placed (IsAt va))
-    (sym (ap (λ t. t.value) (reached_at csrs map request va bytes off))) (placed_at csrs map request va)
+-- the place is at the virtual address
+pub found_at : (csrs : Csrs) (map : Map) (choices : Choices) (request : AccessRequest) (va : ℕ) (bytes : Bytes)
+    → is_translated csrs request.mode ≡ false → IfOk (place_found csrs map choices request va bytes) (IsAt va)
+unfolding place_found address_found
+found_at csrs map choices request va bytes off =
+    let P : Result Place Cause → Type 0 = λ placed. IfOk placed (IsAt va) in
+    rw off (placed_at csrs map request va)
 
-reach_reads_none : (csrs : Csrs) (map : Map) (request : AccessRequest) (va : ℕ) (bytes : Bytes)
-    → is_translated csrs request.mode ≡ false → ((virtual_place_of csrs map request va).run bytes).reads ≡ []
-reach_reads_none csrs map request va bytes off = ap (λ t. t.reads) (reached_at csrs map request va bytes off)
-
-none_of : (P : Read → Type 0) (csrs : Csrs) (map : Map) (request : AccessRequest) (va : ℕ) (bytes : Bytes)
-    → is_translated csrs request.mode ≡ false → All P ((virtual_place_of csrs map request va).run bytes).reads
-none_of P csrs map request va bytes off =
-    subst (All P) (sym (reach_reads_none csrs map request va bytes off)) (All-nil P)
-
-parcel_from_at : (P : Read → Type 0) (at : ℕ) (place : Result Place Cause) (bytes : Bytes)
-    → P (record { pa = at; len = 2 }) → IfOk place (IsAt at) → All P ((parcel_from at place).run bytes).reads
-unfolding pure mapped read_memory
-parcel_from_at P at (Err cause) bytes holds is = All-nil P
-parcel_from_at P at (Ok place) bytes holds is =
-    let Q : ℕ → Type 0 = λ pa. P (record { pa = pa; len = 2 }) in
-    one_element P (record { pa = place.pa; len = 2 }) (subst Q (sym is) holds)
-
-parcel_physical : (P : Read → Type 0) (csrs : Csrs) (map : Map) (mode : Mode) (at : ℕ) (bytes : Bytes)
-    → P (record { pa = at; len = 2 }) → is_translated csrs mode ≡ false
-    → All P ((parcel_at csrs map mode at).run bytes).reads
-unfolding parcel_at
-parcel_physical P csrs map mode at bytes holds off =
+-- a fetch
+one_parcel : (P : CheckedRead → Type 0) (csrs : Csrs) (map : Map) (choices : Choices) (mode : Mode) (va : ℕ)
+    (bytes : Bytes)
+    → (is_translated csrs mode ≡ false)
+    × ((place : Place) → IsAt va place → P (own_read (parcel_fetch mode) va place))
+    → All P (access_reads_of csrs map choices (parcel_fetch mode) va bytes)
+unfolding access_reads_of
+one_parcel P csrs map choices mode va bytes is =
     let request = parcel_fetch mode in
-    let way = virtual_place_of csrs map request at in
-    then_reads P way (parcel_from at) bytes (none_of P csrs map request at bytes off)
-    (λ now. parcel_from_at P at (way.run bytes).value now holds (reach_at csrs map request at bytes off))
+    let placed = place_found csrs map choices request va bytes in
+    let own = own_reads_at request va placed in
+    let Q : List CheckedRead → Type 0 = λ walk. All P (walk ++ own) in
+    subst Q (sym (no_walk csrs map mode va bytes is.0))
+    (own_all P request va placed
+    (IfOk-weaker placed (IsAt va) (λ place. place.io ≡ false → P (own_read request va place))
+    (λ place here memory. is.1 place here) (found_at csrs map choices request va bytes is.0)))
 
-second_physical : (csrs : Csrs) (map : Map) (mode : Mode) (pc first : ℕ) (long : Bool) (bytes : Bytes)
+abbrev IsParcelCheck : ℕ → CheckedRead → Type 0
+IsParcelCheck pc check = IsParcelOf pc check.read
+
+fetch_reads_physical : (csrs : Csrs) (map : Map) (choices : Choices) (mode : Mode) (pc : ℕ) (bytes : Bytes)
     → is_translated csrs mode ≡ false
-    → All (IsParcelOf pc)
-    ((if long then mapped (with_second first) (parcel_at csrs map mode ((pc + 2) % 2 ^ 64)) else pure
-    (Ok (first, 2))).run bytes).reads
-unfolding pure mapped
-second_physical csrs map mode pc first true bytes off =
-    parcel_physical (IsParcelOf pc) csrs map mode ((pc + 2) % 2 ^ 64) bytes (refl, inr refl) off
-second_physical csrs map mode pc first false bytes off = All-nil (IsParcelOf pc)
+    → All (IsParcelCheck pc) (fetch_reads_of csrs map choices mode pc bytes)
+unfolding fetch_reads_of
+fetch_reads_physical csrs map choices mode pc bytes off =
+    let request = parcel_fetch mode in
+    let next : ℕ = (pc + 2) % 2 ^ 64 in
+    let now = bytes_after_walk csrs map choices request pc bytes in
+    let second = access_reads_of csrs map choices request next now in
+    let long = has_second now (place_found csrs map choices request pc bytes) in
+    All-append (IsParcelCheck pc) (access_reads_of csrs map choices request pc bytes) (if long then second else [])
+    (one_parcel (IsParcelCheck pc) csrs map choices mode pc bytes (off, λ place here. (refl, inl here)))
+    (all_if (IsParcelCheck pc) second long
+    (one_parcel (IsParcelCheck pc) csrs map choices mode next now (off, λ place here. (refl, inr here))))
 
-rest_physical : (csrs : Csrs) (map : Map) (mode : Mode) (pc : ℕ) (first : Result ℕ Exception) (bytes : Bytes)
-    → is_translated csrs mode ≡ false → All (IsParcelOf pc) ((after_first csrs map mode pc first).run bytes).reads
-unfolding pure
-rest_physical csrs map mode pc (Err exception) bytes off = All-nil (IsParcelOf pc)
-rest_physical csrs map mode pc (Ok first) bytes off = second_physical csrs map mode pc first (first % 4 == 3) bytes off
+none_if : (one two : List Write) (made : Bool) → one ≡ [] → two ≡ [] → one ++ (if made then two else []) ≡ []
+none_if one two true first second = ap (λ w. w ++ two) first ∙ second
+none_if one two false first second = ap (λ w. w ++ []) first
 
-pub fetch_physical : (csrs : Csrs) (map : Map) (mode : Mode) (pc : ℕ) (bytes : Bytes)
-    → FetchIsPhysical csrs map mode pc bytes
-unfolding fetch_result
-fetch_physical csrs map mode pc bytes bare_or_machine =
+pub fetch_physical : (csrs : Csrs) (map : Map) (choices : Choices) (mode : Mode) (pc : ℕ) (bytes : Bytes)
+    → FetchIsPhysical csrs map choices mode pc bytes
+fetch_physical csrs map choices mode pc bytes bare_or_machine =
     let off = is_off csrs mode bare_or_machine in
-    let first = parcel_at csrs map mode pc in
-    then_reads (IsParcelOf pc) first (after_first csrs map mode pc) bytes
-    (parcel_physical (IsParcelOf pc) csrs map mode pc bytes (refl, inl refl) off)
-    (λ now. rest_physical csrs map mode pc (first.run bytes).value now off)
-
-abbrev IsLoaded : ℕ → ℕ → Read → Type 0
-IsLoaded va len read = (read.pa ≡ va) × (read.len ≡ len)
-
-value_physical : (place : Place) (va len : ℕ) (io : Bool) (bytes : Bytes) → place.pa ≡ va
-    → All (IsLoaded va len) ((value_at place len io).run bytes).reads
-unfolding pure mapped read_memory
-value_physical place va len true bytes is = All-nil (IsLoaded va len)
-value_physical place va len false bytes is =
-    one_element (IsLoaded va len) (record { pa = place.pa; len = len }) (is, refl)
-
-load_from_physical : (va len : ℕ) (place : Result Place Cause) (bytes : Bytes) → IfOk place (IsAt va)
-    → All (IsLoaded va len) ((load_from va len place).run bytes).reads
-unfolding pure
-load_from_physical va len (Err cause) bytes is = All-nil (IsLoaded va len)
-load_from_physical va len (Ok place) bytes is = value_physical place va len place.io bytes is
-
-load_reads_by : (csrs : Csrs) (map : Map) (request : AccessRequest) (va len : ℕ) (aligned : Bool) (bytes : Bytes)
-    → is_translated csrs request.mode ≡ false
-    → All (IsLoaded va len)
-    ((if aligned then virtual_place_of csrs map request va
-    >>= load_from va len else pure (Err (LoadAddressMisaligned, va))).run bytes).reads
-unfolding pure
-load_reads_by csrs map request va len true bytes off =
-    let way = virtual_place_of csrs map request va in
-    then_reads (IsLoaded va len) way (load_from va len) bytes (none_of (IsLoaded va len) csrs map request va bytes off)
-    (λ now. load_from_physical va len (way.run bytes).value now (reach_at csrs map request va bytes off))
-load_reads_by csrs map request va len false bytes off = All-nil (IsLoaded va len)
-
-load_place_by : (csrs : Csrs) (map : Map) (request : AccessRequest) (va len : ℕ) (aligned : Bool) (bytes : Bytes)
-    → is_translated csrs request.mode ≡ false
-    → IfOk
-    ((if aligned then virtual_place_of csrs map request va
-    >>= load_from va len else pure (Err (LoadAddressMisaligned, va))).run bytes).value (λ found. found.0.pa ≡ va)
-unfolding pure
-load_place_by csrs map request va len true bytes off =
-    let way = virtual_place_of csrs map request va in
-    then_gives (λ found. IfOk found (λ f. f.0.pa ≡ va)) way (load_from va len) bytes
-    (λ now. load_from_place va len (way.run bytes).value (IsAt va) now (reach_at csrs map request va bytes off))
-load_place_by csrs map request va len false bytes off = tt
-
-pub load_physical : (csrs : Csrs) (map : Map) (mode : Mode) (va len : ℕ) (atomic : Bool) (bytes : Bytes)
-    → LoadIsPhysical csrs map mode va len atomic bytes
-unfolding load_result
-load_physical csrs map mode va len atomic bytes bare_or_machine =
-    let request = data_load csrs mode len atomic in
-    let off = is_off csrs request.mode bare_or_machine in (
-      load_reads_by csrs map request va len (va % len == 0) bytes off,
-      load_place_by csrs map request va len (va % len == 0) bytes off,
+    let request = parcel_fetch mode in
+    let next : ℕ = (pc + 2) % 2 ^ 64 in
+    let now = bytes_after_walk csrs map choices request pc bytes in
+    let noted = fetch_noted csrs map choices mode pc bytes in
+    let checks = fetch_reads_of csrs map choices mode pc bytes in
+    let P : List Read → Type 0 = All (IsParcelOf pc) in (
+      subst P (sym noted.reads)
+          (All-map (IsParcelOf pc) (λ check. check.read) checks
+          (fetch_reads_physical csrs map choices mode pc bytes off)),
+      noted.wrote
+          ∙ none_if (walk_sets_of csrs map choices request pc bytes) (walk_sets_of csrs map choices request next now)
+          (has_second now (place_found csrs map choices request pc bytes))
+          (no_sets csrs map choices request pc bytes off) (no_sets csrs map choices request next now off),
     )
 
-store_reads_by : (csrs : Csrs) (map : Map) (request : AccessRequest) (va : ℕ) (aligned : Bool) (bytes : Bytes)
-    → is_translated csrs request.mode ≡ false
-    → ((if aligned then mapped (with_address va) (virtual_place_of csrs map request va) else pure
-    (Err (StoreAddressMisaligned, va))).run bytes).reads ≡ []
-unfolding pure mapped
-store_reads_by csrs map request va true bytes off = reach_reads_none csrs map request va bytes off
-store_reads_by csrs map request va false bytes off = refl
+-- parts
+none_where : {A : Type 0} (one : List A) (found : Result Place Cause) (more : List A) → one ≡ [] → more ≡ []
+    → one ++ where_placed found more ≡ []
+none_where one (Err cause) more first second = ap (λ xs. xs ++ []) first
+none_where one (Ok place) more first second = ap (λ xs. xs ++ more) first ∙ second
 
-store_place_by : (csrs : Csrs) (map : Map) (request : AccessRequest) (va : ℕ) (aligned : Bool) (bytes : Bytes)
-    → is_translated csrs request.mode ≡ false
-    → IfOk
-    ((if aligned then mapped (with_address va) (virtual_place_of csrs map request va) else pure
-    (Err (StoreAddressMisaligned, va))).run bytes).value (IsAt va)
-unfolding pure mapped
-store_place_by csrs map request va true bytes off =
-    with_address_place va ((virtual_place_of csrs map request va).run bytes).value (IsAt va)
-    (reach_at csrs map request va bytes off)
-store_place_by csrs map request va false bytes off = tt
+no_walks : (csrs : Csrs) (map : Map) (choices : Choices) (request : AccessRequest) (parts : List Part)
+    (bytes : Bytes) → is_translated csrs request.mode ≡ false
+    → part_walks_of csrs map choices request parts bytes ≡ []
+unfolding part_walks_of
+no_walks csrs map choices request [] bytes off = refl
+no_walks csrs map choices request (part ∷ parts) bytes off =
+    let now = bytes_after_walk csrs map choices request part.va bytes in
+    none_where (walk_reads_of csrs map request.mode part.va bytes) (part_found csrs map choices request part bytes)
+    (part_walks_of csrs map choices request parts now) (no_walk csrs map request.mode part.va bytes off)
+    (no_walks csrs map choices request parts now off)
 
-pub store_physical : (csrs : Csrs) (map : Map) (mode : Mode) (va len : ℕ) (atomic : Bool) (bytes : Bytes)
-    → StoreIsPhysical csrs map mode va len atomic bytes
-unfolding store_place_of
-store_physical csrs map mode va len atomic bytes bare_or_machine =
+no_part_sets : (csrs : Csrs) (map : Map) (choices : Choices) (request : AccessRequest) (parts : List Part)
+    (bytes : Bytes) → is_translated csrs request.mode ≡ false
+    → part_sets_of csrs map choices request parts bytes ≡ []
+unfolding part_sets_of
+no_part_sets csrs map choices request [] bytes off = refl
+no_part_sets csrs map choices request (part ∷ parts) bytes off =
+    let now = bytes_after_walk csrs map choices request part.va bytes in
+    none_where (walk_sets_of csrs map choices request part.va bytes)
+    (part_found csrs map choices request part bytes) (part_sets_of csrs map choices request parts now)
+    (no_sets csrs map choices request part.va bytes off) (no_part_sets csrs map choices request parts now off)
+
+same_mode : (request : AccessRequest) (va : ℕ) → (request_at request va).mode ≡ request.mode
+unfolding request_at
+same_mode request va = by (va % request.len == 0)
+  where
+    by : (aligned : Bool) → (if aligned then request else record request { devices = false }).mode ≡ request.mode
+    by true = refl
+    by false = refl
+
+still_off : (csrs : Csrs) (request : AccessRequest) (va : ℕ) → is_translated csrs request.mode ≡ false
+    → is_translated csrs (request_at request va).mode ≡ false
+still_off csrs request va off = ap (is_translated csrs) (same_mode request va) ∙ off
+
+-- each part is at its own address
+abbrev IsAtPart : PlacedPart → Type 0
+IsAtPart placed = placed.place.pa ≡ placed.part.va
+
+parts_at : (csrs : Csrs) (map : Map) (choices : Choices) (request : AccessRequest) (atomic : Bool) (va : ℕ)
+    (bytes : Bytes) → is_translated csrs request.mode ≡ false
+    → IfOk (places_found csrs map choices request atomic va bytes) (All IsAtPart)
+parts_at csrs map choices request atomic va bytes off =
+    let asked = request_at request va in
+    parts_all csrs map choices asked IsAtPart (parts_of choices request atomic va) bytes
+    (λ part now. found_at csrs map choices (request_for asked part) part.va now (still_off csrs request va off))
+
+-- each of the parts that were found is one of them
+abbrev IsOneOf : List Part → PlacedPart → Type 0
+IsOneOf parts placed = Contains parts placed.part
+
+each_in : (placed : List PlacedPart) → All (IsOneOf (parts_in placed)) placed
+each_in placed = λ k d below.
+    let part = (get_or placed k d).part in (
+      k,
+      subst (λ (n : ℕ). k < n) (sym (length-map placed (λ one. one.part))) below,
+      get_or-map (λ one. one.part) placed k d part below,
+    )
+
+own_in : (request : AccessRequest) (parts : List Part) (found : Result (List PlacedPart) Exception)
+    → IfOk found (λ placed. parts_in placed ≡ parts) → IfOk found (All IsAtPart)
+    → IfOk found (All (HoldsOfOwn (λ check. IsPartRead parts check.read) request))
+own_in request parts (Err exception) same at = tt
+own_in request parts (Ok placed) same at = λ k d below memory.
+    let one = get_or placed k d in
+    let P : List Part → Type 0 = λ those. Contains those one.part in
+    let Q : ℕ → Type 0 = λ va. Contains parts (record { va = va; len = one.part.len }) in
+    subst Q (sym (at k d below)) (subst P same (each_in placed k d below))
+
+-- the first part begins at the address, and the second where its page ends
+abbrev StartAt : ℕ → ℕ → List Part → Type 0
+StartAt va len [] = Unit {0}
+StartAt va len (one ∷ []) = one.va ≡ va
+StartAt va len (one ∷ two ∷ more) = (one.va ≡ va) × (two.va ≡ (second_part va len).va)
+
+parts_start : (choices : Choices) (request : AccessRequest) (atomic : Bool) (va : ℕ)
+    → StartAt va request.len (parts_of choices request atomic va)
+unfolding parts_of
+parts_start choices request atomic va =
+    by (va % request.len == 0) (is_split choices request atomic va) (has_second_part va request.len)
+  where
+    by : (aligned split over : Bool)
+        → StartAt va request.len
+        (if aligned then whole_part va request.len ∷ []
+        else if split then
+        (if over then first_part va request.len ∷ second_part va request.len ∷ [] else whole_part va request.len ∷ [])
+        else [])
+    by true split over = refl
+    by false true true = (refl, refl)
+    by false true false = refl
+    by false false over = tt
+
+places_at : (va len : ℕ) (trap : Exception) (found : Result (List PlacedPart) Exception)
+    → IfOk found (λ placed. StartAt va len (parts_in placed)) → IfOk found (All IsAtPart)
+    → IfOk (places_by trap found) (ArePhysical va len)
+places_at va len trap (Err exception) start at = tt
+places_at va len trap (Ok []) start at = tt
+places_at va len trap (Ok (one ∷ [])) start at = (at 0 one (omega arith) ∙ start, tt)
+places_at va len trap (Ok (one ∷ two ∷ [])) start at =
+    (at 0 one (omega arith) ∙ start.0, at 1 two (omega arith) ∙ start.1)
+places_at va len trap (Ok (one ∷ two ∷ three ∷ more)) start at = tt
+
+places_physical : (look : Look) (atomic : Bool) (trap : Exception) (va : ℕ)
+    → is_translated look.csrs look.request.mode ≡ false
+    → IfOk (places_by trap (look_places look atomic va)) (ArePhysical va look.request.len)
+places_physical look atomic trap va off =
+    let found = look_places look atomic va in
+    let parts = parts_of look.choices look.request atomic va in
+    let P : List Part → Type 0 = StartAt va look.request.len in
+    places_at va look.request.len trap found
+    (IfOk-weaker found (λ placed. parts_in placed ≡ parts) (λ placed. P (parts_in placed))
+    (λ placed same. subst P (sym same) (parts_start look.choices look.request atomic va))
+    (same_parts look.csrs look.map look.choices (request_at look.request va) parts look.bytes))
+    (parts_at look.csrs look.map look.choices look.request atomic va look.bytes off)
+
+reads_physical : (csrs : Csrs) (map : Map) (choices : Choices) (request : AccessRequest) (atomic : Bool) (va : ℕ)
+    (bytes : Bytes) → is_translated csrs request.mode ≡ false
+    → All (IsPartRead (parts_of choices request atomic va))
+    (reads_in (data_reads_of csrs map choices request atomic true va bytes))
+unfolding data_reads_of
+reads_physical csrs map choices request atomic va bytes off =
+    let asked = request_at request va in
+    let parts = parts_of choices request atomic va in
+    let found = places_found csrs map choices request atomic va bytes in
+    let own = own_reads_of request found in
+    let Q : CheckedRead → Type 0 = λ check. IsPartRead parts check.read in
+    let P : List CheckedRead → Type 0 = λ walks. All (IsPartRead parts) (reads_in (walks ++ own)) in
+    subst P (sym (no_walks csrs map choices asked parts bytes (still_off csrs request va off)))
+    (All-map (IsPartRead parts) (λ check. check.read) own
+    (own_parts_all Q request found
+    (own_in request parts found (same_parts csrs map choices asked parts bytes)
+    (parts_at csrs map choices request atomic va bytes off))))
+
+no_data_sets : (csrs : Csrs) (map : Map) (choices : Choices) (request : AccessRequest) (atomic : Bool) (va : ℕ)
+    (bytes : Bytes) → is_translated csrs request.mode ≡ false
+    → data_sets_of csrs map choices request atomic va bytes ≡ []
+no_data_sets csrs map choices request atomic va bytes off =
+    no_part_sets csrs map choices (request_at request va) (parts_of choices request atomic va) bytes
+    (still_off csrs request va off)
+
+no_data_reads : (csrs : Csrs) (map : Map) (choices : Choices) (request : AccessRequest) (atomic : Bool) (va : ℕ)
+    (bytes : Bytes) → is_translated csrs request.mode ≡ false
+    → reads_in (data_reads_of csrs map choices request atomic false va bytes) ≡ []
+unfolding data_reads_of
+no_data_reads csrs map choices request atomic va bytes off =
+    ap (λ walks. reads_in (walks ++ []))
+    (no_walks csrs map choices (request_at request va) (parts_of choices request atomic va) bytes
+    (still_off csrs request va off))
+
+pub load_physical : (csrs : Csrs) (map : Map) (choices : Choices) (mode : Mode) (va len : ℕ) (atomic : Bool)
+    (bytes : Bytes) → LoadIsPhysical csrs map choices mode va len atomic bytes
+load_physical csrs map choices mode va len atomic bytes bare_or_machine =
+    let request = data_load csrs mode len atomic in
+    let off = is_off csrs request.mode bare_or_machine in
+    let look : Look =
+    record { csrs = csrs; map = map; choices = choices; request = request; bytes = bytes } in
+    let noted = load_noted csrs map choices mode va len atomic bytes in
+    let trap : Exception = (LoadAddressMisaligned, va) in
+    let places = places_by trap (places_found csrs map choices request atomic va bytes) in
+    let now = after_writes (data_sets_of csrs map choices request atomic va bytes) bytes in
+    let P : Result Loaded Exception → Type 0 =
+    λ loaded. IfOk loaded (λ found. ArePhysical va len (found.0, found.1)) in
+    let Q : List Read → Type 0 = All (IsPartRead (parts_of choices request atomic va)) in (
+      subst Q (sym noted.reads) (reads_physical csrs map choices request atomic va bytes off),
+      noted.wrote ∙ no_data_sets csrs map choices request atomic va bytes off,
+      subst P (sym (load_value csrs map choices mode va len atomic bytes))
+          (load_from_places va len places (ArePhysical va len) now
+          (places_physical look atomic trap va off)),
+    )
+
+pub store_physical : (csrs : Csrs) (map : Map) (choices : Choices) (mode : Mode) (va len : ℕ) (atomic : Bool)
+    (bytes : Bytes) → StoreIsPhysical csrs map choices mode va len atomic bytes
+store_physical csrs map choices mode va len atomic bytes bare_or_machine =
     let request = data_store csrs mode len atomic in
-    let off = is_off csrs request.mode bare_or_machine in (
-      store_reads_by csrs map request va (va % len == 0) bytes off,
-      store_place_by csrs map request va (va % len == 0) bytes off,
+    let off = is_off csrs request.mode bare_or_machine in
+    let look : Look =
+    record { csrs = csrs; map = map; choices = choices; request = request; bytes = bytes } in
+    let noted = store_noted csrs map choices mode va len atomic bytes in
+    let trap : Exception = (StoreAddressMisaligned, va) in
+    let P : Result Places Exception → Type 0 = λ places. IfOk places (ArePhysical va len) in (
+      noted.reads ∙ no_data_reads csrs map choices request atomic va bytes off,
+      noted.wrote ∙ no_data_sets csrs map choices request atomic va bytes off,
+      subst P (sym (store_value csrs map choices mode va len atomic bytes))
+          (places_physical look atomic trap va off),
     )

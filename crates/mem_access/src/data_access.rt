@@ -1,25 +1,44 @@
 //! Loads, and the places of stores.
 
-ghost use Rattle.std.specs.Prelude.{◌≡◌, ◌≤◌, ◌<◌, ◌+◌, ◌*◌, ◌^◌, false, true, length, IfOk};
-ghost use Rattle.hart_words.specs.Spans.{IsPlace};
-ghost use Rattle.hart_words.specs.Actions.{Observes};
+ghost use Rattle.std.specs.Prelude.{◌≡◌, ◌≤◌, ◌<◌, ◌+◌, ◌-◌, ◌*◌, ◌%◌, ◌^◌, ◌⊎◌, ◌||◌, not, false, true, length, IfOk};
+ghost use Rattle.hart_words.specs.declared.options.Marks.TheVariants.{Fault};
+ghost use Rattle.hart_words.specs.declared.options.Misaligned.TheVariants.{Trap};
+ghost use Rattle.hart_words.specs.declared.span.TheConstants.{PAGE_SIZE};
+ghost use Rattle.hart_words.specs.Actions.{Notes};
+ghost use Rattle.hart_words.specs.Options.{are_done};
 ghost use Rattle.hart_words.specs.AccessSizes.{IsLength};
-ghost use Rattle.mem_access.specs.Accesses.{data_request, load_result, store_place_of};
+ghost use Rattle.mem_access.specs.Accesses.{LieInRam, data_request, first_len, load_by, load_result, split_places_of, store_place_of, whole_place_of};
 
-use crate::address_space::{AddressSpace, WALK_READS};
+use crate::address_space::{AddressSpace, WALK_READS, WALK_SETS};
 use crate::place::{AccessRequest, Place, data_mode};
 use csr_file::Csrs;
-use hart_words::{Access, Cause, MOST_READS, Map, Mode, PhysMem, Seen};
+use hart_words::{
+    Access, Cause, Choices, MOST_READS, MOST_SETS, Map, Mode, PAGE_SIZE, PhysMem, Read, Seen, Sets,
+};
 
-/// The most reads of a data access: three entries of page tables, and its own bytes.
-pub const ACCESS_READS: usize = WALK_READS + 1;
+/// The most reads of a data access: for each of two parts three entries of page tables, and its own
+/// bytes.
+pub const ACCESS_READS: usize = 2 * PART_READS;
 
-/// Loads `len` bytes, 1, 2, 4 or 8, from a virtual address: the place and the number that stands
-/// there, 0 where a device answers. `mode` is that of the instruction; with MPRV in M the access is
-/// one of MPP. `atomic` is true for LR, which no device answers. An exception gives the cause and
-/// the address: first that it is no multiple of the length, then what protection or the map refuse.
-/// What is read is noted in `seen`, which has room for `ACCESS_READS` more.
-#[tactic(auto, unfolding(crate::specs::Accesses::load_result))]
+const PART_READS: usize = WALK_READS + 1;
+
+/// The most entries of page tables that a data access sets: one for each part.
+pub const ACCESS_SETS: usize = 2 * WALK_SETS;
+
+/// Loads `len` bytes, 1, 2, 4 or 8, from a virtual address: the place of each of its parts, and the
+/// number that stands there, 0 where a device answers. `mode` is that of the instruction; with MPRV
+/// in M the access is one of MPP. `atomic` is true for LR, which no device answers.
+///
+/// An access at a multiple of its length has one part. Another is misaligned: it traps, unless it
+/// is not atomic and `choices` has it done. Then it is split where it runs into the next page, and
+/// no device answers it. Each part in order is translated at its own first byte and checked over
+/// its own bytes. An exception gives the cause and the address of the first part that is refused,
+/// and no byte is read before all parts have their places.
+///
+/// What is read is noted in `seen`, which has room for `ACCESS_READS` more, and what is set in page
+/// tables in `sets`, which has room for `ACCESS_SETS` more. What the step has set before is read as
+/// it was set.
+#[tactic(auto, unfolding(crate::specs::Accesses::load_result, crate::specs::Accesses::data_places_of))]
 pub fn load<M: PhysMem>(
     mem: &M,
     csrs: &Csrs,
@@ -28,41 +47,46 @@ pub fn load<M: PhysMem>(
     va: u64,
     len: u8,
     atomic: bool,
+    choices: &Choices,
     seen: &mut Seen,
-) -> Result<(Place, u64), (Cause, u64)>
+    sets: &mut Sets,
+) -> Result<(Place, Option<Place>, u64), (Cause, u64)>
     requires ram { M.ram mem.now ≡ map.now.ram }
     requires length { IsLength len }
     requires room { length seen.old + ACCESS_READS ≤ MOST_READS }
-    ensures looked { Observes (load_result csrs.now map.now mode va len atomic) result
-        seen.old seen.new (M.bytes mem.now) }
+    requires sets { length sets.old + ACCESS_SETS ≤ MOST_SETS }
+    ensures looked { Notes (load_result csrs.now map.now choices.now mode va len atomic) result
+        seen.old seen.new sets.old sets.new (M.bytes mem.now) }
     ensures noted { length seen.new ≤ length seen.old + ACCESS_READS }
-    ensures fits { IfOk result (λ found. found.1 < 2 ^ (8 * len)) }
+    ensures set { length sets.new ≤ length sets.old + ACCESS_SETS }
+    ensures set_none { choices.now.marks ≡ Fault → sets.new ≡ sets.old }
+    ensures fits { IfOk result (λ found. found.2 < 2 ^ (8 * len)) }
+    ensures one { (atomic ≡ true) ⊎ ((choices.now.misaligned ≡ Trap) ⊎ (va % len ≡ 0))
+        → IfOk result (λ found. found.1 ≡ None) }
     ensures memory { atomic ≡ true → IfOk result (λ found. found.0.io ≡ false) }
-    ensures placed { IfOk result (λ found. found.0.io ≡ false
-        → IsPlace map.now.ram found.0.pa len) }
+    ensures placed { IfOk result (λ found. LieInRam map.now.ram va len (found.0, found.1)) }
 {
-    if va % u64::from(len) != 0 {
+    let request = data_request(csrs, mode, Access::Load, len, atomic);
+    let space = AddressSpace {
+        mem,
+        csrs,
+        map,
+        choices,
+    };
+    if va % u64::from(len) == 0 {
+        return load_whole(&space, request, va, seen, sets);
+    }
+    if is_trapped(choices, atomic) {
         return Err((Cause::LoadAddressMisaligned, va));
     }
-    let request = data_request(csrs, mode, Access::Load, len, atomic);
-    let space = AddressSpace { mem, csrs, map };
-    match space.reach(request, va, seen) {
-        Err(cause) => Err((cause, va)),
-        Ok(place) => {
-            if place.io {
-                return Ok((place, 0));
-            }
-            seen.put(place.pa, len);
-            Ok((place, mem.read(place.pa, len)))
-        }
-    }
+    load_split(&space, without_devices(request), va, seen, sets)
 }
 
-/// The place of a store of `len` bytes, 1, 2, 4 or 8, at a virtual address, with the mode as for a
-/// load. `atomic` is true for SC and AMO, which no device answers. An exception gives the cause and
-/// the address, in the order of a load. What is read on the way is noted in `seen`, which has room
-/// for `ACCESS_READS` more.
-#[tactic(auto, unfolding(crate::specs::Accesses::store_place_of))]
+/// The places of a store of `len` bytes, 1, 2, 4 or 8, at a virtual address, one for each of its
+/// parts; mode, parts and exceptions are as for a load. `atomic` is true for SC and AMO, which no
+/// device answers. What is read on the way is noted in `seen`, which has room for `ACCESS_READS`
+/// more, and what is set in `sets`, which has room for `ACCESS_SETS` more.
+#[tactic(auto, unfolding(crate::specs::Accesses::store_place_of, crate::specs::Accesses::data_places_of))]
 pub fn store_place<M: PhysMem>(
     mem: &M,
     csrs: &Csrs,
@@ -71,26 +95,45 @@ pub fn store_place<M: PhysMem>(
     va: u64,
     len: u8,
     atomic: bool,
+    choices: &Choices,
     seen: &mut Seen,
-) -> Result<Place, (Cause, u64)>
+    sets: &mut Sets,
+) -> Result<(Place, Option<Place>), (Cause, u64)>
     requires ram { M.ram mem.now ≡ map.now.ram }
     requires length { IsLength len }
     requires room { length seen.old + ACCESS_READS ≤ MOST_READS }
-    ensures looked { Observes (store_place_of csrs.now map.now mode va len atomic) result
-        seen.old seen.new (M.bytes mem.now) }
-    ensures noted { length seen.new ≤ length seen.old + WALK_READS }
-    ensures memory { atomic ≡ true → IfOk result (λ place. place.io ≡ false) }
-    ensures placed { IfOk result (λ place. place.io ≡ false → IsPlace map.now.ram place.pa len) }
+    requires sets { length sets.old + ACCESS_SETS ≤ MOST_SETS }
+    ensures looked { Notes (store_place_of csrs.now map.now choices.now mode va len atomic) result
+        seen.old seen.new sets.old sets.new (M.bytes mem.now) }
+    ensures noted { length seen.new ≤ length seen.old + 2 * WALK_READS }
+    ensures set { length sets.new ≤ length sets.old + ACCESS_SETS }
+    ensures set_none { choices.now.marks ≡ Fault → sets.new ≡ sets.old }
+    ensures one { (atomic ≡ true) ⊎ ((choices.now.misaligned ≡ Trap) ⊎ (va % len ≡ 0))
+        → IfOk result (λ places. places.1 ≡ None) }
+    ensures memory { atomic ≡ true → IfOk result (λ places. places.0.io ≡ false) }
+    ensures placed { IfOk result (LieInRam map.now.ram va len) }
 {
-    if va % u64::from(len) != 0 {
+    let request = data_request(csrs, mode, Access::Store, len, atomic);
+    let space = AddressSpace {
+        mem,
+        csrs,
+        map,
+        choices,
+    };
+    if va % u64::from(len) == 0 {
+        return whole_place(&space, request, va, seen, sets);
+    }
+    if is_trapped(choices, atomic) {
         return Err((Cause::StoreAddressMisaligned, va));
     }
-    let request = data_request(csrs, mode, Access::Store, len, atomic);
-    let space = AddressSpace { mem, csrs, map };
-    match space.reach(request, va, seen) {
-        Err(cause) => Err((cause, va)),
-        Ok(place) => Ok(place),
-    }
+    split_places(&space, without_devices(request), va, seen, sets)
+}
+
+/// Whether an access that is misaligned traps.
+fn is_trapped(choices: &Choices, atomic: bool) -> bool
+    ensures { result ≡ (atomic || not (are_done choices.now.misaligned)) }
+{
+    atomic || !choices.misaligned.are_done()
 }
 
 /// A load or a store as it is asked for. Devices answer none that is atomic.
@@ -102,5 +145,175 @@ fn data_request(csrs: &Csrs, mode: Mode, access: Access, len: u8, atomic: bool) 
         access,
         len,
         devices: !atomic,
+    }
+}
+
+/// The same, but that no device answers it.
+fn without_devices(request: AccessRequest) -> AccessRequest
+    ensures { result ≡ record request { devices = false } }
+{
+    AccessRequest {
+        devices: false,
+        ..request
+    }
+}
+
+/// A load of one part.
+fn load_whole<M: PhysMem>(
+    space: &AddressSpace<M>,
+    request: AccessRequest,
+    va: u64,
+    seen: &mut Seen,
+    sets: &mut Sets,
+) -> Result<(Place, Option<Place>, u64), (Cause, u64)>
+    requires nonempty { 1 ≤ request.len }
+    requires at_most_8 { request.len ≤ 8 }
+    requires page { va % PAGE_SIZE + request.len ≤ PAGE_SIZE }
+    requires room { length seen.old + PART_READS ≤ MOST_READS }
+    requires sets { length sets.old < MOST_SETS }
+    ensures looked { let s = space.now in
+        Notes (load_by (whole_place_of s.csrs.now s.map.now s.choices.now request va) va
+        request.len)
+        result seen.old seen.new sets.old sets.new (M.bytes s.mem.now) }
+    ensures noted { length seen.new ≤ length seen.old + PART_READS }
+    ensures set { length sets.new ≤ length sets.old + WALK_SETS }
+    ensures set_none { space.now.choices.now.marks ≡ Fault → sets.new ≡ sets.old }
+    ensures fits { IfOk result (λ found. found.2 < 2 ^ (8 * request.len)) }
+    ensures one { IfOk result (λ found. found.1 ≡ None) }
+    ensures memory { request.devices ≡ false → IfOk result (λ found. found.0.io ≡ false) }
+    ensures placed { IfOk result
+        (λ found. LieInRam space.now.map.now.ram va request.len (found.0, found.1)) }
+{
+    match space.part_place(request, va, seen, sets) {
+        Err(exception) => Err(exception),
+        Ok(place) => Ok((place, None, space.value_at(place, request.len, seen, sets))),
+    }
+}
+
+/// A misaligned load, which may run into the next page.
+fn load_split<M: PhysMem>(
+    space: &AddressSpace<M>,
+    request: AccessRequest,
+    va: u64,
+    seen: &mut Seen,
+    sets: &mut Sets,
+) -> Result<(Place, Option<Place>, u64), (Cause, u64)>
+    requires nonempty { 1 ≤ request.len }
+    requires at_most_8 { request.len ≤ 8 }
+    requires memory { request.devices ≡ false }
+    requires room { length seen.old + ACCESS_READS ≤ MOST_READS }
+    requires sets { length sets.old + ACCESS_SETS ≤ MOST_SETS }
+    ensures looked { let s = space.now in
+        Notes (load_by (split_places_of s.csrs.now s.map.now s.choices.now request va) va
+        request.len)
+        result seen.old seen.new sets.old sets.new (M.bytes s.mem.now) }
+    ensures noted { length seen.new ≤ length seen.old + ACCESS_READS }
+    ensures set { length sets.new ≤ length sets.old + ACCESS_SETS }
+    ensures set_none { space.now.choices.now.marks ≡ Fault → sets.new ≡ sets.old }
+    ensures fits { IfOk result (λ found. found.2 < 2 ^ (8 * request.len)) }
+    ensures memory { IfOk result (λ found. found.0.io ≡ false) }
+    ensures placed { IfOk result
+        (λ found. LieInRam space.now.map.now.ram va request.len (found.0, found.1)) }
+{
+    match split_places(space, request, va, seen, sets) {
+        Err(exception) => Err(exception),
+        Ok((place, None)) => Ok((place, None, space.value_at(place, request.len, seen, sets))),
+        Ok((first, Some(second))) => {
+            let len = first_len(va, request.len);
+            let low = Read { pa: first.pa, len };
+            let high = Read {
+                pa: second.pa,
+                len: request.len - len,
+            };
+            let value = space.joined_value(low, high, seen, sets);
+            Ok((first, Some(second), value))
+        }
+    }
+}
+
+/// The place of an access of one part.
+fn whole_place<M: PhysMem>(
+    space: &AddressSpace<M>,
+    request: AccessRequest,
+    va: u64,
+    seen: &mut Seen,
+    sets: &mut Sets,
+) -> Result<(Place, Option<Place>), (Cause, u64)>
+    requires nonempty { 1 ≤ request.len }
+    requires at_most_8 { request.len ≤ 8 }
+    requires page { va % PAGE_SIZE + request.len ≤ PAGE_SIZE }
+    requires room { length seen.old + WALK_READS ≤ MOST_READS }
+    requires sets { length sets.old < MOST_SETS }
+    ensures found { let s = space.now in
+        Notes (whole_place_of s.csrs.now s.map.now s.choices.now request va) result
+        seen.old seen.new sets.old sets.new (M.bytes s.mem.now) }
+    ensures noted { length seen.new ≤ length seen.old + WALK_READS }
+    ensures set { length sets.new ≤ length sets.old + WALK_SETS }
+    ensures set_none { space.now.choices.now.marks ≡ Fault → sets.new ≡ sets.old }
+    ensures one { IfOk result (λ places. places.1 ≡ None) }
+    ensures memory { request.devices ≡ false → IfOk result (λ places. places.0.io ≡ false) }
+    ensures placed { IfOk result (LieInRam space.now.map.now.ram va request.len) }
+{
+    match space.part_place(request, va, seen, sets) {
+        Err(exception) => Err(exception),
+        Ok(place) => Ok((place, None)),
+    }
+}
+
+/// The places of a misaligned access, which may run into the next page.
+#[tactic(auto, unfolding(crate::specs::Accesses::split_places_of))]
+fn split_places<M: PhysMem>(
+    space: &AddressSpace<M>,
+    request: AccessRequest,
+    va: u64,
+    seen: &mut Seen,
+    sets: &mut Sets,
+) -> Result<(Place, Option<Place>), (Cause, u64)>
+    requires nonempty { 1 ≤ request.len }
+    requires at_most_8 { request.len ≤ 8 }
+    requires memory { request.devices ≡ false }
+    requires room { length seen.old + 2 * WALK_READS ≤ MOST_READS }
+    requires sets { length sets.old + ACCESS_SETS ≤ MOST_SETS }
+    ensures found { let s = space.now in
+        Notes (split_places_of s.csrs.now s.map.now s.choices.now request va) result
+        seen.old seen.new sets.old sets.new (M.bytes s.mem.now) }
+    ensures noted { length seen.new ≤ length seen.old + 2 * WALK_READS }
+    ensures set { length sets.new ≤ length sets.old + ACCESS_SETS }
+    ensures set_none { space.now.choices.now.marks ≡ Fault → sets.new ≡ sets.old }
+    ensures memory { IfOk result (λ places. places.0.io ≡ false) }
+    ensures placed { IfOk result (LieInRam space.now.map.now.ram va request.len) }
+{
+    let low_len = first_len(va, request.len);
+    if low_len == request.len {
+        return whole_place(space, request, va, seen, sets);
+    }
+    let low = AccessRequest {
+        len: low_len,
+        ..request
+    };
+    let high = AccessRequest {
+        len: request.len - low_len,
+        ..request
+    };
+    let next = va.wrapping_add(u64::from(low_len));
+    let first = match space.part_place(low, va, seen, sets) {
+        Err(exception) => return Err(exception),
+        Ok(first) => first,
+    };
+    match space.part_place(high, next, seen, sets) {
+        Err(exception) => Err(exception),
+        Ok(second) => Ok((first, Some(second))),
+    }
+}
+
+/// How many bytes of an access lie in the page of its first.
+pub fn first_len(va: u64, len: u8) -> u8
+    ensures { result ≡ first_len va len }
+{
+    let left = PAGE_SIZE - va % PAGE_SIZE;
+    if u64::from(len) <= left {
+        len
+    } else {
+        left as u8
     }
 }

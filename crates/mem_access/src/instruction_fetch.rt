@@ -1,23 +1,28 @@
 //! Fetches of instructions.
 
 ghost use Rattle.std.specs.Prelude.{◌≡◌, ◌≤◌, ◌<◌, ◌+◌, ◌%◌, ◌*◌, ◌^◌, ◌⊎◌, length, IfOk};
-ghost use Rattle.hart_words.specs.Actions.{Observes};
+ghost use Rattle.hart_words.specs.declared.options.Marks.TheVariants.{Fault};
+ghost use Rattle.hart_words.specs.Actions.{Notes};
 ghost use Rattle.mem_access.specs.Accesses.{parcel_at, fetch_result};
 
-use crate::address_space::{AddressSpace, WALK_READS};
+use crate::address_space::{AddressSpace, WALK_READS, WALK_SETS};
 use crate::place::AccessRequest;
 use csr_file::Csrs;
-use hart_words::{Access, Cause, MOST_READS, Map, Mode, PhysMem, Seen};
+use hart_words::{Access, Cause, Choices, MOST_READS, MOST_SETS, Map, Mode, PhysMem, Seen, Sets};
 
 /// The most reads of a fetch: for each of two parcels three entries of page tables, and the parcel.
 pub const FETCH_READS: usize = 2 * PARCEL_READS;
 
 const PARCEL_READS: usize = WALK_READS + 1;
 
+/// The most entries of page tables that a fetch sets: one for each parcel.
+pub const FETCH_SETS: usize = 2 * WALK_SETS;
+
 /// The instruction at `pc` and its length in bytes, 2 or 4: a word of 4 where the low two bits of
 /// the first parcel are 3. Each parcel is fetched by itself, with its own check. An exception gives
 /// the cause and the address of the parcel that is refused. What is read is noted in `seen`, which
-/// has room for `FETCH_READS` more.
+/// has room for `FETCH_READS` more, and what is set in page tables in `sets`, which has room for
+/// `FETCH_SETS` more. What the step has set before is read as it was set.
 ///
 /// From the Unprivileged ISA's chapter "Introduction" (instruction length encoding) and the
 /// Privileged Architecture's chapter "Machine-Level ISA".
@@ -28,25 +33,36 @@ pub fn fetch<M: PhysMem>(
     map: &Map,
     mode: Mode,
     pc: u64,
+    choices: &Choices,
     seen: &mut Seen,
+    sets: &mut Sets,
 ) -> Result<(u32, u8), (Cause, u64)>
     requires ram { M.ram mem.now ≡ map.now.ram }
     requires even { pc % 2 ≡ 0 }
     requires room { length seen.old + FETCH_READS ≤ MOST_READS }
-    ensures looked { Observes (fetch_result csrs.now map.now mode pc) result seen.old seen.new
-        (M.bytes mem.now) }
+    requires sets { length sets.old + FETCH_SETS ≤ MOST_SETS }
+    ensures looked { Notes (fetch_result csrs.now map.now choices.now mode pc) result
+        seen.old seen.new sets.old sets.new (M.bytes mem.now) }
     ensures noted { length seen.new ≤ length seen.old + FETCH_READS }
+    ensures set { length sets.new ≤ length sets.old + FETCH_SETS }
+    ensures set_none { choices.now.marks ≡ Fault → sets.new ≡ sets.old }
     ensures lengths { IfOk result (λ word. (word.1 ≡ 2) ⊎ (word.1 ≡ 4)) }
     ensures short { IfOk result (λ word. word.1 ≡ 2 → word.0 < 2 ^ 16) }
 {
-    let first = match parcel(mem, csrs, map, mode, pc, seen) {
+    let space = AddressSpace {
+        mem,
+        csrs,
+        map,
+        choices,
+    };
+    let first = match parcel(&space, mode, pc, seen, sets) {
         Ok(first) => first,
         Err(exception) => return Err(exception),
     };
     if first % 4 != 3 {
         return Ok((u32::from(first), 2));
     }
-    match parcel(mem, csrs, map, mode, pc.wrapping_add(2), seen) {
+    match parcel(&space, mode, pc.wrapping_add(2), seen, sets) {
         Ok(second) => Ok((u32::from(first) + 0x1_0000 * u32::from(second), 4)),
         Err(exception) => Err(exception),
     }
@@ -54,19 +70,21 @@ pub fn fetch<M: PhysMem>(
 
 /// Two bytes of an instruction.
 fn parcel<M: PhysMem>(
-    mem: &M,
-    csrs: &Csrs,
-    map: &Map,
+    space: &AddressSpace<M>,
     mode: Mode,
     at: u64,
     seen: &mut Seen,
+    sets: &mut Sets,
 ) -> Result<u16, (Cause, u64)>
-    requires ram { M.ram mem.now ≡ map.now.ram }
     requires even { at % 2 ≡ 0 }
     requires room { length seen.old + PARCEL_READS ≤ MOST_READS }
-    ensures looked { Observes (parcel_at csrs.now map.now mode at) result seen.old seen.new
-        (M.bytes mem.now) }
+    requires sets { length sets.old < MOST_SETS }
+    ensures looked { Notes
+        (parcel_at space.now.csrs.now space.now.map.now space.now.choices.now mode at) result
+        seen.old seen.new sets.old sets.new (M.bytes space.now.mem.now) }
     ensures noted { length seen.new ≤ length seen.old + PARCEL_READS }
+    ensures set { length sets.new ≤ length sets.old + WALK_SETS }
+    ensures set_none { space.now.choices.now.marks ≡ Fault → sets.new ≡ sets.old }
 {
     let request = AccessRequest {
         mode,
@@ -74,12 +92,11 @@ fn parcel<M: PhysMem>(
         len: 2,
         devices: false,
     };
-    let space = AddressSpace { mem, csrs, map };
-    match space.reach(request, at, seen) {
+    match space.reach(request, at, seen, sets) {
         Err(cause) => Err((cause, at)),
         Ok(place) => {
             seen.put(place.pa, 2);
-            Ok(mem.read(place.pa, 2) as u16)
+            Ok(space.number(place.pa, 2, sets) as u16)
         }
     }
 }

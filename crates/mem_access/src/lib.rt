@@ -1,9 +1,9 @@
 //! The accesses of a hart to memory: fetches, loads, and the places of stores.
 //!
 //! In come a memory, the registers and the mode that govern accesses, and an address. Out comes the
-//! value or the place, or the exception, a cause and a trap value; what is read is noted. Each call
-//! does what its action in `specs/Accesses.antt` does. From the Privileged Architecture's chapter
-//! "Machine-Level ISA".
+//! value or the places, or the exception, a cause and a trap value; what is read and what is set in
+//! page tables is noted. Each call does what its action in `specs/Accesses.antt` does. From the
+//! Privileged Architecture's chapter "Machine-Level ISA".
 #![tactic(auto)]
 
 mod address_space;
@@ -12,9 +12,9 @@ mod instruction_fetch;
 pub mod laws;
 mod place;
 
-pub use address_space::is_translated;
-pub use data_access::{ACCESS_READS, load, store_place};
-pub use instruction_fetch::{FETCH_READS, fetch};
+pub use address_space::{AddressSpace, is_translated};
+pub use data_access::{ACCESS_READS, ACCESS_SETS, first_len, load, store_place};
+pub use instruction_fetch::{FETCH_READS, FETCH_SETS, fetch};
 pub use place::{Place, data_mode};
 
 #[cfg(test)]

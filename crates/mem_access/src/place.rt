@@ -1,8 +1,8 @@
 //! Where an access to a physical address goes.
 
-ghost use Rattle.std.specs.Prelude.{◌≡◌, ◌==◌, ◌≤◌, ◌%◌, IfOk, false};
+ghost use Rattle.std.specs.Prelude.{◌≡◌, ◌==◌, ◌≤◌, ◌+◌, ◌%◌, IfOk, false};
 ghost use Rattle.std.specs.List.{list_all};
-ghost use Rattle.hart_words.specs.AccessSizes.{IsLength};
+ghost use Rattle.hart_words.specs.declared.span.TheConstants.{PAGE_SIZE};
 ghost use Rattle.hart_words.specs.Spans.{IsPlace};
 ghost use Rattle.csr_file.specs.Registers.{pmp_entries_of};
 ghost use Rattle.pmp_check.specs.Protection.{is_allowed, is_machine};
@@ -53,8 +53,9 @@ pub fn data_mode(csrs: &Csrs, mode: Mode) -> Mode
 /// The place of an access, unless protection refuses it or nothing is there.
 #[tactic(auto, unfolding(crate::specs::Places::place_of))]
 pub fn place_of(csrs: &Csrs, map: &Map, request: AccessRequest, pa: u64) -> Result<Place, Cause>
-    requires length { IsLength request.len }
-    requires aligned { pa % request.len ≡ 0 }
+    requires nonempty { 1 ≤ request.len }
+    requires at_most_8 { request.len ≤ 8 }
+    requires page { pa % PAGE_SIZE + request.len ≤ PAGE_SIZE }
     ensures meant { result ≡ place_of csrs.now map.now request pa }
     ensures memory { request.devices ≡ false → IfOk result (λ place. place.io ≡ false) }
     ensures placed { IfOk result (λ place. place.io ≡ false

@@ -1,13 +1,11 @@
 -- The bytes of a page, address by address.
-use Rattle.std.proofs.Common.{◌≡◌, ℕ, ◌/◌, ◌%◌, ◌*◌, ◌+◌, ◌<◌, Bool, length, set, replicate, sym, ◌∙◌, ap, arith}
-use Rattle.std.proofs.Common.{if◌then◌else◌, slice_index}
+use Rattle.std.proofs.Common.{◌≡◌, ℕ, ◌%◌, ◌*◌, ◌+◌, ◌<◌, Bool, replicate, sym, ◌∙◌, ap, arith}
+use Rattle.std.proofs.Common.{slice_index}
 use Rattle.std.proofs.Common.{Bor, Option, None, Some, option_copied}
-use Rattle.std.specs.Prelude.{◌==◌}
 use Rattle.std.specs.Bool.{Decides}
 use Rattle.std.proofs.Math.Nat.{mod-eq_of_lt}
-use Rattle.std.proofs.lemmas.Bool.Decides.{nat_tests}
 use Rattle.std.proofs.lemmas.Grind.{same_number_lists}
-use Rattle.image_text.proofs.Pages.{none_at, set_at}
+use Rattle.image_text.proofs.Pages.{none_at}
 use Rattle.page_image.specs.declared.page.Page.{Page}
 use Rattle.page_image.specs.Pages.{page_byte, byte_or_zero}
 

@@ -1,5 +1,6 @@
 -- The bytes of a block, address by address.
-use Rattle.std.proofs.Common.{◌≡◌, ℕ, ◌/◌, ◌%◌, ◌*◌, ◌+◌, ◌^◌, ◌<◌, ◌≤◌, Bool, length, set, replicate, sym, ◌∙◌, ap, subst, lit<}
+use Rattle.std.proofs.Common.{◌≡◌, ℕ, ◌/◌, ◌%◌, ◌*◌, ◌+◌, ◌^◌, ◌<◌, ◌≤◌, Bool, length, set, replicate, sym, ◌∙◌, ap}
+use Rattle.std.proofs.Common.{subst, lit<}
 use Rattle.std.proofs.Common.{inl, inr, arith, if◌then◌else◌, slice_index}
 use Rattle.std.specs.Prelude.{◌==◌}
 use Rattle.std.specs.Bool.{Decides}

@@ -1,6 +1,6 @@
 -- What a change at one key of a map does to the bytes after it.
-use Rattle.std.proofs.Common.{◌≡◌, ℕ, ◌+◌, ◌-◌, ◌/◌, ◌%◌, ◌<◌, true, false, Bool, cond, Option, Some, None, option_map}
-use Rattle.std.proofs.Common.{is_some, unwrap_or, List, [], ◌∷◌, refl, sym, ap, ◌∙◌, inl, inr, arith, nat_cmp}
+use Rattle.std.proofs.Common.{◌≡◌, ℕ, ◌+◌, ◌-◌, ◌/◌, ◌%◌, ◌<◌, true, false, Bool, cond, Option, Some, None}
+use Rattle.std.proofs.Common.{is_some, List, [], ◌∷◌, refl, sym, ap, ◌∙◌, inl, inr, arith, nat_cmp}
 use Rattle.std.proofs.Math.Path.{fun_ext}
 use Rattle.std.specs.List.{AllZip}
 use Rattle.std.specs.Ordering.{is_eq}

@@ -3,7 +3,7 @@ use Rattle.std.proofs.Common.{◌≡◌, ℕ, ◌/◌, true, false, Bool, Option
 use Rattle.std.proofs.Common.{sym, ap, ◌∙◌, if◌then◌else◌}
 use Rattle.std.specs.Option.{option_or}
 use Rattle.std.proofs.Math.Path.{fun_ext}
-use Rattle.hart_words.specs.Memory.{Bytes, bytes_after_store}
+use Rattle.hart_words.specs.Memory.{Bytes}
 use Rattle.page_image.specs.declared.image.PageImage.{PageImage}
 use Rattle.page_image.specs.Bytes.{byte_of}
 use Rattle.page_layers.specs.declared.block.Block.{Block}

@@ -9,7 +9,7 @@ use Rattle.hart_words.specs.declared.privilege.PmpEntry.{PmpEntry}
 use Rattle.pmp_check.specs.declared.region.Region.{Region}
 use Rattle.pmp_check.specs.Protection.{region_of, covers_some, covers_all, entry_permits, is_machine, is_allowed_after}
 use Rattle.pmp_check.specs.Protection.{is_allowed}
-use Rattle.pmp_check.specs.Covering.{Covers, CoversAt, Decides, IsRegister, SomeByte, EachByte, entry_at}
+use Rattle.pmp_check.specs.Covering.{Covers, CoversAt, Decides, IsRegister, SomeByte, entry_at}
 use Rattle.pmp_check.specs.Covering.{register_before}
 use Rattle.pmp_check.specs.Laws.{LeastDecides, LeastRefusesPart}
 use Rattle.pmp_check.proofs.Covering.{region_of-Covers, some_byte, each_byte}

@@ -1,5 +1,5 @@
 -- What holds of every comparison.
-use Rattle.std.specs.Prelude.{◌≡◌, ◌≢◌, ℕ, bit_and, Option, Some, None}
+use Rattle.std.specs.Prelude.{◌≡◌, ◌≢◌, ℕ, bit_and, Some, None}
 use Rattle.hart_words.specs.Signals.{Shown}
 use Rattle.hart_words.specs.declared.signal.Signal.{Signal}
 use Rattle.hart_words.specs.declared.signal.Difference.{Difference}

@@ -1,6 +1,6 @@
 -- What is wanted of each signal of a row, from what the reference hart did. A signal of which nothing is
 -- wanted is free.
-use Rattle.std.specs.Prelude.{ℕ, Bool, true, false, if◌then◌else◌, Option, Some, None, Result, Ok, Err}
+use Rattle.std.specs.Prelude.{Bool, true, false, if◌then◌else◌, Option, Some, None, Result, Ok, Err}
 use Rattle.std.specs.Option.{option_and_then}
 use Rattle.hart_words.specs.Privilege.{mode_number}
 use Rattle.hart_words.specs.declared.privilege.Cause.{Cause}

@@ -10,7 +10,7 @@ mod operations;
 mod reservation;
 
 pub use operations::amo;
-pub use reservation::{BLOCK_SIZE, Reservation};
+pub use reservation::{Block, Reservation};
 
 #[cfg(test)]
 mod tests;

@@ -38,24 +38,51 @@ fn combines(rt: HostRuntime) -> Result<(), Fail> {
     Ok(())
 }
 
+/// Whether a byte that is reserved, in a block of that size, reserves `len` bytes from `pa` on.
+fn covers(
+    reservation: &mut Reservation,
+    size: u16,
+    reserved: u64,
+    pa: u64,
+    len: u8,
+) -> Result<bool, Fail> {
+    match size {
+        8 => reservation.set(reserved, 8),
+        64 => reservation.set(reserved, 64),
+        4096 => reservation.set(reserved, 4096),
+        _ => return Err(Fail::from("no such size")),
+    }
+    if len == 0 {
+        return Err(Fail::from("no bytes"));
+    }
+    Ok(reservation.covers(pa, len))
+}
+
+/// Blocks of several sizes about the byte that is reserved.
 #[test]
 fn covers_a_block(rt: HostRuntime) -> Result<(), Fail> {
     let mut reservation = Reservation::NONE;
     assert!(rt; !reservation.covers(0, 4));
-    reservation.set(0x8000_0044);
     let cases = [
-        (0x8000_0040, 1, true),
-        (0x8000_0040, 64, true),
-        (0x8000_0078, 8, true),
-        (0x8000_007c, 8, false),
-        (0x8000_003f, 1, false),
-        (0x8000_0080, 4, false),
-        (u64::MAX, 8, false),
+        (64, 0x8000_0044, 0x8000_0040, 1, true),
+        (64, 0x8000_0044, 0x8000_0040, 64, true),
+        (64, 0x8000_0044, 0x8000_0078, 8, true),
+        (64, 0x8000_0044, 0x8000_007c, 8, false),
+        (64, 0x8000_0044, 0x8000_003f, 1, false),
+        (64, 0x8000_0044, 0x8000_0080, 4, false),
+        (64, u64::MAX, u64::MAX, 1, true),
+        (64, u64::MAX, u64::MAX, 8, false),
+        (64, 0x8000_1000, 0x8000_1008, 8, true),
+        (8, 0x8000_1000, 0x8000_1008, 8, false),
+        (8, 0x8000_1004, 0x8000_1000, 8, true),
+        (4096, 0x8000_1ffc, 0x8000_1000, 4, true),
+        (4096, 0x8000_1ffc, 0x8000_2000, 4, false),
     ];
-    for (pa, len, covered) in cases {
-        assert_eq!(rt; reservation.covers(pa, len), covered);
+    for (size, reserved, pa, len, covered) in cases {
+        let found = covers(&mut reservation, size, reserved, pa, len)?;
+        assert_eq!(rt; found, covered, "{len} bytes at {pa}");
     }
     reservation.clear();
-    assert!(rt; !reservation.covers(0x8000_0040, 4));
+    assert!(rt; !reservation.covers(0x8000_1000, 4));
     Ok(())
 }

@@ -1,6 +1,6 @@
 -- The row that a word meets in the whole table is the one that it meets among the rows of its opcode.
 use Rattle.std.proofs.Common.{◌≡◌, ℕ, Bool, true, false, not, ◌&&◌, List, [], ◌∷◌, ◌++◌, Option, None, Some, bit_and}
-use Rattle.std.proofs.Common.{◌==◌, ◌%◌, refl, sym, ◌∙◌, ap, arith, if◌then◌else◌}
+use Rattle.std.proofs.Common.{◌==◌, ◌%◌, refl, sym, ◌∙◌, ap, append_assoc, arith, if◌then◌else◌}
 use Rattle.std.specs.List.{list_all, find}
 use Rattle.std.specs.Option.{option_map, option_or}
 use Rattle.std.proofs.lemmas.Nat.{and_mod, and_mask}
@@ -9,7 +9,8 @@ use Rattle.std.proofs.lemmas.Bool.Decides.{nat_tests}
 use Rattle.std.proofs.lemmas.List.Folds.{find-append}
 use Rattle.rv_decode.specs.declared.patterns.Pattern.{Pattern}
 use Rattle.rv_decode.specs.Fields.{operation_of}
-use Rattle.rv_decode.specs.Table.{Opcode, opcodes, all_rows, rows_of_opcode, meets, decoded_op_by}
+use Rattle.rv_decode.specs.Table.{Opcode, opcodes, bits_opcodes, all_rows, rows_of_opcode, meets}
+use Rattle.rv_decode.specs.Table.{decoded_op_by, decoded_op_of, decoded_op_with}
 
 -- the row asks for the opcode
 abbrev pub asks : ℕ → Pattern → Bool
@@ -97,3 +98,41 @@ pub scanned : (word : ℕ)
     → decoded_op_by (rows_of_opcode opcodes (word % 128)) word ≡ decoded_op_by (all_rows opcodes) word
 unfolding decoded_op_by opcodes
 scanned word = ap (option_map (λ row. operation_of row.form word)) (sym (found opcodes word refl))
+
+bits_scanned : (word : ℕ)
+    → decoded_op_by (rows_of_opcode bits_opcodes (word % 128)) word ≡ decoded_op_by (all_rows bits_opcodes) word
+unfolding decoded_op_by bits_opcodes
+bits_scanned word = ap (option_map (λ row. operation_of row.form word)) (sym (found bits_opcodes word refl))
+
+map_or : {A B : Type 0} (f : A → B) (one other : Option A)
+    → option_map f (option_or one other) ≡ option_or (option_map f one) (option_map f other)
+map_or f None other = refl
+map_or f (Some x) other = refl
+
+rows_append : (one other : List Opcode) → all_rows (one ++ other) ≡ all_rows one ++ all_rows other
+rows_append [] other = refl
+rows_append (opcode ∷ more) other =
+    ap (λ rows. opcode.rows ++ rows) (rows_append more other)
+    ∙ sym (append_assoc opcode.rows (all_rows more) (all_rows other))
+
+decoded_append : (one other : List Pattern) (word : ℕ)
+    → decoded_op_by (one ++ other) word ≡ option_or (decoded_op_by one word) (decoded_op_by other word)
+unfolding decoded_op_by
+decoded_append one other word =
+    ap (option_map (λ row. operation_of row.form word)) (find-append (λ row. meets row word) one other)
+    ∙ map_or (λ row. operation_of row.form word) (find (λ row. meets row word) one) (find (λ row. meets row word) other)
+
+-- without the further rows the table is the one that is always there
+pub without : (word : ℕ) → decoded_op_with word false ≡ decoded_op_of word
+unfolding decoded_op_with decoded_op_of
+without word = refl
+
+-- with them, the word meets a row of that table, or else one of the further rows of its opcode
+pub further : (word : ℕ)
+    → decoded_op_with word true
+    ≡ option_or (decoded_op_of word) (decoded_op_by (rows_of_opcode bits_opcodes (word % 128)) word)
+unfolding decoded_op_with decoded_op_of
+further word =
+    ap (λ rows. decoded_op_by rows word) (rows_append opcodes bits_opcodes)
+    ∙ decoded_append (all_rows opcodes) (all_rows bits_opcodes) word
+    ∙ ap (option_or (decoded_op_by (all_rows opcodes) word)) (sym (bits_scanned word))

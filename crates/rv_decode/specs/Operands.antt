@@ -1,13 +1,14 @@
 -- The registers that an instruction writes and reads, and where its jumps go.
--- From the Unprivileged ISA's chapters on its instructions, and the Privileged Architecture's on those of traps and
--- translation.
-use Rattle.std.specs.Prelude.{◌≡◌, ℕ, ◌<◌, ◌%◌, ◌^◌}
+-- From the Unprivileged ISA's chapters on its instructions, the Bit-Manipulation ISA-extensions, and the Privileged
+-- Architecture's chapters on traps and translation.
+use Rattle.std.specs.Prelude.{◌≡◌, ◌<◌, ◌%◌, ◌^◌}
 use Rattle.rv_decode.specs.declared.operation.Op.{Op}
 use Rattle.rv_decode.specs.declared.operation.Operands.{Operands}
 use Rattle.rv_decode.specs.declared.operation.Op.TheVariants.{Lui, Auipc, Jal, Jalr, Branch, Load, Store, Immediate}
-use Rattle.rv_decode.specs.declared.operation.Op.TheVariants.{ImmediateWord, Register, RegisterWord, Fence, FenceI}
-use Rattle.rv_decode.specs.declared.operation.Op.TheVariants.{Ecall, Ebreak, Mret, Sret, Wfi, SfenceVma, Csr}
-use Rattle.rv_decode.specs.declared.operation.Op.TheVariants.{CsrImmediate, LoadReserved, StoreConditional, Amo}
+use Rattle.rv_decode.specs.declared.operation.Op.TheVariants.{ImmediateWord, Register, RegisterWord, BitsRegister}
+use Rattle.rv_decode.specs.declared.operation.Op.TheVariants.{BitsImmediate, BitsUnary, Fence, FenceI, Ecall, Ebreak}
+use Rattle.rv_decode.specs.declared.operation.Op.TheVariants.{Mret, Sret, Wfi, SfenceVma, Csr, CsrImmediate}
+use Rattle.rv_decode.specs.declared.operation.Op.TheVariants.{LoadReserved, StoreConditional, Amo}
 
 -- the register that is written, and those that are read as rs1 and rs2: 0 where there is none
 abbrev pub operands_of : Op → Operands
@@ -22,6 +23,9 @@ operands_of (Immediate op rd rs1 imm) = record { rd = rd; rs1 = rs1; rs2 = 0 }
 operands_of (ImmediateWord op rd rs1 imm) = record { rd = rd; rs1 = rs1; rs2 = 0 }
 operands_of (Register op rd rs1 rs2) = record { rd = rd; rs1 = rs1; rs2 = rs2 }
 operands_of (RegisterWord op rd rs1 rs2) = record { rd = rd; rs1 = rs1; rs2 = rs2 }
+operands_of (BitsRegister op rd rs1 rs2) = record { rd = rd; rs1 = rs1; rs2 = rs2 }
+operands_of (BitsImmediate op rd rs1 imm) = record { rd = rd; rs1 = rs1; rs2 = 0 }
+operands_of (BitsUnary op rd rs1) = record { rd = rd; rs1 = rs1; rs2 = 0 }
 operands_of Fence = record { rd = 0; rs1 = 0; rs2 = 0 }
 operands_of FenceI = record { rd = 0; rs1 = 0; rs2 = 0 }
 operands_of Ecall = record { rd = 0; rs1 = 0; rs2 = 0 }
@@ -59,6 +63,9 @@ HasEvenOffset (Immediate op rd rs1 imm) = Unit {0}
 HasEvenOffset (ImmediateWord op rd rs1 imm) = Unit {0}
 HasEvenOffset (Register op rd rs1 rs2) = Unit {0}
 HasEvenOffset (RegisterWord op rd rs1 rs2) = Unit {0}
+HasEvenOffset (BitsRegister op rd rs1 rs2) = Unit {0}
+HasEvenOffset (BitsImmediate op rd rs1 imm) = Unit {0}
+HasEvenOffset (BitsUnary op rd rs1) = Unit {0}
 HasEvenOffset Fence = Unit {0}
 HasEvenOffset FenceI = Unit {0}
 HasEvenOffset Ecall = Unit {0}

@@ -1,6 +1,6 @@
 -- What a row of the listing fixes of a 32-bit word, by the columns that it fills.
--- From the Unprivileged ISA's chapter "RV32/64G Instruction Set Listings" and the Privileged Architecture's "RISC-V
--- Privileged Instruction Set Listings".
+-- From the Unprivileged ISA's chapter "RV32/64G Instruction Set Listings", the Privileged Architecture's "RISC-V
+-- Privileged Instruction Set Listings" and the instructions of the Bit-Manipulation ISA-extensions.
 use Rattle.std.specs.Prelude.{ℕ, ◌+◌, ◌-◌, ◌*◌, ◌^◌}
 use Rattle.rv_decode.specs.declared.patterns.Form.{Form}
 use Rattle.rv_decode.specs.declared.patterns.Pattern.{Pattern}
@@ -26,9 +26,17 @@ by_funct3 opcode funct3 form = with_field 12 3 funct3 (by_opcode opcode form)
 abbrev pub by_funct7 : ℕ → ℕ → ℕ → Form → Pattern
 by_funct7 opcode funct3 funct7 form = with_field 25 7 funct7 (by_funct3 opcode funct3 form)
 
+-- and bits 24:20, where rs2 would stand
+abbrev pub by_funct7_and_rs2 : ℕ → ℕ → ℕ → ℕ → Form → Pattern
+by_funct7_and_rs2 opcode funct3 funct7 rs2 form = with_field 20 5 rs2 (by_funct7 opcode funct3 funct7 form)
+
 -- and bits 11:7, where rd would stand
 abbrev pub by_funct7_and_rd : ℕ → ℕ → ℕ → ℕ → Form → Pattern
 by_funct7_and_rd opcode funct3 funct7 rd form = with_field 7 5 rd (by_funct7 opcode funct3 funct7 form)
+
+-- bits 31:20, where an immediate would stand
+abbrev pub by_funct12 : ℕ → ℕ → ℕ → Form → Pattern
+by_funct12 opcode funct3 funct12 form = with_field 20 12 funct12 (by_funct3 opcode funct3 form)
 
 -- bits 31:26 alone, which a shift amount of 6 bits leaves
 abbrev pub by_funct6 : ℕ → ℕ → ℕ → Form → Pattern

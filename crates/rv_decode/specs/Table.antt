@@ -1,8 +1,10 @@
 -- What a 32-bit word means: the row of the instruction table that it meets.
 -- From the Unprivileged ISA's chapter "RV32/64G Instruction Set Listings" and the Privileged Architecture's "RISC-V
--- Privileged Instruction Set Listings": a row gives the opcode (bits 6:0), funct3 (14:12), and funct7 (31:25), funct6
--- (31:26) or funct5 (31:27).
-use Rattle.std.specs.Prelude.{ℕ, Bool, List, [], ◌∷◌, ◌++◌, Option, option_map, find, bit_and, ◌==◌, if◌then◌else◌}
+-- Privileged Instruction Set Listings", and for bit manipulation (Zba, Zbb, Zbs) from the Bit-Manipulation
+-- ISA-extensions: a row gives the opcode (bits 6:0), funct3 (14:12), and funct7 (31:25), funct6 (31:26), funct5 (31:27)
+-- or funct12 (31:20).
+use Rattle.std.specs.Prelude.{ℕ, Bool, true, false, List, [], ◌∷◌, ◌++◌, Option, option_map, find, bit_and, ◌==◌}
+use Rattle.std.specs.Prelude.{if◌then◌else◌}
 use Rattle.rv_decode.specs.declared.operation.Op.{Op}
 use Rattle.rv_decode.specs.declared.operation.BranchOp.TheVariants.{Beq, Bne, Blt, Bge, Bltu, Bgeu}
 use Rattle.rv_decode.specs.declared.operation.LoadOp.TheVariants.{Lb, Lh, Lw, Ld, Lbu, Lhu, Lwu}
@@ -14,17 +16,23 @@ use Rattle.rv_decode.specs.declared.operation.RegisterOp.TheVariants.{Add, Sub, 
 use Rattle.rv_decode.specs.declared.operation.RegisterOp.TheVariants.{Mul, Mulh, Mulhsu, Mulhu, Div, Divu, Rem, Remu}
 use Rattle.rv_decode.specs.declared.operation.RegisterWordOp.TheVariants.{Addw, Subw, Sllw, Srlw, Sraw, Mulw, Divw}
 use Rattle.rv_decode.specs.declared.operation.RegisterWordOp.TheVariants.{Divuw, Remw, Remuw}
+use Rattle.rv_decode.specs.declared.operation.BitsOp.TheVariants.{Sh1add, Sh2add, Sh3add, AddUw, Sh1addUw, Sh2addUw}
+use Rattle.rv_decode.specs.declared.operation.BitsOp.TheVariants.{Sh3addUw, SlliUw, Andn, Orn, Xnor, Clz, Clzw, Ctz}
+use Rattle.rv_decode.specs.declared.operation.BitsOp.TheVariants.{Ctzw, Cpop, Cpopw, Max, Maxu, Min, Minu, SextB, SextH}
+use Rattle.rv_decode.specs.declared.operation.BitsOp.TheVariants.{ZextH, Rol, Rolw, Ror, Rorw, OrcB, Rev8, Bclr, Bext}
+use Rattle.rv_decode.specs.declared.operation.BitsOp.TheVariants.{Binv, Bset}
 use Rattle.rv_decode.specs.declared.operation.CsrOp.TheVariants.{Write, Set, Clear}
 use Rattle.rv_decode.specs.declared.operation.Width.TheVariants.{Word, Doubleword}
 use Rattle.rv_decode.specs.declared.operation.AmoOp.TheVariants.{Amoswap, Amoadd, Amoxor, Amoand, Amoor, Amomin, Amomax}
 use Rattle.rv_decode.specs.declared.operation.AmoOp.TheVariants.{Amominu, Amomaxu}
 use Rattle.rv_decode.specs.declared.patterns.Form.TheVariants.{Lui, Auipc, Jal, Jalr, Branch, Load, Store, Immediate}
 use Rattle.rv_decode.specs.declared.patterns.Form.TheVariants.{Shift, ImmediateWord, ShiftWord, Register, RegisterWord}
-use Rattle.rv_decode.specs.declared.patterns.Form.TheVariants.{Fence, FenceI, Ecall, Ebreak, Mret, Sret, Wfi, SfenceVma}
-use Rattle.rv_decode.specs.declared.patterns.Form.TheVariants.{Csr, CsrImmediate, LoadReserved, StoreConditional, Amo}
+use Rattle.rv_decode.specs.declared.patterns.Form.TheVariants.{BitsRegister, BitsShift, BitsShiftWord, BitsUnary, Fence}
+use Rattle.rv_decode.specs.declared.patterns.Form.TheVariants.{FenceI, Ecall, Ebreak, Mret, Sret, Wfi, SfenceVma, Csr}
+use Rattle.rv_decode.specs.declared.patterns.Form.TheVariants.{CsrImmediate, LoadReserved, StoreConditional, Amo}
 use Rattle.rv_decode.specs.declared.patterns.Pattern.{Pattern}
 use Rattle.rv_decode.specs.Patterns.{by_opcode, by_funct3, by_funct5, by_funct5_and_rs2, by_funct6, by_funct7}
-use Rattle.rv_decode.specs.Patterns.{by_funct7_and_rd, by_word}
+use Rattle.rv_decode.specs.Patterns.{by_funct7_and_rd, by_funct7_and_rs2, by_funct12, by_word}
 use Rattle.rv_decode.specs.Fields.{operation_of}
 
 -- LUI: the opcode alone
@@ -85,6 +93,22 @@ op_imm_rows =
     by_funct6 0x13 5 0x00 (Shift Srli) ∷
     by_funct6 0x13 5 0x10 (Shift Srai) ∷ []
 
+-- OP_IMM with bit manipulation; a shift's amount and a bit's number have 6 bits
+abbrev pub op_imm_bits_rows : List Pattern
+op_imm_bits_rows =
+    by_funct12 0x13 1 0x600 (BitsUnary Clz) ∷
+    by_funct12 0x13 1 0x601 (BitsUnary Ctz) ∷
+    by_funct12 0x13 1 0x602 (BitsUnary Cpop) ∷
+    by_funct12 0x13 1 0x604 (BitsUnary SextB) ∷
+    by_funct12 0x13 1 0x605 (BitsUnary SextH) ∷
+    by_funct6 0x13 1 0x12 (BitsShift Bclr) ∷
+    by_funct6 0x13 1 0x1a (BitsShift Binv) ∷
+    by_funct6 0x13 1 0x0a (BitsShift Bset) ∷
+    by_funct6 0x13 5 0x18 (BitsShift Ror) ∷
+    by_funct6 0x13 5 0x12 (BitsShift Bext) ∷
+    by_funct12 0x13 5 0x287 (BitsUnary OrcB) ∷
+    by_funct12 0x13 5 0x6b8 (BitsUnary Rev8) ∷ []
+
 -- OP_IMM_32; a shift's amount has 5 bits
 abbrev pub op_imm_32_rows : List Pattern
 op_imm_32_rows =
@@ -92,6 +116,15 @@ op_imm_32_rows =
     by_funct7 0x1b 1 0x00 (ShiftWord Slliw) ∷
     by_funct7 0x1b 5 0x00 (ShiftWord Srliw) ∷
     by_funct7 0x1b 5 0x20 (ShiftWord Sraiw) ∷ []
+
+-- OP_IMM_32 with bit manipulation; the shift amount of SLLI.UW has 6 bits
+abbrev pub op_imm_32_bits_rows : List Pattern
+op_imm_32_bits_rows =
+    by_funct6 0x1b 1 0x02 (BitsShift SlliUw) ∷
+    by_funct12 0x1b 1 0x600 (BitsUnary Clzw) ∷
+    by_funct12 0x1b 1 0x601 (BitsUnary Ctzw) ∷
+    by_funct12 0x1b 1 0x602 (BitsUnary Cpopw) ∷
+    by_funct7 0x1b 5 0x30 (BitsShiftWord Rorw) ∷ []
 
 -- OP
 abbrev pub op_rows : List Pattern
@@ -115,6 +148,26 @@ op_rows =
     by_funct7 0x33 6 0x01 (Register Rem) ∷
     by_funct7 0x33 7 0x01 (Register Remu) ∷ []
 
+-- OP with bit manipulation
+abbrev pub op_bits_rows : List Pattern
+op_bits_rows =
+    by_funct7 0x33 2 0x10 (BitsRegister Sh1add) ∷
+    by_funct7 0x33 4 0x10 (BitsRegister Sh2add) ∷
+    by_funct7 0x33 6 0x10 (BitsRegister Sh3add) ∷
+    by_funct7 0x33 7 0x20 (BitsRegister Andn) ∷
+    by_funct7 0x33 6 0x20 (BitsRegister Orn) ∷
+    by_funct7 0x33 4 0x20 (BitsRegister Xnor) ∷
+    by_funct7 0x33 4 0x05 (BitsRegister Min) ∷
+    by_funct7 0x33 5 0x05 (BitsRegister Minu) ∷
+    by_funct7 0x33 6 0x05 (BitsRegister Max) ∷
+    by_funct7 0x33 7 0x05 (BitsRegister Maxu) ∷
+    by_funct7 0x33 1 0x30 (BitsRegister Rol) ∷
+    by_funct7 0x33 5 0x30 (BitsRegister Ror) ∷
+    by_funct7 0x33 1 0x24 (BitsRegister Bclr) ∷
+    by_funct7 0x33 5 0x24 (BitsRegister Bext) ∷
+    by_funct7 0x33 1 0x34 (BitsRegister Binv) ∷
+    by_funct7 0x33 1 0x14 (BitsRegister Bset) ∷ []
+
 -- OP_32
 abbrev pub op_32_rows : List Pattern
 op_32_rows =
@@ -128,6 +181,17 @@ op_32_rows =
     by_funct7 0x3b 5 0x01 (RegisterWord Divuw) ∷
     by_funct7 0x3b 6 0x01 (RegisterWord Remw) ∷
     by_funct7 0x3b 7 0x01 (RegisterWord Remuw) ∷ []
+
+-- OP_32 with bit manipulation; ZEXT.H has 0 for rs2
+abbrev pub op_32_bits_rows : List Pattern
+op_32_bits_rows =
+    by_funct7 0x3b 0 0x04 (BitsRegister AddUw) ∷
+    by_funct7_and_rs2 0x3b 4 0x04 0 (BitsUnary ZextH) ∷
+    by_funct7 0x3b 2 0x10 (BitsRegister Sh1addUw) ∷
+    by_funct7 0x3b 4 0x10 (BitsRegister Sh2addUw) ∷
+    by_funct7 0x3b 6 0x10 (BitsRegister Sh3addUw) ∷
+    by_funct7 0x3b 1 0x30 (BitsRegister Rolw) ∷
+    by_funct7 0x3b 5 0x30 (BitsRegister Rorw) ∷ []
 
 -- MISC_MEM; the other fields of a fence are ignored
 abbrev pub misc_mem_rows : List Pattern
@@ -200,6 +264,19 @@ opcodes =
     record { code = 0x73; rows = system_rows } ∷
     record { code = 0x2f; rows = amo_rows } ∷ []
 
+-- the opcodes that bit manipulation gives further rows
+unfoldable pub bits_opcodes : List Opcode
+bits_opcodes =
+    record { code = 0x13; rows = op_imm_bits_rows } ∷
+    record { code = 0x1b; rows = op_imm_32_bits_rows } ∷
+    record { code = 0x33; rows = op_bits_rows } ∷
+    record { code = 0x3b; rows = op_32_bits_rows } ∷ []
+
+-- the opcode map, with the further rows or without them
+abbrev pub opcodes_with : Bool → List Opcode
+opcodes_with true = opcodes ++ bits_opcodes
+opcodes_with false = opcodes
+
 -- the rows of all opcodes
 abbrev pub all_rows : List Opcode → List Pattern
 all_rows [] = []
@@ -221,3 +298,7 @@ decoded_op_by rows word = option_map (λ row. operation_of row.form word) (find 
 -- the instruction of the row of the table that the word meets
 unfoldable pub decoded_op_of : ℕ → Option Op
 decoded_op_of word = decoded_op_by (all_rows opcodes) word
+
+-- the same where bit manipulation may be there
+unfoldable pub decoded_op_with : ℕ → Bool → Option Op
+decoded_op_with word bits = decoded_op_by (all_rows (opcodes_with bits)) word

@@ -78,6 +78,26 @@ pub enum Op {
         rs1: u8,
         rs2: u8,
     },
+    /// Combines rs1 with rs2 by an instruction of bit manipulation.
+    BitsRegister {
+        op: BitsOp,
+        rd: u8,
+        rs1: u8,
+        rs2: u8,
+    },
+    /// The same by an immediate: a shift amount, or the number of a bit.
+    BitsImmediate {
+        op: BitsOp,
+        rd: u8,
+        rs1: u8,
+        imm: u64,
+    },
+    /// The same of rs1 alone.
+    BitsUnary {
+        op: BitsOp,
+        rd: u8,
+        rs1: u8,
+    },
     /// Orders memory accesses: no effect on one hart.
     Fence,
     /// Orders fetches after stores: no effect here, where nothing is cached.
@@ -161,10 +181,13 @@ impl Op {
             | Op::Load { rd, rs1, .. }
             | Op::Immediate { rd, rs1, .. }
             | Op::ImmediateWord { rd, rs1, .. }
+            | Op::BitsImmediate { rd, rs1, .. }
+            | Op::BitsUnary { rd, rs1, .. }
             | Op::Csr { rd, rs1, .. }
             | Op::LoadReserved { rd, rs1, .. } => Operands { rd, rs1, rs2: 0 },
             Op::Register { rd, rs1, rs2, .. }
             | Op::RegisterWord { rd, rs1, rs2, .. }
+            | Op::BitsRegister { rd, rs1, rs2, .. }
             | Op::StoreConditional { rd, rs1, rs2, .. }
             | Op::Amo { rd, rs1, rs2, .. } => Operands { rd, rs1, rs2 },
             Op::Branch { rs1, rs2, .. } | Op::Store { rs1, rs2, .. } | Op::SfenceVma { rs1, rs2 } =>
@@ -270,6 +293,53 @@ pub enum RegisterWordOp {
     Divuw,
     Remw,
     Remuw,
+}
+
+/// The instructions of bit manipulation (Zba, Zbb, Zbs). One that takes its second operand from a
+/// register or from an immediate stands here once, by the name of its register form.
+#[derive(Clone, Copy, Debug, PartialEq, Eq)]
+pub enum BitsOp {
+    Sh1add,
+    Sh2add,
+    Sh3add,
+    AddUw,
+    Sh1addUw,
+    Sh2addUw,
+    Sh3addUw,
+    /// SLLI.UW, which has no register form.
+    SlliUw,
+    Andn,
+    Orn,
+    Xnor,
+    Clz,
+    Clzw,
+    Ctz,
+    Ctzw,
+    Cpop,
+    Cpopw,
+    Max,
+    Maxu,
+    Min,
+    Minu,
+    SextB,
+    SextH,
+    ZextH,
+    Rol,
+    Rolw,
+    /// ROR and RORI.
+    Ror,
+    /// RORW and RORIW.
+    Rorw,
+    OrcB,
+    Rev8,
+    /// BCLR and BCLRI.
+    Bclr,
+    /// BEXT and BEXTI.
+    Bext,
+    /// BINV and BINVI.
+    Binv,
+    /// BSET and BSETI.
+    Bset,
 }
 
 /// What an instruction writes to a control and status register.

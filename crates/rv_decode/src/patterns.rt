@@ -1,14 +1,14 @@
 //! The rows of the instruction table, as masks: the bits that an instruction fixes, and how its
-//! operands stand in the word. One list for each opcode; `rows_with` holds each row to its columns
-//! in `specs/Table.antt`.
+//! operands stand in the word. One list for each opcode, and a further one where bit manipulation
+//! adds rows; `rows_with` and `bits_rows_with` hold each row to its columns in `specs/Table.antt`.
 
 ghost use Rattle.std.specs.Prelude.{◌≡◌};
-ghost use Rattle.rv_decode.specs.Table.{rows_of_opcode, opcodes};
+ghost use Rattle.rv_decode.specs.Table.{rows_of_opcode, opcodes, bits_opcodes};
 
 use crate::opcodes;
 use crate::operation::{
-    AmoOp, BranchOp, CsrOp, ImmediateOp, ImmediateWordOp, LoadOp, RegisterOp, RegisterWordOp,
-    StoreOp, Width,
+    AmoOp, BitsOp, BranchOp, CsrOp, ImmediateOp, ImmediateWordOp, LoadOp, RegisterOp,
+    RegisterWordOp, StoreOp, Width,
 };
 
 /// A row of the table: a word is this instruction where it equals `bits` under `mask`.
@@ -39,6 +39,13 @@ pub enum Form {
     ShiftWord(ImmediateWordOp),
     Register(RegisterOp),
     RegisterWord(RegisterWordOp),
+    BitsRegister(BitsOp),
+    /// I-format with a 6-bit shift amount or number of a bit.
+    BitsShift(BitsOp),
+    /// I-format with a 5-bit shift amount.
+    BitsShiftWord(BitsOp),
+    /// One source, rs1.
+    BitsUnary(BitsOp),
     Fence,
     FenceI,
     Ecall,
@@ -109,11 +116,34 @@ const OP_IMM_ROWS: [Pattern; 9] = rows![
     0xfc00707f 0x40005013 Form::Shift(ImmediateOp::Srai),
 ];
 
+const OP_IMM_BITS_ROWS: [Pattern; 12] = rows![
+    0xfff0707f 0x60001013 Form::BitsUnary(BitsOp::Clz),
+    0xfff0707f 0x60101013 Form::BitsUnary(BitsOp::Ctz),
+    0xfff0707f 0x60201013 Form::BitsUnary(BitsOp::Cpop),
+    0xfff0707f 0x60401013 Form::BitsUnary(BitsOp::SextB),
+    0xfff0707f 0x60501013 Form::BitsUnary(BitsOp::SextH),
+    0xfc00707f 0x48001013 Form::BitsShift(BitsOp::Bclr),
+    0xfc00707f 0x68001013 Form::BitsShift(BitsOp::Binv),
+    0xfc00707f 0x28001013 Form::BitsShift(BitsOp::Bset),
+    0xfc00707f 0x60005013 Form::BitsShift(BitsOp::Ror),
+    0xfc00707f 0x48005013 Form::BitsShift(BitsOp::Bext),
+    0xfff0707f 0x28705013 Form::BitsUnary(BitsOp::OrcB),
+    0xfff0707f 0x6b805013 Form::BitsUnary(BitsOp::Rev8),
+];
+
 const OP_IMM_32_ROWS: [Pattern; 4] = rows![
     0x0000707f 0x0000001b Form::ImmediateWord(ImmediateWordOp::Addiw),
     0xfe00707f 0x0000101b Form::ShiftWord(ImmediateWordOp::Slliw),
     0xfe00707f 0x0000501b Form::ShiftWord(ImmediateWordOp::Srliw),
     0xfe00707f 0x4000501b Form::ShiftWord(ImmediateWordOp::Sraiw),
+];
+
+const OP_IMM_32_BITS_ROWS: [Pattern; 5] = rows![
+    0xfc00707f 0x0800101b Form::BitsShift(BitsOp::SlliUw),
+    0xfff0707f 0x6000101b Form::BitsUnary(BitsOp::Clzw),
+    0xfff0707f 0x6010101b Form::BitsUnary(BitsOp::Ctzw),
+    0xfff0707f 0x6020101b Form::BitsUnary(BitsOp::Cpopw),
+    0xfe00707f 0x6000501b Form::BitsShiftWord(BitsOp::Rorw),
 ];
 
 const OP_ROWS: [Pattern; 18] = rows![
@@ -137,6 +167,25 @@ const OP_ROWS: [Pattern; 18] = rows![
     0xfe00707f 0x02007033 Form::Register(RegisterOp::Remu),
 ];
 
+const OP_BITS_ROWS: [Pattern; 16] = rows![
+    0xfe00707f 0x20002033 Form::BitsRegister(BitsOp::Sh1add),
+    0xfe00707f 0x20004033 Form::BitsRegister(BitsOp::Sh2add),
+    0xfe00707f 0x20006033 Form::BitsRegister(BitsOp::Sh3add),
+    0xfe00707f 0x40007033 Form::BitsRegister(BitsOp::Andn),
+    0xfe00707f 0x40006033 Form::BitsRegister(BitsOp::Orn),
+    0xfe00707f 0x40004033 Form::BitsRegister(BitsOp::Xnor),
+    0xfe00707f 0x0a004033 Form::BitsRegister(BitsOp::Min),
+    0xfe00707f 0x0a005033 Form::BitsRegister(BitsOp::Minu),
+    0xfe00707f 0x0a006033 Form::BitsRegister(BitsOp::Max),
+    0xfe00707f 0x0a007033 Form::BitsRegister(BitsOp::Maxu),
+    0xfe00707f 0x60001033 Form::BitsRegister(BitsOp::Rol),
+    0xfe00707f 0x60005033 Form::BitsRegister(BitsOp::Ror),
+    0xfe00707f 0x48001033 Form::BitsRegister(BitsOp::Bclr),
+    0xfe00707f 0x48005033 Form::BitsRegister(BitsOp::Bext),
+    0xfe00707f 0x68001033 Form::BitsRegister(BitsOp::Binv),
+    0xfe00707f 0x28001033 Form::BitsRegister(BitsOp::Bset),
+];
+
 const OP_32_ROWS: [Pattern; 10] = rows![
     0xfe00707f 0x0000003b Form::RegisterWord(RegisterWordOp::Addw),
     0xfe00707f 0x4000003b Form::RegisterWord(RegisterWordOp::Subw),
@@ -148,6 +197,16 @@ const OP_32_ROWS: [Pattern; 10] = rows![
     0xfe00707f 0x0200503b Form::RegisterWord(RegisterWordOp::Divuw),
     0xfe00707f 0x0200603b Form::RegisterWord(RegisterWordOp::Remw),
     0xfe00707f 0x0200703b Form::RegisterWord(RegisterWordOp::Remuw),
+];
+
+const OP_32_BITS_ROWS: [Pattern; 7] = rows![
+    0xfe00707f 0x0800003b Form::BitsRegister(BitsOp::AddUw),
+    0xfff0707f 0x0800403b Form::BitsUnary(BitsOp::ZextH),
+    0xfe00707f 0x2000203b Form::BitsRegister(BitsOp::Sh1addUw),
+    0xfe00707f 0x2000403b Form::BitsRegister(BitsOp::Sh2addUw),
+    0xfe00707f 0x2000603b Form::BitsRegister(BitsOp::Sh3addUw),
+    0xfe00707f 0x6000103b Form::BitsRegister(BitsOp::Rolw),
+    0xfe00707f 0x6000503b Form::BitsRegister(BitsOp::Rorw),
 ];
 
 /// The fields of a fence beside its opcode and funct3 are ignored.
@@ -217,6 +276,20 @@ pub fn rows_with(opcode: u32) -> &'static [Pattern]
         opcodes::MISC_MEM => &MISC_MEM_ROWS,
         opcodes::SYSTEM => &SYSTEM_ROWS,
         opcodes::AMO => &AMO_ROWS,
+        _ => &[],
+    }
+}
+
+/// The rows that bit manipulation adds to an opcode.
+#[tactic(auto, unfolding(crate::specs::Table::bits_opcodes))]
+pub fn bits_rows_with(opcode: u32) -> &'static [Pattern]
+    ensures { result.now ≡ rows_of_opcode bits_opcodes opcode }
+{
+    match opcode {
+        opcodes::OP_IMM => &OP_IMM_BITS_ROWS,
+        opcodes::OP_IMM_32 => &OP_IMM_32_BITS_ROWS,
+        opcodes::OP => &OP_BITS_ROWS,
+        opcodes::OP_32 => &OP_32_BITS_ROWS,
         _ => &[],
     }
 }

@@ -610,24 +610,27 @@ fn names_registers(rt: HostRuntime) -> Result<(), Fail> {
 }
 
 /// A number for each instruction whatever its operands, by its kind and its place in the kind.
-fn place(op: Op) -> u8 {
+pub fn place(op: Op) -> u16 {
     match op {
         Op::Lui { .. } => 1,
         Op::Auipc { .. } => 2,
         Op::Jal { .. } => 3,
         Op::Jalr { .. } => 4,
-        Op::Branch { op, .. } => 0x11 + op as u8,
-        Op::Load { op, .. } => 0x21 + op as u8,
-        Op::Store { op, .. } => 0x31 + op as u8,
-        Op::Immediate { op, .. } => 0x41 + op as u8,
-        Op::ImmediateWord { op, .. } => 0x51 + op as u8,
-        Op::Register { op, .. } => 0x61 + op as u8,
-        Op::RegisterWord { op, .. } => 0x81 + op as u8,
-        Op::LoadReserved { width, .. } => 0x91 + width as u8,
-        Op::StoreConditional { width, .. } => 0x93 + width as u8,
-        Op::Amo { op, width, .. } => 0xa1 + 2 * (op as u8) + width as u8,
-        Op::Csr { op, .. } => 0xd1 + op as u8,
-        Op::CsrImmediate { op, .. } => 0xd4 + op as u8,
+        Op::Branch { op, .. } => 0x11 + op as u16,
+        Op::Load { op, .. } => 0x21 + op as u16,
+        Op::Store { op, .. } => 0x31 + op as u16,
+        Op::Immediate { op, .. } => 0x41 + op as u16,
+        Op::ImmediateWord { op, .. } => 0x51 + op as u16,
+        Op::Register { op, .. } => 0x61 + op as u16,
+        Op::RegisterWord { op, .. } => 0x81 + op as u16,
+        Op::BitsRegister { op, .. } => 0x101 + op as u16,
+        Op::BitsImmediate { op, .. } => 0x131 + op as u16,
+        Op::BitsUnary { op, .. } => 0x161 + op as u16,
+        Op::LoadReserved { width, .. } => 0x91 + width as u16,
+        Op::StoreConditional { width, .. } => 0x93 + width as u16,
+        Op::Amo { op, width, .. } => 0xa1 + 2 * (op as u16) + width as u16,
+        Op::Csr { op, .. } => 0xd1 + op as u16,
+        Op::CsrImmediate { op, .. } => 0xd4 + op as u16,
         Op::Fence
         | Op::FenceI
         | Op::Ecall

@@ -2,7 +2,7 @@
 -- From the Unprivileged ISA's chapters "RV32I Base Integer Instruction Set", "RV64I Base Integer Instruction Set", "M
 -- Extension for Integer Multiplication and Division", "A Extension for Atomic Instructions" and "Zicsr Extension for
 -- Control and Status Register (CSR) Instructions", and the Privileged Architecture's "Machine-Level ISA" and
--- "Supervisor-Level ISA".
+-- "Supervisor-Level ISA". The equations of bit manipulation are those of rv_bits.
 use Rattle.std.specs.Prelude.{ℕ, ◌+◌, ◌-◌, ◌*◌, ◌/◌, ◌%◌, ◌^◌, Bool, true, false, not, ◌==◌, nat_lt, pos, int_lt}
 use Rattle.std.specs.Prelude.{if◌then◌else◌, bit_and, bit_or, bit_xor}
 use Rattle.std.specs.Int.{w32, w64, cast_signed, int_div_euclid}
@@ -31,6 +31,7 @@ use Rattle.rv_decode.specs.declared.operation.Width.{Width}
 use Rattle.rv_decode.specs.declared.operation.CsrOp.{CsrOp}
 use Rattle.rv_decode.specs.declared.operation.CsrOp.TheVariants as csr_ops
 use Rattle.rv_decode.specs.Widths.{size_of}
+use Rattle.rv_bits.specs.Results.{bits_result}
 use Rattle.rv_integer.specs.declared.int_result.IntResult.{IntResult}
 use Rattle.rv_integer.specs.declared.int_result.IntResult.TheVariants as results
 use Rattle.rv_integer.specs.declared.int_result.SystemRequest.TheVariants as system
@@ -215,6 +216,9 @@ result_of (ops.Immediate op rd rs1 imm) a b pc len = results.Value (immediate_re
 result_of (ops.ImmediateWord op rd rs1 imm) a b pc len = results.Value (immediate_word_result op a imm)
 result_of (ops.Register op rd rs1 rs2) a b pc len = results.Value (register_result op a b)
 result_of (ops.RegisterWord op rd rs1 rs2) a b pc len = results.Value (register_word_result op a b)
+result_of (ops.BitsRegister op rd rs1 rs2) a b pc len = results.Value (bits_result op a b)
+result_of (ops.BitsImmediate op rd rs1 imm) a b pc len = results.Value (bits_result op a imm)
+result_of (ops.BitsUnary op rd rs1) a b pc len = results.Value (bits_result op a 0)
 result_of ops.Fence a b pc len = results.Continue (wrapped_sum pc len)
 result_of ops.FenceI a b pc len = results.Continue (wrapped_sum pc len)
 result_of ops.Ecall a b pc len = results.System system.EnvironmentCall

@@ -11,14 +11,15 @@ use crate::arithmetic::{compute_immediate, compute_register};
 use crate::int_result::{CsrRequest, IntResult, MemoryOp, MemoryRequest, SystemRequest};
 use crate::word_forms::{compute_immediate_word, compute_register_word};
 use hart_words::AccessSize;
+use rv_bits::compute_bits;
 use rv_decode::{BranchOp, CsrOp, LoadOp, Op, StoreOp, Width};
 
 /// What `op` asks for, where rs1 has the value `a` and rs2 the value `b`, and the instruction
 /// stands at the address `pc` with `len` bytes (2 or 4). From the Unprivileged ISA's chapters
 /// "RV32I Base Integer Instruction Set", "RV64I Base Integer Instruction Set", "M Extension for
 /// Integer Multiplication and Division", "A Extension for Atomic Instructions" and "Zicsr Extension
-/// for Control and Status Register (CSR) Instructions", and the Privileged Architecture's
-/// "Machine-Level ISA" and "Supervisor-Level ISA".
+/// for Control and Status Register (CSR) Instructions", the Bit-Manipulation ISA-extensions, and the
+/// Privileged Architecture's "Machine-Level ISA" and "Supervisor-Level ISA".
 #[tactic(auto, unfolding(crate::specs::Results::result_of))]
 pub fn compute(op: Op, a: u64, b: u64, pc: u64, len: u64) -> IntResult
     ensures value { result ≡ result_of op a b pc len }
@@ -50,6 +51,9 @@ pub fn compute(op: Op, a: u64, b: u64, pc: u64, len: u64) -> IntResult
         Op::ImmediateWord { op, imm, .. } => IntResult::Value(compute_immediate_word(op, a, imm)),
         Op::Register { op, .. } => IntResult::Value(compute_register(op, a, b)),
         Op::RegisterWord { op, .. } => IntResult::Value(compute_register_word(op, a, b)),
+        Op::BitsRegister { op, .. } => IntResult::Value(compute_bits(op, a, b)),
+        Op::BitsImmediate { op, imm, .. } => IntResult::Value(compute_bits(op, a, imm)),
+        Op::BitsUnary { op, .. } => IntResult::Value(compute_bits(op, a, 0)),
         Op::Fence | Op::FenceI => IntResult::Continue { next_pc },
         Op::Ecall => IntResult::System(SystemRequest::EnvironmentCall),
         Op::Ebreak => IntResult::System(SystemRequest::Breakpoint),

@@ -1,8 +1,8 @@
 use super::*;
 use hart_words::AccessSize;
 use rv_decode::{
-    AmoOp, BranchOp, CsrOp, ImmediateOp, ImmediateWordOp, LoadOp, Op, RegisterOp, RegisterWordOp,
-    StoreOp, Width,
+    AmoOp, BitsOp, BranchOp, CsrOp, ImmediateOp, ImmediateWordOp, LoadOp, Op, RegisterOp,
+    RegisterWordOp, StoreOp, Width,
 };
 use std::test::Fail;
 
@@ -123,6 +123,45 @@ fn computes_register_words(rt: HostRuntime) -> Result<(), Fail> {
             rs1: 2,
             rs2: 3,
         };
+        assert_eq!(rt; compute(op, a, b, 0, 4), IntResult::Value(value));
+    }
+    Ok(())
+}
+
+/// Bit manipulation takes its second operand from rs2 or from the instruction, or has none.
+#[test]
+fn computes_bit_manipulation(rt: HostRuntime) -> Result<(), Fail> {
+    let register = |op| Op::BitsRegister {
+        op,
+        rd: 1,
+        rs1: 2,
+        rs2: 3,
+    };
+    let immediate = |op, imm| Op::BitsImmediate {
+        op,
+        rd: 1,
+        rs1: 2,
+        imm,
+    };
+    let unary = |op| Op::BitsUnary { op, rd: 1, rs1: 2 };
+    let cases = [
+        (register(BitsOp::Sh3add), 2, 5, 21),
+        (register(BitsOp::Rol), LEAST + 1, 64 + 4, 0x18),
+        (register(BitsOp::Bclr), MINUS_ONE, 63, LEAST - 1),
+        (immediate(BitsOp::Ror, 4), 0x18, 63, LEAST + 1),
+        (immediate(BitsOp::Rorw, 31), 0x4000_0000, 5, LEAST_WORD),
+        (
+            immediate(BitsOp::SlliUw, 32),
+            MINUS_ONE,
+            5,
+            0xffff_ffff_0000_0000,
+        ),
+        (immediate(BitsOp::Bext, 63), LEAST, 0, 1),
+        (unary(BitsOp::Clzw), 0, 5, 32),
+        (unary(BitsOp::SextB), 0x180, 5, MINUS_ONE - 0x7f),
+        (unary(BitsOp::Rev8), 1, 5, 1 << 56),
+    ];
+    for (op, a, b, value) in cases {
         assert_eq!(rt; compute(op, a, b, 0, 4), IntResult::Value(value));
     }
     Ok(())

@@ -30,7 +30,7 @@ use Rattle.hart_step.specs.Returns.{may_use_supervisor_instruction, may_mret, co
 use Rattle.hart_step.specs.Returns.{wfi_traps}
 use Rattle.hart_step.specs.Instructions.{Completion, core_after_retirement, core_at_next, after_access, after_csr}
 use Rattle.hart_step.specs.Instructions.{completion_if, system_execution, execution_of, execution_by, first_value}
-use Rattle.hart_step.specs.Instructions.{second_value, InstructionRun, run_of_result, op_of, run_of_decoded}
+use Rattle.hart_step.specs.Instructions.{second_value, InstructionRun, run_of_result, op_for, run_of_decoded}
 use Rattle.hart_step.specs.Instructions.{run_of_fetched, instruction_run}
 use Rattle.hart_step.specs.Steps.{before_instruction, core_after_entry, core_after_outcome, core_after_run}
 use Rattle.hart_step.specs.Laws.{next_of}
@@ -105,12 +105,12 @@ fetched_stays : (core : Core) (shown : Shown) (word : Result (ℕ × ℕ) Except
     → RanStays core ((run_of_fetched core shown word).run bytes).value
 unfolding pure
 fetched_stays core shown (Err exception) bytes = refl
-fetched_stays core shown (Ok word) bytes = decoded_stays core shown word.0 word.1 (op_of word.0 word.1) bytes
+fetched_stays core shown (Ok word) bytes = decoded_stays core shown word.0 word.1 (op_for core word.0 word.1) bytes
 
 ran_stays : (core : Core) (shown : Shown) (bytes : Bytes) → RanStays core ((instruction_run core shown).run bytes).value
 unfolding instruction_run
 ran_stays core shown bytes =
-    let fetch = fetch_result core.csrs core.map core.mode core.pc in
+    let fetch = fetch_result core.csrs core.map core.choices core.mode core.pc in
     let before = fetch.run bytes in
     let whole = run_then-is fetch (run_of_fetched core shown) bytes in
     let P : Run InstructionRun → Type 0 = λ r. RanStays core r.value in

@@ -17,12 +17,11 @@ use Rattle.read_footprint.specs.declared.footprint.Footprint.{Footprint}
 use Rattle.read_footprint.specs.Sets.{IsNarrow, LiesInRam, has_read, has_written, is_read}
 use Rattle.rvfi_rows.specs.declared.expected.Expected.{Expected}
 use Rattle.hart_step.specs.declared.state.Core.{Core}
-use Rattle.hart_step.specs.ProtectionLaws.{IsStepWrite}
 use Rattle.hart_step.specs.Choices.{asks_interrupt}
 use Rattle.hart_step.specs.Steps.{before_instruction, core_after_count, core_after_entry, interrupt_of}
 use Rattle.hart_step.specs.Steps.{core_after_interrupt, core_after_interrupt_by, step_of}
 use Rattle.hart_words.specs.declared.privilege.Mode.{Mode}
-use Rattle.hart_step.proofs.Permitted.{step_granted, step_reads_ram}
+use Rattle.hart_step.proofs.Permitted.{step_reads_ram, step_writes_ram}
 
 -- all bytes of a read, and of a write, are RAM
 abbrev pub ReadLies : Span → Read → Type 0
@@ -61,8 +60,7 @@ pub writes_lie : (core : Core) (shown : Shown) (bytes : Bytes)
 writes_lie core shown bytes =
     let begins = before_instruction core shown in
     let lies : All (WriteLies begins.map.ram) ((step_of core shown).run bytes).wrote =
-    All-weaker (IsStepWrite begins) (WriteLies begins.map.ram) (λ write granted. granted.0)
-    ((step_of core shown).run bytes).wrote (step_granted core shown bytes).writes in
+    step_writes_ram core shown bytes in
     rw (begun_map core shown) at lies
 
 -- addresses of RAM are narrow

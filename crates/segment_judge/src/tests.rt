@@ -6,7 +6,7 @@ ghost use Rattle.page_layers.specs.Memories.{map_bytes, map_bytes-fits};
 
 use super::*;
 use hart_step::{Core, Hart};
-use hart_words::{Difference, Map, Mode, NoMemory, PhysMem, Signal, Span};
+use hart_words::{Choices, Difference, Map, Mode, NoMemory, PhysMem, Signal, Span};
 use line_text::Lines;
 use page_layers::MapMem;
 use rvfi_rows::{Columns, RowFault, Segment, Verdict, read_header};
@@ -134,7 +134,7 @@ fn start(alloc: Global, pc: u64) -> Result<Hart<MapMem>, Fail>
         return Err(Fail::from("no address of code"));
     }
     let map = map()?;
-    let mut hart = Hart::reset(memory(alloc, map.ram)?, pc, map);
+    let mut hart = Hart::reset(memory(alloc, map.ram)?, pc, map, Choices::plain());
     hart.core.registers.set(10, DATA);
     Ok(hart)
 }
@@ -421,7 +421,7 @@ fn start_refusing(alloc: Global) -> Result<Hart<Refusing>, Fail>
     let mem = Refusing {
         mem: memory(alloc, map.ram)?,
     };
-    let mut hart = Hart::reset(mem, CODE, map);
+    let mut hart = Hart::reset(mem, CODE, map, Choices::plain());
     hart.core.registers.set(10, DATA);
     Ok(hart)
 }

@@ -5,7 +5,7 @@ ghost use Rattle.line_text.specs.Lines.{IsLine};
 
 use super::*;
 use hart_step::Hart;
-use hart_words::{Map, PhysMem, Span};
+use hart_words::{Choices, Map, PhysMem, Span};
 use line_text::Lines;
 use outside_ports::{Gate, HoldGate, OpenGate};
 use page_layers::MapMem;
@@ -100,7 +100,8 @@ fn at(alloc: Global, rows: Rows, pc: u64) -> Result<Hart<MapMem>, Fail>
     }
     let ram = Span::new(CODE, 0x1000).ok_or("no range")?;
     let map = Map::new(ram, None).ok_or("no map")?;
-    Ok(Hart::reset(memory(alloc, map.ram, rows)?, pc, map))
+    let memory = memory(alloc, map.ram, rows)?;
+    Ok(Hart::reset(memory, pc, map, Choices::plain()))
 }
 
 /// A guess before each segment: its pc is right, and all registers are 0.
@@ -135,7 +136,7 @@ enum Told {
     Skipped(u32),
 }
 
-fn known_files_of(found: &Found<Judged<MapMem>>) -> Told {
+fn told_of(found: &Found<Judged<MapMem>>) -> Told {
     match &found.what {
         What::Skipped(least) => Told::Skipped(*least),
         What::Judged(judged) => match &judged.verdict {
@@ -154,7 +155,7 @@ fn hold_told(rt: &impl Abort, founds: &[Found<Judged<MapMem>>], wanted: &[Told])
         let found = founds
             .iter()
             .find(|found| found.seg == number)
-            .map(known_files_of);
+            .map(told_of);
         assert_eq!(rt; found, Some(*known_files), "segment {number}");
         number = number.wrapping_add(1);
     }

@@ -6,7 +6,7 @@ use crate::failure::Failure;
 use crate::stages::Stages;
 use crate::windows::{Walk, Workers, pass_window};
 use hart_step::Hart;
-use hart_words::{Map, NoMemory, Span};
+use hart_words::{Choices, Map, NoMemory, Span};
 use image_text::read_image;
 use outside_ports::{MemShelf, NamedFile};
 use page_image::PageImage;
@@ -77,7 +77,7 @@ impl Course {
             Some(header) => header_of(alloc, header)?,
         };
         let memory = Layered::over(alloc, &self.image);
-        let hart = Hart::reset(memory, FIRST_PC, self.map);
+        let hart = Hart::reset(memory, FIRST_PC, self.map, Choices::plain());
         let judged = Vec::new(alloc);
         let mut walk = Walk {
             hart,

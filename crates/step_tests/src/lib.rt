@@ -7,6 +7,8 @@
 #![tactic(auto)]
 
 #[cfg(test)]
+mod choices;
+#[cfg(test)]
 mod modes;
 #[cfg(test)]
 mod plain_rows;

@@ -8,7 +8,7 @@ use crate::tests::{CODE, memory_with, put, ram_and_devices};
 use csr_file::{Csrs, StoredCsr};
 use hart_step::Hart;
 use hart_words::Mode::{Machine, Supervisor, User};
-use hart_words::{Cause, Map, Mode, PmpEntry};
+use hart_words::{Cause, Choices, Map, Mode, PmpEntry};
 use page_layers::MapMem;
 use rvfi_rows::{Expected, read_header, read_row};
 use std::alloc::Global;
@@ -76,7 +76,7 @@ const HEADER: &[u8] = b"insn,pc_rdata,intr,trap,rd_wdata,csr_mip_rdata";
 const BLANK: &[u8] = b"0,0,,,,";
 
 /// The registers at reset, but for an entry of protection that grants all to every mode.
-fn granted() -> Csrs
+pub(crate) fn granted() -> Csrs
     ensures { IsLegal result }
 {
     let mut csrs = Csrs::reset();
@@ -88,7 +88,7 @@ fn granted() -> Csrs
 }
 
 /// Writes registers as M does.
-fn write_all(csrs: &mut Csrs, writes: &[(u16, u64)]) -> Result<(), Fail>
+pub(crate) fn write_all(csrs: &mut Csrs, writes: &[(u16, u64)]) -> Result<(), Fail>
     requires legal { IsLegal csrs.old }
     ensures legal { IsLegal csrs.new }
 {
@@ -105,7 +105,7 @@ fn hart_in(mem: MapMem, map: Map, mode: Mode, writes: &[(u16, u64)]) -> Result<H
     ensures sound { IfOk result (λ hart. IsSound hart.core) }
     ensures ram { IfOk result (λ hart. hart.mem.ram ≡ hart.core.map.ram) }
 {
-    let mut hart = Hart::reset(mem, CODE, map);
+    let mut hart = Hart::reset(mem, CODE, map, Choices::plain());
     let mut csrs = granted();
     write_all(&mut csrs, writes)?;
     hart.core.csrs = csrs;

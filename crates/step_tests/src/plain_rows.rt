@@ -5,7 +5,7 @@ ghost use Rattle.hart_step.specs.Cores.{IsSound};
 
 use crate::tests::{CODE, memory_with, ram_and_devices};
 use hart_step::{Core, Hart};
-use hart_words::{Map, Mode, PhysMem, PmpEntry, Span};
+use hart_words::{Choices, Map, Marks, Misaligned, Mode, PhysMem, PmpEntry, Span, TrapValues};
 use page_layers::MapMem;
 use rvfi_rows::{Row, read_header, read_row};
 use std::alloc::Global;
@@ -37,7 +37,7 @@ fn hart_over(alloc: Global, map: Map) -> Result<Hart<MapMem>, Fail>
     ensures ram { IfOk result (λ hart. hart.mem.ram ≡ hart.core.map.ram) }
 {
     let mem = memory_with(alloc, map.ram, 0)?;
-    Ok(Hart::reset(mem, CODE, map))
+    Ok(Hart::reset(mem, CODE, map, Choices::plain()))
 }
 
 /// What is different from a hart at reset.
@@ -217,7 +217,7 @@ fn number_at(mem: &MapMem, ram: &Span, pa: u64) -> Result<u64, Fail>
 
 /// The eight bytes at an address after a row.
 fn number_after(alloc: Global, map: Map, line: &[u8], pa: u64) -> Result<u64, Fail> {
-    let mut hart = Hart::reset(MapMem::zeros(alloc, map.ram), 0, map);
+    let mut hart = Hart::reset(MapMem::zeros(alloc, map.ram), 0, map, Choices::plain());
     hart.take_shown(&row_of(
         alloc,
         b"0x00b53023,0,,,,,,,,0x80001000,255,0x8899aabbccddeeff,",
@@ -346,7 +346,7 @@ fn takes_stores(rt: HostRuntime) -> Result<(), Fail> {
 }
 
 /// How many parts `change` knows.
-const PARTS: u8 = 12;
+const PARTS: u8 = 17;
 
 /// Changes one part of a state.
 fn change(core: &mut Core, part: u8) -> Result<(), Fail> {
@@ -357,7 +357,7 @@ fn change(core: &mut Core, part: u8) -> Result<(), Fail> {
         3 => core.mode = Mode::User,
         4 => return write(core, SATP, TRANSLATES),
         5 => core.csrs.entries[15] = PmpEntry { cfg: 0, addr: 1 },
-        6 => core.reservation.set(CODE),
+        6 => core.reservation.set(CODE, 64),
         7 => core.next_order = Some(0),
         8 => core.trapped_last = true,
         9 => core.halted = true,
@@ -365,7 +365,17 @@ fn change(core: &mut Core, part: u8) -> Result<(), Fail> {
             let ram = Span::new(CODE, 0x1000).ok_or("no range")?;
             core.map = Map::new(ram, core.map.io).ok_or("no map")?;
         }
-        _ => core.map = Map::new(core.map.ram, None).ok_or("no map")?,
+        11 => core.map = Map::new(core.map.ram, None).ok_or("no map")?,
+        12 => core.choices.misaligned = Misaligned::Done,
+        13 => core.choices.trap_values = TrapValues::Zero,
+        14 => core.choices.marks = Marks::Set,
+        15 => core.choices.bits = true,
+        _ => {
+            let (misaligned, values) = (Misaligned::Trap, TrapValues::Value);
+            core.choices = Choices::new(misaligned, values, Marks::Fault, 8, false).ok_or(
+                "no size of a block",
+            )?;
+        }
     }
     Ok(())
 }

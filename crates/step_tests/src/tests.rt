@@ -2,7 +2,7 @@ ghost use Rattle.std.specs.Prelude.{◌≡◌, ◌%◌, IfOk};
 ghost use Rattle.hart_step.specs.Cores.{IsSound};
 
 use hart_step::Hart;
-use hart_words::{Cause, Map, Mode, PhysMem, Span};
+use hart_words::{Cause, Choices, Map, Mode, PhysMem, Span};
 use image_text::read_image;
 use page_image::PageImage;
 use page_layers::{Layered, MapMem};
@@ -12,15 +12,15 @@ use std::test::Fail;
 
 pub(crate) const CODE: u64 = 0x8000_0000;
 
-const DATA: u64 = 0x8000_1000;
+pub(crate) const DATA: u64 = 0x8000_1000;
 
 /// The first address past RAM.
 const END: u64 = 0x8000_2000;
 
 /// What stands at `DATA`, and in the last eight bytes of RAM.
-const HELD: u64 = 0x8899_aabb_ccdd_eeff;
+pub(crate) const HELD: u64 = 0x8899_aabb_ccdd_eeff;
 
-const GIVEN: u64 = 0x1122_3344_5566_7788;
+pub(crate) const GIVEN: u64 = 0x1122_3344_5566_7788;
 
 const HEADER: &[u8] = b"insn,pc_rdata,order,intr,halt,mem_addr,mem_rdata,mem_wmask,rd_wdata";
 
@@ -55,7 +55,7 @@ fn hart_at<M: PhysMem + Drop>(mem: M, map: Map, pc: u64, values: [u64; 3]) -> Ha
     ensures sound { IsSound result.core }
     ensures ram { M.ram result.mem ≡ result.core.map.ram }
 {
-    let mut hart = Hart::reset(mem, pc, map);
+    let mut hart = Hart::reset(mem, pc, map, Choices::plain());
     hart.core.registers.set(10, values[0]);
     hart.core.registers.set(11, values[1]);
     hart.core.registers.set(13, values[2]);
@@ -96,7 +96,7 @@ pub(crate) fn memory_with(alloc: Global, ram: Span, instruction: u64) -> Result<
 }
 
 /// What the hart did, where it has not halted.
-fn retired(step: &Stepped) -> Option<Retired> {
+pub(crate) fn retired(step: &Stepped) -> Option<Retired> {
     match step.expected {
         Expected::Halted => None,
         Expected::Retired(retired) => Some(retired),

@@ -7,7 +7,7 @@ use Rattle.std.proofs.lemmas.Nat.{div_below, mul-add-lt}
 use Rattle.std.proofs.lemmas.Bool.{eqb-true, and_parts}
 use Rattle.hart_words.specs.declared.privilege.Access.{Access}
 use Rattle.hart_words.specs.declared.privilege.WalkFlags.{WalkFlags}
-use Rattle.sv39_walk.specs.Entries.{address_in, leaf_permits, is_aligned, leaf_admits, is_leaf, is_marked, is_open_to}
+use Rattle.sv39_walk.specs.Entries.{address_in, leaf_permits, is_aligned, leaf_allows, is_leaf, is_open_to}
 use Rattle.sv39_walk.specs.Entries.{page_number, page_size}
 
 pub at_most_giga : (level : ℕ) → level ≤ 2 → 2 ^ (12 + 9 * level) ≤ 2 ^ 30
@@ -58,31 +58,28 @@ stays_below k base low h e below =
     mul-add-lt (base / 2 ^ k) (2 ^ k) (low % 2 ^ k) (2 ^ (56 - k)) row (mod_below low (2 ^ k) (pow_pos k)) in
     omega (arith, whole, place, split)
 
--- a page that lets an access pass is aligned
-passed-aligned : (level : ℕ) (flags : WalkFlags) (access : Access) (entry : ℕ)
-    → (is_leaf entry && leaf_admits level flags access entry) ≡ true → is_aligned level entry ≡ true
-unfolding leaf_admits
-passed-aligned level flags access entry e =
+-- a page that allows an access is aligned
+allowed-aligned : (level : ℕ) (flags : WalkFlags) (access : Access) (entry : ℕ)
+    → (is_leaf entry && leaf_allows level flags access entry) ≡ true → is_aligned level entry ≡ true
+unfolding leaf_allows
+allowed-aligned level flags access entry e =
     let right : Bool = leaf_permits flags.mxr access entry && is_open_to flags.mode flags.sum access entry in
-    let admitted : (right && is_aligned level entry && is_marked access entry) ≡ true =
-    (and_parts (is_leaf entry) (right && is_aligned level entry && is_marked access entry) e).1 in
-    (and_parts right (is_aligned level entry)
-    (and_parts (right && is_aligned level entry) (is_marked access entry) admitted).0).1
+    (and_parts right (is_aligned level entry) (and_parts (is_leaf entry) (right && is_aligned level entry) e).1).1
 
-pub passed_fits : (level : ℕ) (flags : WalkFlags) (va : ℕ) (access : Access) (entry : ℕ) → level ≤ 2
-    → (is_leaf entry && leaf_admits level flags access entry) ≡ true → address_in level entry va < 2 ^ 56
+pub allowed_fits : (level : ℕ) (flags : WalkFlags) (va : ℕ) (access : Access) (entry : ℕ) → level ≤ 2
+    → (is_leaf entry && leaf_allows level flags access entry) ≡ true → address_in level entry va < 2 ^ 56
 unfolding page_size
-passed_fits level flags va access entry h e =
+allowed_fits level flags va access entry h e =
     stays_below (12 + 9 * level) (4096 * page_number entry) va (omega arith)
-    (aligned level entry (passed-aligned level flags access entry e)) (omega arith)
+    (aligned level entry (allowed-aligned level flags access entry e)) (omega arith)
 
 -- the offset in a page of 4 KiB is the low part of that in a larger one
-pub passed_offset : (level : ℕ) (flags : WalkFlags) (va : ℕ) (access : Access) (entry : ℕ)
-    → (is_leaf entry && leaf_admits level flags access entry) ≡ true → address_in level entry va % 4096 ≡ va % 4096
-passed_offset level flags va access entry e =
+pub allowed_offset : (level : ℕ) (flags : WalkFlags) (va : ℕ) (access : Access) (entry : ℕ)
+    → (is_leaf entry && leaf_allows level flags access entry) ≡ true → address_in level entry va % 4096 ≡ va % 4096
+allowed_offset level flags va access entry e =
     let sum : 12 + 9 * level ≡ 9 * level + 12 = omega arith in
     let P : ℕ → Type 0 = λ k. address_in level entry va % 2 ^ k ≡ va % 2 ^ k in
     let low : address_in level entry va % 2 ^ (9 * level + 12) ≡ va % 2 ^ (9 * level + 12) =
-    subst P sum (address-low level entry va (passed-aligned level flags access entry e)) in
+    subst P sum (address-low level entry va (allowed-aligned level flags access entry e)) in
     sym (mod-mod-pow (address_in level entry va) (9 * level) 12) ∙ ap (λ n. n % 2 ^ 12) low
     ∙ mod-mod-pow va (9 * level) 12

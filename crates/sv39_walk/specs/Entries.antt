@@ -1,7 +1,10 @@
 -- The entries of Sv39 page tables and what they allow, from the Privileged Architecture's chapter "Supervisor-Level
 -- ISA". A virtual address has 9 bits for each of the levels 2, 1 and 0 above the 12 of a page's offset.
-use Rattle.std.specs.Prelude.{ℕ, ◌+◌, ◌-◌, ◌*◌, ◌/◌, ◌%◌, ◌^◌, Bool, not, ◌&&◌, ◌||◌, ◌==◌, if◌then◌else◌, Result, Ok}
-use Rattle.std.specs.Prelude.{Err}
+use Rattle.std.specs.Prelude.{ℕ, ◌+◌, ◌-◌, ◌*◌, ◌/◌, ◌%◌, ◌^◌, Bool, not, ◌&&◌, ◌||◌, ◌==◌, nat_lt, bit_or}
+use Rattle.std.specs.Prelude.{if◌then◌else◌}
+use Rattle.std.specs.Prelude.{Option, Some, None, Result, Ok, Err}
+use Rattle.hart_words.specs.declared.options.Marks.{Marks}
+use Rattle.hart_words.specs.declared.options.Marks.TheVariants as marks
 use Rattle.hart_words.specs.declared.privilege.Mode.{Mode}
 use Rattle.hart_words.specs.declared.privilege.Mode.TheVariants.{User, Supervisor, Machine}
 use Rattle.hart_words.specs.declared.privilege.Access.{Access}
@@ -9,12 +12,18 @@ use Rattle.hart_words.specs.declared.privilege.Access.TheVariants.{Fetch, Load, 
 use Rattle.hart_words.specs.declared.privilege.Cause.{Cause}
 use Rattle.hart_words.specs.declared.privilege.WalkFlags.{WalkFlags}
 use Rattle.hart_words.specs.declared.span.TheConstants.{PAGE_SIZE}
-use Rattle.hart_words.specs.Privilege.{page_fault_of}
+use Rattle.hart_words.specs.Privilege.{access_fault_of, page_fault_of}
 use Rattle.sv39_walk.specs.declared.entry.Flag.{Flag}
 use Rattle.sv39_walk.specs.declared.entry.Flag.TheVariants.{Valid, Readable, Writable, Executable, ForUser, Accessed}
 use Rattle.sv39_walk.specs.declared.entry.Flag.TheVariants.{Dirty}
 use Rattle.sv39_walk.specs.declared.entry.TheConstants.{OFFSET_BITS, INDEX_BITS, ENTRY_SIZE, ENTRIES, NUMBER_BIT}
 use Rattle.sv39_walk.specs.declared.entry.TheConstants.{NUMBER_BITS, RESERVED_BIT, ADDRESS_BITS}
+
+-- which entries may be read and which may be set, and what an access does where A, or D, is clear
+pub record Tables : Type 0 where
+  pub readable : ℕ → Bool
+  pub settable : ℕ → Bool
+  pub marks : Marks
 
 -- the bits V, R, W, X, U, A and D of an entry
 abbrev pub bit_of : Flag → ℕ
@@ -50,6 +59,10 @@ is_link entry =
     not (is_meaningless entry) && is_pointer entry && not (is_set entry Accessed) && not (is_set entry Dirty)
     && not (is_set entry ForUser)
 
+-- a walk that reads the entry at a level goes on from it
+abbrev pub leads_on : ℕ → ℕ → Bool
+leads_on level entry = nat_lt 0 level && is_link entry
+
 -- a page
 unfoldable pub is_leaf : ℕ → Bool
 is_leaf entry = not (is_meaningless entry) && not (is_pointer entry)
@@ -78,6 +91,16 @@ is_marked Fetch entry = is_set entry Accessed
 is_marked Load entry = is_set entry Accessed
 is_marked Store entry = is_set entry Accessed && is_set entry Dirty
 
+-- the bits that an access needs to be set
+abbrev pub marks_of : Access → ℕ
+marks_of Fetch = 2 ^ bit_of Accessed
+marks_of Load = 2 ^ bit_of Accessed
+marks_of Store = 2 ^ bit_of Accessed + 2 ^ bit_of Dirty
+
+-- the entry with A set, and for a store D
+unfoldable pub marked : Access → ℕ → ℕ
+marked access entry = bit_or entry (marks_of access)
+
 -- the bytes of a page at a level: 4 KiB, 2 MiB, 1 GiB
 unfoldable pub page_size : ℕ → ℕ
 page_size level = 2 ^ (OFFSET_BITS + INDEX_BITS * level)
@@ -86,22 +109,37 @@ page_size level = 2 ^ (OFFSET_BITS + INDEX_BITS * level)
 abbrev pub is_aligned : ℕ → ℕ → Bool
 is_aligned level entry = PAGE_SIZE * page_number entry % page_size level == 0
 
--- a page at a level lets the access pass
-unfoldable pub leaf_admits : ℕ → WalkFlags → Access → ℕ → Bool
-leaf_admits level flags access entry =
+-- a page at a level allows the access, whatever A and D are
+unfoldable pub leaf_allows : ℕ → WalkFlags → Access → ℕ → Bool
+leaf_allows level flags access entry =
     leaf_permits flags.mxr access entry && is_open_to flags.mode flags.sum access entry && is_aligned level entry
-    && is_marked access entry
+
+-- it lets the access pass as it is
+unfoldable pub leaf_admits : ℕ → WalkFlags → Access → ℕ → Bool
+leaf_admits level flags access entry = leaf_allows level flags access entry && is_marked access entry
 
 -- the address in an aligned page
 abbrev pub address_in : ℕ → ℕ → ℕ → ℕ
 address_in level entry va = PAGE_SIZE * page_number entry + va % page_size level
 
--- what the last entry gives, read at a level: a page that lets the access pass gives the address in it, all else
--- a page fault
-unfoldable pub final_result : ℕ → WalkFlags → ℕ → Access → ℕ → Result ℕ Cause
-final_result level flags va access entry =
-    if is_leaf entry && leaf_admits level flags access entry
-    then Ok (address_in level entry va)
+-- the address of a page that allows an access but lacks A, or D: with the entry that is set where it may be set, or a
+-- fault
+abbrev pub unmarked_by : Marks → Bool → Access → ℕ → ℕ → Result (ℕ × Option ℕ) Cause
+unmarked_by marks.Fault can_set access entry address = Err (page_fault_of access)
+unmarked_by marks.Set can_set access entry address =
+    if can_set then Ok (address, Some (marked access entry)) else Err (access_fault_of access)
+
+abbrev pub unmarked_result : Tables → Access → ℕ → ℕ → ℕ → Result (ℕ × Option ℕ) Cause
+unmarked_result tables access pa entry address =
+    unmarked_by tables.marks (tables.settable pa) access entry address
+
+-- what the last entry gives, read at a level: a page that allows the access gives the address in it, and what the entry
+-- becomes where that changes; all else is a page fault
+unfoldable pub final_result : Tables → ℕ → WalkFlags → ℕ → Access → ℕ → ℕ → Result (ℕ × Option ℕ) Cause
+final_result tables level flags va access pa entry =
+    let address = address_in level entry va in
+    if is_leaf entry && leaf_allows level flags access entry
+    then (if is_marked access entry then Ok (address, None) else unmarked_result tables access pa entry address)
     else Err (page_fault_of access)
 
 -- where the entry for a virtual address stands in a table, by level and the table's page number

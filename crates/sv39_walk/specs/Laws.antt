@@ -1,19 +1,70 @@
 -- What a translation amounts to, by the entries that it comes to, from the Privileged Architecture's chapter
 -- "Supervisor-Level ISA".
-use Rattle.std.specs.Prelude.{◌≡◌, ℕ, ◌+◌, ◌*◌, ◌/◌, ◌%◌, ◌^◌, Bool, IsTrue, List, []}
+use Rattle.std.specs.Prelude.{◌≡◌, ℕ, ◌+◌, ◌-◌, ◌*◌, ◌/◌, ◌%◌, ◌^◌, ◌≤◌, ◌==◌, Bool, true, false, ◌||◌, IsTrue}
+use Rattle.std.specs.Prelude.{List, [], All, length, if◌then◌else◌}
 use Rattle.std.specs.Bool.{IsFalse}
+use Rattle.std.specs.Int.{bit_at}
+use Rattle.hart_words.specs.declared.accesses.Write.{Write}
+use Rattle.hart_words.specs.declared.options.Marks.TheVariants as marks
 use Rattle.hart_words.specs.declared.privilege.Access.{Access}
+use Rattle.hart_words.specs.declared.privilege.Access.TheVariants.{Fetch, Load, Store}
 use Rattle.hart_words.specs.declared.privilege.WalkFlags.{WalkFlags}
+use Rattle.hart_words.specs.EntryWrites.{entry_write}
 use Rattle.hart_words.specs.Memory.{Bytes}
+use Rattle.sv39_walk.specs.declared.entry.Flag.TheVariants.{Accessed, Dirty}
 use Rattle.sv39_walk.specs.declared.entry.TheConstants.{INDEX_BITS, OFFSET_BITS, TOP_LEVEL}
-use Rattle.sv39_walk.specs.Entries.{address_in, entry_address, is_aligned, is_canonical, page_number}
-use Rattle.sv39_walk.specs.Walk.{IsWalk, Visit, by_chain, chain, root_of, translation_of}
+use Rattle.sv39_walk.specs.Entries.{Tables, address_in, bit_of, entry_address, is_aligned, is_canonical, is_leaf}
+use Rattle.sv39_walk.specs.Entries.{is_marked, leaf_allows, marked, page_number}
+use Rattle.sv39_walk.specs.Walk.{IsWalk, Visit, by_chain, chain, entry_in, root_of, translation_of, visit_at}
 
--- a translation gives what the last entry of its chain decides, reads its entries and writes nothing
-abbrev pub IsByChain : (ℕ → Bool) → Bytes → ℕ → WalkFlags → ℕ → Access → Type 0
-IsByChain readable bytes satp flags va access =
-    (translation_of readable satp flags va access).run bytes
-    ≡ by_chain readable bytes flags va access (chain readable bytes satp va)
+-- a translation gives what the last entry of its chain decides, reads its entries and writes at most the last
+abbrev pub IsByChain : Tables → Bytes → ℕ → WalkFlags → ℕ → Access → Type 0
+IsByChain tables bytes satp flags va access =
+    (translation_of tables satp flags va access).run bytes
+    ≡ by_chain tables bytes flags va access (chain tables.readable bytes satp va)
+
+-- the bits that an access needs to be set: A, and D for a store
+abbrev pub is_mark : Access → ℕ → Bool
+is_mark Fetch i = i == bit_of Accessed
+is_mark Load i = i == bit_of Accessed
+is_mark Store i = (i == bit_of Accessed) || (i == bit_of Dirty)
+
+-- the entry that is set gains these bits and no other
+abbrev pub GainsItsMarks : Access → ℕ → Type 0
+GainsItsMarks access entry =
+    (i : ℕ) → bit_at (marked access entry) i ≡ (if is_mark access i then 1 else bit_at entry i)
+
+-- what a translation writes
+abbrev pub writes_of : Tables → Bytes → ℕ → WalkFlags → ℕ → Access → List Write
+writes_of tables bytes satp flags va access = ((translation_of tables satp flags va access).run bytes).wrote
+
+-- a write sets the entry of a visit, a page that may be set and that allows the access but lacks A, or D
+pub record SetsEntry (tables : Tables) (bytes : Bytes) (flags : WalkFlags) (access : Access) (visit : Visit)
+    (write : Write) : Type 0 where
+  pub marks : tables.marks ≡ marks.Set
+  pub readable : tables.readable visit.pa ≡ true
+  pub settable : tables.settable visit.pa ≡ true
+  pub leaf : is_leaf (entry_in bytes visit) ≡ true
+  pub allows : leaf_allows visit.level flags access (entry_in bytes visit) ≡ true
+  pub unmarked : is_marked access (entry_in bytes visit) ≡ false
+  pub write_is : write ≡ entry_write visit.pa (marked access (entry_in bytes visit))
+
+-- a translation writes at most one entry, the last of its chain
+abbrev pub WritesAtMostOne : Tables → Bytes → ℕ → WalkFlags → ℕ → Access → Type 0
+WritesAtMostOne tables bytes satp flags va access = length (writes_of tables bytes satp flags va access) ≤ 1
+
+abbrev pub last_visit : List Visit → Visit
+last_visit visits = visit_at visits (length visits - 1)
+
+abbrev pub SetsItsLast : Tables → Bytes → ℕ → WalkFlags → ℕ → Access → Type 0
+SetsItsLast tables bytes satp flags va access =
+    All (SetsEntry tables bytes flags access (last_visit (chain tables.readable bytes satp va)))
+    (writes_of tables bytes satp flags va access)
+
+-- and none where A and D that are clear are page faults
+abbrev pub WritesNoneUnderFault : Tables → Bytes → ℕ → WalkFlags → ℕ → Access → Type 0
+WritesNoneUnderFault tables bytes satp flags va access =
+    tables.marks ≡ marks.Fault → writes_of tables bytes satp flags va access ≡ []
 
 -- a walk from level 2 on, in the table that satp names
 abbrev pub IsWalkFromRoot : (ℕ → Bool) → Bytes → ℕ → ℕ → List Visit → Type 0

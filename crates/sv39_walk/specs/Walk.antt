@@ -1,17 +1,20 @@
 -- The walk of a virtual address through the page tables, with what it reads, from the Privileged Architecture's
 -- chapter "Supervisor-Level ISA".
 use Rattle.std.specs.Prelude.{◌≡◌, ℕ, zero, suc, ◌%◌, ◌^◌, ◌<◌, ◌≤◌, ◌⊎◌, Bool, true, false, ◌&&◌, if◌then◌else◌, List}
-use Rattle.std.specs.Prelude.{[], ◌∷◌, length, slice_index_or, map, filter, Result, Err}
+use Rattle.std.specs.Prelude.{[], ◌∷◌, length, slice_index_or, map, filter, Option, Some, None, Result, Ok, Err}
 use Rattle.hart_words.specs.declared.privilege.Access.{Access}
 use Rattle.hart_words.specs.declared.privilege.Cause.{Cause}
 use Rattle.hart_words.specs.declared.privilege.WalkFlags.{WalkFlags}
 use Rattle.hart_words.specs.declared.accesses.Read.{Read}
+use Rattle.hart_words.specs.declared.accesses.Write.{Write}
 use Rattle.hart_words.specs.Memory.{Bytes, number_at}
-use Rattle.hart_words.specs.Actions.{Run, Action, pure, read_memory, ◌>>=◌}
+use Rattle.hart_words.specs.Actions.{Run, Action, pure, read_memory, write_memory, ◌>>=◌, mapped}
+use Rattle.hart_words.specs.EntryWrites.{entry_write}
 use Rattle.hart_words.specs.Privilege.{access_fault_of, page_fault_of}
 use Rattle.sv39_walk.specs.declared.walk.Request.{Request}
+use Rattle.sv39_walk.specs.declared.walk.Table.{Table}
 use Rattle.sv39_walk.specs.declared.entry.TheConstants.{ENTRY_SIZE, NUMBER_BITS, TOP_LEVEL}
-use Rattle.sv39_walk.specs.Entries.{page_number, is_link, final_result, entry_address, is_canonical}
+use Rattle.sv39_walk.specs.Entries.{Tables, page_number, is_link, final_result, entry_address, is_canonical}
 
 -- the read of an entry
 abbrev pub entry_read : ℕ → Read
@@ -22,31 +25,46 @@ unfoldable pub visit_of : (ℕ → Bool) → Access → ℕ → (ℕ → Action 
 visit_of readable access pa next =
     if readable pa then (read_memory (entry_read pa) >>= next) else pure (Err (access_fault_of access))
 
+-- the address that an entry gives; where the entry changes, it is set first
+unfoldable pub after_result : ℕ → Result (ℕ × Option ℕ) Cause → Action (Result ℕ Cause)
+after_result pa (Err fault) = pure (Err fault)
+after_result pa (Ok (address, None)) = pure (Ok address)
+after_result pa (Ok (address, Some entry)) = mapped (λ _. Ok address) (write_memory (entry_write pa entry))
+
+-- the last step of a walk: the entry at an address gives the result
+abbrev pub last_of : Tables → ℕ → WalkFlags → ℕ → Access → ℕ → ℕ → Action (Result ℕ Cause)
+last_of tables level flags va access pa entry = after_result pa (final_result tables level flags va access pa entry)
+
 -- from the table of a level on, by its page number
-unfoldable pub walk_of : (ℕ → Bool) → WalkFlags → ℕ → Access → ℕ → ℕ → Action (Result ℕ Cause)
-walk_of readable flags va access zero table =
-    visit_of readable access (entry_address 0 table va) (λ entry. pure (final_result 0 flags va access entry))
-walk_of readable flags va access (suc level) table =
-    visit_of readable access (entry_address (suc level) table va) (λ entry.
+unfoldable pub walk_of : Tables → WalkFlags → ℕ → Access → ℕ → ℕ → Action (Result ℕ Cause)
+walk_of tables flags va access zero table =
+    let pa = entry_address 0 table va in
+    visit_of tables.readable access pa (λ entry. last_of tables 0 flags va access pa entry)
+walk_of tables flags va access (suc level) table =
+    let pa = entry_address (suc level) table va in
+    visit_of tables.readable access pa (λ entry.
     if is_link entry
-    then walk_of readable flags va access level (page_number entry)
-    else pure (final_result (suc level) flags va access entry))
+    then walk_of tables flags va access level (page_number entry)
+    else last_of tables (suc level) flags va access pa entry)
 
 -- the page number of the table that satp names
 abbrev pub root_of : ℕ → ℕ
 root_of satp = satp % 2 ^ NUMBER_BITS
 
 -- the physical address of a virtual one, or a fault: from level 2 on, in the table that satp names
-unfoldable pub translation_of : (ℕ → Bool) → ℕ → WalkFlags → ℕ → Access → Action (Result ℕ Cause)
-translation_of readable satp flags va access =
+unfoldable pub translation_of : Tables → ℕ → WalkFlags → ℕ → Access → Action (Result ℕ Cause)
+translation_of tables satp flags va access =
     if is_canonical va
-    then walk_of readable flags va access TOP_LEVEL (root_of satp)
+    then walk_of tables flags va access TOP_LEVEL (root_of satp)
     else pure (Err (page_fault_of access))
 
--- what a walk does for a request
-abbrev pub walk_run : (ℕ → Bool) → Bytes → Request → ℕ → ℕ → Run (Result ℕ Cause)
-walk_run readable bytes request level table =
-    (walk_of readable request.flags request.va request.access level table).run bytes
+-- the tables as a request sees them, and what a walk from one of them on does for it
+abbrev pub tables_for : (ℕ → Bool) → (ℕ → Bool) → Request → Tables
+tables_for readable settable request = record { readable = readable; settable = settable; marks = request.marks }
+
+abbrev pub walk_for : (ℕ → Bool) → (ℕ → Bool) → Request → Table → Action (Result ℕ Cause)
+walk_for readable settable request table =
+    walk_of (tables_for readable settable request) request.flags request.va request.access table.level table.number
 
 -- an entry that the walk comes to
 pub record Visit : Type 0 where
@@ -68,31 +86,53 @@ unfoldable pub chain : (ℕ → Bool) → Bytes → ℕ → ℕ → List Visit
 chain readable bytes satp va =
     if is_canonical va then chain_from readable bytes va TOP_LEVEL (root_of satp) else []
 
--- the last entry of the chain decides
-unfoldable pub chain_result : (ℕ → Bool) → Bytes → WalkFlags → ℕ → Access → List Visit → Result ℕ Cause
-chain_result readable bytes flags va access [] = Err (page_fault_of access)
-chain_result readable bytes flags va access (visit ∷ []) =
-    if readable visit.pa
-    then final_result visit.level flags va access (number_at bytes visit.pa ENTRY_SIZE)
+-- the entry of a visit
+abbrev pub entry_in : Bytes → Visit → ℕ
+entry_in bytes visit = number_at bytes visit.pa ENTRY_SIZE
+
+-- what the last visit gives
+abbrev pub visit_result : Tables → Bytes → WalkFlags → ℕ → Access → Visit → Result (ℕ × Option ℕ) Cause
+visit_result tables bytes flags va access visit =
+    if tables.readable visit.pa
+    then final_result tables visit.level flags va access visit.pa (entry_in bytes visit)
     else Err (access_fault_of access)
-chain_result readable bytes flags va access (visit ∷ next ∷ more) =
-    chain_result readable bytes flags va access (next ∷ more)
+
+-- the address that it gives, and the write of the entry where that changes
+abbrev pub address_of : Result (ℕ × Option ℕ) Cause → Result ℕ Cause
+address_of (Ok (address, entry)) = Ok address
+address_of (Err fault) = Err fault
+
+abbrev pub entry_writes_of : ℕ → Result (ℕ × Option ℕ) Cause → List Write
+entry_writes_of pa (Ok (address, Some entry)) = entry_write pa entry ∷ []
+entry_writes_of pa (Ok (address, None)) = []
+entry_writes_of pa (Err fault) = []
+
+-- the last entry of the chain decides
+unfoldable pub chain_result : Tables → Bytes → WalkFlags → ℕ → Access → List Visit → Result ℕ Cause
+chain_result tables bytes flags va access [] = Err (page_fault_of access)
+chain_result tables bytes flags va access (visit ∷ []) = address_of (visit_result tables bytes flags va access visit)
+chain_result tables bytes flags va access (visit ∷ next ∷ more) =
+    chain_result tables bytes flags va access (next ∷ more)
+
+-- and is the one that may be set
+unfoldable pub chain_wrote : Tables → Bytes → WalkFlags → ℕ → Access → List Visit → List Write
+chain_wrote tables bytes flags va access [] = []
+chain_wrote tables bytes flags va access (visit ∷ []) =
+    entry_writes_of visit.pa (visit_result tables bytes flags va access visit)
+chain_wrote tables bytes flags va access (visit ∷ next ∷ more) =
+    chain_wrote tables bytes flags va access (next ∷ more)
 
 -- the reads of a chain: its entries that can be read
 abbrev pub entry_reads_of : (ℕ → Bool) → List Visit → List Read
 entry_reads_of readable visits = map (λ visit. entry_read visit.pa) (filter (λ visit. readable visit.pa) visits)
 
 -- the value, the reads and the writes that a chain makes
-abbrev pub by_chain : (ℕ → Bool) → Bytes → WalkFlags → ℕ → Access → List Visit → Run (Result ℕ Cause)
-by_chain readable bytes flags va access visits = record {
-  value = chain_result readable bytes flags va access visits;
-  reads = entry_reads_of readable visits;
-  wrote = [];
+abbrev pub by_chain : Tables → Bytes → WalkFlags → ℕ → Access → List Visit → Run (Result ℕ Cause)
+by_chain tables bytes flags va access visits = record {
+  value = chain_result tables bytes flags va access visits;
+  reads = entry_reads_of tables.readable visits;
+  wrote = chain_wrote tables bytes flags va access visits;
 }
-
--- the entry of a visit
-abbrev pub entry_in : Bytes → Visit → ℕ
-entry_in bytes visit = number_at bytes visit.pa ENTRY_SIZE
 
 -- the visit at a place of a chain
 abbrev pub visit_at : List Visit → ℕ → Visit

@@ -1,9 +1,9 @@
 //! What one entry of a page table says. From the Privileged Architecture's chapter
 //! "Supervisor-Level ISA".
 
-ghost use Rattle.std.specs.Prelude.{IfOk, ◌≡◌, ◌+◌, ◌%◌, ◌<◌, ◌≤◌, ◌^◌, ◌&&◌};
+ghost use Rattle.std.specs.Prelude.{◌≡◌, ◌+◌, ◌%◌, ◌<◌, ◌≤◌, ◌^◌, ◌&&◌};
 ghost use Rattle.hart_words.specs.declared.span.TheConstants.{PAGE_SIZE};
-ghost use Rattle.sv39_walk.specs.Entries.{bit_of, entry_address, final_result, is_canonical, is_leaf, is_link, is_marked, is_meaningless, is_open_to, is_pointer, is_set, leaf_admits, leaf_permits, page_number, page_size};
+ghost use Rattle.sv39_walk.specs.Entries.{address_in, bit_of, entry_address, is_canonical, is_leaf, is_link, is_marked, is_meaningless, is_open_to, is_pointer, is_set, leads_on, leaf_allows, leaf_permits, marked, marks_of, page_number, page_size};
 
 use hart_words::{Access, Cause, Mode, PAGE_SIZE, WalkFlags};
 
@@ -56,6 +56,17 @@ fn bit_of(flag: Flag) -> u32
     flag as u32
 }
 
+/// The bits that an access needs to be set: A, and D for a store.
+fn marks_of(access: Access) -> u64
+    ensures { result ≡ marks_of access }
+{
+    let accessed = 1 << bit_of(Flag::Accessed);
+    match access {
+        Access::Fetch | Access::Load => accessed,
+        Access::Store => accessed + (1 << bit_of(Flag::Dirty)),
+    }
+}
+
 /// An entry of a page table.
 #[derive(Clone, Copy, Debug)]
 pub struct Entry {
@@ -106,7 +117,7 @@ impl Entry {
 
     /// Whether the entry leads to the table of the next level.
     #[tactic(auto, unfolding(crate::specs::Entries::is_link))]
-    pub fn is_link(self) -> bool
+    fn is_link(self) -> bool
         ensures { result ≡ is_link self.bits }
     {
         !self.is_meaningless()
@@ -114,6 +125,13 @@ impl Entry {
             && !self.is_set(Flag::Accessed)
             && !self.is_set(Flag::Dirty)
             && !self.is_set(Flag::ForUser)
+    }
+
+    /// Whether a walk that reads the entry at a level goes on to the table that it names.
+    pub fn leads_on(self, level: u32) -> bool
+        ensures { result ≡ leads_on level self.bits }
+    {
+        level > 0 && self.is_link()
     }
 
     /// Whether the page has the right that the access needs.
@@ -139,7 +157,7 @@ impl Entry {
     }
 
     /// Whether A is set, and D for a store.
-    fn is_marked(self, access: Access) -> bool
+    pub fn is_marked(self, access: Access) -> bool
         ensures { result ≡ is_marked access self.bits }
     {
         match access {
@@ -148,39 +166,33 @@ impl Entry {
         }
     }
 
-    /// Whether the entry is a page of this level that lets the access pass.
-    #[tactic(auto, unfolding(crate::specs::Entries::leaf_admits, crate::specs::Entries::is_leaf))]
-    fn leaf_admits(self, level: u32, flags: WalkFlags, access: Access) -> bool
+    /// The entry with A set, and for a store D.
+    #[tactic(auto, unfolding(crate::specs::Entries::marked))]
+    pub fn marked(self, access: Access) -> u64
+        ensures { result ≡ marked access self.bits }
+    {
+        self.bits | marks_of(access)
+    }
+
+    /// Whether the entry is a page of this level that allows the access, whatever A and D are.
+    #[tactic(auto, unfolding(crate::specs::Entries::leaf_allows, crate::specs::Entries::is_leaf))]
+    pub fn leaf_allows(self, level: u32, flags: WalkFlags, access: Access) -> bool
         requires { level ≤ TOP_LEVEL }
-        ensures { result ≡ (is_leaf self.bits && leaf_admits level flags access self.bits) }
+        ensures { result ≡ (is_leaf self.bits && leaf_allows level flags access self.bits) }
     {
         !self.is_meaningless()
             && !self.is_pointer()
             && self.leaf_permits(flags.mxr, access)
             && self.is_open_to(flags.mode, flags.sum, access)
             && PAGE_SIZE * self.page_number() % page_size(level) == 0
-            && self.is_marked(access)
     }
 
-    /// The physical address that the last entry, read at `level`, gives for `va`, or a page fault.
-    #[tactic(auto, using(crate::proofs::Sizes::passed_fits, crate::proofs::Sizes::passed_offset), unfolding(crate::specs::Entries::final_result))]
-    pub fn final_result(
-        self,
-        level: u32,
-        flags: WalkFlags,
-        va: u64,
-        access: Access,
-    ) -> Result<u64, Cause>
+    /// The physical address of `va` in the page.
+    pub fn address_in(self, level: u32, va: u64) -> u64
         requires { level ≤ TOP_LEVEL }
-        ensures value { result ≡ final_result level flags va access self.bits }
-        ensures bound { IfOk result (λ pa. pa < 2 ^ 56) }
-        ensures offset { IfOk result (λ pa. pa % PAGE_SIZE ≡ va % PAGE_SIZE) }
+        ensures { result ≡ address_in level self.bits va }
     {
-        if self.leaf_admits(level, flags, access) {
-            Ok(PAGE_SIZE * self.page_number() + va % page_size(level))
-        } else {
-            Err(access.page_fault())
-        }
+        PAGE_SIZE * self.page_number() + va % page_size(level)
     }
 }
 

@@ -4,14 +4,32 @@ ghost use Rattle.std.specs.Prelude.{ℕ, Bool, List};
 ghost use Rattle.hart_words.specs.declared.privilege.Access.{Access};
 ghost use Rattle.hart_words.specs.declared.privilege.WalkFlags.{WalkFlags};
 ghost use Rattle.hart_words.specs.Memory.{Bytes};
+ghost use Rattle.sv39_walk.specs.Entries.{Tables};
 ghost use Rattle.sv39_walk.specs.Walk.{Visit};
-ghost use Rattle.sv39_walk.specs.Laws.{ChainIsEmpty, ChainIsWalk, HasPageNumber, IsByChain, KeepsOffset, WalkIsChain};
+ghost use Rattle.sv39_walk.specs.Laws.{ChainIsEmpty, ChainIsWalk, GainsItsMarks, HasPageNumber, IsByChain, KeepsOffset, SetsItsLast, WalkIsChain, WritesAtMostOne, WritesNoneUnderFault};
 
 /// A translation gives what the last entry of its chain decides, reads the entries of the chain
-/// that can be read, each once and in their order, and writes nothing.
+/// that can be read, each once and in their order, and writes none but the last.
 pub fn translation_is_by_its_chain()
-    ensures { (readable : ℕ → Bool) (bytes : Bytes) (satp : ℕ) (flags : WalkFlags) (va : ℕ)
-        (access : Access) → IsByChain readable bytes satp flags va access }
+    ensures { (tables : Tables) (bytes : Bytes) (satp : ℕ) (flags : WalkFlags) (va : ℕ)
+        (access : Access) → IsByChain tables bytes satp flags va access }
+{}
+
+/// An entry that is set gains A, and for a store D, and no other bit.
+pub fn entry_gains_its_marks()
+    ensures { (access : Access) (entry : ℕ) → GainsItsMarks access entry }
+{}
+
+/// A translation writes at most one entry: the last of its chain, where that may be set, is a page
+/// that allows the access and lacks A, or for a store D, and the hart sets them. Where it does not
+/// set them nothing is written.
+pub fn translation_sets_its_last_entry()
+    ensures one { (tables : Tables) (bytes : Bytes) (satp : ℕ) (flags : WalkFlags) (va : ℕ)
+        (access : Access) → WritesAtMostOne tables bytes satp flags va access }
+    ensures last { (tables : Tables) (bytes : Bytes) (satp : ℕ) (flags : WalkFlags) (va : ℕ)
+        (access : Access) → SetsItsLast tables bytes satp flags va access }
+    ensures none { (tables : Tables) (bytes : Bytes) (satp : ℕ) (flags : WalkFlags) (va : ℕ)
+        (access : Access) → WritesNoneUnderFault tables bytes satp flags va access }
 {}
 
 /// The chain of an address that extends its low 39 bits is the walk from level 2 on, in the table

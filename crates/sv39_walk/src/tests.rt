@@ -1,8 +1,11 @@
-ghost use Rattle.std.specs.Prelude.{◌≡◌, ◌<◌, ◌^◌, ◌==◌, ◌&&◌, ◌||◌, not};
+ghost use Rattle.std.specs.Prelude.{◌≡◌, ◌+◌, ◌<◌, ◌≤◌, ◌^◌, ◌==◌, ◌&&◌, ◌||◌, length, not};
 ghost use Rattle.hart_words.specs.Memory.{bytes_after_store};
+ghost use Rattle.hart_words.specs.declared.sets.TheConstants.{MOST_SETS};
 
 use super::*;
-use hart_words::{Access, Cause, Mode, Read, Seen, WalkFlags, WalkMem};
+use hart_words::{
+    Access, Cause, Choices, Marks, Mode, Read, Seen, Sets, WalkFlags, WalkMem, Write,
+};
 use std::test::Fail;
 
 /// Entry 1 of the root table, in page 0x80000.
@@ -17,13 +20,15 @@ const LAST: u64 = 0x8000_2018;
 /// The address that these entries translate: 1, 2 and 3 for the levels 2, 1 and 0.
 const VA: u64 = 0x4040_3456;
 
-/// A memory with these three entries, of which the one at `hidden` cannot be read.
+/// A memory with these three entries, of which the one at `hidden` cannot be read, and the one at
+/// `locked` cannot be set.
 #[derive(Clone, Copy, Debug)]
 struct Tables {
     root: u64,
     middle: u64,
     last: u64,
     hidden: u64,
+    locked: u64,
 }
 
 impl WalkMem for Tables {
@@ -37,6 +42,8 @@ impl WalkMem for Tables {
     ghost is_readable = { λ t pa.
         not (pa == t.hidden) && (pa == ROOT || pa == MIDDLE || pa == LAST) };
 
+    ghost is_settable = { λ t pa. not (pa == t.locked) };
+
     fn entry(&self, pa: u64) -> Option<u64> {
         if pa == self.hidden {
             return None;
@@ -47,6 +54,21 @@ impl WalkMem for Tables {
             LAST => Some(word(self.last)),
             _ => None,
         }
+    }
+
+    fn may_set(&self, pa: u64) -> bool {
+        pa != self.locked
+    }
+}
+
+/// These entries, all of which can be read and set.
+fn memory(root: u64, middle: u64, last: u64) -> Tables {
+    Tables {
+        root: root,
+        middle: middle,
+        last: last,
+        hidden: 0,
+        locked: 0,
     }
 }
 
@@ -76,22 +98,42 @@ const SUPERVISOR: WalkFlags = WalkFlags {
     mxr: false,
 };
 
+/// The choices that say what is done where A, or D, is clear.
+fn choices(marks: Marks) -> Choices {
+    let mut choices = Choices::plain();
+    choices.marks = marks;
+    choices
+}
+
 /// What the load of `va` by S gives, and how many entries are read for it.
 fn loaded(tables: Tables, va: u64) -> (Result<u64, Cause>, usize) {
     let mut seen = Seen::empty();
-    let got = translate(&tables, 0x80000, SUPERVISOR, va, Access::Load, &mut seen);
+    let mut sets = Sets::empty();
+    let got = translate(
+        &tables,
+        0x80000,
+        SUPERVISOR,
+        va,
+        Access::Load,
+        &Choices::plain(),
+        &mut seen,
+        &mut sets,
+    );
     (got, seen.as_slice().len())
 }
 
 /// What an access to a page of 4 KiB gives.
 fn page(bits: u64, flags: WalkFlags, access: Access) -> Result<u64, Cause> {
-    let tables = Tables {
-        root: TO_MIDDLE,
-        middle: TO_LAST,
-        last: bits,
-        hidden: 0,
-    };
-    translate(&tables, 0x80000, flags, VA, access, &mut Seen::empty())
+    translate(
+        &memory(TO_MIDDLE, TO_LAST, bits),
+        0x80000,
+        flags,
+        VA,
+        access,
+        &Choices::plain(),
+        &mut Seen::empty(),
+        &mut Sets::empty(),
+    )
 }
 
 /// A leaf at each level, with the low bits of the address and the rest of the page number.
@@ -103,13 +145,7 @@ fn leaves(rt: HostRuntime) -> Result<(), Fail> {
         (HUGE, 0, 0, 0x8040_3456, 1),
     ];
     for (root, middle, last, pa, reads) in cases {
-        let tables = Tables {
-            root: root,
-            middle: middle,
-            last: last,
-            hidden: 0,
-        };
-        assert_eq!(rt; loaded(tables, VA), (Ok(pa), reads));
+        assert_eq!(rt; loaded(memory(root, middle, last), VA), (Ok(pa), reads));
     }
     Ok(())
 }
@@ -126,13 +162,7 @@ fn bits_without_a_meaning_here(rt: HostRuntime) -> Result<(), Fail> {
             (HUGE | extra, 0, 0, 0x8040_3456, 1),
         ];
         for (root, middle, last, pa, reads) in cases {
-            let tables = Tables {
-                root: root,
-                middle: middle,
-                last: last,
-                hidden: 0,
-            };
-            assert_eq!(rt; loaded(tables, VA), (Ok(pa), reads));
+            assert_eq!(rt; loaded(memory(root, middle, last), VA), (Ok(pa), reads));
         }
     }
     Ok(())
@@ -142,13 +172,20 @@ fn bits_without_a_meaning_here(rt: HostRuntime) -> Result<(), Fail> {
 #[test]
 fn reads(rt: HostRuntime) -> Result<(), Fail> {
     let tables = Tables {
-        root: TO_MIDDLE,
-        middle: TO_LAST,
-        last: PAGE,
         hidden: LAST,
+        ..memory(TO_MIDDLE, TO_LAST, PAGE)
     };
     let mut seen = Seen::empty();
-    let got = translate(&tables, 0x80000, SUPERVISOR, VA, Access::Load, &mut seen);
+    let got = translate(
+        &tables,
+        0x80000,
+        SUPERVISOR,
+        VA,
+        Access::Load,
+        &Choices::plain(),
+        &mut seen,
+        &mut Sets::empty(),
+    );
     assert_eq!(rt; got, Err(Cause::LoadAccessFault));
     let entries = [Read { pa: ROOT, len: 8 }, Read { pa: MIDDLE, len: 8 }];
     assert_eq!(rt; seen.as_slice(), entries.as_slice());
@@ -159,27 +196,18 @@ fn reads(rt: HostRuntime) -> Result<(), Fail> {
 #[test]
 fn meaningless_entries(rt: HostRuntime) -> Result<(), Fail> {
     for flags in [0xce, 0xcd, 0xc5, 1 << 54 | 0xcf, 1 << 63 | 0xcf] {
-        let tables = Tables {
-            root: 0x80000 << 10 | flags,
-            middle: 0,
-            last: 0,
-            hidden: 0,
-        };
-        assert_eq!(rt; loaded(tables, VA), (Err(Cause::LoadPageFault), 1));
-        let tables = Tables {
-            root: TO_MIDDLE,
-            middle: 0x12200 << 10 | flags,
-            last: 0,
-            hidden: 0,
-        };
-        assert_eq!(rt; loaded(tables, VA), (Err(Cause::LoadPageFault), 2));
-        let tables = Tables {
-            root: TO_MIDDLE,
-            middle: TO_LAST,
-            last: 0x12345 << 10 | flags,
-            hidden: 0,
-        };
-        assert_eq!(rt; loaded(tables, VA), (Err(Cause::LoadPageFault), 3));
+        assert_eq!(rt;
+            loaded(memory(0x80000 << 10 | flags, 0, 0), VA),
+            (Err(Cause::LoadPageFault), 1)
+        );
+        assert_eq!(rt;
+            loaded(memory(TO_MIDDLE, 0x12200 << 10 | flags, 0), VA),
+            (Err(Cause::LoadPageFault), 2)
+        );
+        assert_eq!(rt;
+            loaded(memory(TO_MIDDLE, TO_LAST, 0x12345 << 10 | flags), VA),
+            (Err(Cause::LoadPageFault), 3)
+        );
     }
     Ok(())
 }
@@ -199,13 +227,10 @@ fn misplaced_entries(rt: HostRuntime) -> Result<(), Fail> {
         (TO_MIDDLE, 0x12201 << 10 | 0xcf, 0, 2),
     ];
     for (root, middle, last, reads) in cases {
-        let tables = Tables {
-            root: root,
-            middle: middle,
-            last: last,
-            hidden: 0,
-        };
-        assert_eq!(rt; loaded(tables, VA), (Err(Cause::LoadPageFault), reads));
+        assert_eq!(rt;
+            loaded(memory(root, middle, last), VA),
+            (Err(Cause::LoadPageFault), reads)
+        );
     }
     Ok(())
 }
@@ -214,12 +239,7 @@ fn misplaced_entries(rt: HostRuntime) -> Result<(), Fail> {
 /// fault.
 #[test]
 fn addresses(rt: HostRuntime) -> Result<(), Fail> {
-    let tables = Tables {
-        root: TO_MIDDLE,
-        middle: TO_LAST,
-        last: PAGE,
-        hidden: 0,
-    };
+    let tables = memory(TO_MIDDLE, TO_LAST, PAGE);
     let cases = [
         (VA | 1 << 39, Err(Cause::LoadPageFault), 0),
         (VA | 1 << 38, Err(Cause::LoadPageFault), 0),
@@ -283,5 +303,176 @@ fn permissions(rt: HostRuntime) -> Result<(), Fail> {
             found(store, Cause::StorePageFault)
         );
     }
+    Ok(())
+}
+
+/// What an access of S to `VA` gives, with the entries set before and now.
+fn accessed(tables: &Tables, access: Access, marks: Marks, sets: &mut Sets) -> Result<u64, Cause>
+    requires { length sets.old < MOST_SETS }
+    ensures { length sets.new ≤ length sets.old + 1 }
+{
+    translate(
+        tables,
+        0x80000,
+        SUPERVISOR,
+        VA,
+        access,
+        &choices(marks),
+        &mut Seen::empty(),
+        sets,
+    )
+}
+
+/// The kinds of access, with the page fault and the access fault of each, and what it leaves clear
+/// of A and D.
+const KINDS: [(Access, Cause, Cause, u64); 3] = [
+    (
+        Access::Fetch,
+        Cause::InstructionPageFault,
+        Cause::InstructionAccessFault,
+        0x80,
+    ),
+    (
+        Access::Load,
+        Cause::LoadPageFault,
+        Cause::LoadAccessFault,
+        0x80,
+    ),
+    (
+        Access::Store,
+        Cause::StorePageFault,
+        Cause::StoreAccessFault,
+        0,
+    ),
+];
+
+/// A leaf at each level with A and D clear: by the choice it is a page fault, or the entry is set,
+/// or an access fault where that may not be.
+#[test]
+fn marks_at_each_level(rt: HostRuntime) -> Result<(), Fail> {
+    let cases = [
+        (TO_MIDDLE, TO_LAST, PAGE ^ 0xc0, LAST, PAGE, 0x1234_5456),
+        (TO_MIDDLE, LARGE ^ 0xc0, 0, MIDDLE, LARGE, 0x1220_3456),
+        (HUGE ^ 0xc0, 0, 0, ROOT, HUGE, 0x8040_3456),
+    ];
+    for (root, middle, last, at, marked, pa) in cases {
+        let open = memory(root, middle, last);
+        let shut = Tables { locked: at, ..open };
+        for (access, page_fault, access_fault, clear) in KINDS {
+            let mut sets = Sets::empty();
+            assert_eq!(rt;
+                accessed(&open, access, Marks::Fault, &mut sets),
+                Err(page_fault)
+            );
+            assert!(rt; sets.is_empty());
+            assert_eq!(rt;
+                accessed(&shut, access, Marks::Set, &mut sets),
+                Err(access_fault)
+            );
+            assert!(rt; sets.is_empty());
+            assert_eq!(rt; accessed(&open, access, Marks::Set, &mut sets), Ok(pa));
+            let set = [Write {
+                pa: at,
+                len: 8,
+                value: marked ^ clear,
+            }];
+            assert_eq!(rt; sets.as_slice(), set.as_slice());
+        }
+    }
+    Ok(())
+}
+
+/// What a page of 4 KiB becomes by its low bits, for a fetch, a load and a store: nothing is noted
+/// where nothing is lacking, and nothing but A and D changes.
+#[test]
+fn marks_that_are_lacking(rt: HostRuntime) -> Result<(), Fail> {
+    let cases = [
+        (0xcf, [None, None, None]),
+        (0x4f, [None, None, Some(0xcf)]),
+        (0x8f, [Some(0xcf), Some(0xcf), Some(0xcf)]),
+        (0x32f, [Some(0x36f), Some(0x36f), Some(0x3ef)]),
+    ];
+    let page = 0x12345 << 10;
+    for (low, [fetch, load, store]) in cases {
+        let tables = memory(TO_MIDDLE, TO_LAST, page | low);
+        for (access, set) in [
+            (Access::Fetch, fetch),
+            (Access::Load, load),
+            (Access::Store, store),
+        ] {
+            let mut sets = Sets::empty();
+            assert_eq!(rt;
+                accessed(&tables, access, Marks::Set, &mut sets),
+                Ok(0x1234_5456)
+            );
+            assert_eq!(rt; sets.entry(LAST), set.map(|low: u64| page | low));
+        }
+    }
+    Ok(())
+}
+
+/// A page that refuses the access stays as it is, also where it could not be set.
+#[test]
+fn refused_pages_are_not_set(rt: HostRuntime) -> Result<(), Fail> {
+    let cases = [
+        (0x03, Access::Store, Cause::StorePageFault),
+        (0x09, Access::Load, Cause::LoadPageFault),
+        (0x07, Access::Fetch, Cause::InstructionPageFault),
+        (0x1f, Access::Fetch, Cause::InstructionPageFault),
+        (0x1f, Access::Load, Cause::LoadPageFault),
+    ];
+    for (low, access, fault) in cases {
+        let open = memory(TO_MIDDLE, TO_LAST, 0x12345 << 10 | low);
+        for locked in [0, LAST] {
+            let mut sets = Sets::empty();
+            let tables = Tables { locked, ..open };
+            assert_eq!(rt;
+                accessed(&tables, access, Marks::Set, &mut sets),
+                Err(fault)
+            );
+            assert!(rt; sets.is_empty());
+        }
+    }
+    Ok(())
+}
+
+/// A later translation of the same step sees what an earlier one set.
+#[test]
+fn later_translations(rt: HostRuntime) -> Result<(), Fail> {
+    let tables = memory(TO_MIDDLE, TO_LAST, PAGE ^ 0xc0);
+    let mut sets = Sets::empty();
+    assert_eq!(rt;
+        accessed(&tables, Access::Fetch, Marks::Set, &mut sets),
+        Ok(0x1234_5456)
+    );
+    assert_eq!(rt;
+        accessed(&tables, Access::Load, Marks::Fault, &mut sets),
+        Ok(0x1234_5456)
+    );
+    let fault = Err(Cause::StorePageFault);
+    assert_eq!(rt;
+        accessed(&tables, Access::Store, Marks::Fault, &mut sets),
+        fault
+    );
+    assert_eq!(rt; sets.as_slice().len(), 1);
+    let mut sets = Sets::empty();
+    assert_eq!(rt;
+        accessed(&tables, Access::Load, Marks::Set, &mut sets),
+        Ok(0x1234_5456)
+    );
+    assert_eq!(rt;
+        accessed(&tables, Access::Store, Marks::Set, &mut sets),
+        Ok(0x1234_5456)
+    );
+    assert_eq!(rt;
+        accessed(&tables, Access::Store, Marks::Set, &mut sets),
+        Ok(0x1234_5456)
+    );
+    let set = [PAGE ^ 0x80, PAGE].map(|value: u64| Write {
+        pa: LAST,
+        len: 8,
+        value,
+    });
+    assert_eq!(rt; sets.as_slice(), set.as_slice());
     Ok(())
 }

@@ -3,6 +3,8 @@ use Rattle.std.specs.Prelude.{ℕ, List, [], ◌++◌, Option, Some, None, codes
 use Rattle.hart_words.specs.declared.signal.Signal.{Signal}
 use Rattle.hart_words.specs.declared.signal.Difference.{Difference}
 use Rattle.hart_words.specs.SignalNames.{name_of}
+use Rattle.elf_image.specs.declared.fault.ElfFault.{ElfFault}
+use Rattle.elf_image.specs.declared.fault.ElfFault.TheVariants as elf
 use Rattle.image_text.specs.declared.fault.FaultKind.{FaultKind}
 use Rattle.image_text.specs.declared.fault.FaultKind.TheVariants.{BadByte, BadAddress, OutsideRam, Overlap, OpenComment}
 use Rattle.image_text.specs.declared.fault.ImageFault.{ImageFault}
@@ -30,6 +32,20 @@ kind_text OpenComment = codes ": open comment\n"
 unfoldable pub image_fault_text : ImageFault → List ℕ
 image_fault_text fault =
     codes "refused image: line " ++ decimal fault.line ++ kind_text fault.kind
+
+-- a segment, and what is wrong with it
+abbrev pub segment_text : ℕ → List ℕ → List ℕ
+segment_text index end = codes "refused image: elf segment " ++ decimal index ++ end
+
+-- the line for a fault of an ELF file
+unfoldable pub elf_fault_text : ElfFault → List ℕ
+elf_fault_text elf.CutShort = codes "refused image: elf cut short\n"
+elf_fault_text elf.WrongKind = codes "refused image: elf of another kind\n"
+elf_fault_text elf.BadTable = codes "refused image: elf table size\n"
+elf_fault_text elf.BadEntry = codes "refused image: elf entry odd\n"
+elf_fault_text (elf.BadSegment index) = segment_text index (codes ": bad size\n")
+elf_fault_text (elf.OutsideRam index) = segment_text index (codes ": outside RAM\n")
+elf_fault_text (elf.Overlap index) = segment_text index (codes ": overlap\n")
 
 -- the line for a fault of the header
 unfoldable pub header_fault_text : HeaderFault → List ℕ
@@ -73,6 +89,7 @@ ruling_text rulings.NoJob = codes "refused words\n"
 ruling_text (rulings.ImageTooLarge most) =
     codes "refused image: more than " ++ decimal most ++ codes " bytes\n"
 ruling_text (rulings.ImageFault fault) = image_fault_text fault
+ruling_text (rulings.ElfFault fault) = elf_fault_text fault
 ruling_text rulings.NoHeader = codes "refused trace: no header\n"
 ruling_text (rulings.HeaderFault fault) = header_fault_text fault
 ruling_text (rulings.TooLong line) = codes "refused trace: line " ++ decimal line ++ codes " too long\n"
@@ -101,6 +118,7 @@ abbrev pub ruling_status : Ruling → ℕ
 ruling_status rulings.NoJob = 2
 ruling_status (rulings.ImageTooLarge most) = 3
 ruling_status (rulings.ImageFault fault) = 3
+ruling_status (rulings.ElfFault fault) = 3
 ruling_status rulings.NoHeader = 4
 ruling_status (rulings.HeaderFault fault) = 4
 ruling_status (rulings.TooLong line) = 4

@@ -3,6 +3,7 @@
 ghost use Rattle.std.specs.Prelude.{◌≡◌};
 ghost use Rattle.trace_report.specs.Report.{ruling_status, status_of};
 
+use elf_image::ElfFault;
 use image_text::ImageFault;
 use rvfi_rows::{HeaderFault, Verdict};
 
@@ -15,6 +16,8 @@ pub enum Ruling {
     ImageTooLarge { most: u64 },
     /// The text of the image is none.
     ImageFault(ImageFault),
+    /// The ELF file is no image.
+    ElfFault(ElfFault),
     /// The trace has no line, and so no header.
     NoHeader,
     /// The first line of the trace is no header.
@@ -55,7 +58,7 @@ fn ruling_status(ruling: &Ruling) -> u8
 {
     match ruling {
         Ruling::NoJob => 2,
-        Ruling::ImageTooLarge { .. } | Ruling::ImageFault(_) => 3,
+        Ruling::ImageTooLarge { .. } | Ruling::ImageFault(_) | Ruling::ElfFault(_) => 3,
         Ruling::NoHeader
         | Ruling::HeaderFault(_)
         | Ruling::TooLong { .. }

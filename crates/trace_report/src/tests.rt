@@ -1,4 +1,5 @@
 use super::*;
+use elf_image::ElfFault;
 use hart_words::{CsrName, CsrSide, Difference, Signal};
 use image_text::{FaultKind, ImageFault};
 use rvfi_rows::{HeaderFault, RowFault, Verdict};
@@ -24,6 +25,16 @@ fn reports_outcomes(rt: HostRuntime) -> Result<(), Fail> {
             Ruling::ImageFault(ImageFault { kind, line: 7 }),
             3,
             b"refused image: line 7: outside RAM\n",
+        ),
+        (
+            Ruling::ElfFault(ElfFault::WrongKind),
+            3,
+            b"refused image: elf of another kind\n",
+        ),
+        (
+            Ruling::ElfFault(ElfFault::Overlap { index: 12 }),
+            3,
+            b"refused image: elf segment 12: overlap\n",
         ),
         (Ruling::NoHeader, 4, b"refused trace: no header\n"),
         (

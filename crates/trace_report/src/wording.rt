@@ -3,10 +3,11 @@
 ghost use Rattle.std.specs.Prelude.{◌≡◌, ◌≤◌, ◌+◌, ◌++◌, length};
 ghost use Rattle.hart_words.specs.SignalNames.{name_of};
 ghost use Rattle.trace_report.specs.declared.wording.TheConstants.{MOST_LINE};
-ghost use Rattle.trace_report.specs.Report.{report_of, made_text, ruling_text, kind_text, image_fault_text, header_fault_text, row_fault_text, column_text, difference_text, verdict_text};
+ghost use Rattle.trace_report.specs.Report.{report_of, made_text, ruling_text, kind_text, image_fault_text, elf_fault_text, segment_text, header_fault_text, row_fault_text, column_text, difference_text, verdict_text};
 
 use crate::outcome::{Made, Outcome, Ruling};
 use crate::text::Text;
+use elf_image::ElfFault;
 use hart_words::{Difference, Signal};
 use image_text::{FaultKind, ImageFault};
 use rvfi_rows::{HeaderFault, RowFault, Verdict};
@@ -59,6 +60,7 @@ fn ruling_line(ruling: &Ruling) -> Text
             text.put(b" bytes\n");
         }
         Ruling::ImageFault(fault) => put_image_fault(&mut text, *fault),
+        Ruling::ElfFault(fault) => put_elf_fault(&mut text, *fault),
         Ruling::NoHeader => text.put(b"refused trace: no header\n"),
         Ruling::HeaderFault(fault) => put_header_fault(&mut text, *fault),
         Ruling::TooLong { line } => {
@@ -99,6 +101,34 @@ fn kind_text(kind: FaultKind) -> &'static [u8]
         FaultKind::Overlap => b": overlap\n",
         FaultKind::OpenComment => b": open comment\n",
     }
+}
+
+#[tactic(auto, unfolding(crate::specs::Report::elf_fault_text))]
+fn put_elf_fault(text: &mut Text, fault: ElfFault)
+    requires { length text.old ≤ 0 }
+    ensures text { text.new ≡ text.old ++ elf_fault_text fault }
+    ensures short { length text.new ≤ MOST_LINE }
+{
+    match fault {
+        ElfFault::CutShort => text.put(b"refused image: elf cut short\n"),
+        ElfFault::WrongKind => text.put(b"refused image: elf of another kind\n"),
+        ElfFault::BadTable => text.put(b"refused image: elf table size\n"),
+        ElfFault::BadEntry => text.put(b"refused image: elf entry odd\n"),
+        ElfFault::BadSegment { index } => put_segment(text, index, b": bad size\n"),
+        ElfFault::OutsideRam { index } => put_segment(text, index, b": outside RAM\n"),
+        ElfFault::Overlap { index } => put_segment(text, index, b": overlap\n"),
+    }
+}
+
+fn put_segment(text: &mut Text, index: u16, end: &[u8])
+    requires short { length text.old ≤ 0 }
+    requires end { length end.now ≤ 20 }
+    ensures text { text.new ≡ text.old ++ segment_text index end.now }
+    ensures short { length text.new ≤ MOST_LINE }
+{
+    text.put(b"refused image: elf segment ");
+    text.put_decimal(u64::from(index));
+    text.put(end);
 }
 
 /// Appends the name of a column.

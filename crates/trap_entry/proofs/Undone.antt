@@ -1,5 +1,5 @@
 -- A return undoes an entry.
-use Rattle.std.proofs.Common.{arith, ◌≡◌, ◌≢◌, ℕ, ◌<◌, Bool, true, false, length, refl, ap, ◌∙◌, sym, subst, lit<}
+use Rattle.std.proofs.Common.{arith, ◌≡◌, ℕ, ◌<◌, Bool, true, false, length, refl, ap, ◌∙◌, sym, subst, lit<}
 use Rattle.std.proofs.Common.{length-set, if◌then◌else◌, ◌≤◌, inl, inr, lit≤}
 use Rattle.std.specs.Int.{bit_at}
 use Rattle.std.proofs.lemmas.Bool.{cases_Bool}

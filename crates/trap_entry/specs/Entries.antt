@@ -25,6 +25,10 @@ is_delegated csrs User interrupt cause =
 abbrev pub cause_value : Bool → ℕ → ℕ
 cause_value interrupt cause = if interrupt then 2 ^ 63 + cause else cause
 
+-- the trap value, where a core writes it at all: the standard lets it be 0 in every trap
+abbrev pub trap_value_of : Bool → ℕ → ℕ
+trap_value_of zero tval = if zero then 0 else tval
+
 -- the base of a vector, bits 1:0 cleared; in its mode 1 an interrupt adds 4 times the code
 unfoldable pub handler_address : ℕ → Bool → ℕ → ℕ
 handler_address tvec interrupt cause =

@@ -3,7 +3,7 @@
 
 ghost use Rattle.std.specs.Prelude.{◌≡◌, ◌%◌};
 ghost use Rattle.csr_file.specs.Legal.{IsLegal};
-ghost use Rattle.trap_entry.specs.Entries.{is_delegated, cause_value, handler_address, status_into_machine, status_into_supervisor, enter_of, enter_machine_of, enter_supervisor_of, mode_by_enter, pc_by_enter};
+ghost use Rattle.trap_entry.specs.Entries.{is_delegated, cause_value, handler_address, status_into_machine, status_into_supervisor, enter_of, enter_machine_of, enter_supervisor_of, mode_by_enter, pc_by_enter, trap_value_of};
 
 use csr_file::fields::{MIE, MPIE, MPP, SIE, SPIE, SPP};
 use csr_file::{Csrs, StoredCsr, has_bit, merge};
@@ -25,7 +25,8 @@ const SPIE_SET: u64 = 1 << SPIE;
 const SPP_SET: u64 = 1 << SPP;
 
 /// Enters a trap that is taken in `mode` at the instruction at `pc`: an interrupt or an exception
-/// with its code and its trap value. Gives the new mode and the address of the handler.
+/// with its code and its trap value, which is 0 where every trap value is. Gives the new mode and
+/// the address of the handler.
 #[tactic(auto, unfolding(crate::specs::Entries::enter_of, crate::specs::Entries::mode_by_enter, crate::specs::Entries::pc_by_enter))]
 pub fn enter(
     csrs: &mut Csrs,
@@ -34,14 +35,17 @@ pub fn enter(
     cause: u8,
     tval: u64,
     pc: u64,
+    zero_tval: bool,
 ) -> (Mode, u64)
-    ensures registers { csrs.new ≡ enter_of csrs.old mode interrupt cause tval pc }
+    ensures registers { csrs.new
+        ≡ enter_of csrs.old mode interrupt cause (trap_value_of zero_tval tval) pc }
     ensures new_mode { result.0 ≡ mode_by_enter csrs.old mode interrupt cause }
     ensures new_pc { result.1 ≡ pc_by_enter csrs.old mode interrupt cause }
     ensures even { result.1 % 2 ≡ 0 }
     ensures legal { IsLegal csrs.old → pc % 2 ≡ 0 → IsLegal csrs.new }
 {
     let value = cause_value(interrupt, cause);
+    let tval = if zero_tval { 0 } else { tval };
     if is_delegated(csrs, mode, interrupt, cause) {
         let handler = handler_address(csrs.get(StoredCsr::Stvec), interrupt, cause);
         enter_supervisor(csrs, mode, value, tval, pc);

@@ -12,7 +12,7 @@ fn enters_machine(rt: HostRuntime) -> Result<(), Fail> {
     csrs.set(StoredCsr::Mtvec, 0x8000_0101);
     csrs.set(StoredCsr::Medeleg, 0xB3FF);
     csrs.set(StoredCsr::Mstatus, CONSTANTS + 0x8);
-    let entered = enter(&mut csrs, Mode::Machine, false, 2, 0x13, 0x8000_0004);
+    let entered = enter(&mut csrs, Mode::Machine, false, 2, 0x13, 0x8000_0004, false);
     assert_eq!(rt; entered, (Mode::Machine, 0x8000_0100));
     assert_eq!(rt; csrs.get(StoredCsr::Mepc), 0x8000_0004);
     assert_eq!(rt; csrs.get(StoredCsr::Mcause), 2);
@@ -30,7 +30,7 @@ fn enters_supervisor(rt: HostRuntime) -> Result<(), Fail> {
     csrs.set(StoredCsr::Stvec, 0x8000_2000);
     csrs.set(StoredCsr::Medeleg, 0x100);
     csrs.set(StoredCsr::Mstatus, CONSTANTS + 0x2);
-    let entered = enter(&mut csrs, Mode::User, false, 8, 0, 0x1000);
+    let entered = enter(&mut csrs, Mode::User, false, 8, 0, 0x1000, false);
     assert_eq!(rt; entered, (Mode::Supervisor, 0x8000_2000));
     assert_eq!(rt; csrs.get(StoredCsr::Sepc), 0x1000);
     assert_eq!(rt; csrs.get(StoredCsr::Scause), 8);
@@ -40,13 +40,13 @@ fn enters_supervisor(rt: HostRuntime) -> Result<(), Fail> {
     assert_eq!(rt; sret(&mut csrs), (Mode::User, 0x1000));
     assert_eq!(rt; csrs.get(StoredCsr::Mstatus), CONSTANTS + 0x22);
 
-    let again = enter(&mut csrs, Mode::Supervisor, false, 8, 0, 0x1000);
+    let again = enter(&mut csrs, Mode::Supervisor, false, 8, 0, 0x1000, false);
     assert_eq!(rt; again.0, Mode::Supervisor);
     assert_eq!(rt; csrs.get(StoredCsr::Mstatus), CONSTANTS + 0x120);
 
     csrs.set(StoredCsr::Medeleg, 0);
     csrs.set(StoredCsr::Mideleg, 0x222);
-    let entered = enter(&mut csrs, Mode::User, false, 9, 0, 0x1000);
+    let entered = enter(&mut csrs, Mode::User, false, 9, 0, 0x1000, false);
     assert_eq!(rt; entered.0, Mode::Machine);
     Ok(())
 }
@@ -69,7 +69,7 @@ fn enters_supervisor_by_an_interrupt(rt: HostRuntime) -> Result<(), Fail> {
         csrs.set(StoredCsr::Mideleg, 0x222);
         csrs.set(StoredCsr::Stval, 0x55);
         csrs.set(StoredCsr::Mstatus, CONSTANTS + 0x102);
-        let entered = enter(&mut csrs, Mode::User, true, cause, 0, 0x1000);
+        let entered = enter(&mut csrs, Mode::User, true, cause, 0, 0x1000, false);
         assert_eq!(rt; entered, (Mode::Supervisor, handler));
         assert_eq!(rt; csrs.get(StoredCsr::Sepc), 0x1000);
         assert_eq!(rt; csrs.get(StoredCsr::Scause), (1 << 63) + u64::from(cause));
@@ -80,22 +80,39 @@ fn enters_supervisor_by_an_interrupt(rt: HostRuntime) -> Result<(), Fail> {
     Ok(())
 }
 
-/// Page faults that are delegated put the trap value into stval, and go to the base in mode 1 too.
+/// Page faults that are delegated put the trap value into stval, or 0 where every trap value is 0,
+/// and go to the base in mode 1 too.
 #[test]
 fn puts_the_trap_value_into_stval(rt: HostRuntime) -> Result<(), Fail> {
     let cases = [
-        (Mode::User, 12, 0x4000_0002, 0x20),
-        (Mode::User, 13, 0x7FFF_FFFF_FFFF_FFFF, 0x20),
-        (Mode::Supervisor, 15, 0xFFFF_FFFF_FFFF_F001, 0x120),
+        (Mode::User, 12, 0x4000_0002, false, 0x4000_0002, 0x20),
+        (Mode::User, 12, 0x4000_0002, true, 0, 0x20),
+        (
+            Mode::User,
+            13,
+            0x7FFF_FFFF_FFFF_FFFF,
+            false,
+            0x7FFF_FFFF_FFFF_FFFF,
+            0x20,
+        ),
+        (
+            Mode::Supervisor,
+            15,
+            0xFFFF_FFFF_FFFF_F001,
+            false,
+            0xFFFF_FFFF_FFFF_F001,
+            0x120,
+        ),
+        (Mode::Supervisor, 15, 0xFFFF_FFFF_FFFF_F001, true, 0, 0x120),
     ];
-    for (mode, cause, tval, status) in cases {
+    for (mode, cause, tval, zero, kept, status) in cases {
         let mut csrs = Csrs::reset();
         csrs.set(StoredCsr::Stvec, 0x8000_2001);
         csrs.set(StoredCsr::Medeleg, 0xB000);
         csrs.set(StoredCsr::Mstatus, CONSTANTS + 0x2);
-        let entered = enter(&mut csrs, mode, false, cause, tval, 0x1000);
+        let entered = enter(&mut csrs, mode, false, cause, tval, 0x1000, zero);
         assert_eq!(rt; entered, (Mode::Supervisor, 0x8000_2000));
-        assert_eq!(rt; csrs.get(StoredCsr::Stval), tval);
+        assert_eq!(rt; csrs.get(StoredCsr::Stval), kept);
         assert_eq!(rt; csrs.get(StoredCsr::Scause), u64::from(cause));
         assert_eq!(rt; csrs.get(StoredCsr::Mtval), 0);
         assert_eq!(rt; csrs.get(StoredCsr::Mstatus), CONSTANTS + status);
@@ -115,7 +132,7 @@ fn enters_by_the_vector(rt: HostRuntime) -> Result<(), Fail> {
     for (tvec, interrupt, cause, handler) in cases {
         let mut csrs = Csrs::reset();
         csrs.set(StoredCsr::Mtvec, tvec);
-        let entered = enter(&mut csrs, Mode::Supervisor, interrupt, cause, 0, 0);
+        let entered = enter(&mut csrs, Mode::Supervisor, interrupt, cause, 0, 0, false);
         assert_eq!(rt; entered, (Mode::Machine, handler));
         let bit = if interrupt { 1 << 63 } else { 0 };
         assert_eq!(rt; csrs.get(StoredCsr::Mcause), u64::from(cause) | bit);

@@ -17,7 +17,7 @@ use Rattle.hart_step.specs.Rows.{HartState, after_row}
 use Rattle.boundary_guess.specs.Cuts.{lines_of_pieces}
 use Rattle.boundary_guess.specs.Guesses.{guess_after, guesses_of}
 use Rattle.boundary_guess.specs.Truth.{Agree, HoldsWords, ShowChanges, true_state_after}
-use Rattle.boundary_guess.proofs.TrueGuesses.{rows_guessed, rows_stay}
+use Rattle.boundary_guess.proofs.TrueGuesses.{rows_guessed, rows_keep, rows_stay}
 use Rattle.segment_judge.specs.declared.found.Found.{Found}
 use Rattle.segment_judge.specs.Judgements.{Judgement, Judging, by_hart, judgement_of}
 use Rattle.segment_judge.specs.Laws.{Conclusion, conclusion_from, judgement_from}
@@ -122,13 +122,15 @@ all_met (lines ∷ pieces) from state columns founds shows judged =
       λ following is.
           let ends = ends_truly rows state following is in
           let guess : guess_after state rows ≡ following =
-          rows_guessed state columns lines shows.sound shows.words ends.agree showed.0 ∙ sym ends.true_state in
+          rows_guessed state columns lines shows.sound shows.words shows.faults ends.agree showed.0 ∙ sym ends.true_state in
           let later : AreJudgedInTurn by_hart (guessed_from (from + 1) following columns pieces founds) =
           subst (λ guess. AreJudgedInTurn by_hart (guessed_from (from + 1) guess columns pieces founds)) guess
           (judged.1 (judgement_agrees state following rows is)) in
           let goes_on : ShowsFrom following columns pieces = record {
             sound = subst (λ (state : HartState). IsSound state.core) (sym ends.true_state) stays.sound;
             words = subst HoldsWords (sym ends.true_state) stays.words;
+            faults = ap (λ (state : HartState). state.core.choices.marks) ends.true_state
+                ∙ ap (λ choices. choices.marks) (rows_keep rows state) ∙ shows.faults;
             shows = showed.1;
           } in
           subst (λ guess. AllMet by_hart (guessed_from (from + 1) guess columns pieces founds) following) (sym guess)

@@ -1,5 +1,5 @@
 -- A test that tells states of a hart apart.
-use Rattle.std.proofs.Common.{◌≡◌, ℕ, ◌==◌, Bool, true, false, List, [], ◌∷◌, Option, Some, None, refl, ap}
+use Rattle.std.proofs.Common.{◌≡◌, ◌∙◌, ℕ, ◌==◌, Bool, true, false, List, [], ◌∷◌, Option, Some, None, refl, sym, ap}
 use Rattle.std.specs.Prelude.{◌&&◌}
 use Rattle.std.specs.Bool.{Decides}
 use Rattle.std.proofs.lemmas.Bool.{and_from, and_parts, eq-eqb, eqb-true}
@@ -9,9 +9,19 @@ use Rattle.hart_words.specs.declared.privilege.Mode.{Mode}
 use Rattle.hart_words.specs.declared.privilege.Mode.TheVariants.{User, Supervisor, Machine}
 use Rattle.hart_words.specs.declared.privilege.PmpEntry.{PmpEntry}
 use Rattle.hart_words.specs.declared.registers.Registers.{Registers}
+use Rattle.hart_words.specs.declared.options.Misaligned.{Misaligned}
+use Rattle.hart_words.specs.declared.options.Misaligned.TheVariants.{Trap, Done}
+use Rattle.hart_words.specs.declared.options.TrapValues.{TrapValues}
+use Rattle.hart_words.specs.declared.options.TrapValues.TheVariants.{Value, Zero}
+use Rattle.hart_words.specs.declared.options.Marks.{Marks}
+use Rattle.hart_words.specs.declared.options.Marks.TheVariants.{Fault, Set}
+use Rattle.hart_words.specs.declared.choices.Choices.{Choices}
+use Rattle.hart_words.specs.Choices.{choices_of}
+use Rattle.hart_words.proofs.Chosen.{some_choices}
 use Rattle.hart_words.proofs.Maps.{same_map}
 use Rattle.hart_words.proofs.Spans.{same_span}
 use Rattle.csr_file.specs.declared.csrs.Csrs.{Csrs}
+use Rattle.rv_atomic.specs.declared.reservation.Block.{Block}
 use Rattle.rv_atomic.specs.declared.reservation.Reservation.{Reservation}
 use Rattle.hart_step.specs.declared.state.Core.{Core}
 use Rattle.verdict_join.specs.Joins.{Sameness}
@@ -105,12 +115,25 @@ csrs_test one other =
     both (list_test number_test one.values other.values) (list_test entry_test one.entries other.entries)
     (same_csrs one other) (λ same. (ap (λ (csrs : Csrs). csrs.values) same, ap (λ (csrs : Csrs). csrs.entries) same))
 
-abbrev reservation_with : Option ℕ → Reservation
+abbrev block_with : ℕ → ℕ → Block
+block_with address size = record { address = address; size = size }
+
+same_block : (one other : Block) → one.address ≡ other.address → one.size ≡ other.size → one ≡ other
+same_block one other address size =
+    let equal : block_with one.address one.size ≡ block_with other.address other.size = rw (address, size) refl in
+    equal
+
+block_test : Test Block
+block_test one other =
+    both (number_test one.address other.address) (number_test one.size other.size) (same_block one other)
+    (λ same. (ap (λ (block : Block). block.address) same, ap (λ (block : Block). block.size) same))
+
+abbrev reservation_with : Option Block → Reservation
 reservation_with block = record { block = block }
 
 reservation_test : Test Reservation
 reservation_test one other =
-    only (option_test number_test one.block other.block) (ap reservation_with)
+    only (option_test block_test one.block other.block) (ap reservation_with)
     (ap (λ (reservation : Reservation). reservation.block))
 
 span_test : Test Span
@@ -123,6 +146,39 @@ map_test one other =
     both (span_test one.ram other.ram) (option_test span_test one.io other.io) (same_map one other)
     (λ same. (ap (λ (map : Map). map.ram) same, ap (λ (map : Map). map.io) same))
 
+misaligned_test : Test Misaligned
+misaligned_test Trap Trap = (true, (λ is. refl, λ same. refl))
+misaligned_test Trap Done = (false, (λ is. cc, λ same. cc))
+misaligned_test Done Trap = (false, (λ is. cc, λ same. cc))
+misaligned_test Done Done = (true, (λ is. refl, λ same. refl))
+
+trap_values_test : Test TrapValues
+trap_values_test Value Value = (true, (λ is. refl, λ same. refl))
+trap_values_test Value Zero = (false, (λ is. cc, λ same. cc))
+trap_values_test Zero Value = (false, (λ is. cc, λ same. cc))
+trap_values_test Zero Zero = (true, (λ is. refl, λ same. refl))
+
+marks_test : Test Marks
+marks_test Fault Fault = (true, (λ is. refl, λ same. refl))
+marks_test Fault Set = (false, (λ is. cc, λ same. cc))
+marks_test Set Fault = (false, (λ is. cc, λ same. cc))
+marks_test Set Set = (true, (λ is. refl, λ same. refl))
+
+-- the parts of choices, two by two
+abbrev ChoiceParts : Choices → Choices → Type 0
+ChoiceParts one other =
+    (one.misaligned ≡ other.misaligned)
+    × ((one.trap_values ≡ other.trap_values)
+    × ((one.marks ≡ other.marks) × ((one.block_size ≡ other.block_size) × (one.bits ≡ other.bits))))
+
+-- choices are what they say
+same_choices : (one other : Choices) → ChoiceParts one other → one ≡ other
+same_choices one other parts =
+    let made : choices_of one.misaligned one.trap_values one.marks one.block_size one.bits
+    ≡ choices_of other.misaligned other.trap_values other.marks other.block_size other.bits =
+    rw (parts.0, parts.1.0, parts.1.1.0, parts.1.1.1.0, parts.1.1.1.1) refl in
+    let some : Some one ≡ Some other = some_choices one one.block ∙ made ∙ sym (some_choices other other.block) in cc
+
 -- the parts of a core, two by two
 abbrev FirstParts : Core → Core → Type 0
 FirstParts one other =
@@ -132,7 +188,8 @@ abbrev LastParts : Core → Core → Type 0
 LastParts one other =
     (one.reservation ≡ other.reservation)
     × ((one.next_order ≡ other.next_order)
-    × ((one.trapped_last ≡ other.trapped_last) × ((one.halted ≡ other.halted) × (one.map ≡ other.map))))
+    × ((one.trapped_last ≡ other.trapped_last)
+    × ((one.halted ≡ other.halted) × ((one.map ≡ other.map) × (one.choices ≡ other.choices)))))
 
 -- two statements are both true, by tests of each
 paired : {P Q : Type 0} → ((test : Bool) × Decides test P) → ((test : Bool) × Decides test Q)
@@ -145,6 +202,30 @@ paired first second = (
   ),
 )
 
+choices_test : Test Choices
+choices_test one other =
+    let parts =
+    paired (misaligned_test one.misaligned other.misaligned)
+    (paired (trap_values_test one.trap_values other.trap_values)
+    (paired (marks_test one.marks other.marks)
+    (paired (number_test one.block_size other.block_size) (bool_test one.bits other.bits)))) in
+    (parts.0, (λ is. same_choices one other (parts.1.0 is), λ same. parts.1.1 (parts_of same)))
+  where
+    parts_of : one ≡ other → ChoiceParts one other
+    parts_of same = (
+      ap (λ (choices : Choices). choices.misaligned) same,
+      (
+        ap (λ (choices : Choices). choices.trap_values) same,
+        (
+          ap (λ (choices : Choices). choices.marks) same,
+          (
+            ap (λ (choices : Choices). choices.block_size) same,
+            ap (λ (choices : Choices). choices.bits) same,
+          ),
+        ),
+      ),
+    )
+
 abbrev core_with : Core → Registers → ℕ → Mode → Csrs → Map → Core
 core_with core registers pc mode csrs map = record {
   registers = registers;
@@ -156,13 +237,26 @@ core_with core registers pc mode csrs map = record {
   trapped_last = core.trapped_last;
   halted = core.halted;
   map = map;
+  choices = core.choices;
 }
 
 same_core : (one other : Core) → FirstParts one other → LastParts one other → one ≡ other
 same_core one other first last =
     let equal : core_with one one.registers one.pc one.mode one.csrs one.map
     ≡ core_with other other.registers other.pc other.mode other.csrs other.map =
-    rw (first.0, first.1.0, first.1.1.0, first.1.1.1, last.0, last.1.0, last.1.1.0, last.1.1.1.0, last.1.1.1.1) refl in
+    rw (
+      first.0,
+      first.1.0,
+      first.1.1.0,
+      first.1.1.1,
+      last.0,
+      last.1.0,
+      last.1.1.0,
+      last.1.1.1.0,
+      last.1.1.1.1.0,
+      last.1.1.1.1.1,
+    )
+    refl in
     equal
 
 core_test : Test Core
@@ -175,7 +269,8 @@ core_test one other =
     paired (reservation_test one.reservation other.reservation)
     (paired (option_test number_test one.next_order other.next_order)
     (paired (bool_test one.trapped_last other.trapped_last)
-    (paired (bool_test one.halted other.halted) (map_test one.map other.map)))) in
+    (paired (bool_test one.halted other.halted)
+    (paired (map_test one.map other.map) (choices_test one.choices other.choices))))) in
     let all = paired first last in
     (all.0, (λ is. let parts = all.1.0 is in same_core one other parts.0 parts.1, λ same. all.1.1 (parts_of same)))
   where
@@ -194,7 +289,10 @@ core_test one other =
           ap (λ (core : Core). core.next_order) same,
           (
             ap (λ (core : Core). core.trapped_last) same,
-            (ap (λ (core : Core). core.halted) same, ap (λ (core : Core). core.map) same),
+            (
+              ap (λ (core : Core). core.halted) same,
+              (ap (λ (core : Core). core.map) same, ap (λ (core : Core). core.choices) same),
+            ),
           ),
         ),
       ),

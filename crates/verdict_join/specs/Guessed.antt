@@ -1,5 +1,6 @@
 -- Segments of lines, with the hart's state before each as rows let one guess it.
-use Rattle.std.specs.Prelude.{ℕ, List, map}
+use Rattle.std.specs.Prelude.{◌≡◌, ℕ, List, map}
+use Rattle.hart_words.specs.declared.options.Marks.TheVariants.{Fault}
 use Rattle.rvfi_rows.specs.Columns.{ColumnList}
 use Rattle.rvfi_rows.specs.Rows.{rows_of}
 use Rattle.hart_step.specs.declared.state.Core.{Core}
@@ -19,10 +20,12 @@ abbrev pub guessed_candidates : HartState → ColumnList → List (List (List �
 guessed_candidates start columns pieces founds =
     candidates (map (rows_of columns) pieces) (guesses_of start columns pieces) founds
 
--- a hart's state before pieces of lines, whose valid rows show what they change
+-- a hart's state before pieces of lines, whose valid rows show what they change: A and D that are clear are page faults,
+-- since no row shows the entries that a hart sets
 pub record ShowsFrom (start : HartState) (columns : ColumnList) (pieces : List (List (List ℕ))) : Type 0 where
   pub sound : IsSound start.core
   pub words : HoldsWords start
+  pub faults : start.core.choices.marks ≡ Fault
   pub shows : ShowChanges (rows_of columns (lines_of_pieces pieces))
 
 -- and all of whose rows agree

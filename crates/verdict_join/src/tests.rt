@@ -12,7 +12,7 @@ ghost use Rattle.segment_judge.specs.Founds.{IsLawfulFound};
 use super::*;
 use boundary_guess::{cut, guesses};
 use hart_step::{Core, Hart};
-use hart_words::{Difference, Map, Mode, PhysMem, Signal, Span};
+use hart_words::{Choices, Difference, Map, Mode, PhysMem, Signal, Span};
 use line_text::Lines;
 use page_layers::MapMem;
 use rvfi_rows::{Columns, RowFault, Segment, Verdict, read_header};
@@ -99,7 +99,8 @@ pub(crate) fn start(
 {
     let ram = Span::new(CODE, 0x800_0000).ok_or("no range")?;
     let map = Map::new(ram, None).ok_or("no map")?;
-    Ok(Hart::reset(memory(alloc, map.ram, program, numbers)?, CODE, map))
+    let memory = memory(alloc, map.ram, program, numbers)?;
+    Ok(Hart::reset(memory, CODE, map, Choices::plain()))
 }
 
 /// Writes a register of control as M does.
@@ -142,7 +143,7 @@ fn damage_hart(hart: &mut Hart<MapMem>, damage: Damage) -> Result<(), Fail>
         }
         Damage::Mscratch => write(&mut hart.core, 0x340, 77),
         Damage::Reservation => {
-            hart.core.reservation.set(DATA);
+            hart.core.reservation.set(DATA, 64);
             Ok(())
         }
         Damage::Order => {

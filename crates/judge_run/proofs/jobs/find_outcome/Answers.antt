@@ -1,4 +1,4 @@
-use Rattle.std.proofs.Common.{ℕ, ap, ap₂, map, string_bytes, sym, ◌∙◌}
+use Rattle.std.proofs.Common.{ap, ap₂, map, string_bytes, sym, ◌∙◌}
 use Rattle.judge_words.specs.Job.{command_by}
 use Rattle.judge_words.specs.declared.job.Command.TheVariants.{Judge}
 use Rattle.judge_run.specs.Answer.{outcome_step_of}

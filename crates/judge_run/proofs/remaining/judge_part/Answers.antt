@@ -1,4 +1,4 @@
-use Rattle.std.proofs.Common.{◌≡◌, true, false, ◌≤◌, ◌∙◌, string_bytes, sym}
+use Rattle.std.proofs.Common.{◌≡◌, true, false, ◌∙◌, string_bytes, sym}
 use Rattle.std.specs.List.{flat_map}
 use Rattle.judge_words.specs.Job.{job_view}
 use Rattle.outside_ports.specs.Ports.{file_of}

@@ -23,7 +23,7 @@ returns-clause-count g c =
     c.settle_in_rounds.ensures.rounds
 
 pub returns-clause-none : goal.returns-clause-none
-returns-clause-none g c = λ shows.
+returns-clause-none g c = λ faults shows.
     IfOk-weaker c.settle_in_rounds.result _ _
-    (λ joined settles. none_rejudged joined c.requires.can_step.sound c.settle_in_rounds.ensures.words shows settles)
+    (λ joined settles. none_rejudged joined c.requires.can_step.sound c.settle_in_rounds.ensures.words faults shows settles)
     c.settle_in_rounds.ensures.rounds

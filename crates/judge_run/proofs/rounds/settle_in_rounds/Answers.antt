@@ -1,4 +1,4 @@
-use Rattle.std.proofs.Common.{arith, ◌+◌, ◌≤◌, subst}
+use Rattle.std.proofs.Common.{arith, subst}
 use Rattle.hart_step.specs.Harts.{state_of}
 use Rattle.judge_run.proofs.Settled.{LeadsOn, leads_on, so_far_all, so_far_begins}
 use Rattle.judge_run.proofs.rounds.settle_in_rounds.Goals as goal

@@ -1,26 +1,26 @@
 use Rattle.std.proofs.Common.{◌∙◌, Ok, ap, subst, string_bytes, sym}
 use Rattle.judge_words.specs.Job.{job_view}
 use Rattle.outside_ports.specs.Ports.{IsMissing, file_of}
-use Rattle.page_image.specs.Bytes.{byte_of}
+use Rattle.judge_run.specs.Starts.{start_view}
 use Rattle.page_layers.specs.Memories.{layered_bytes}
 use Rattle.trace_report.specs.declared.outcome.Outcome.{Outcome}
-use Rattle.hart_step.specs.Cores.{core_at_reset}
 use Rattle.judge_run.specs.Answer.{outcome_of, trace_outcome}
 use Rattle.judge_run.specs.Parts.{IsEndTold}
 use Rattle.judge_run.specs.Stops.{MeantWhereKnown}
 use Rattle.judge_run.specs.declared.progress.Progress.{Progress}
-use Rattle.judge_run.proofs.Endings.{IsAtReset, TakesHeader, lines_missed, trace_lacks, trace_stops, trace_told}
+use Rattle.judge_run.proofs.Endings.{IsAtReset, TakesHeader, later_missed, lines_missed, trace_lacks, trace_stops}
+use Rattle.judge_run.proofs.Endings.{trace_told}
 use Rattle.judge_run.proofs.traces.judge_trace.Goals as goal
 
 pub returns-in-Err-clause-misses : goal.returns-in-Err-clause-misses
 returns-in-Err-clause-misses g c =
     let job = job_view c.args.job.now in
-    let memory = byte_of c.args.image.now in
+    let start = start_view c.args.start.now in
     let known_files = g.H.Shelf.known_files c.args.shelf.now in
     let name = c.args.name.now in
     rw c.line_stop.ensures
-    (lines_missed c.in-Err.error known_files _ (λ files. trace_outcome job memory (files name)) _ _
-    (λ missing. trace_lacks known_files name job memory
+    (lines_missed c.in-Err.error known_files _ (λ files. trace_outcome job start (files name)) _ _
+    (λ missing. trace_lacks known_files name job start
     (subst (IsMissing known_files) c.in_ok-taker.ensures.name missing)) c.in-Err.ensures.misses)
 
 pub returns-in-Err-columns_in-clause-meant : goal.returns-in-Err-columns_in-clause-meant
@@ -34,12 +34,12 @@ returns-in-Err-columns_in-clause-meant g c =
       file_exists = c.in-Ok.ensures.file_exists opens.cursor;
       takes = c.in-Ok.ensures.takes;
     } in
-    trace_stops files (byte_of c.args.image.now) c.in-Err-columns_in.stop header c.in-Err-columns_in.ensures.meant
+    trace_stops files (start_view c.args.start.now) c.in-Err-columns_in.stop header c.in-Err-columns_in.ensures.meant
 
 pub returns-in-Ok-judge_rows-clause-meant : goal.returns-in-Ok-judge_rows-clause-meant
 returns-in-Ok-judge_rows-clause-meant g c =
     let job = job_view c.args.job.now in
-    let memory = byte_of c.args.image.now in
+    let start = start_view c.args.start.now in
     let files = g.H.Shelf.known_files c.args.shelf.now in
     let opens = c.in_ok-taker.ensures in
     let columns = c.in-Ok-columns_in.columns in
@@ -52,9 +52,9 @@ returns-in-Ok-judge_rows-clause-meant g c =
       file_exists = c.in-Ok.ensures.file_exists opens.cursor;
       takes = c.in-Ok.ensures.takes;
     } in
-    let reset : IsAtReset layered_bytes job memory progress =
+    let reset : IsAtReset layered_bytes job start progress =
     record {
-      core = c.reset.ensures.core ∙ ap (λ pc. core_at_reset pc job.map) c.first_pc.ensures.value;
+      core = c.reset.ensures.core;
       bytes = ap layered_bytes c.reset.ensures.mem ∙ c.over.ensures.bytes;
       rows = c.zero.ensures.rows;
       valid = c.zero.ensures.valid;
@@ -66,5 +66,21 @@ returns-in-Ok-judge_rows-clause-meant g c =
     let is = c.outcome_of.ensures.outcome ∙ ap (outcome_of job) c.ruling_at_end.ensures.ruling in
     subst
     (λ outcome. MeantWhereKnown {X = Outcome} files (λ outcome. outcome) (Ok outcome)
-    (λ files. trace_outcome job memory (files c.args.name.now))) (sym is)
+    (λ files. trace_outcome job start (files c.args.name.now))) (sym is)
     (trace_told files progress end header c.in-Ok-columns_in.ensures.meant reset gives)
+
+pub returns-clause-misses : goal.returns-clause-misses
+returns-clause-misses g c =
+    let job = job_view c.args.job.now in
+    let start = start_view c.args.start.now in
+    let known_files = g.H.Shelf.known_files c.args.shelf.now in
+    let opens = c.in_ok-taker.ensures in
+    let header : TakesHeader known_files c.args.name.now job c.in_ok-taker.taker c.in-Ok.taken.0 c.in-Ok.taken.1 =
+    record {
+      opens = opens;
+      file_exists = c.in-Ok.ensures.file_exists opens.cursor;
+      takes = c.in-Ok.ensures.takes;
+    } in
+    rw c.line_stop-in-Err-judge_rows.ensures
+    (later_missed c.in-Err-judge_rows.error known_files (λ files. trace_outcome job start (files c.args.name.now)) _ _ header
+    (rw (c.in-Ok.ensures.known_files, c.in-Ok.ensures.misses) at c.in-Err-judge_rows.ensures.misses))

@@ -1,12 +1,12 @@
 use Rattle.std.proofs.Common.{◌∙◌, ap}
 use Rattle.std.proofs.lemmas.Result.{IfOk-weaker}
 use Rattle.clap.specs.Words.{App}
-use Rattle.judge_words.specs.Commands.{sharing_rules, with_rules}
+use Rattle.judge_words.specs.Commands.{choices_rules, sharing_rules, with_rules}
 use Rattle.judge_words.proofs.CommandLine.{adds_rule}
 use Rattle.judge_words.proofs.command_line.judge_command.Goals as goal
 
-pub with_sharing-requires : goal.with_sharing-requires
-with_sharing-requires c =
+pub with_choices-requires : goal.with_choices-requires
+with_choices-requires c =
     let image =
     adds_rule c.in_ok-arg.ensures c.new.ensures.app c.new.ensures.local c.required_word.ensures.rule
     c.required_word.ensures.local in
@@ -41,6 +41,8 @@ returns c =
     let max_trace =
     adds_rule c.in_ok-judge.ensures max_image.0 max_image.1 c.option_or-3.ensures.rule
     c.option_or-3.ensures.local in
+    let choices =
+    c.in_ok-with_choices.ensures.0 ∙ ap (λ (app : App). with_rules app choices_rules) max_trace.0 in
     IfOk-weaker c.with_sharing.result _ _
-    (λ command h. (h.0 ∙ ap (λ (app : App). with_rules app sharing_rules) max_trace.0, h.1))
+    (λ command h. (h.0 ∙ ap (λ (app : App). with_rules app sharing_rules) choices, h.1))
     c.with_sharing.ensures

@@ -1,38 +1,23 @@
-use Rattle.std.proofs.Common.{Ok, Err}
-use Rattle.mem_access.proofs.Looks.{LooksUp, load_misaligned, load_refused, load_device, load_memory}
+use Rattle.std.proofs.Common.{sym, subst, ◌∙◌}
+use Rattle.std.specs.Prelude.{IfOk}
+use Rattle.mem_access.specs.declared.place.AccessRequest.{AccessRequest}
+use Rattle.mem_access.specs.Accesses.{LieInRam}
+use Rattle.mem_access.proofs.Looks.{load_trapped}
 use Rattle.mem_access.proofs.data_access.load.Goals as goal
 
-pub returns-then-va-from-ne0-clause-looked : goal.returns-then-va-from-ne0-clause-looked
-returns-then-va-from-ne0-clause-looked g c =
-    load_misaligned c.args.csrs.now c.args.map.now c.args.mode c.args.va c.args.len c.args.atomic
-    (rw c.from.ensures at c.if-va-from-ne0.true)
+pub returns-then-va-from-eq0-clause-placed : goal.returns-then-va-from-eq0-clause-placed
+returns-then-va-from-eq0-clause-placed g c =
+    let P : AccessRequest → Type 0 = λ request.
+    IfOk c.load_whole.result (λ found. LieInRam c.args.map.now.ram c.args.va request.len (found.0, found.1)) in
+    subst P c.data_request-request.ensures c.load_whole.ensures.placed
 
-pub returns-then-place-clause-looked : goal.returns-then-place-clause-looked
-returns-then-place-clause-looked g c =
-    let looks : LooksUp c.args.csrs.now c.args.map.now c.args.mode c.args.va c.args.len c.args.atomic
-    (Ok c.in-Ok.place) c.args.seen.now c.reach.new.seen (g.M.PhysMem.bytes c.args.mem.now) =
-    record {
-      aligned = rw c.from.ensures at c.if-va-from-ne0.false;
-      look = rw c.data_request-request.ensures at c.in-Ok.ensures.reached;
-    } in
-    load_device looks c.if-place.true
+pub returns-then-is_trapped-clause-looked : goal.returns-then-is_trapped-clause-looked
+returns-then-is_trapped-clause-looked g c =
+    load_trapped c.args.csrs.now c.args.map.now c.args.choices.now c.args.mode c.args.va c.args.len c.args.atomic
+    (rw c.from.ensures at c.if-va-from-eq0.false, sym c.is_trapped.ensures ∙ c.if-is_trapped.true)
 
-pub returns-in-Err-clause-looked : goal.returns-in-Err-clause-looked
-returns-in-Err-clause-looked g c =
-    let looks : LooksUp c.args.csrs.now c.args.map.now c.args.mode c.args.va c.args.len c.args.atomic
-    (Err c.in-Err.cause) c.args.seen.now c.reach.new.seen (g.M.PhysMem.bytes c.args.mem.now) =
-    record {
-      aligned = rw c.from.ensures at c.if-va-from-ne0.false;
-      look = rw c.data_request-request.ensures at c.in-Err.ensures.reached;
-    } in
-    load_refused looks
-
-pub returns-else-place-clause-looked : goal.returns-else-place-clause-looked
-returns-else-place-clause-looked g c =
-    let looks : LooksUp c.args.csrs.now c.args.map.now c.args.mode c.args.va c.args.len c.args.atomic
-    (Ok c.in-Ok.place) c.args.seen.now c.reach.new.seen (g.M.PhysMem.bytes c.args.mem.now) =
-    record {
-      aligned = rw c.from.ensures at c.if-va-from-ne0.false;
-      look = rw c.data_request-request.ensures at c.in-Ok.ensures.reached;
-    } in
-    load_memory looks c.if-place.false c.read.ensures.value c.put.ensures
+pub returns-clause-placed : goal.returns-clause-placed
+returns-clause-placed g c =
+    let P : AccessRequest → Type 0 = λ request.
+    IfOk c.load_split.result (λ found. LieInRam c.args.map.now.ram c.args.va request.len (found.0, found.1)) in
+    subst P c.data_request-request.ensures (subst P c.without_devices.ensures c.load_split.ensures.placed)

@@ -1,4 +1,4 @@
-use Rattle.mem_access.proofs.Orders.{fetch_granted, load_granted, store_granted}
+use Rattle.mem_access.proofs.Granted.{fetch_granted, load_granted, store_granted}
 use Rattle.mem_access.proofs.laws.accesses_are_permitted.Goals as goal
 
 pub returns-clause-fetch : goal.returns-clause-fetch

@@ -1,11 +1,37 @@
-use Rattle.hart_step.proofs.Ways.{access_refused, access_made}
+use Rattle.std.proofs.Common.{◌≡◌, ◌∙◌, sym, None}
+use Rattle.hart_step.specs.MemoryAccess.{memory_access, number_written}
+use Rattle.hart_step.proofs.Ways.{nothing_stored, access_refused, access_made, puts_nothing, puts_value}
 use Rattle.hart_step.proofs.state.Core.access.Goals as goal
 
 pub returns-in-Err-clause-accessed : goal.returns-in-Err-clause-accessed
 returns-in-Err-clause-accessed g c =
-    access_refused c.args.self.now c.args.choices.now c.args.request.now c.in-Err.ensures.placed
+    let core = c.args.self.now in
+    let request = c.args.request.now in
+    nothing_stored (memory_access core c.args.choices.now request) (c.locate.ensures.stores ∙ c.requires.blank)
+    (access_refused core c.args.choices.now request c.in-Err.ensures.located)
 
-pub returns-clause-accessed : goal.returns-clause-accessed
-returns-clause-accessed g c =
-    access_made c.args.self.now c.args.choices.now c.args.request.now c.in-Ok.ensures.placed c.answer-answer.ensures
-    (rw c.written_by.ensures at (c.in_ok-put.ensures.put c.place.new.seen))
+pub returns-in-Some-clause-accessed : goal.returns-in-Some-clause-accessed
+returns-in-Some-clause-accessed g c =
+    let core = c.args.self.now in
+    let request = c.args.request.now in
+    let found = c.in-Ok.found in
+    access_made core c.args.choices.now request c.in-Ok.ensures.located c.answer-answer.ensures
+    (puts_value (found.0, found.1) request (sym c.written_by.ensures ∙ c.in-Some.is)
+    (c.note_store.ensures.put c.locate.new.accesses.seen c.locate.new.accesses.sets
+    (g.M.PhysMem.bytes c.args.mem.now)))
+
+pub returns-in-Some-clause-stored : goal.returns-in-Some-clause-stored
+returns-in-Some-clause-stored g c = c.note_store.ensures.stored c.args.self.now.map.ram c.in-Ok.ensures.in_ram
+
+pub returns-in_default-clause-accessed : goal.returns-in_default-clause-accessed
+returns-in_default-clause-accessed g c =
+    let core = c.args.self.now in
+    let request = c.args.request.now in
+    let found = c.in-Ok.found in
+    let stores : c.locate.new.accesses.stores ≡ _ = c.locate.ensures.stores ∙ c.requires.blank in
+    let nothing : number_written c.answer-answer.result.access ≡ None =
+    sym c.written_by.ensures ∙ c.in_default.is in
+    nothing_stored (memory_access core c.args.choices.now request) stores
+    (access_made core c.args.choices.now request c.in-Ok.ensures.located c.answer-answer.ensures
+    (puts_nothing (found.0, found.1) request c.locate.new.accesses.seen c.locate.new.accesses.sets
+    (g.M.PhysMem.bytes c.args.mem.now) nothing))

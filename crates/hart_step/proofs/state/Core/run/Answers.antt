@@ -1,46 +1,67 @@
-use Rattle.std.proofs.Common.{◌≡◌, ap, Some, Ok, Err}
+use Rattle.std.proofs.Common.{ap, Some, None}
 use Rattle.rvfi_rows.specs.Cells.{shown_in}
 use Rattle.hart_words.specs.declared.privilege.Cause.TheVariants.{IllegalInstruction}
-use Rattle.hart_step.specs.Instructions.{run_of_exception, completion_with}
-use Rattle.hart_step.proofs.Ways.{ran_refused, ran_decoded, ran_executed, ran_raised, executed_pure}
+use Rattle.hart_step.specs.Instructions.{instruction_run, run_of_exception}
+use Rattle.hart_step.proofs.WritePlaces.{fetched_in_ram}
+use Rattle.hart_step.proofs.Ways.{nothing_stored, ran_refused, ran_decoded, ran_executed, ran_raised, executed_pure}
 use Rattle.hart_step.proofs.state.Core.run.Goals as goal
+
+pub returns-in-Err-clause-set_in_ram : goal.returns-in-Err-clause-set_in_ram
+returns-in-Err-clause-set_in_ram g c =
+    fetched_in_ram c.args.self.now (g.M.PhysMem.bytes c.args.mem.now) c.args.accesses.now.sets c.requires.unset
+    c.fetch-fetched.ensures.looked.wrote_is
+
+pub returns-in-None-clause-set_in_ram : goal.returns-in-None-clause-set_in_ram
+returns-in-None-clause-set_in_ram g c =
+    fetched_in_ram c.args.self.now (g.M.PhysMem.bytes c.args.mem.now) c.args.accesses.now.sets c.requires.unset
+    c.fetch-fetched.ensures.looked.wrote_is
+
+pub execute-requires-clause-sets_in_ram : goal.execute-requires-clause-sets_in_ram
+execute-requires-clause-sets_in_ram g c =
+    fetched_in_ram c.args.self.now (g.M.PhysMem.bytes c.args.mem.now) c.args.accesses.now.sets c.requires.unset
+    c.fetch-fetched.ensures.looked.wrote_is
 
 pub returns-in-Err-clause-ran : goal.returns-in-Err-clause-ran
 returns-in-Err-clause-ran g c =
-    ran_refused c.args.self.now (shown_in c.args.row.now) c.in-Err.exception c.args.accesses.now.seen
-    c.fetch-fetched.new.seen c.args.accesses.now.wrote (g.M.PhysMem.bytes c.args.mem.now) c.in-Err.ensures.looked
+    let core = c.args.self.now in
+    let shown = shown_in c.args.row.now in
+    nothing_stored (instruction_run core shown) c.requires.blank
+    (ran_raised core shown None c.in-Err.exception c.trapped.ensures
+    (ran_refused core shown c.in-Err.exception c.in-Err.ensures.looked))
 
 pub returns-in-None-clause-ran : goal.returns-in-None-clause-ran
 returns-in-None-clause-ran g c =
     let core = c.args.self.now in
+    let shown = shown_in c.args.row.now in
     let word = c.in-Ok.word in
-    let bytes = g.M.PhysMem.bytes c.args.mem.now in
     let bits = c.from-bits.result in
-    ran_decoded core (shown_in c.args.row.now) word.0 word.1 c.in-Ok.ensures.looked c.in-None.ensures.meaning
+    nothing_stored (instruction_run core shown) c.requires.blank
+    (ran_raised core shown (Some bits) (IllegalInstruction, bits) c.trapped-in-None.ensures
+    (ran_decoded core shown word.0 word.1 c.in-Ok.ensures.looked c.in-None.ensures.meaning
     (executed_pure (run_of_exception core (Some word.0) (IllegalInstruction, word.0))
     (run_of_exception core (Some bits) (IllegalInstruction, bits)) c.fetch-fetched.new.seen
-    c.args.accesses.now.wrote bytes
-    (ap (λ b. run_of_exception core (Some b) (IllegalInstruction, b)) c.from-bits.ensures))
+    c.fetch-fetched.new.sets (g.M.PhysMem.bytes c.args.mem.now)
+    (ap (λ b. run_of_exception core (Some b) (IllegalInstruction, b)) c.from-bits.ensures))))
 
-pub returns-in-Ok-2-clause-ran : goal.returns-in-Ok-2-clause-ran
-returns-in-Ok-2-clause-ran g c =
+pub returns-in-Ok-execute-clause-ran : goal.returns-in-Ok-execute-clause-ran
+returns-in-Ok-execute-clause-ran g c =
     let core = c.args.self.now in
     let shown = shown_in c.args.row.now in
     let chosen = rw c.operands.ensures at c.choices_of-choices.ensures in
-    ran_decoded core shown c.in-Ok.word.0 c.in-Ok.word.1 c.in-Ok.ensures.looked c.in-Some.ensures.meaning
+    ran_decoded core shown c.in-Ok.word.0 c.in-Ok.word.1
+    c.in-Ok.ensures.looked c.in-Some.ensures.meaning
     (rw (← c.from-bits.ensures, ← c.from.ensures)
-    (ran_executed core shown c.from-bits.result c.from.result c.in-Some.op
-    (completion_with c.execute.new.self (Ok c.in-Ok-2.access)) chosen
-    (rw c.in-Ok-2.is at c.in_ok-access.ensures.executed)))
+    (ran_executed core shown c.from-bits.result c.from.result c.in-Some.op chosen
+    c.in-Ok-execute.ensures.executed))
 
-pub returns-in-Err-2-clause-ran : goal.returns-in-Err-2-clause-ran
-returns-in-Err-2-clause-ran g c =
+pub returns-in-Err-execute-clause-ran : goal.returns-in-Err-execute-clause-ran
+returns-in-Err-execute-clause-ran g c =
     let core = c.args.self.now in
     let shown = shown_in c.args.row.now in
     let chosen = rw c.operands.ensures at c.choices_of-choices.ensures in
-    let same : c.execute.new.self ≡ core = rw c.in-Err-2.is at c.in_ok-access.ensures.trapped in
-    ran_raised core shown (Some c.from-bits.result) c.in-Err-2.exception same
-    (ran_decoded core shown c.in-Ok.word.0 c.in-Ok.word.1 c.in-Ok.ensures.looked c.in-Some.ensures.meaning
+    ran_raised core shown (Some c.from-bits.result) c.in-Err-execute.exception c.trapped-in-Err-execute.ensures
+    (ran_decoded core shown c.in-Ok.word.0 c.in-Ok.word.1
+    c.in-Ok.ensures.looked c.in-Some.ensures.meaning
     (rw (← c.from-bits.ensures, ← c.from.ensures)
-    (ran_executed core shown c.from-bits.result c.from.result c.in-Some.op (Err c.in-Err-2.exception) chosen
-    (rw c.in-Err-2.is at c.in_ok-access.ensures.executed))))
+    (ran_executed core shown c.from-bits.result c.from.result c.in-Some.op chosen
+    c.in-Err-execute.ensures.executed)))

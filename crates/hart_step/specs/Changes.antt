@@ -1,0 +1,96 @@
+-- What an instruction changes in the hart, as a step notes it before it puts it in place.
+use Rattle.std.specs.Prelude.{◌≡◌, ℕ, ◌/◌, ◌%◌, ◌≤◌, Option, Some, None, Result, Ok, Err, List, All, length}
+use Rattle.hart_words.specs.declared.span.Span.{Span}
+use Rattle.hart_words.specs.declared.span.TheConstants.{PAGE_SIZE}
+use Rattle.hart_words.specs.declared.accesses.Write.{Write}
+use Rattle.hart_words.specs.Spans.{IsPlace}
+use Rattle.hart_words.specs.Registers.{with_register}
+use Rattle.rv_decode.specs.Operands.{operands_of}
+use Rattle.csr_file.specs.declared.csrs.Csrs.{Csrs}
+use Rattle.csr_file.specs.declared.access.Illegal.{Illegal}
+use Rattle.csr_file.specs.Access.{csr_write_at}
+use Rattle.rvfi_rows.specs.declared.expected.Accessed.{Accessed}
+use Rattle.mem_access.specs.Accesses.{Exception}
+use Rattle.hart_step.specs.declared.state.Core.{Core}
+use Rattle.hart_step.specs.declared.instruction.Instruction.{Instruction}
+use Rattle.hart_step.specs.declared.changes.CsrWrite.{CsrWrite}
+use Rattle.hart_step.specs.declared.changes.Retirement.{Retirement}
+use Rattle.hart_step.specs.declared.changes.Change.{Change}
+use Rattle.hart_step.specs.declared.changes.Change.TheVariants as changes
+use Rattle.hart_step.specs.declared.changes.InstructionNotes.{InstructionNotes}
+use Rattle.hart_step.specs.Returns.{core_after_mret, core_after_sret}
+use Rattle.hart_step.specs.Instructions.{Completion, completion_of, InstructionRun}
+
+-- the destination gets its value, and the hart goes on
+abbrev pub retirement_of : Instruction → ℕ → ℕ → Retirement
+retirement_of instruction value next_pc =
+    record { rd = (operands_of instruction.op).rd; value = value; next_pc = next_pc }
+
+abbrev pub core_after_noted_retirement : Core → Retirement → Core
+core_after_noted_retirement core done =
+    record core { registers = with_register core.registers done.rd done.value; pc = done.next_pc }
+
+-- a write that is refused leaves the control and status registers
+abbrev pub written_csrs : Csrs → Result Csrs Illegal → Csrs
+written_csrs csrs (Err refused) = csrs
+written_csrs csrs (Ok written) = written
+
+abbrev pub csrs_after_write : Core → Option CsrWrite → Csrs
+csrs_after_write core None = core.csrs
+csrs_after_write core (Some write) =
+    written_csrs core.csrs (csr_write_at core.csrs write.address core.mode write.value)
+
+-- the hart after what an instruction changes
+abbrev pub core_after_change : Core → Change → Core
+core_after_change core changes.Nothing = core
+core_after_change core (changes.Registers done) = core_after_noted_retirement core done
+core_after_change core (changes.Access done reservation) =
+    core_after_noted_retirement (record core { reservation = reservation }) done
+core_after_change core (changes.Csr done write) =
+    core_after_noted_retirement (record core { csrs = csrs_after_write core write }) done
+core_after_change core changes.MachineReturn = core_after_mret core
+core_after_change core changes.SupervisorReturn = core_after_sret core
+
+-- an address at which it goes on is even
+abbrev pub HasEvenAddress : Change → Type 0
+HasEvenAddress changes.Nothing = Unit {0}
+HasEvenAddress (changes.Registers done) = done.next_pc % 2 ≡ 0
+HasEvenAddress (changes.Access done reservation) = done.next_pc % 2 ≡ 0
+HasEvenAddress (changes.Csr done write) = done.next_pc % 2 ≡ 0
+HasEvenAddress changes.MachineReturn = Unit {0}
+HasEvenAddress changes.SupervisorReturn = Unit {0}
+
+-- what an access to a control and status register gives, by the write that it notes
+abbrev pub csr_access_by : Core → Result (ℕ × Option CsrWrite) Illegal → Result (ℕ × Csrs) Illegal
+csr_access_by core (Err refused) = Err refused
+csr_access_by core (Ok noted) = Ok (noted.0, csrs_after_write core noted.1)
+
+abbrev pub csrs_by : Core → Result (Option CsrWrite) Illegal → Result Csrs Illegal
+csrs_by core (Err refused) = Err refused
+csrs_by core (Ok write) = Ok (csrs_after_write core write)
+
+-- what an instruction does, by what it changes and the access that it makes
+abbrev pub completion_by : Core → Result (Change × Option Accessed) Exception → Result Completion Exception
+completion_by core (Err exception) = Err exception
+completion_by core (Ok noted) = Ok (record { core = core_after_change core noted.0; access = noted.1 })
+
+abbrev pub completion_by_change : Core → Result Change Exception → Result Completion Exception
+completion_by_change core (Err exception) = Err exception
+completion_by_change core (Ok change) = completion_of (core_after_change core change)
+
+-- what stands at pc, by what was noted of it
+abbrev pub run_by : Core → InstructionNotes → InstructionRun
+run_by core notes = record { core = core_after_change core notes.change; executed = notes.executed }
+
+-- each write is of a number in a page of RAM
+abbrev pub AreInRam : Span → List Write → Type 0
+AreInRam ram writes = All (λ write. IsPlace ram write.pa write.len) writes
+
+-- no write of them is refused
+abbrev pub AreReady : (ℕ → Type 0) → List Write → Type 0
+AreReady is_ready writes = All (λ write. is_ready (write.pa / PAGE_SIZE)) writes
+
+-- a step stores one number at most, in a page of RAM or in two
+pub record AreStores (ram : Span) (stores : List Write) : Type 0 where
+  pub at_most_two : length stores ≤ 2
+  pub in_ram : AreInRam ram stores

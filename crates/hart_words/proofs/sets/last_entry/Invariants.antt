@@ -1,0 +1,9 @@
+use Rattle.std.proofs.Common.{◌≡◌, take, unwrap_or}
+use Rattle.hart_words.specs.Memory.{Bytes, number_at, after_writes}
+use Rattle.hart_words.proofs.sets.last_entry.Given as goal
+
+-- what the writes before the index leave at the address
+abbrev pub invariant-loop-write : goal.invariant-loop-write
+invariant-loop-write l =
+    (bytes : Bytes) → number_at (after_writes (take l.write-index l.writes) bytes) l.pa 8
+    ≡ unwrap_or l.found (number_at bytes l.pa 8)
