@@ -22,12 +22,12 @@ use Rattle.rv_integer.specs.Results.{result_of, load_of, low_bits, size_of_store
 use Rattle.rvfi_rows.specs.declared.expected.Accessed.{Accessed}
 use Rattle.mem_access.specs.declared.place.AccessRequest.{AccessRequest}
 use Rattle.mem_access.specs.declared.place.Place.{Place}
-use Rattle.mem_access.specs.Accesses.{Exception, Places, data_store, first_len, store_place_of}
+use Rattle.mem_access.specs.Accesses.{Exception, LocatedValue, Places, data_store, first_len, store_place_of}
 use Rattle.hart_step.specs.declared.state.Core.{Core}
 use Rattle.hart_step.specs.declared.choices.RowChoices.{RowChoices}
 use Rattle.hart_step.specs.declared.instruction.Instruction.{Instruction}
 use Rattle.hart_step.specs.declared.memory.AccessResult.{AccessResult}
-use Rattle.hart_step.specs.MemoryAccess.{LocatedValue, expected_access, memory_access, access_result_of}
+use Rattle.hart_step.specs.MemoryAccess.{expected_access, memory_access, access_result_of}
 use Rattle.hart_step.specs.MemoryAccess.{access_after_location, located_access, put, put_at, put_to, found_without_value}
 use Rattle.hart_step.specs.MemoryAccess.{number_written}
 use Rattle.hart_step.specs.Instructions.{Completion, after_access, execution_of, execution_by, first_value}

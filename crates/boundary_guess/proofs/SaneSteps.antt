@@ -40,7 +40,7 @@ use Rattle.rv_integer.specs.declared.int_result.SystemRequest.{SystemRequest}
 use Rattle.rv_integer.specs.declared.int_result.SystemRequest.TheVariants as system
 use Rattle.rv_integer.specs.declared.int_result.MemoryRequest.{MemoryRequest}
 use Rattle.rv_integer.specs.Results.{result_of}
-use Rattle.mem_access.specs.Accesses.{Exception}
+use Rattle.mem_access.specs.Accesses.{Exception, LocatedValue}
 use Rattle.hart_step.specs.declared.state.Core.{Core}
 use Rattle.hart_step.specs.declared.choices.RowChoices.{RowChoices}
 use Rattle.hart_step.specs.declared.instruction.Instruction.{Instruction}
@@ -51,7 +51,7 @@ use Rattle.hart_step.specs.Choices.{asks_interrupt, choices_of, pending_lines_of
 use Rattle.hart_step.specs.CsrAccess.{csr_access_result}
 use Rattle.hart_step.specs.Returns.{may_use_supervisor_instruction, may_mret, core_after_mret, core_after_sret}
 use Rattle.hart_step.specs.Returns.{wfi_traps}
-use Rattle.hart_step.specs.MemoryAccess.{LocatedValue, memory_access, access_result_of, located_access}
+use Rattle.hart_step.specs.MemoryAccess.{memory_access, access_result_of, located_access}
 use Rattle.hart_step.specs.Instructions.{Completion, InstructionRun, after_access, after_csr, run_of_decoded}
 use Rattle.hart_step.specs.Instructions.{completion_if, run_of_result, execution_of, execution_by, run_of_fetched}
 use Rattle.hart_step.specs.Instructions.{first_value, core_at_next, op_for, instruction_run, core_after_retirement}

@@ -16,14 +16,14 @@ use Rattle.rv_integer.specs.declared.int_result.MemoryOp.TheVariants as memory
 use Rattle.rv_integer.specs.declared.int_result.MemoryRequest.{MemoryRequest}
 use Rattle.rvfi_rows.specs.Window.{distance_in_window}
 use Rattle.mem_access.specs.declared.place.Place.{Place}
-use Rattle.mem_access.specs.Accesses.{Exception, Places, data_load, data_places_of, first_len, joined_value, load_from}
+use Rattle.mem_access.specs.Accesses.{Exception, LocatedValue, Places, data_load, data_places_of, first_len, joined_value, load_from}
 use Rattle.mem_access.specs.Accesses.{load_result, store_place_of, value_at, value_of_parts}
 use Rattle.mem_access.proofs.Grants.{then_gives}
 use Rattle.hart_step.specs.declared.state.Core.{Core}
 use Rattle.hart_step.specs.declared.choices.RowChoices.{RowChoices}
 use Rattle.hart_step.specs.declared.memory.AccessResult.{AccessResult}
 use Rattle.hart_step.specs.Choices.{bytes_at, load_bytes_shown, device_value}
-use Rattle.hart_step.specs.MemoryAccess.{LocatedValue, access_result_by, loaded_value, is_stored, located_access}
+use Rattle.hart_step.specs.MemoryAccess.{access_result_by, loaded_value, is_stored, located_access}
 use Rattle.hart_step.specs.MemoryAccess.{located_access_by, found_with_read, found_without_value}
 use Rattle.boundary_guess.proofs.Actions.{AreBytes, then_gives_bytes}
 use Rattle.boundary_guess.proofs.Faults.{HoldsOfFaults, Raises, load_raises, number_below, store_raises}

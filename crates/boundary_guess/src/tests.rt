@@ -81,7 +81,7 @@ fn put(mem: &mut MapMem, ram: &Span, pa: u64, len: u8, value: u64) -> Result<(),
 }
 
 /// The number at `DATA`.
-fn held(hart: &Hart<MapMem>) -> Result<u64, Fail>
+fn number_at_data(hart: &Hart<MapMem>) -> Result<u64, Fail>
     requires ram { hart.now.mem.ram ≡ hart.now.core.map.ram }
 {
     if !hart.core.map.ram.is_place(DATA, 8) {
@@ -126,7 +126,7 @@ pub(crate) fn write(core: &mut Core, address: u16, value: u64) -> Result<(), Fai
 }
 
 /// That hart in S, with satp's MODE at Sv39: it can fetch nothing, and each step traps to address 0.
-fn translated(alloc: Global) -> Result<Hart<MapMem>, Fail>
+fn translating_hart(alloc: Global) -> Result<Hart<MapMem>, Fail>
     ensures sound { IfOk result (λ hart. IsSound hart.core) }
     ensures ram { IfOk result (λ hart. hart.mem.ram ≡ hart.core.map.ram) }
 {
@@ -147,7 +147,7 @@ fn numbers(hart: &Hart<MapMem>) -> Result<Numbers, Fail>
         hart.core.pc,
         registers.get(1),
         registers.get(2),
-        held(hart)?,
+        number_at_data(hart)?,
     ))
 }
 
@@ -352,7 +352,7 @@ fn guesses_stores_at_the_end_of_a_page(rt: HostRuntime) -> Result<(), Fail> {
         ),
     ];
     let here = start(alloc)?;
-    let there = translated(alloc)?;
+    let there = translating_hart(alloc)?;
     for (row, data, is_taken) in rows {
         let taken = (CODE + 16, 0, 0, data);
         assert_eq!(rt; numbers_after(alloc, &here, row)?, taken);

@@ -39,7 +39,7 @@ use Rattle.csr_file.specs.Access.{csr_read_at}
 use Rattle.interrupt_pick.specs.Interrupts.{pick_of}
 use Rattle.rvfi_rows.specs.declared.expected.Expected.TheVariants.{Retired}
 use Rattle.mem_access.specs.declared.place.Place.{Place}
-use Rattle.mem_access.specs.Accesses.{Exception}
+use Rattle.mem_access.specs.Accesses.{Exception, LocatedValue}
 use Rattle.hart_step.specs.declared.state.Core.{Core}
 use Rattle.hart_step.specs.declared.choices.RowChoices.{RowChoices}
 use Rattle.hart_step.specs.declared.choices.Lines.{Lines}
@@ -49,7 +49,7 @@ use Rattle.hart_step.specs.Choices.{shows, order_after, asks_interrupt, pending_
 use Rattle.hart_step.specs.Choices.{device_value, register_says_stored, says_stored}
 use Rattle.rv_atomic.specs.declared.reservation.Reservation.{Reservation}
 use Rattle.rv_atomic.specs.Blocks.{is_covered}
-use Rattle.hart_step.specs.MemoryAccess.{LocatedValue, located_access, expected_access, loaded_value, value_found}
+use Rattle.hart_step.specs.MemoryAccess.{located_access, expected_access, loaded_value, value_found}
 use Rattle.hart_step.specs.MemoryAccess.{is_stored, access_result_by, access_result_of, number_written, put}
 use Rattle.hart_step.specs.MemoryAccess.{access_after_location, memory_access}
 use Rattle.hart_step.specs.CsrAccess.{OldValue, traps_at, old_value_by, old_value_of, csrs_after_request}

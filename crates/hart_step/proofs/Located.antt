@@ -17,18 +17,18 @@ use Rattle.rv_integer.specs.declared.int_result.MemoryOp.TheVariants.{Load, Load
 use Rattle.csr_file.specs.declared.csrs.Csrs.{Csrs}
 use Rattle.mem_access.specs.declared.place.AccessRequest.{AccessRequest}
 use Rattle.mem_access.specs.declared.place.Place.{Place}
-use Rattle.mem_access.specs.Accesses.{Exception, Places, alone, data_request, data_store, first_part, has_second_part}
+use Rattle.mem_access.specs.Accesses.{Exception, LocatedValue, Places, alone, data_request, data_store, first_part, has_second_part}
 use Rattle.mem_access.specs.Accesses.{data_places_of, part_place_of, second_part, split_places_of, store_place_of}
 use Rattle.mem_access.specs.Accesses.{whole_place_of, with_address}
 use Rattle.mem_access.specs.Laws.{ArePlacesFound}
 use Rattle.mem_access.specs.Reads.{CheckedRead, data_reads_of, own_read, own_reads_of, part_walks_of, parts_found}
-use Rattle.mem_access.specs.Reads.{parts_of, place_found, reads_in, request_at, walk_reads_of, where_placed, whole_part}
+use Rattle.mem_access.specs.Reads.{parts_of, place_found, reads_in, request_at, walk_reads_of, if_found, whole_part}
 use Rattle.mem_access.specs.Reads.{with_first}
 use Rattle.mem_access.proofs.Granted.{load_granted, store_granted}
 use Rattle.mem_access.proofs.Grants.{IsMemory}
 use Rattle.mem_access.proofs.Orders.{found_memory, reach_is, reach_run, reads_append, then_known}
 use Rattle.hart_step.specs.declared.state.Core.{Core}
-use Rattle.hart_step.specs.MemoryAccess.{LocatedValue, found_with_read, found_without_value, located_access}
+use Rattle.hart_step.specs.MemoryAccess.{found_with_read, found_without_value, located_access}
 use Rattle.hart_step.specs.MemoryAccess.{located_access_by, store_places}
 use Rattle.hart_step.specs.ProtectionLaws.{access_kind_of, is_atomic, reads_its_bytes}
 
@@ -62,7 +62,7 @@ read_places len (Ok (first, second)) P bytes holds = holds
 amo_own : (request : AccessRequest) (va : ℕ) (walk : List CheckedRead) (placed : Result Place Cause) (bytes : Bytes)
     → IfOk placed IsMemory
     → reads_in walk ++ ((found_with_read request.len (alone (with_address va placed))).run bytes).reads
-    ≡ reads_in ((walk ++ where_placed placed []) ++ own_reads_of request
+    ≡ reads_in ((walk ++ if_found placed []) ++ own_reads_of request
     (with_first (whole_part va request.len) placed (Ok [])))
 unfolding pure mapped read_memory
 amo_own request va walk (Err cause) bytes memory =

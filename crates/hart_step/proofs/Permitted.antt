@@ -34,7 +34,7 @@ use Rattle.pmp_check.specs.Protection.{is_allowed}
 use Rattle.rvfi_rows.specs.declared.expected.Accessed.{Accessed}
 use Rattle.rvfi_rows.specs.declared.expected.Expected.TheVariants.{Halted}
 use Rattle.mem_access.specs.declared.place.Place.{Place}
-use Rattle.mem_access.specs.Accesses.{Exception, Part, Places, first_len, first_part, request_for, second_part}
+use Rattle.mem_access.specs.Accesses.{Exception, LocatedValue, Part, Places, first_len, first_part, request_for, second_part}
 use Rattle.mem_access.specs.Laws.{ArePlacesFound, AreReads, AreTableSets, IsPermittedPart, IsPermittedPlace}
 use Rattle.mem_access.specs.Laws.{IsTableSet, place_list}
 use Rattle.mem_access.specs.Reads.{CheckedRead, IsPermittedRead, PlacedPart, fetch_reads_of, reads_in}
@@ -46,7 +46,7 @@ use Rattle.hart_step.specs.declared.instruction.InstructionOutcome.{InstructionO
 use Rattle.hart_step.specs.declared.instruction.InstructionOutcome.TheVariants.{Trapped, Retired}
 use Rattle.hart_step.specs.declared.memory.AccessResult.{AccessResult}
 use Rattle.hart_step.specs.Choices.{choices_of}
-use Rattle.hart_step.specs.MemoryAccess.{LocatedValue, access_after_location, access_result_by, access_result_of}
+use Rattle.hart_step.specs.MemoryAccess.{access_after_location, access_result_by, access_result_of}
 use Rattle.hart_step.specs.MemoryAccess.{expected_access, is_stored}
 use Rattle.hart_step.specs.MemoryAccess.{located_access, memory_access, number_written, put, put_to}
 use Rattle.hart_step.specs.MemoryAccess.{value_found}

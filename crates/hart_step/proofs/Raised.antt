@@ -27,7 +27,7 @@ use Rattle.csr_file.specs.declared.fields.TheConstants.{TSR, TVM}
 use Rattle.mem_access.specs.declared.place.AccessRequest.{AccessRequest}
 use Rattle.mem_access.specs.declared.place.Place.{Place}
 use Rattle.mem_access.specs.Translation.{virtual_place_of}
-use Rattle.mem_access.specs.Accesses.{Exception, Part, Places, parcel_fetch, data_load, data_store, parcel_from}
+use Rattle.mem_access.specs.Accesses.{Exception, LocatedValue, Part, Places, data_load, data_store, parcel_fetch, parcel_from}
 use Rattle.mem_access.specs.Accesses.{parcel_at, with_second, after_first, fetch_result, first_part, second_part}
 use Rattle.mem_access.specs.Accesses.{has_second_part, request_for, with_address, part_place_of, alone, after_place}
 use Rattle.mem_access.specs.Accesses.{second_place_of, whole_place_of, split_places_of, is_split, data_places_of}
@@ -37,7 +37,7 @@ use Rattle.hart_step.specs.declared.choices.RowChoices.{RowChoices}
 use Rattle.hart_step.specs.declared.instruction.Instruction.{Instruction}
 use Rattle.hart_step.specs.declared.memory.AccessResult.{AccessResult}
 use Rattle.hart_step.specs.Choices.{choices_of}
-use Rattle.hart_step.specs.MemoryAccess.{LocatedValue, found_without_value, found_with_read, located_access_by}
+use Rattle.hart_step.specs.MemoryAccess.{found_without_value, found_with_read, located_access_by}
 use Rattle.hart_step.specs.MemoryAccess.{load_at, store_places, located_access, access_after_location, memory_access}
 use Rattle.hart_step.specs.CsrAccess.{csr_access_result}
 use Rattle.hart_step.specs.Returns.{may_use_supervisor_instruction, may_mret, core_after_mret, core_after_sret}

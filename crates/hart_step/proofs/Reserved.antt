@@ -18,13 +18,13 @@ use Rattle.rv_integer.specs.declared.int_result.MemoryOp.TheVariants.{StoreCondi
 use Rattle.rv_atomic.specs.declared.reservation.Reservation.{Reservation}
 use Rattle.rv_atomic.specs.Blocks.{is_covered}
 use Rattle.mem_access.specs.declared.place.Place.{Place}
-use Rattle.mem_access.specs.Accesses.{Exception, Places, alone, data_places_of, data_store, part_place_of}
+use Rattle.mem_access.specs.Accesses.{Exception, LocatedValue, Places, alone, data_places_of, data_store, part_place_of}
 use Rattle.mem_access.specs.Accesses.{split_places_of, store_place_of, whole_place_of}
 use Rattle.hart_step.specs.declared.state.Core.{Core}
 use Rattle.hart_step.specs.declared.choices.RowChoices.{RowChoices}
 use Rattle.hart_step.specs.declared.memory.AccessResult.{AccessResult}
 use Rattle.hart_step.specs.Choices.{says_stored}
-use Rattle.hart_step.specs.MemoryAccess.{LocatedValue, found_without_value, located_access, located_access_by}
+use Rattle.hart_step.specs.MemoryAccess.{found_without_value, located_access, located_access_by}
 use Rattle.hart_step.specs.MemoryAccess.{store_places, expected_access, is_stored, access_result_by, access_result_of}
 use Rattle.hart_step.specs.MemoryAccess.{number_written, put_to, put, access_after_location}
 use Rattle.hart_step.specs.Steps.{before_instruction}

@@ -14,7 +14,7 @@ use Rattle.rv_integer.specs.declared.int_result.IntResult.{IntResult}
 use Rattle.rv_integer.specs.declared.int_result.IntResult.TheVariants as results
 use Rattle.rv_integer.specs.declared.int_result.MemoryRequest.{MemoryRequest}
 use Rattle.rv_integer.specs.Results.{result_of}
-use Rattle.mem_access.specs.Accesses.{Exception}
+use Rattle.mem_access.specs.Accesses.{Exception, LocatedValue}
 use Rattle.hart_step.specs.declared.state.Core.{Core}
 use Rattle.hart_step.specs.declared.choices.RowChoices.{RowChoices}
 use Rattle.hart_step.specs.declared.instruction.Instruction.{Instruction}
@@ -22,7 +22,7 @@ use Rattle.hart_step.specs.declared.instruction.InstructionOutcome.{InstructionO
 use Rattle.hart_step.specs.declared.instruction.InstructionOutcome.TheVariants.{Trapped, Retired}
 use Rattle.hart_step.specs.declared.memory.AccessResult.{AccessResult}
 use Rattle.hart_step.specs.Choices.{choices_of}
-use Rattle.hart_step.specs.MemoryAccess.{LocatedValue, located_access, access_after_location, memory_access}
+use Rattle.hart_step.specs.MemoryAccess.{located_access, access_after_location, memory_access}
 use Rattle.hart_step.specs.Instructions.{Completion, after_access, execution_of, execution_by, first_value}
 use Rattle.hart_step.specs.Instructions.{second_value, InstructionRun, run_of_result, op_for, run_of_decoded}
 use Rattle.hart_step.specs.Instructions.{fetch_at_pc, run_of_fetched, instruction_run}

@@ -23,14 +23,14 @@ use Rattle.rvfi_rows.specs.declared.expected.Expected.TheVariants.{Halted, Retir
 use Rattle.rvfi_rows.specs.declared.expected.Effects.{Effects}
 use Rattle.hart_words.specs.declared.privilege.Cause.{Cause}
 use Rattle.mem_access.specs.declared.place.Place.{Place}
-use Rattle.mem_access.specs.Accesses.{Exception, Places, fetch_result, first_len}
+use Rattle.mem_access.specs.Accesses.{Exception, LocatedValue, Places, fetch_result, first_len}
 use Rattle.hart_step.specs.declared.state.Core.{Core}
 use Rattle.hart_step.specs.declared.choices.RowChoices.{RowChoices}
 use Rattle.hart_step.specs.declared.choices.Lines.{Lines}
 use Rattle.hart_step.specs.declared.instruction.Instruction.{Instruction}
 use Rattle.hart_step.specs.declared.memory.AccessResult.{AccessResult}
 use Rattle.hart_step.specs.Choices.{choices_of, pending_lines_of, asks_interrupt}
-use Rattle.hart_step.specs.MemoryAccess.{LocatedValue, found_without_value, found_with_read, store_places, exchange_at}
+use Rattle.hart_step.specs.MemoryAccess.{found_without_value, found_with_read, store_places, exchange_at}
 use Rattle.hart_step.specs.MemoryAccess.{located_access}
 use Rattle.hart_step.specs.MemoryAccess.{located_access_by, access_result_of, access_result_by, number_written, put_to}
 use Rattle.hart_step.specs.MemoryAccess.{put_at, put, access_after_location, memory_access}

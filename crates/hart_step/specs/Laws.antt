@@ -36,11 +36,11 @@ use Rattle.trap_entry.specs.Returns.{mode_by_mret, mode_by_sret}
 use Rattle.interrupt_pick.specs.Laws.{IsTaken, IsPicked, TakesNone}
 use Rattle.rvfi_rows.specs.declared.expected.Expected.{Expected}
 use Rattle.rvfi_rows.specs.declared.expected.Expected.TheVariants as expected
-use Rattle.mem_access.specs.Accesses.{Exception}
+use Rattle.mem_access.specs.Accesses.{Exception, LocatedValue}
 use Rattle.mem_access.specs.Laws.{SetsAlone}
 use Rattle.hart_step.specs.declared.state.Core.{Core}
 use Rattle.hart_step.specs.Choices.{asks_interrupt, pending_lines_of, shows}
-use Rattle.hart_step.specs.MemoryAccess.{LocatedValue, located_access}
+use Rattle.hart_step.specs.MemoryAccess.{located_access}
 use Rattle.hart_step.specs.Instructions.{fetch_at_pc, first_value, second_value, op_for}
 use Rattle.hart_step.specs.Steps.{before_instruction, interrupt_of, step_of}
 

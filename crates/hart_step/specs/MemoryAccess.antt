@@ -11,15 +11,11 @@ use Rattle.rv_atomic.specs.Operations.{amo_of}
 use Rattle.rv_atomic.specs.Blocks.{block_of, is_covered}
 use Rattle.rvfi_rows.specs.declared.expected.Accessed.{Accessed}
 use Rattle.mem_access.specs.declared.place.Place.{Place}
-use Rattle.mem_access.specs.Accesses.{Exception, Loaded, Places, first_len, load_result, store_place_of}
+use Rattle.mem_access.specs.Accesses.{Exception, LocatedValue, Places, first_len, load_result, store_place_of}
 use Rattle.hart_step.specs.declared.state.Core.{Core}
 use Rattle.hart_step.specs.declared.choices.RowChoices.{RowChoices}
 use Rattle.hart_step.specs.declared.memory.AccessResult.{AccessResult}
 use Rattle.hart_step.specs.Choices.{device_value, says_stored}
-
--- the places of an access, with what memory has there
-abbrev pub LocatedValue : Type 0
-LocatedValue = Loaded
 
 -- a store does not look at what memory has
 abbrev pub found_without_value : Result Places Exception → Result LocatedValue Exception

@@ -58,12 +58,12 @@ impl Core {
         );
         let (word, len) = match fetched {
             Ok(word) => word,
-            Err(exception) => return trapped(None, exception),
+            Err(exception) => return trap_notes(None, exception),
         };
         let bits = u64::from(word);
         let op = match self.op_for(word, len) {
             Some(op) => op,
-            None => return trapped(Some(bits), (Cause::IllegalInstruction, bits)),
+            None => return trap_notes(Some(bits), (Cause::IllegalInstruction, bits)),
         };
         let instruction = Instruction {
             op,
@@ -79,7 +79,7 @@ impl Core {
                 },
                 change,
             },
-            Err(exception) => trapped(Some(bits), exception),
+            Err(exception) => trap_notes(Some(bits), exception),
         }
     }
 
@@ -230,7 +230,7 @@ impl Core {
 }
 
 /// An exception, which changes nothing before its entry.
-fn trapped(insn: Option<u64>, exception: Exception) -> InstructionNotes
+fn trap_notes(insn: Option<u64>, exception: Exception) -> InstructionNotes
     ensures { result ≡ record { executed = Trapped insn exception; change = Change.Nothing } }
 {
     InstructionNotes {

@@ -228,7 +228,7 @@ impl Core {
             MemoryOp::Load { signed } => {
                 let value = value_found(choices, request, place, held);
                 AccessResult {
-                    value: extended(signed, request, value),
+                    value: extended_value(signed, request, value),
                     access: access_at(request, place, Some(value), None),
                     reservation: self.reservation,
                 }
@@ -237,7 +237,7 @@ impl Core {
                 let mut reservation = self.reservation;
                 reservation.set(place.pa, self.choices.block_size);
                 AccessResult {
-                    value: extended(true, request, held),
+                    value: extended_value(true, request, held),
                     access: access_at(request, place, Some(held), None),
                     reservation,
                 }
@@ -257,7 +257,7 @@ impl Core {
                 }
             }
             MemoryOp::Amo { op, width, b } => AccessResult {
-                value: extended(true, request, held),
+                value: extended_value(true, request, held),
                 access: access_at(request, place, Some(held), Some(amo(op, width, held, b))),
                 reservation: self.reservation,
             },
@@ -314,7 +314,7 @@ fn value_found(choices: &RowChoices, request: &MemoryRequest, place: Place, held
 }
 
 /// A number of the access's bytes as a register gets it.
-fn extended(signed: bool, request: &MemoryRequest, value: u64) -> u64
+fn extended_value(signed: bool, request: &MemoryRequest, value: u64) -> u64
     ensures { result ≡ loaded_value signed request.now value }
 {
     if signed {

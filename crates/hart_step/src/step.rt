@@ -99,7 +99,7 @@ impl Core {
         if self.asks_interrupt(row) {
             return self.begin_by_interrupt(mem, row, accesses);
         }
-        match self.run_written(mem, row, accesses) {
+        match self.run_and_write(mem, row, accesses) {
             Ok(notes) => Ok((notes, false)),
             Err(NoMemory) => Err(NoMemory),
         }
@@ -134,7 +134,7 @@ impl Core {
     {
         let mut next = *self;
         let lacks_interrupt = next.take_interrupt(row);
-        match next.run_written(mem, row, accesses) {
+        match next.run_and_write(mem, row, accesses) {
             Ok(notes) => {
                 *self = next;
                 Ok((notes, lacks_interrupt))
@@ -146,7 +146,7 @@ impl Core {
     /// Moves the order index on, runs the instruction, and writes what it writes: what is noted of
     /// it is still to be put in place. Without memory the order index is put back.
     #[tactic(auto, unfolding(crate::specs::Steps::core_after_count))]
-    fn run_written<M: PhysMem>(
+    fn run_and_write<M: PhysMem>(
         &mut self,
         mem: &mut M,
         row: &Row,

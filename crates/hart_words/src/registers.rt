@@ -24,11 +24,11 @@ impl Registers {
     pub fn get(&self, number: u8) -> u64
         ensures { result ≡ register_of self.now number }
     {
-        self.numbered(u64::from(number))
+        self.at_number(u64::from(number))
     }
 
     /// The same by a number that a row shows.
-    pub fn numbered(&self, number: u64) -> u64
+    pub fn at_number(&self, number: u64) -> u64
         ensures { result ≡ register_of self.now number }
     {
         if number == 0 {

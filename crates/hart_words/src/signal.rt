@@ -276,9 +276,9 @@ impl Signal {
     pub fn is_named(self, text: &[u8]) -> bool
         ensures { result ≡ bytes_eq text.now (name_of self) }
     {
-        match stripped(text, self.prefix().as_bytes()) {
+        match rest_after(text, self.prefix().as_bytes()) {
             None => false,
-            Some(rest) => match stripped(rest, self.stem().as_bytes()) {
+            Some(rest) => match rest_after(rest, self.stem().as_bytes()) {
                 None => false,
                 Some(rest) => rest == self.suffix().as_bytes(),
             },
@@ -351,7 +351,7 @@ fn entry_at(entries: &[SignalEntry], index: u8) -> Option<&SignalEntry>
 }
 
 /// What stands in `text` after `front`, where it begins so.
-fn stripped<'a>(text: &'a [u8], front: &[u8]) -> Option<&'a [u8]>
+fn rest_after<'a>(text: &'a [u8], front: &[u8]) -> Option<&'a [u8]>
     ensures { (more : List ℕ) → MatchOption result (bytes_eq text.now (front.now ++ more) ≡ false)
         (λ rest. bytes_eq text.now (front.now ++ more) ≡ bytes_eq rest.now more) }
 {

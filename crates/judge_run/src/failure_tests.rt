@@ -4,7 +4,7 @@ ghost use Rattle.std.specs.Prelude.{◌<◌};
 ghost use Rattle.outside_ports.specs.Memory.{known_files_of};
 
 use super::program_tests::{CALL_IMAGE, CALL_TRACE};
-use super::tests::{IMAGE, TRACE, list, named};
+use super::tests::{IMAGE, TRACE, list, named_file};
 use crate::judge;
 use outside_ports::{DripShelf, FailSink, Failed, MemShelf, MemSink, NamedFile, OpenGate, Shelf};
 use std::alloc::{AllocError, Global};
@@ -207,7 +207,7 @@ const CASES: [Case; 17] = [
 fn files_of(alloc: Global, files: &[&[u8]]) -> Result<Vec<NamedFile>, AllocError> {
     let mut list = Vec::new(alloc);
     'files: for (name, bytes) in ["i", "t"].iter().zip(files.iter()) {
-        list.push(named(alloc, *name, *bytes)?)?;
+        list.push(named_file(alloc, *name, *bytes)?)?;
     }
     Ok(list)
 }
@@ -323,7 +323,7 @@ fn ends_with_a_missing_file(rt: HostRuntime) -> Result<(), Fail> {
     let words = list(alloc, PLAIN)?;
     for (name, bytes) in [("i", IMAGE), ("t", TRACE)] {
         let mut only = Vec::new(alloc);
-        only.push(named(alloc, name, bytes)?)?;
+        only.push(named_file(alloc, name, bytes)?)?;
         let mut shelf = MemShelf::new(only);
         let mut sink = MemSink::new(alloc);
         let status = judge(&rt, alloc, &words, &mut shelf, &mut sink, &OpenGate);

@@ -1,6 +1,6 @@
 //! The limits of files, lines and columns, each at its number and one past it.
 
-use super::tests::{IMAGE, TRACE, judged};
+use super::tests::{IMAGE, TRACE, output_of};
 use std::alloc::{AllocError, Global};
 use std::test::Fail;
 
@@ -114,7 +114,7 @@ fn limits_files_and_addresses(rt: HostRuntime) -> Result<(), Fail> {
     'cases: for (options, image, trace, status, text) in SIZES.iter().chain(ADDRESSES.iter()) {
         let mut words = Vec::from_slice(alloc, &["rvjudge", "judge", "i", "t"])?;
         words.extend_from_slice(*options)?;
-        let (found, sink) = judged(&rt, alloc, words.as_slice(), *image, *trace)?;
+        let (found, sink) = output_of(&rt, alloc, words.as_slice(), *image, *trace)?;
         assert_eq!(rt; sink.held.as_slice(), *text, "{options:?}");
         assert_eq!(rt; found, *status);
     }
@@ -129,7 +129,7 @@ fn limits_a_trace(rt: HostRuntime) -> Result<(), Fail> {
     for limit in 1..48u64 {
         let number = format!(in alloc; "{limit}")?;
         let words = ["rvjudge", "judge", "i", "t", "--max-trace", number.as_str()];
-        let (status, sink) = judged(&rt, alloc, &words, IMAGE, trace)?;
+        let (status, sink) = output_of(&rt, alloc, &words, IMAGE, trace)?;
         assert_eq!(rt; status, 4);
         if limit < 44 {
             assert!(rt; sink.held.starts_with(b"refused trace: more than "));
@@ -184,7 +184,7 @@ fn bounds_a_line(rt: HostRuntime) -> Result<(), Fail> {
     'cases: for (line, text) in cases {
         let trace = long_text(rt.alloc(), line)?;
         let words = ["rvjudge", "judge", "i", "t"];
-        let (_, sink) = judged(&rt, rt.alloc(), &words, IMAGE, &trace)?;
+        let (_, sink) = output_of(&rt, rt.alloc(), &words, IMAGE, &trace)?;
         assert_eq!(rt; sink.held.as_slice(), text);
     }
     Ok(())
@@ -277,10 +277,10 @@ fn bounds_numbers_of_columns(rt: HostRuntime) -> Result<(), Fail> {
     'columns: for (name, most, past, text) in COLUMNS {
         let row = "0x00500093,0x80000000";
         let trace = format!(in alloc; "insn,pc_rdata,{name}\n{row},{most}\n")?;
-        let (_, sink) = judged(&rt, alloc, &words, IMAGE, trace.as_bytes())?;
+        let (_, sink) = output_of(&rt, alloc, &words, IMAGE, trace.as_bytes())?;
         assert_eq!(rt; sink.held.as_slice(), text, "{name}");
         let trace = format!(in alloc; "insn,pc_rdata,{name}\n{row},{past}\n")?;
-        let (status, sink) = judged(&rt, alloc, &words, IMAGE, trace.as_bytes())?;
+        let (status, sink) = output_of(&rt, alloc, &words, IMAGE, trace.as_bytes())?;
         let wide = format!(in alloc; "refused trace: row 1: {name} too wide\n")?;
         assert_eq!(rt; sink.held.as_slice(), wide.as_bytes());
         assert_eq!(rt; status, 4);
@@ -311,7 +311,7 @@ fn bounds_words_and_addresses(rt: HostRuntime) -> Result<(), Fail> {
     ];
     'cases: for (trace, text) in cases {
         let words = ["rvjudge", "judge", "i", "t"];
-        let (_, sink) = judged(&rt, rt.alloc(), &words, IMAGE, trace)?;
+        let (_, sink) = output_of(&rt, rt.alloc(), &words, IMAGE, trace)?;
         assert_eq!(rt; sink.held.as_slice(), text);
     }
     Ok(())

@@ -1,6 +1,6 @@
 //! Programs with their traces, by what the manual says of each instruction.
 
-use super::tests::judged;
+use super::tests::output_of;
 use std::alloc::Global;
 use std::process::Abort;
 use std::test::Fail;
@@ -380,7 +380,7 @@ fn says<R: Threads + Sync + Abort>(rt: &R, alloc: Global, case: &Case) -> Result
     for option in case.options {
         words.push(*option)?;
     }
-    let (_, sink) = judged(rt, alloc, words.as_slice(), case.image, case.trace)?;
+    let (_, sink) = output_of(rt, alloc, words.as_slice(), case.image, case.trace)?;
     assert_eq!(rt; sink.held.as_slice(), case.text);
     Ok(())
 }
@@ -456,7 +456,7 @@ fn runs_short_code(rt: HostRuntime) -> Result<(), Fail> {
     for (pc, trace, text) in cases {
         let start = format!(in rt.alloc(); "{pc}")?;
         let words = ["rvjudge", "judge", "i", "t", "--pc", start.as_str()];
-        let (_, sink) = judged(&rt, rt.alloc(), &words, SHORT_IMAGE, trace)?;
+        let (_, sink) = output_of(&rt, rt.alloc(), &words, SHORT_IMAGE, trace)?;
         assert_eq!(rt; sink.held.as_slice(), text);
     }
     Ok(())

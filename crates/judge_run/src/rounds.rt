@@ -99,7 +99,7 @@ where
     let mut settling = Settling { hart: start, tally };
     'rounds: loop {
         if segments.len() <= settling.tally.settled {
-            return Ok(settling.tally.agreed(settling.hart));
+            return Ok(settling.tally.agreement(settling.hart));
         }
         match settle_some(workers, columns, segments, settling, steps) {
             Ok(AfterRound::Continue(next)) => settling = next,

@@ -47,7 +47,7 @@ impl Tally {
     }
 
     /// What segments come to that agree, with this hart after them.
-    pub fn agreed<M>(self, hart: Hart<M>) -> Joined<M>
+    pub fn agreement<M>(self, hart: Hart<M>) -> Joined<M>
         ensures { result ≡ record {
           verdict = Agrees self.counts.rows self.counts.valid;
           end = Some hart;

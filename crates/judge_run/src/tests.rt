@@ -21,7 +21,7 @@ pub fn list(alloc: Global, words: &[&str]) -> Result<Vec<String>, AllocError> {
     Ok(list)
 }
 
-pub fn named(alloc: Global, name: &str, bytes: &[u8]) -> Result<NamedFile, AllocError> {
+pub fn named_file(alloc: Global, name: &str, bytes: &[u8]) -> Result<NamedFile, AllocError> {
     let name = String::from_str(alloc, name)?;
     let bytes = Vec::from_slice(alloc, bytes)?;
     Ok(NamedFile { name, bytes })
@@ -29,8 +29,8 @@ pub fn named(alloc: Global, name: &str, bytes: &[u8]) -> Result<NamedFile, Alloc
 
 fn pair(alloc: Global, image: &[u8], trace: &[u8]) -> Result<Vec<NamedFile>, AllocError> {
     let mut files = Vec::new(alloc);
-    files.push(named(alloc, "i", image)?)?;
-    files.push(named(alloc, "t", trace)?)?;
+    files.push(named_file(alloc, "i", image)?)?;
+    files.push(named_file(alloc, "t", trace)?)?;
     Ok(files)
 }
 
@@ -82,7 +82,11 @@ const SHARES: [[&str; 3]; 9] = [
 ];
 
 /// The words, and after them the options that share the work out so.
-fn shared(alloc: Global, words: &[&str], share: [&str; 3]) -> Result<Vec<String>, AllocError> {
+fn words_with_share(
+    alloc: Global,
+    words: &[&str],
+    share: [&str; 3],
+) -> Result<Vec<String>, AllocError> {
     let mut list = list(alloc, words)?;
     let names = ["--segment", "--window", "--workers"];
     for (name, value) in names.iter().zip(share) {
@@ -94,7 +98,7 @@ fn shared(alloc: Global, words: &[&str], share: [&str; 3]) -> Result<Vec<String>
 
 /// What a run over these files writes, and its status: the same however few bytes a read gives, and
 /// however the work is shared out.
-pub fn judged<R: Threads + Sync + Abort>(
+pub fn output_of<R: Threads + Sync + Abort>(
     rt: &R,
     alloc: Global,
     words: &[&str],
@@ -113,7 +117,7 @@ pub fn judged<R: Threads + Sync + Abort>(
         assert_eq!(rt; dripped.held, sink.held);
     }
     for share in SHARES {
-        let words = shared(alloc, words, share)?;
+        let words = words_with_share(alloc, words, share)?;
         let mut shelf = files(alloc, image, trace)?;
         let mut cut = MemSink::new(alloc);
         let again = judge(rt, alloc, &words, &mut shelf, &mut cut, &OpenGate);
@@ -160,7 +164,7 @@ fn judges_words_images_and_traces(rt: HostRuntime) -> Result<(), Fail> {
         (none, IMAGE, TRACE, 2, b"refused words\n"),
     ];
     for (words, image, trace, status, text) in cases {
-        let (found, sink) = judged(&rt, rt.alloc(), words, image, trace)?;
+        let (found, sink) = output_of(&rt, rt.alloc(), words, image, trace)?;
         assert_eq!(rt; found, status);
         assert_eq!(rt; sink.held.as_slice(), text);
     }
@@ -219,7 +223,7 @@ fn judges_elf_files(rt: HostRuntime) -> Result<(), Fail> {
         ),
     ];
     for (words, image, status, line) in cases {
-        let (found, sink) = judged(&rt, rt.alloc(), words, image, TRACE)?;
+        let (found, sink) = output_of(&rt, rt.alloc(), words, image, TRACE)?;
         assert_eq!(rt; found, status);
         assert_eq!(rt; sink.held.as_slice(), line);
     }
@@ -315,7 +319,7 @@ zz
         ),
     ];
     for (words, image, trace, status, text) in cases {
-        let (found, sink) = judged(&rt, rt.alloc(), words, image, trace)?;
+        let (found, sink) = output_of(&rt, rt.alloc(), words, image, trace)?;
         assert_eq!(rt; sink.held.as_slice(), text);
         assert_eq!(rt; found, status);
     }
@@ -378,7 +382,7 @@ fn judges_each_front_of_a_trace(rt: HostRuntime) -> Result<(), Fail> {
     for (from, to, text) in texts {
         for length in from..to + 1 {
             let front = TRACE.get(..length).unwrap_or(TRACE);
-            let (_, sink) = judged(
+            let (_, sink) = output_of(
                 &rt,
                 rt.alloc(),
                 &["rvjudge", "judge", "i", "t"],
@@ -415,7 +419,7 @@ fn judges_each_front_of_an_image(rt: HostRuntime) -> Result<(), Fail> {
     for (from, to, text) in texts {
         for length in from..to + 1 {
             let front = IMAGE.get(..length).unwrap_or(IMAGE);
-            let (_, sink) = judged(
+            let (_, sink) = output_of(
                 &rt,
                 rt.alloc(),
                 &["rvjudge", "judge", "i", "t"],
@@ -459,7 +463,7 @@ fn judges_odd_lines(rt: HostRuntime) -> Result<(), Fail> {
         ),
     ];
     for (trace, text) in cases {
-        let (_, sink) = judged(
+        let (_, sink) = output_of(
             &rt,
             rt.alloc(),
             &["rvjudge", "judge", "i", "t"],
@@ -523,12 +527,12 @@ fn judges_parts_of_many_segments(rt: HostRuntime) -> Result<(), Fail> {
     for (rows, count, text, made) in cases {
         let (image, trace) = make(alloc, 5, rows)?;
         for share in MANY {
-            let words = shared(alloc, &["rvjudge", "judge", "i", "t"], share)?;
+            let words = words_with_share(alloc, &["rvjudge", "judge", "i", "t"], share)?;
             let mut shelf = files(alloc, &image, &trace)?;
             let mut sink = MemSink::new(alloc);
             let status = judge(&rt, alloc, &words, &mut shelf, &mut sink, &OpenGate);
             assert_eq!(rt; (status, sink.held.as_slice()), (0, text));
-            let words = shared(alloc, &["rvjudge", "make", "5", count], share)?;
+            let words = words_with_share(alloc, &["rvjudge", "make", "5", count], share)?;
             let mut shelf = MemShelf::new(Vec::new(alloc));
             let mut sink = MemSink::new(alloc);
             let status = judge(&rt, alloc, &words, &mut shelf, &mut sink, &OpenGate);

@@ -15,7 +15,7 @@ use Rattle.judge_words.specs.Values.{◌>>=◌, at_most, image_limit_in, io_in, 
 use Rattle.judge_words.specs.Values.{number_at_most, number_in, number_up_to, pc_in, span_in, trace_limit_in}
 use Rattle.judge_words.specs.Commands.{command_line, command_entered, values_given_to}
 use Rattle.hart_words.specs.Choices.{plain_choices}
-use Rattle.judge_words.specs.Job.{IsMadeJob, JobView, choices_given, files_job, job_from, job_of, made_job, sharing_of}
+use Rattle.judge_words.specs.Job.{IsMadeJob, JobView, given_choices, files_job, job_from, job_of, made_job, sharing_of}
 use Rattle.judge_words.specs.declared.job.Command.TheVariants.{Judge, Make}
 use Rattle.judge_words.specs.declared.values.TheConstants.{MOST_IMAGE_BYTES, MOST_MADE_NUMBER, MOST_MADE_ROWS}
 use Rattle.judge_words.specs.declared.values.TheConstants.{MOST_TRACE_BYTES, RAM_BASE, RAM_SIZE}
@@ -82,7 +82,7 @@ files_named given =
     following IfMade (map_of ram io) _ (λ map e6.
     following IfMade (first_of (codes "max-image") given >>= image_limit_in) _ (λ max_image e7.
     following IfMade (first_of (codes "max-trace") given >>= trace_limit_in) _ (λ max_trace e8.
-    following IfMade (choices_given given) _ (λ choices e9.
+    following IfMade (given_choices given) _ (λ choices e9.
     following IfMade (sharing_of given) _ (λ sharing e10.
     of_files
     (record {

@@ -32,8 +32,8 @@ pub record JobView : Type 0 where
   pub sharing : Sharing
 
 -- the choices of the implementation, where a reservation may have so many bytes
-unfoldable pub choices_given : List Row → Option Choices
-choices_given given = do
+unfoldable pub given_choices : List Row → Option Choices
+given_choices given = do
   misaligned ← first_of (codes "misaligned") given >>= misaligned_in
   trap_values ← first_of (codes "mtval") given >>= trap_values_in
   marks ← first_of (codes "ad") given >>= marks_in
@@ -60,7 +60,7 @@ files_job given = do
   map ← map_of ram io
   max_image ← first_of (codes "max-image") given >>= image_limit_in
   max_trace ← first_of (codes "max-trace") given >>= trace_limit_in
-  choices ← choices_given given
+  choices ← given_choices given
   sharing ← sharing_of given
   Some (record {
     command = Judge image trace;

@@ -2,7 +2,7 @@
 
 ghost use Rattle.std.specs.Prelude.{◌≡◌, ◌≤◌, ◌%◌, ◌^◌, IfOk, IfSome, map, option_map, string_bytes};
 ghost use Rattle.clap.specs.Words.{found_of, rows_of};
-ghost use Rattle.judge_words.specs.Job.{GivesJob, IsLawful, IsLawfulSharing, choices_given, files_job, job_of, job_view, made_job, sharing_of};
+ghost use Rattle.judge_words.specs.Job.{GivesJob, IsLawful, IsLawfulSharing, given_choices, files_job, job_of, job_view, made_job, sharing_of};
 ghost use Rattle.judge_words.specs.Settings.{settings_view};
 ghost use Rattle.judge_words.specs.declared.job.WordError.TheVariants.{NoMemory};
 
@@ -163,7 +163,7 @@ fn settings_from<'a>(given: &ArgMatches<'a>) -> Option<Settings<'a>>
         map,
         max_image: read_image_limit(text_of(given, "max-image")?)?,
         max_trace: read_trace_limit(text_of(given, "max-trace")?)?,
-        choices: choices_given(given)?,
+        choices: given_choices(given)?,
         sharing: sharing_of(given)?,
     })
 }
@@ -190,9 +190,9 @@ fn made_job(given: &ArgMatches<'_>) -> Option<Job>
 }
 
 /// The choices of the implementation.
-#[tactic(auto, unfolding(crate::specs::Job::choices_given))]
-fn choices_given(given: &ArgMatches<'_>) -> Option<Choices>
-    ensures { result ≡ choices_given (rows_of (found_of given.now)) }
+#[tactic(auto, unfolding(crate::specs::Job::given_choices))]
+fn given_choices(given: &ArgMatches<'_>) -> Option<Choices>
+    ensures { result ≡ given_choices (rows_of (found_of given.now)) }
 {
     Choices::new(
         read_misaligned(text_of(given, "misaligned")?)?,

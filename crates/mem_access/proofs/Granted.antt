@@ -21,12 +21,12 @@ use Rattle.sv39_walk.specs.Walk.{Visit, entry_read, entry_reads_of}
 use Rattle.mem_access.specs.declared.place.AccessRequest.{AccessRequest}
 use Rattle.mem_access.specs.declared.place.Place.{Place}
 use Rattle.mem_access.specs.Translation.{is_readable, is_translated}
-use Rattle.mem_access.specs.Accesses.{Exception, Loaded, Part, Places, data_load, data_store, parcel_fetch, request_for}
+use Rattle.mem_access.specs.Accesses.{Exception, LocatedValue, Part, Places, data_load, data_store, parcel_fetch, request_for}
 use Rattle.mem_access.specs.Reads.{CheckedRead, IsPermittedRead, PlacedPart, access_reads_of, address_found}
 use Rattle.mem_access.specs.Reads.{bytes_after_walk, chain_of, data_reads_of, entry_load, entry_loads, fetch_reads_of}
 use Rattle.mem_access.specs.Reads.{has_second, own_read, own_reads_at, own_reads_of, part_found, part_reads_of}
 use Rattle.mem_access.specs.Reads.{part_walks_of, parts_found, parts_of, place_found, places_found, request_at}
-use Rattle.mem_access.specs.Reads.{walk_reads_of, where_placed, with_first}
+use Rattle.mem_access.specs.Reads.{walk_reads_of, if_found, with_first}
 use Rattle.mem_access.specs.Laws.{ArePlacesFound, FetchIsPermitted, IsPermittedPart, IsPermittedPlace, LoadIsPermitted}
 use Rattle.mem_access.specs.Laws.{StoreIsPermitted, parts_in}
 use Rattle.mem_access.proofs.Grants.{behind_granted, each_is, filtered, one_element}
@@ -167,7 +167,7 @@ fetch_all P csrs map choices mode pc bytes each =
     (all_if P second has (each ((pc + 2) % 2 ^ 64) now))
 
 where_all : (P : CheckedRead → Type 0) (found : Result Place Cause) (more : List CheckedRead) → All P more
-    → All P (where_placed found more)
+    → All P (if_found found more)
 where_all P (Err cause) more all = All-nil P
 where_all P (Ok place) more all = all
 
@@ -180,7 +180,7 @@ walks_all P csrs map choices request (part ∷ parts) bytes of_entry =
     let now = bytes_after_walk csrs map choices request part.va bytes in
     let more = part_walks_of csrs map choices request parts now in
     let found = part_found csrs map choices request part bytes in
-    All-append P (walk_reads_of csrs map request.mode part.va bytes) (where_placed found more)
+    All-append P (walk_reads_of csrs map request.mode part.va bytes) (if_found found more)
     (walk_all P csrs map request.mode part.va bytes of_entry)
     (where_all P found more (walks_all P csrs map choices request parts now of_entry))
 
@@ -329,7 +329,7 @@ load_granted csrs map choices mode va len atomic bytes =
     let places = places_by trap (places_found csrs map choices request atomic va bytes) in
     let now = after_writes (data_sets_of csrs map choices request atomic va bytes) bytes in
     let Found : Places → Type 0 = ArePlacesFound csrs map choices request atomic va bytes in
-    let P : Result Loaded Exception → Type 0 = λ loaded. IfOk loaded (λ found. Found (found.0, found.1)) in (
+    let P : Result LocatedValue Exception → Type 0 = λ loaded. IfOk loaded (λ found. Found (found.0, found.1)) in (
       record {
         order = (load_noted csrs map choices mode va len atomic bytes).reads;
         permitted = data_permitted csrs map choices request atomic true va bytes;

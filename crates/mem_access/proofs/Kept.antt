@@ -20,7 +20,7 @@ use Rattle.csr_file.specs.declared.csrs.Csrs.{Csrs}
 use Rattle.csr_file.specs.declared.stored_csr.StoredCsr.TheVariants.{Satp}
 use Rattle.csr_file.specs.Registers.{at}
 use Rattle.sv39_walk.specs.Entries.{address_in, entry_address, is_canonical, is_leaf, is_link, is_marked, leaf_allows}
-use Rattle.sv39_walk.specs.Entries.{marked, page_number}
+use Rattle.sv39_walk.specs.Entries.{with_marks, page_number}
 use Rattle.sv39_walk.specs.Walk.{Visit, chain, chain_from, root_of, visit_at}
 use Rattle.mem_access.specs.declared.place.AccessRequest.{AccessRequest}
 use Rattle.mem_access.specs.Translation.{is_readable, is_settable, walk_flags_of}
@@ -49,11 +49,11 @@ abbrev now_of : Setting → Bytes
 now_of set = bytes_after_store set.write.pa set.write.len set.write.value set.bytes
 
 set_entry : (set : Setting)
-    → number_at (now_of set) set.write.pa 8 ≡ marked set.sets.access (number_at set.bytes set.write.pa 8)
+    → number_at (now_of set) set.write.pa 8 ≡ with_marks set.sets.access (number_at set.bytes set.write.pa 8)
 set_entry set =
     let pa : ℕ = set.write.pa in
     let entry = number_at set.bytes pa 8 in
-    let value : ℕ = marked set.sets.access entry in
+    let value : ℕ = with_marks set.sets.access entry in
     let below = marked_below set.sets.access entry (leaf_below entry set.sets.leaf) in
     let P : Write → Type 0 = λ w. number_at (bytes_after_store pa w.len w.value set.bytes) pa 8 ≡ value in
     subst P (sym set.sets.value) (number_after_store set.bytes pa 8 value ∙ mod-eq_of_lt (omega (arith, below)))
@@ -65,7 +65,7 @@ other_entry : (set : Setting) (pa : ℕ) → pa % 8 ≡ 0 → (set.write.pa ≡ 
     → number_at (now_of set) pa 8 ≡ number_at set.bytes pa 8
 other_entry set pa aligned differ =
     let at : ℕ = set.write.pa in
-    let value : ℕ = marked set.sets.access (number_at set.bytes at 8) in
+    let value : ℕ = with_marks set.sets.access (number_at set.bytes at 8) in
     let P : Write → Type 0 =
     λ w. number_at (bytes_after_store at w.len w.value set.bytes) pa 8 ≡ number_at set.bytes pa 8 in
     subst P (sym set.sets.value)
@@ -75,7 +75,7 @@ other_entry set pa aligned differ =
 record IsSetThere (set : Setting) (pa : ℕ) : Type 0 where
   here : set.write.pa ≡ pa
   leaf : is_leaf (number_at set.bytes pa 8) ≡ true
-  gained : number_at (now_of set) pa 8 ≡ marked set.sets.access (number_at set.bytes pa 8)
+  gained : number_at (now_of set) pa 8 ≡ with_marks set.sets.access (number_at set.bytes pa 8)
 
 entry_cases : (set : Setting) (pa : ℕ) → pa % 8 ≡ 0
     → IsSetThere set pa ⊎ (number_at (now_of set) pa 8 ≡ number_at set.bytes pa 8)
@@ -87,7 +87,7 @@ entry_cases set pa aligned = by (set.write.pa == pa) refl
         let here = eqb-true set.write.pa pa is in
         let P : ℕ → Type 0 = λ a. is_leaf (number_at set.bytes a 8) ≡ true in
         let Q : ℕ → Type 0 =
-        λ a. number_at (now_of set) a 8 ≡ marked set.sets.access (number_at set.bytes a 8) in
+        λ a. number_at (now_of set) a 8 ≡ with_marks set.sets.access (number_at set.bytes a 8) in
         inl (record { here = here; leaf = subst P here set.sets.leaf; gained = subst Q here (set_entry set) })
     by false is = inr (other_entry set pa aligned (eqb-false set.write.pa pa is))
 
@@ -110,7 +110,7 @@ gained_no_link : (set : Setting) (pa : ℕ) → IsSetThere set pa → is_link (n
 gained_no_link set pa there =
     let before = number_at set.bytes pa 8 in
     let leaf = marked_leaf set.sets.access before (leaf_below before there.leaf) ∙ there.leaf in
-    ap is_link there.gained ∙ leaf_no_link (marked set.sets.access before) leaf
+    ap is_link there.gained ∙ leaf_no_link (with_marks set.sets.access before) leaf
 
 same_from : (set : Setting) (va level table : ℕ)
     → chain_from (is_readable set.csrs set.map) (now_of set) va level table

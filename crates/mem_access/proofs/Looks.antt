@@ -19,7 +19,7 @@ use Rattle.mem_access.specs.declared.place.AccessRequest.{AccessRequest}
 use Rattle.mem_access.specs.declared.place.Place.{Place}
 use Rattle.mem_access.specs.Places.{place_of}
 use Rattle.mem_access.specs.Translation.{is_translated, physical_address_of, place_after_translation, virtual_place_of}
-use Rattle.mem_access.specs.Accesses.{Exception, Loaded, Part, Places, after_first, after_place, alone, data_places_of}
+use Rattle.mem_access.specs.Accesses.{Exception, LocatedValue, Part, Places, after_first, after_place, alone, data_places_of}
 use Rattle.mem_access.specs.Accesses.{data_load, data_store, fetch_result, first_len, first_part, has_second_part}
 use Rattle.mem_access.specs.Accesses.{joined_value, load_by, load_from, load_result, parcel_at, parcel_fetch}
 use Rattle.mem_access.specs.Accesses.{parcel_from, part_place_of, second_part, second_place_of, split_places_of}
@@ -164,7 +164,7 @@ whole_refused csrs map choices request va {exception} {seen'} {wrote'} {bytes} l
     (whole_at csrs map choices request va look) (Notes-pure (Err exception) seen' wrote' bytes)
 
 pub whole_loaded : (csrs : Csrs) (map : Map) (choices : Choices) (request : AccessRequest) (va : ℕ)
-    {place : Place} {loaded : Result Loaded Exception} {s0 s1 s2 : List Read} {w0 w1 : List Write} {bytes : Bytes}
+    {place : Place} {loaded : Result LocatedValue Exception} {s0 s1 s2 : List Read} {w0 w1 : List Write} {bytes : Bytes}
     → Notes (part_place_of csrs map choices request (record { va = va; len = request.len })) (Ok place)
     s0 s1 w0 w1 bytes
     → Notes (value_at place request.len place.io) loaded s1 s2 w1 w1 bytes
@@ -258,7 +258,7 @@ split_load_refused csrs map choices request va {exception} {seen'} {wrote'} {byt
     (Notes-pure (Err exception) seen' wrote' bytes)
 
 pub split_load_whole : (csrs : Csrs) (map : Map) (choices : Choices) (request : AccessRequest) (va : ℕ)
-    {place : Place} {loaded : Result Loaded Exception} {s0 s1 s2 : List Read} {w0 w1 : List Write} {bytes : Bytes}
+    {place : Place} {loaded : Result LocatedValue Exception} {s0 s1 s2 : List Read} {w0 w1 : List Write} {bytes : Bytes}
     → Notes (split_places_of csrs map choices request va) (Ok (place, None)) s0 s1 w0 w1 bytes
     → Notes (value_at place request.len place.io) loaded s1 s2 w1 w1 bytes
     → Notes (split_places_of csrs map choices request va >>= load_from va request.len) loaded s0 s2 w0 w1 bytes
@@ -282,7 +282,7 @@ joined_parts first second low_len high_len {value} {s0} {s1} {wrote} {bytes} joi
     let now : Bytes = after_writes wrote bytes in
     let n = number_at now first.pa low_len in
     let m = number_at now second.pa high_len in
-    let gives : ℕ → Result Loaded Exception = λ k. Ok (first, Some second, joined_value low_len n k) in
+    let gives : ℕ → Result LocatedValue Exception = λ k. Ok (first, Some second, joined_value low_len n k) in
     rw (joined.value_is, joined.noted)
     (Notes-then (read_memory low)
     (λ k. mapped (λ j. Ok (first, Some second, joined_value low_len k j)) (read_memory high))
@@ -328,7 +328,7 @@ data_trapped csrs map choices request atomic misaligned va is =
 
 -- the reads, writes and value of a load whose places are known
 pub load_at : (csrs : Csrs) (map : Map) (choices : Choices) (mode : Mode) (va len : ℕ) (atomic : Bool)
-    {places : Action (Result Places Exception)} {loaded : Result Loaded Exception} {seen seen' : List Read}
+    {places : Action (Result Places Exception)} {loaded : Result LocatedValue Exception} {seen seen' : List Read}
     {wrote wrote' : List Write} {bytes : Bytes}
     → data_places_of csrs map choices (data_load csrs mode len atomic) atomic LoadAddressMisaligned va ≡ places
     → Notes (load_by places va len) loaded seen seen' wrote wrote' bytes

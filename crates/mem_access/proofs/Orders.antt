@@ -31,7 +31,7 @@ use Rattle.mem_access.specs.Accesses.{with_second}
 use Rattle.mem_access.specs.Reads.{CheckedRead, PlacedPart, access_reads_of, address_found, bytes_after_walk, chain_of}
 use Rattle.mem_access.specs.Reads.{data_reads_of, entry_loads, fetch_reads_of, has_second, own_read, own_reads_at}
 use Rattle.mem_access.specs.Reads.{own_reads_of, part_found, part_walks_of, parts_found, parts_of, place_found}
-use Rattle.mem_access.specs.Reads.{places_found, reads_in, request_at, walk_reads_of, walk_sets_of, where_placed}
+use Rattle.mem_access.specs.Reads.{places_found, reads_in, request_at, walk_reads_of, walk_sets_of, if_found}
 use Rattle.mem_access.specs.Reads.{whole_part, with_first}
 use Rattle.mem_access.proofs.Grants.{IsMemory, behind_memory}
 
@@ -249,7 +249,7 @@ unfoldable pub part_sets_of : Csrs → Map → Choices → AccessRequest → Lis
 part_sets_of csrs map choices request [] bytes = []
 part_sets_of csrs map choices request (part ∷ parts) bytes =
     walk_sets_of csrs map choices request part.va bytes
-    ++ where_placed (part_found csrs map choices request part bytes)
+    ++ if_found (part_found csrs map choices request part bytes)
     (part_sets_of csrs map choices request parts (bytes_after_walk csrs map choices request part.va bytes))
 
 -- the places of one part or of two; of none it is a misaligned access that traps
@@ -274,8 +274,8 @@ run_of value walk sets = record { value = value; reads = reads_in walk; wrote = 
 -- one part
 whole_by : (trap : Exception) (part : Part) (found : Result Place Cause) (walk : List CheckedRead) (sets : List Write)
     → run_of (alone (with_address part.va found)) walk sets
-    ≡ run_of (places_by trap (with_first part found (Ok []))) (walk ++ where_placed found [])
-    (sets ++ where_placed found [])
+    ≡ run_of (places_by trap (with_first part found (Ok []))) (walk ++ if_found found [])
+    (sets ++ if_found found [])
 whole_by trap part (Err cause) walk sets =
     ap (λ reads. run_of (Err (cause, part.va)) reads sets) (sym (append-nil walk))
     ∙ ap (λ wrote. run_of (Err (cause, part.va)) (walk ++ []) wrote) (sym (append-nil sets))
@@ -300,7 +300,7 @@ second_by : (first second : Part) (trap : Exception) (place : Place) (found : Re
     (walk : List CheckedRead) (sets : List Write)
     → run_of (after_place place (with_address second.va found)) walk sets
     ≡ run_of (places_by trap (with_first first (Ok place) (with_first second found (Ok []))))
-    (walk ++ where_placed found []) (sets ++ where_placed found [])
+    (walk ++ if_found found []) (sets ++ if_found found [])
 second_by first second trap place (Err cause) walk sets =
     ap (λ reads. run_of (Err (cause, second.va)) reads sets) (sym (append-nil walk))
     ∙ ap (λ wrote. run_of (Err (cause, second.va)) (walk ++ []) wrote) (sym (append-nil sets))
@@ -313,8 +313,8 @@ abbrev rest_run : Csrs → Map → Choices → AccessRequest → Part → Part �
     → Exception → Run (Result Places Exception)
 rest_run csrs map choices request first second found now trap = record {
   value = places_by trap (with_first first found (parts_found csrs map choices request (second ∷ []) now));
-  reads = reads_in (where_placed found (part_walks_of csrs map choices request (second ∷ []) now));
-  wrote = where_placed found (part_sets_of csrs map choices request (second ∷ []) now);
+  reads = reads_in (if_found found (part_walks_of csrs map choices request (second ∷ []) now));
+  wrote = if_found found (part_sets_of csrs map choices request (second ∷ []) now);
 }
 
 rest_is : (csrs : Csrs) (map : Map) (choices : Choices) (request : AccessRequest) (first second : Part)
@@ -339,7 +339,7 @@ two_is csrs map choices request trap first second bytes =
     let now = bytes_after_walk csrs map choices request first.va bytes in
     let known = part_run csrs map choices request first bytes in
     let walk = walk_reads_of csrs map request.mode first.va bytes in
-    let more = where_placed found (part_walks_of csrs map choices request (second ∷ []) now) in
+    let more = if_found found (part_walks_of csrs map choices request (second ∷ []) now) in
     let whole = parts_run csrs map choices request trap (first ∷ second ∷ []) bytes in
     then_known (part_place_of csrs map choices request first) (second_place_of csrs map choices request second) bytes
     known (part_is csrs map choices request first bytes)

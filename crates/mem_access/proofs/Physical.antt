@@ -25,12 +25,12 @@ use Rattle.mem_access.specs.declared.place.AccessRequest.{AccessRequest}
 use Rattle.mem_access.specs.declared.place.Place.{Place}
 use Rattle.mem_access.specs.Places.{is_device, is_permitted, place_of}
 use Rattle.mem_access.specs.Translation.{is_translated}
-use Rattle.mem_access.specs.Accesses.{Exception, Loaded, Part, Places, data_load, data_store, first_part}
+use Rattle.mem_access.specs.Accesses.{Exception, LocatedValue, Part, Places, data_load, data_store, first_part}
 use Rattle.mem_access.specs.Accesses.{has_second_part, is_split, parcel_fetch, request_for, second_part}
 use Rattle.mem_access.specs.Reads.{CheckedRead, PlacedPart, access_reads_of, address_found, bytes_after_walk}
 use Rattle.mem_access.specs.Reads.{data_reads_of, fetch_reads_of, has_second, own_read, own_reads_at, own_reads_of}
 use Rattle.mem_access.specs.Reads.{part_found, part_walks_of, parts_of, place_found, places_found}
-use Rattle.mem_access.specs.Reads.{reads_in, request_at, walk_reads_of, walk_sets_of, where_placed, whole_part}
+use Rattle.mem_access.specs.Reads.{reads_in, request_at, walk_reads_of, walk_sets_of, if_found, whole_part}
 use Rattle.mem_access.specs.Laws.{ArePhysical, FetchIsPhysical, IsParcelOf, IsPartRead, IsUntranslated, LoadIsPhysical}
 use Rattle.mem_access.specs.Laws.{StoreIsPhysical, parts_in}
 use Rattle.mem_access.proofs.Granted.{HoldsOfOwn, Look, all_if, look_places, own_all, own_parts_all}
@@ -150,7 +150,7 @@ fetch_physical csrs map choices mode pc bytes bare_or_machine =
 
 -- parts
 none_where : {A : Type 0} (one : List A) (found : Result Place Cause) (more : List A) → one ≡ [] → more ≡ []
-    → one ++ where_placed found more ≡ []
+    → one ++ if_found found more ≡ []
 none_where one (Err cause) more first second = ap (λ xs. xs ++ []) first
 none_where one (Ok place) more first second = ap (λ xs. xs ++ more) first ∙ second
 
@@ -313,7 +313,7 @@ load_physical csrs map choices mode va len atomic bytes bare_or_machine =
     let trap : Exception = (LoadAddressMisaligned, va) in
     let places = places_by trap (places_found csrs map choices request atomic va bytes) in
     let now = after_writes (data_sets_of csrs map choices request atomic va bytes) bytes in
-    let P : Result Loaded Exception → Type 0 =
+    let P : Result LocatedValue Exception → Type 0 =
     λ loaded. IfOk loaded (λ found. ArePhysical va len (found.0, found.1)) in
     let Q : List Read → Type 0 = All (IsPartRead (parts_of choices request atomic va)) in (
       subst Q (sym noted.reads) (reads_physical csrs map choices request atomic va bytes off),

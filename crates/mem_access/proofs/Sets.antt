@@ -25,7 +25,7 @@ use Rattle.mem_access.specs.declared.place.Place.{Place}
 use Rattle.mem_access.specs.Translation.{is_readable, is_translated, tables_of, walk_flags_of}
 use Rattle.mem_access.specs.Accesses.{Part, data_load, data_store, parcel_fetch}
 use Rattle.mem_access.specs.Reads.{bytes_after_walk, chain_of, has_second, part_found, parts_of, place_found}
-use Rattle.mem_access.specs.Reads.{request_at, walk_sets_of, where_placed}
+use Rattle.mem_access.specs.Reads.{request_at, walk_sets_of, if_found}
 use Rattle.mem_access.specs.Laws.{AreTableSets, FetchSetsAlone, IsTableSet, LoadSetsAlone, SetsAlone, StoreSetsAlone}
 use Rattle.mem_access.proofs.Grants.{one_element}
 use Rattle.mem_access.proofs.Granted.{all_if}
@@ -136,7 +136,7 @@ sets_if csrs map choices bytes writes false sets = tt
 
 sets_where : (csrs : Csrs) (map : Map) (choices : Choices) (bytes : Bytes) (found : Result Place Cause)
     (writes : List Write) → AreTableSets csrs map choices bytes writes
-    → AreTableSets csrs map choices bytes (where_placed found writes)
+    → AreTableSets csrs map choices bytes (if_found found writes)
 unfolding AreTableSets
 sets_where csrs map choices bytes (Err cause) writes sets = tt
 sets_where csrs map choices bytes (Ok place) writes sets = sets
@@ -149,7 +149,7 @@ parts_sets csrs map choices request (part ∷ parts) bytes =
     let now = bytes_after_walk csrs map choices request part.va bytes in
     let more = part_sets_of csrs map choices request parts now in
     let found = part_found csrs map choices request part bytes in
-    sets_append csrs map choices bytes (walk_sets_of csrs map choices request part.va bytes) (where_placed found more)
+    sets_append csrs map choices bytes (walk_sets_of csrs map choices request part.va bytes) (if_found found more)
     (walk_sets csrs map choices request part.va bytes)
     (sets_where csrs map choices now found more (parts_sets csrs map choices request parts now))
 

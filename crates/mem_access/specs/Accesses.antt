@@ -143,11 +143,11 @@ data_places_of csrs map choices request atomic misaligned va =
     else pure (Err (misaligned, va))
 
 -- the places of a load, and its value
-abbrev pub Loaded : Type 0
-Loaded = Place × Option Place × ℕ
+abbrev pub LocatedValue : Type 0
+LocatedValue = Place × Option Place × ℕ
 
 -- what stands at a place; of a device nothing is known here, and nothing is read
-abbrev pub value_at : Place → ℕ → Bool → Action (Result Loaded Exception)
+abbrev pub value_at : Place → ℕ → Bool → Action (Result LocatedValue Exception)
 value_at place len true = pure (Ok (place, None, 0))
 value_at place len false =
     mapped (λ value. Ok (place, None, value)) (read_memory (record { pa = place.pa; len = len }))
@@ -156,21 +156,21 @@ value_at place len false =
 abbrev pub joined_value : ℕ → ℕ → ℕ → ℕ
 joined_value first_len low high = low + 256 ^ first_len * high
 
-abbrev pub value_of_parts : Place → Place → ℕ → ℕ → Action (Result Loaded Exception)
+abbrev pub value_of_parts : Place → Place → ℕ → ℕ → Action (Result LocatedValue Exception)
 value_of_parts first second low_len high_len =
     read_memory (record { pa = first.pa; len = low_len })
     >>= λ low. mapped (λ high. Ok (first, Some second, joined_value low_len low high))
     (read_memory (record { pa = second.pa; len = high_len }))
 
 -- the data are read when all parts have their places
-abbrev pub load_from : ℕ → ℕ → Result Places Exception → Action (Result Loaded Exception)
+abbrev pub load_from : ℕ → ℕ → Result Places Exception → Action (Result LocatedValue Exception)
 load_from va len (Err exception) = pure (Err exception)
 load_from va len (Ok (place, None)) = value_at place len place.io
 load_from va len (Ok (first, Some second)) =
     value_of_parts first second (first_len va len) (len - first_len va len)
 
 -- a load
-unfoldable pub load_result : Csrs → Map → Choices → Mode → ℕ → ℕ → Bool → Action (Result Loaded Exception)
+unfoldable pub load_result : Csrs → Map → Choices → Mode → ℕ → ℕ → Bool → Action (Result LocatedValue Exception)
 load_result csrs map choices mode va len atomic =
     data_places_of csrs map choices (data_load csrs mode len atomic) atomic LoadAddressMisaligned va
     >>= load_from va len
@@ -181,7 +181,7 @@ store_place_of csrs map choices mode va len atomic =
     data_places_of csrs map choices (data_store csrs mode len atomic) atomic StoreAddressMisaligned va
 
 -- a load, by its places
-abbrev pub load_by : Action (Result Places Exception) → ℕ → ℕ → Action (Result Loaded Exception)
+abbrev pub load_by : Action (Result Places Exception) → ℕ → ℕ → Action (Result LocatedValue Exception)
 load_by places va len = places >>= load_from va len
 
 -- two parts are places in RAM, each with its own bytes

@@ -20,7 +20,7 @@ use Rattle.csr_file.specs.declared.fields.TheConstants.{BARE}
 use Rattle.csr_file.specs.Fields.{satp_mode_of}
 use Rattle.csr_file.specs.Registers.{at}
 use Rattle.sv39_walk.specs.declared.entry.TheConstants.{ENTRY_SIZE}
-use Rattle.sv39_walk.specs.Entries.{is_leaf, marked}
+use Rattle.sv39_walk.specs.Entries.{is_leaf, with_marks}
 use Rattle.mem_access.specs.declared.place.AccessRequest.{AccessRequest}
 use Rattle.mem_access.specs.declared.place.Place.{Place}
 use Rattle.mem_access.specs.Places.{data_mode_of, is_permitted}
@@ -39,7 +39,7 @@ pub record IsTableSet (csrs : Csrs) (map : Map) (choices : Choices) (bytes : Byt
   pub settable : is_settable csrs map write.pa ≡ true
   pub leaf : is_leaf (number_at bytes write.pa ENTRY_SIZE) ≡ true
   pub access : Access
-  pub value : write ≡ entry_write write.pa (marked access (number_at bytes write.pa ENTRY_SIZE))
+  pub value : write ≡ entry_write write.pa (with_marks access (number_at bytes write.pa ENTRY_SIZE))
 
 -- all writes do, each in memory as those before it leave it
 unfoldable pub AreTableSets : Csrs → Map → Choices → Bytes → List Write → Type 0

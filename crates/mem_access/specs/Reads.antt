@@ -177,16 +177,16 @@ places_found csrs map choices request atomic va bytes =
     parts_found csrs map choices (request_at request va) (parts_of choices request atomic va) bytes
 
 -- what follows a part that has its place
-abbrev pub where_placed : {A : Type 0} → Result Place Cause → List A → List A
-where_placed (Err cause) more = []
-where_placed (Ok place) more = more
+abbrev pub if_found : {A : Type 0} → Result Place Cause → List A → List A
+if_found (Err cause) more = []
+if_found (Ok place) more = more
 
 -- the walks of parts, in order, as far as the parts have their places
 unfoldable pub part_walks_of : Csrs → Map → Choices → AccessRequest → List Part → Bytes → List CheckedRead
 part_walks_of csrs map choices request [] bytes = []
 part_walks_of csrs map choices request (part ∷ parts) bytes =
     walk_reads_of csrs map request.mode part.va bytes
-    ++ where_placed (part_found csrs map choices request part bytes)
+    ++ if_found (part_found csrs map choices request part bytes)
     (part_walks_of csrs map choices request parts (bytes_after_walk csrs map choices request part.va bytes))
 
 -- the own bytes of a part

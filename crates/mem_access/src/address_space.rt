@@ -182,7 +182,7 @@ impl<'a, M: PhysMem> AddressSpace<'a, M> {
         seen.put(high.pa, high.len);
         let first = self.number(low.pa, low.len, sets);
         let second = self.number(high.pa, high.len, sets);
-        joined(low.len, first, second)
+        join_numbers(low.len, first, second)
     }
 
     /// The number at a place in RAM, with the entries that the step has set.
@@ -210,7 +210,7 @@ impl<'a, M: PhysMem> AddressSpace<'a, M> {
         if len == 1 {
             return byte;
         }
-        joined(1, byte, self.number_after_sets(pa + 1, len - 1, sets))
+        join_numbers(1, byte, self.number_after_sets(pa + 1, len - 1, sets))
     }
 
     /// A byte with the entries that the step has set.
@@ -226,7 +226,7 @@ impl<'a, M: PhysMem> AddressSpace<'a, M> {
 }
 
 /// A number of bytes and the number of those that come after them, together.
-pub fn joined(len: u8, low: u64, high: u64) -> u64
+pub fn join_numbers(len: u8, low: u64, high: u64) -> u64
     requires len { len < 8 }
     requires low { low < 2 ^ (8 * len) }
     requires high { high < 2 ^ (8 * (8 - len)) }

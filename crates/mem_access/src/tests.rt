@@ -2,7 +2,7 @@ ghost use Rattle.std.specs.Prelude.{◌≡◌, ◌≤◌, ◌<◌, ◌+◌, ◌*
 ghost use Rattle.hart_words.specs.Memory.{after_writes};
 
 use super::*;
-use crate::address_space::joined;
+use crate::address_space::join_numbers;
 use csr_file::{Csrs, StoredCsr};
 use hart_words::{
     Cause, Choices, Map, Marks, Misaligned, Mode, NoMemory, PhysMem, PmpEntry, Seen, Sets, Span,
@@ -73,7 +73,7 @@ impl Counted {
         if len == 1 {
             return byte;
         }
-        joined(1, byte, self.number(pa + 1, len - 1))
+        join_numbers(1, byte, self.number(pa + 1, len - 1))
     }
 
     fn byte(&self, pa: u64) -> u8
@@ -112,7 +112,7 @@ const MARKED: u64 = 0xcf;
 const BARE: u64 = 0x0f;
 
 /// Registers by which S accesses all of memory by the root table.
-fn paged() -> Csrs {
+fn paging_csrs() -> Csrs {
     let mut csrs = Csrs::reset();
     csrs.entries[0] = PmpEntry {
         cfg: 0x1f,
@@ -274,7 +274,7 @@ fn loads_by_page_tables(rt: HostRuntime) -> Result<(), Fail> {
         (0x1f, 0x80001, Mode::User, 0x1000_0000, Ok(true), 0),
     ];
     for (cfg, satp, mode, va, want, reads) in cases {
-        let mut csrs = paged();
+        let mut csrs = paging_csrs();
         csrs.entries[0].cfg = cfg;
         csrs.set(StoredCsr::Satp, satp);
         let mut seen = Seen::empty();
@@ -492,7 +492,7 @@ fn loads_over_two_entries(rt: HostRuntime) -> Result<(), Fail> {
         let mut set = Sets::empty();
         let found = load(
             &mem,
-            &paged(),
+            &paging_csrs(),
             &map,
             Mode::Supervisor,
             va,
@@ -539,7 +539,7 @@ fn fetches_over_two_entries(rt: HostRuntime) -> Result<(), Fail> {
         let mut set = Sets::empty();
         let found = fetch(
             &tables(map.ram, entries),
-            &paged(),
+            &paging_csrs(),
             &map,
             Mode::Supervisor,
             0x3fff_fffe,
@@ -571,7 +571,7 @@ fn entries_set_before(rt: HostRuntime) -> Result<(), Fail> {
         sets.put(ROOT + 8, LOW | 0x4f);
         let found = load(
             &mem,
-            &paged(),
+            &paging_csrs(),
             &map,
             Mode::Machine,
             va,
@@ -587,7 +587,7 @@ fn entries_set_before(rt: HostRuntime) -> Result<(), Fail> {
     sets.put(ROOT, HIGH | 0x4f);
     let found = store_place(
         &mem,
-        &paged(),
+        &paging_csrs(),
         &map,
         Mode::Supervisor,
         0x3fff_fffe,

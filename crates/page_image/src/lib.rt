@@ -1,7 +1,7 @@
 //! The memory that an image describes, before a hart's first step.
 //!
 //! In come an image's pieces and the range of RAM. Out comes a memory that is never written: each
-//! address has the image's byte, or 0 (`byte_of` and `filled`, `specs/Bytes.antt`). It has pages
+//! address has the image's byte, or 0 (`byte_of` and `with_zeros`, `specs/Bytes.antt`). It has pages
 //! (`Page`, `specs/Pages.antt`).
 #![tactic(auto)]
 

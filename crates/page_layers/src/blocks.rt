@@ -105,7 +105,7 @@ impl Blocks {
     }
 
     /// These blocks, and those of others whose numbers are not among them.
-    pub fn merged(&self, others: &Blocks) -> Result<Blocks, NoMemory>
+    pub fn union(&self, others: &Blocks) -> Result<Blocks, NoMemory>
         ensures { IfOk result (λ all. (number : ℕ) → block_at all number
             ≡ option_or (block_at self.now number) (block_at others.now number)) }
     {

@@ -70,14 +70,14 @@ pub fn layers_under(alloc: Global, newest: Blocks, older: &[Layer]) -> Result<Ve
 {
     match older.split_first() {
         Some((next, rest)) if next.blocks().len() / GROWTH < newest.len() => {
-            layers_under(alloc, newest.merged(next.blocks())?, rest)
+            layers_under(alloc, newest.union(next.blocks())?, rest)
         }
-        _ => stacked(alloc, newest, older),
+        _ => layers_on(alloc, newest, older),
     }
 }
 
 /// Layers with a new one above them.
-fn stacked(alloc: Global, newest: Blocks, older: &[Layer]) -> Result<Vec<Layer>, NoMemory>
+fn layers_on(alloc: Global, newest: Blocks, older: &[Layer]) -> Result<Vec<Layer>, NoMemory>
     ensures { IfOk result (λ layers. (number : ℕ)
         → block_among layers.items number ≡ newest_block newest older.now number) }
 {

@@ -22,7 +22,7 @@ pub fn source_value(registers: &Registers, source: u8, named: Option<u64>) -> Op
 {
     match source_shown(source, named) {
         None => None,
-        Some(number) => Some(registers.numbered(number)),
+        Some(number) => Some(registers.at_number(number)),
     }
 }
 

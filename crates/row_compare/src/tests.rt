@@ -43,7 +43,7 @@ fn differs(
 }
 
 /// An instruction in S-mode that reads x1 and writes x3, or one that traps.
-fn retired(effects: Result<Effects, Cause>) -> Retired {
+fn retirement_with(effects: Result<Effects, Cause>) -> Retired {
     Retired {
         order: Some(5),
         lacks_interrupt: true,
@@ -73,7 +73,7 @@ fn effects(access: Option<Accessed>) -> Effects {
 }
 
 fn with_access(access: Option<Accessed>) -> Expected {
-    Expected::Retired(retired(Ok(effects(access))))
+    Expected::Retired(retirement_with(Ok(effects(access))))
 }
 
 #[test]
@@ -263,7 +263,7 @@ fn traps(rt: HostRuntime) -> Result<(), Fail> {
         (Cause::EnvironmentCallFromMachine, None),
         (Cause::StorePageFault, not_one),
     ] {
-        let trap = Expected::Retired(retired(Err(cause)));
+        let trap = Expected::Retired(retirement_with(Err(cause)));
         let cases: [Case; 4] = [
             ("rs1_addr,rs1_rdata,rs2_addr,rs2_rdata", "9,9,9,9", None),
             (
@@ -285,7 +285,7 @@ fn traps(rt: HostRuntime) -> Result<(), Fail> {
         lacks_interrupt: false,
         insn: None,
         pc: 0x8000_0002,
-        ..retired(Err(Cause::InstructionPageFault))
+        ..retirement_with(Err(Cause::InstructionPageFault))
     });
     let pc = Some((Signal::PcRdata, 0x8000_0002, 0x8000_0000));
     differs(&rt, alloc, &unfetched, &[("order,intr,trap", "9,1,1", pc)])?;
@@ -293,12 +293,12 @@ fn traps(rt: HostRuntime) -> Result<(), Fail> {
         order: None,
         lacks_interrupt: false,
         insn: None,
-        ..retired(Err(Cause::InstructionPageFault))
+        ..retirement_with(Err(Cause::InstructionPageFault))
     });
     differs(&rt, alloc, &fetched, &[("order,intr,trap", "9,1,1", None)])?;
     let bits = Expected::Retired(Retired {
         insn: Some(0x1_0013),
-        ..retired(Ok(effects(None)))
+        ..retirement_with(Ok(effects(None)))
     });
     let cases: [Case; 2] = [
         ("trap", "0", Some((Signal::Insn, 0x1_0013, 0x13))),
@@ -322,7 +322,7 @@ fn modes(rt: HostRuntime) -> Result<(), Fail> {
     ] {
         let expected = Expected::Retired(Retired {
             mode,
-            ..retired(Ok(effects(None)))
+            ..retirement_with(Ok(effects(None)))
         });
         let shown = format!(in rt.alloc(); "{number}")?;
         let cases: [Case; 6] = [
@@ -360,7 +360,7 @@ fn registers_under_masks(rt: HostRuntime) -> Result<(), Fail> {
     let row = Retired {
         csrs_before,
         csrs_after,
-        ..retired(Err(Cause::IllegalInstruction))
+        ..retirement_with(Err(Cause::IllegalInstruction))
     };
     let cases: [Case; 14] = [
         ("csr_mepc_rdata,csr_mepc_wdata", "0x1234,0x80000000", None),
@@ -439,7 +439,7 @@ fn interrupt_lines(rt: HostRuntime) -> Result<(), Fail> {
         csrs_before: csrs,
         csrs_after: csrs,
         lines: 0x200,
-        ..retired(Ok(effects(None)))
+        ..retirement_with(Ok(effects(None)))
     });
     let (mip, sip) = (before(CsrName::Mip), before(CsrName::Sip));
     let cases: [Case; 15] = [
@@ -537,7 +537,7 @@ fn order_of_signals(rt: HostRuntime) -> Result<(), Fail> {
     csrs_after.set(StoredCsr::Mtvec, 8);
     let expected = Expected::Retired(Retired {
         csrs_after,
-        ..retired(Ok(Effects {
+        ..retirement_with(Ok(Effects {
             rs2: 2,
             ..effects(Some(access))
         }))

@@ -15,7 +15,7 @@ use Rattle.rv_decode.specs.declared.operation.BitsOp.TheVariants.{ZextH, Rol, Ro
 use Rattle.rv_decode.specs.declared.operation.BitsOp.TheVariants.{Binv, Bset}
 use Rattle.rv_bits.specs.Counts.{zeros_above, zeros_below, population}
 use Rattle.rv_bits.specs.Laws.{ResultsFit}
-use Rattle.rv_bits.specs.Results.{bits_result, filled, low}
+use Rattle.rv_bits.specs.Results.{bits_result, filled_byte, low}
 use Rattle.rv_bits.proofs.Counted.{leading_zeros_are, trailing_zeros_are, ones_are}
 use Rattle.rv_bits.proofs.Reversed.{are_bytes, mapped_below}
 use Rattle.rv_bits.proofs.Rotated.{left_fits, right_fits}
@@ -62,7 +62,7 @@ filled_by : (test : Bool) → (if test then 0 else 0xff) < 256
 filled_by true = omega arith
 filled_by false = omega arith
 
-filled_below : (byte : ℕ) → filled byte < 256
+filled_below : (byte : ℕ) → filled_byte byte < 256
 filled_below byte = filled_by (byte == 0)
 
 one_bit : (amount : ℕ) → amount < 64 → 2 ^ amount < 2 ^ 64
@@ -99,7 +99,7 @@ results_fit Rolw a b one other = extended 32 _ (omega arith) (omega arith)
 results_fit Ror a b one other = right_fits 64 a (b % 64) one (omega arith)
 results_fit Rorw a b one other = extended 32 _ (omega arith) (omega arith)
 results_fit OrcB a b one other =
-    of_bytes (map filled (to_le_bytes w64 a)) (mapped_below filled filled_below (to_le_bytes w64 a))
+    of_bytes (map filled_byte (to_le_bytes w64 a)) (mapped_below filled_byte filled_below (to_le_bytes w64 a))
 results_fit Rev8 a b one other = of_bytes (reverse (to_le_bytes w64 a)) (are_bytes a)
 results_fit Bclr a b one other = no_more _ a (and_le_l a (bit_not w64 (2 ^ (b % 64)))) one
 results_fit Bext a b one other = omega arith

@@ -31,8 +31,8 @@ abbrev pub lesser_signed : ℕ → ℕ → ℕ
 lesser_signed a b = if int_lt (cast_signed w64 a) (cast_signed w64 b) then a else b
 
 -- a byte with every bit set where any is
-abbrev pub filled : ℕ → ℕ
-filled byte = if byte == 0 then 0 else 0xff
+abbrev pub filled_byte : ℕ → ℕ
+filled_byte byte = if byte == 0 then 0 else 0xff
 
 -- the bit that the low 6 bits of the second operand name, alone
 abbrev pub bit_of : ℕ → ℕ
@@ -68,7 +68,7 @@ bits_result Rol a b = rotated_left 64 a (b % 64)
 bits_result Rolw a b = sign_extended 32 (rotated_left 32 (low a) (b % 32))
 bits_result Ror a b = rotated_right 64 a (b % 64)
 bits_result Rorw a b = sign_extended 32 (rotated_right 32 (low a) (b % 32))
-bits_result OrcB a b = from_le_bytes w64 (map filled (to_le_bytes w64 a))
+bits_result OrcB a b = from_le_bytes w64 (map filled_byte (to_le_bytes w64 a))
 bits_result Rev8 a b = from_le_bytes w64 (reverse (to_le_bytes w64 a))
 bits_result Bclr a b = bit_and a (bit_not w64 (bit_of b))
 bits_result Bext a b = a / bit_of b % 2

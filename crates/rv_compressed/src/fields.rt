@@ -26,7 +26,7 @@ pub fn compressed_register(parcel: u16, first: u32) -> u32
 }
 
 /// A signed number of `bits` bits as one of `width` bits.
-fn extended(number: u32, bits: u32, width: u32) -> u32
+fn extended_number(number: u32, bits: u32, width: u32) -> u32
     requires at_least_1 { 1 ≤ bits }
     requires at_most_64 { bits ≤ 64 }
     requires narrow { width < 32 }
@@ -51,7 +51,7 @@ pub fn small_immediate(parcel: u16) -> u32
     ensures value { result ≡ immediate_6 12 parcel }
     ensures below { result < 2 ^ 12 }
 {
-    extended(shift_amount(parcel), 6, 12)
+    extended_number(shift_amount(parcel), 6, 12)
 }
 
 /// The same, as one of 20 bits.
@@ -60,7 +60,7 @@ pub fn upper_immediate(parcel: u16) -> u32
     ensures value { result ≡ immediate_6 20 parcel }
     ensures below { result < 2 ^ 20 }
 {
-    extended(shift_amount(parcel), 6, 20)
+    extended_number(shift_amount(parcel), 6, 20)
 }
 
 #[tactic(auto, unfolding(crate::specs::Immediates::immediate_addi4spn))]
@@ -84,7 +84,7 @@ pub fn addi16sp_immediate(parcel: u16) -> u32
         + field_of(parcel, 5, 1) * 0x40
         + field_of(parcel, 2, 1) * 0x20
         + field_of(parcel, 6, 1) * 0x10;
-    extended(number, 10, 12)
+    extended_number(number, 10, 12)
 }
 
 /// The offset of C.LW and C.SW.
@@ -118,7 +118,7 @@ pub fn jump_offset(parcel: u16) -> u32
         + field_of(parcel, 2, 1) * 0x20
         + field_of(parcel, 11, 1) * 0x10
         + field_of(parcel, 3, 3) * 2;
-    extended(number, 12, 21)
+    extended_number(number, 12, 21)
 }
 
 #[tactic(auto, unfolding(crate::specs::Immediates::offset_b))]
@@ -131,7 +131,7 @@ pub fn branch_offset(parcel: u16) -> u32
         + field_of(parcel, 2, 1) * 0x20
         + field_of(parcel, 10, 2) * 8
         + field_of(parcel, 3, 2) * 2;
-    extended(number, 9, 13)
+    extended_number(number, 9, 13)
 }
 
 #[tactic(auto, unfolding(crate::specs::Immediates::offset_lwsp))]

@@ -15,9 +15,9 @@ pub fn compute_immediate_word(op: ImmediateWordOp, a: u64, imm: u64) -> u64
 {
     match op {
         ImmediateWordOp::Addiw => sum(a, imm),
-        ImmediateWordOp::Slliw => extended(shifted_left(low_word(a), imm)),
-        ImmediateWordOp::Srliw => extended(shifted_right(low_word(a), imm)),
-        ImmediateWordOp::Sraiw => extended(shifted_right_signed(low_word(a), imm)),
+        ImmediateWordOp::Slliw => extended_word(shifted_left(low_word(a), imm)),
+        ImmediateWordOp::Srliw => extended_word(shifted_right(low_word(a), imm)),
+        ImmediateWordOp::Sraiw => extended_word(shifted_right_signed(low_word(a), imm)),
     }
 }
 
@@ -30,14 +30,14 @@ pub fn compute_register_word(op: RegisterWordOp, a: u64, b: u64) -> u64
     match op {
         RegisterWordOp::Addw => sum(a, b),
         RegisterWordOp::Subw => difference(a, b),
-        RegisterWordOp::Sllw => extended(shifted_left(low_word(a), b)),
-        RegisterWordOp::Srlw => extended(shifted_right(low_word(a), b)),
-        RegisterWordOp::Sraw => extended(shifted_right_signed(low_word(a), b)),
+        RegisterWordOp::Sllw => extended_word(shifted_left(low_word(a), b)),
+        RegisterWordOp::Srlw => extended_word(shifted_right(low_word(a), b)),
+        RegisterWordOp::Sraw => extended_word(shifted_right_signed(low_word(a), b)),
         RegisterWordOp::Mulw => product(a, b),
-        RegisterWordOp::Divw => extended(quotient(low_word(a), low_word(b))),
-        RegisterWordOp::Divuw => extended(unsigned_quotient(low_word(a), low_word(b))),
-        RegisterWordOp::Remw => extended(remainder(low_word(a), low_word(b))),
-        RegisterWordOp::Remuw => extended(unsigned_remainder(low_word(a), low_word(b))),
+        RegisterWordOp::Divw => extended_word(quotient(low_word(a), low_word(b))),
+        RegisterWordOp::Divuw => extended_word(unsigned_quotient(low_word(a), low_word(b))),
+        RegisterWordOp::Remw => extended_word(remainder(low_word(a), low_word(b))),
+        RegisterWordOp::Remuw => extended_word(unsigned_remainder(low_word(a), low_word(b))),
     }
 }
 
@@ -49,7 +49,7 @@ fn low_word(x: u64) -> u32
 }
 
 /// A word, sign-extended.
-fn extended(word: u32) -> u64
+fn extended_word(word: u32) -> u64
     ensures { result ≡ sign_extended 32 word }
 {
     sext(u64::from(word), 32)

@@ -64,21 +64,21 @@ found_within (x ∷ xs) (suc i) lt is = found_within xs i (omega arith) is
 
 -- ---- the first signal that stands twice
 
-pub repeated-next : (columns : ColumnList) (i : ℕ) (stands : Bool) (wanted : Option Signal) → i < length columns
+pub repeated_signal-next : (columns : ColumnList) (i : ℕ) (stands : Bool) (wanted : Option Signal) → i < length columns
     → stands ≡ stands_in (take i columns) (get_or columns i None)
     → first_repeated (take i columns) (drop i columns) ≡ wanted
     → (if stands then get_or columns i None else first_repeated (take (i + 1) columns) (drop (i + 1) columns)) ≡ wanted
 unfolding first_repeated
-repeated-next columns i stands wanted lt is so_far =
+repeated_signal-next columns i stands wanted lt is so_far =
     let here : (if stands then get_or columns i None else first_repeated
     (take i columns ++ get_or columns i None ∷ []) (drop (i + 1) columns)) ≡ wanted =
     rw is (rw (drop_at columns i None lt) at so_far) in
     rw (add-one, take-suc columns i None lt, ← add-one) here
 
-pub repeated-end : (columns : ColumnList) (i : ℕ) (wanted : Option Signal) → length columns ≤ i
+pub repeated_signal-end : (columns : ColumnList) (i : ℕ) (wanted : Option Signal) → length columns ≤ i
     → first_repeated (take i columns) (drop i columns) ≡ wanted → None ≡ wanted
 unfolding first_repeated
-repeated-end columns i wanted le so_far = rw (drop_past columns i le) at so_far
+repeated_signal-end columns i wanted le so_far = rw (drop_past columns i le) at so_far
 
 -- ---- the column `valid`
 

@@ -86,7 +86,7 @@ pub fn read_header(alloc: Global, line: &[u8]) -> Result<Columns, HeaderError>
     }
     let fields = line_fields(alloc, line)?;
     let columns = columns_named(alloc, &fields)?;
-    if let Some(signal) = repeated(columns.as_slice()) {
+    if let Some(signal) = repeated_signal(columns.as_slice()) {
         return Err(HeaderError::Fault(HeaderFault::Twice(signal)));
     }
     if !shows(columns.as_slice(), Signal::Insn) {
@@ -157,7 +157,7 @@ fn stands(columns: &[Option<Signal>], column: Option<Signal>) -> bool
 }
 
 /// The first signal from the left that stood before.
-fn repeated(columns: &[Option<Signal>]) -> Option<Signal>
+fn repeated_signal(columns: &[Option<Signal>]) -> Option<Signal>
     ensures { result ≡ first_repeated [] columns.now }
 {
     for index in 0..columns.len() {

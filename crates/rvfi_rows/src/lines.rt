@@ -29,7 +29,7 @@ pub(crate) fn read_rows_in(
 ) -> Result<Rows, NoMemory>
     ensures { IfOk result (λ rows. readings_in rows ≡ rows_of columns.now lines.now) }
 {
-    let mut rows = spare.emptied(alloc, columns.as_slice(), lines.len())?;
+    let mut rows = spare.with_columns(alloc, columns.as_slice(), lines.len())?;
     let mut reader = LineReader::new(alloc, lines.text());
     let mut fields = Fields::new(alloc);
     let mut row = Row::empty();

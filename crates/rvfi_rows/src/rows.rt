@@ -39,7 +39,7 @@ impl Rows {
     }
 
     /// No rows, under these columns, with room for so many, in the memory of those that were.
-    pub(crate) fn emptied(
+    pub(crate) fn with_columns(
         self,
         alloc: Global,
         columns: &[Option<Signal>],

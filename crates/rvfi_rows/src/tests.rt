@@ -21,20 +21,20 @@ fn row_fault(alloc: Global, columns: &Columns, line: &[u8]) -> Option<RowFault> 
     }
 }
 
-fn shared<T: Send + Sync>(_value: &T) {}
+fn may_be_shared<T: Send + Sync>(_value: &T) {}
 
 #[test]
 fn reads_rows(rt: HostRuntime) -> Result<(), Fail> {
     let alloc = rt.alloc();
     let columns = read_header(alloc, HEADER)?;
-    shared(&columns);
+    may_be_shared(&columns);
     let row = read_row(
         alloc,
         &columns,
         b"1,,0X00000093,0x80000000,x y z,3 ,18446744073709551615,",
     )?
     .ok_or("the row is valid")?;
-    shared(&row);
+    may_be_shared(&row);
     assert_eq!(rt; row.shown(Signal::Valid), Some(1));
     assert_eq!(rt; row.shown(Signal::Order), None);
     assert_eq!(rt; row.shown(Signal::Insn), Some(0x93));
@@ -63,7 +63,7 @@ fn keeps_rows(rt: HostRuntime) -> Result<(), Fail> {
     lines.push(b"\"1\",,10,11,12,")?;
     lines.push(b"")?;
     let rows = read_rows(alloc, &columns, &lines)?;
-    shared(&rows);
+    may_be_shared(&rows);
     assert_eq!(rt; rows.len(), 8);
     let mepc = Signal::Csr(CsrName::Mepc, CsrSide::Rdata);
     let mut row = Row::empty();
@@ -103,7 +103,7 @@ fn check_segments(
 ) -> Result<(), Fail> {
     let mut row = Row::empty();
     for (segment, wanted) in segments.iter().zip(wanted.iter()) {
-        shared(segment);
+        may_be_shared(segment);
         assert!(rt; segment.is_read(columns));
         assert!(rt; segment.rows(other).is_none());
         let rows = segment.rows(columns).ok_or("it was read")?;

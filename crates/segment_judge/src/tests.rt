@@ -151,7 +151,7 @@ fn write(core: &mut Core, address: u16, value: u64) -> Result<(), Fail>
 }
 
 /// The same in S, by the page tables, where an entry of protection grants all.
-fn translated(alloc: Global, pc: u64) -> Result<Hart<MapMem>, Fail>
+fn translating_hart(alloc: Global, pc: u64) -> Result<Hart<MapMem>, Fail>
     ensures { IfOk result (CanStep (λ mem. mem.ram)) }
 {
     let mut hart = start(alloc, pc)?;
@@ -242,13 +242,13 @@ fn agrees(rows: u64, valid: u64) -> Verdict {
     Verdict::Agrees { rows, valid }
 }
 
-fn refused(row: u64, fault: RowFault) -> Verdict {
+fn refusal(row: u64, fault: RowFault) -> Verdict {
     Verdict::Refused { row, fault }
 }
 
 /// The row has no number where the instruction should be.
 fn no_insn(row: u64) -> Verdict {
-    refused(row, RowFault::NotNumber(Signal::Insn))
+    refusal(row, RowFault::NotNumber(Signal::Insn))
 }
 
 #[test]
@@ -279,12 +279,12 @@ fn judges_segments(rt: HostRuntime) -> Result<(), Fail> {
         (&[INVALID, REFUSED, SEVEN], no_insn(2), None),
         (
             &[ADD, INVALID, b"", SEVEN],
-            refused(3, RowFault::FieldCount),
+            refusal(3, RowFault::FieldCount),
             None,
         ),
         (
             &[ADD, b"1,,0,,,"],
-            refused(2, RowFault::Empty(Signal::Insn)),
+            refusal(2, RowFault::Empty(Signal::Insn)),
             None,
         ),
     ];
@@ -375,7 +375,7 @@ fn notes_page_tables(rt: HostRuntime) -> Result<(), Fail> {
     ];
     'cases: for (pc, rows, pa, agrees) in cases {
         let alloc = rt.alloc();
-        let found = agrees_beside(&rt, alloc, translated(alloc, pc)?, rows, pa)?;
+        let found = agrees_beside(&rt, alloc, translating_hart(alloc, pc)?, rows, pa)?;
         assert_eq!(rt; found, agrees, "{pc} and {pa}");
     }
     Ok(())

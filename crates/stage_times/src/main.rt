@@ -73,7 +73,7 @@ fn read_words<R: Runtime + AllocGlobal>(rt: &R, alloc: Global) -> Result<Words, 
 }
 
 /// The sums over all windows.
-fn summed(least: &[Stages]) -> Stages {
+fn sum_of(least: &[Stages]) -> Stages {
     least
         .iter()
         .fold(Stages::NONE, |sum, stages| sum.plus(*stages))
@@ -104,7 +104,7 @@ fn time_all<R: Runtime + AllocGlobal + Threads + Sync>(
         course.pass(&alone, &mut one)?;
         course.pass(&together, &mut many)?;
     }
-    Ok((summed(&one), summed(&many)))
+    Ok((sum_of(&one), sum_of(&many)))
 }
 
 /// Prints what the stages take.
@@ -114,7 +114,7 @@ fn print<R: Runtime + AllocGlobal>(rt: &R, one: Stages, many: Stages) -> Result<
     println!(rt; "guessing {} {}", one.guessing, many.guessing)?;
     println!(rt; "judging {} {}", one.judging, many.judging)?;
     println!(rt; "joining {} {}", one.joining, many.joining)?;
-    let hundredths = one.shared().saturating_mul(100) / many.shared().max(1);
+    let hundredths = one.sharing_time().saturating_mul(100) / many.sharing_time().max(1);
     println!(rt;
         "reading and judging {}.{:02}",
         hundredths / 100,

@@ -58,7 +58,7 @@ impl Stages {
     }
 
     /// What all workers share.
-    pub fn shared(self) -> u64 {
+    pub fn sharing_time(self) -> u64 {
         self.reading.saturating_add(self.judging)
     }
 }

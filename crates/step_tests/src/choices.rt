@@ -5,8 +5,8 @@ ghost use Rattle.std.specs.Prelude.{◌≡◌, IfOk};
 ghost use Rattle.hart_step.specs.Cores.{IsSound};
 ghost use Rattle.page_layers.specs.Memories.{map_bytes, map_bytes-fits, HasPage};
 
-use crate::modes::{granted, write_all};
-use crate::tests::{CODE, DATA, GIVEN, HELD, put, retired};
+use crate::modes::{open_csrs, write_all};
+use crate::tests::{CODE, DATA, GIVEN, HELD, put, retirement_of};
 use csr_file::StoredCsr;
 use hart_step::Hart;
 use hart_words::{
@@ -130,14 +130,14 @@ fn hart_with<M: PhysMem + Drop>(mem: M, map: Map, choices: Choices, address: u64
 
 /// What a step wrote to rd, or the cause of its trap.
 fn outcome(step: &Stepped) -> Option<Result<u64, Cause>> {
-    match retired(step)?.effects {
+    match retirement_of(step)?.effects {
         Ok(effects) => Some(Ok(effects.rd_value)),
         Err(cause) => Some(Err(cause)),
     }
 }
 
 /// What an instruction gives in M, and the numbers before and at `DATA` after it.
-fn ran_untranslated(
+fn result_in_machine_mode(
     alloc: Global,
     misaligned: Misaligned,
     instruction: u64,
@@ -198,7 +198,7 @@ fn carries_out_misaligned_accesses(rt: HostRuntime) -> Result<(), Fail> {
         ),
     ];
     for (misaligned, instruction, address, want, before, held) in cases {
-        let found = ran_untranslated(rt.alloc(), misaligned, instruction, address)?;
+        let found = result_in_machine_mode(rt.alloc(), misaligned, instruction, address)?;
         assert_eq!(rt;
             found,
             (Some(want), before, held),
@@ -251,7 +251,7 @@ impl PhysMem for Refusing {
 }
 
 /// A hart in S whose accesses are translated, with an address in x10.
-fn translated<M: PhysMem + Drop>(
+fn translating_hart<M: PhysMem + Drop>(
     mem: M,
     map: Map,
     choices: Choices,
@@ -262,7 +262,7 @@ fn translated<M: PhysMem + Drop>(
     ensures ram { IfOk result (λ hart. M.ram hart.mem ≡ hart.core.map.ram) }
 {
     let mut hart = hart_with(mem, map, choices, address);
-    let mut csrs = granted();
+    let mut csrs = open_csrs();
     write_all(&mut csrs, &[(SATP, TABLES)])?;
     hart.core.csrs = csrs;
     hart.core.mode = Mode::Supervisor;
@@ -284,7 +284,7 @@ fn writes_all_or_nothing(rt: HostRuntime) -> Result<(), Fail> {
             mem: memory_with_leaves(alloc, map.ram, SD, leaves)?,
             page: refused / PAGE_SIZE,
         };
-        let mut hart = translated(mem, map, choices, DATA_AGAIN - 3)?;
+        let mut hart = translating_hart(mem, map, choices, DATA_AGAIN - 3)?;
         let before = hart.copy()?;
         assert!(rt; hart.step(&blank(alloc)?).is_err(), "{refused}");
         assert!(rt; hart.same_but_memory(&before));
@@ -305,7 +305,7 @@ fn writes_all_or_nothing(rt: HostRuntime) -> Result<(), Fail> {
 /// What an instruction gives in S, what it writes, and both leaves and the number at `DATA` after it.
 type Translated = (Option<Result<u64, Cause>>, usize, (u64, u64), u64);
 
-fn ran_translated(
+fn result_in_supervisor_mode(
     alloc: Global,
     marks: Marks,
     instruction: u64,
@@ -317,7 +317,7 @@ fn ran_translated(
         "no choices",
     )?;
     let mem = memory_with_leaves(alloc, map.ram, instruction, leaves)?;
-    let mut hart = translated(mem, map, choices, address)?;
+    let mut hart = translating_hart(mem, map, choices, address)?;
     let step = hart.step(&blank(alloc)?)?;
     let ram = hart.core.map.ram;
     let one = number(&hart.mem, &ram, CODE_LEAF)? & 0xff;
@@ -423,7 +423,7 @@ fn sets_entries(rt: HostRuntime) -> Result<(), Fail> {
         ),
     ];
     for (marks, instruction, address, leaves, want, count, after, held) in cases {
-        let found = ran_translated(rt.alloc(), marks, instruction, address, leaves)?;
+        let found = result_in_supervisor_mode(rt.alloc(), marks, instruction, address, leaves)?;
         assert_eq!(rt;
             found,
             (Some(want), count, after, held),
@@ -443,7 +443,7 @@ fn writes_in_order(rt: HostRuntime) -> Result<(), Fail> {
     )?;
     let leaf = PAGES | V | R | W | X;
     let mem = memory_with_leaves(alloc, map.ram, SD, (V | R | W | X, 0))?;
-    let mut hart = translated(mem, map, choices, DATA)?;
+    let mut hart = translating_hart(mem, map, choices, DATA)?;
     let step = hart.step(&blank(alloc)?)?;
     let wanted = [
         Write {

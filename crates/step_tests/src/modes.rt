@@ -76,7 +76,7 @@ const HEADER: &[u8] = b"insn,pc_rdata,intr,trap,rd_wdata,csr_mip_rdata";
 const BLANK: &[u8] = b"0,0,,,,";
 
 /// The registers at reset, but for an entry of protection that grants all to every mode.
-pub(crate) fn granted() -> Csrs
+pub(crate) fn open_csrs() -> Csrs
     ensures { IsLegal result }
 {
     let mut csrs = Csrs::reset();
@@ -106,7 +106,7 @@ fn hart_in(mem: MapMem, map: Map, mode: Mode, writes: &[(u16, u64)]) -> Result<H
     ensures ram { IfOk result (λ hart. hart.mem.ram ≡ hart.core.map.ram) }
 {
     let mut hart = Hart::reset(mem, CODE, map, Choices::plain());
-    let mut csrs = granted();
+    let mut csrs = open_csrs();
     write_all(&mut csrs, writes)?;
     hart.core.csrs = csrs;
     hart.core.mode = mode;
@@ -115,7 +115,7 @@ fn hart_in(mem: MapMem, map: Map, mode: Mode, writes: &[(u16, u64)]) -> Result<H
 
 /// What the instruction at `CODE` does: the value of x12, or the cause of its trap; and the mode
 /// and the pc after it.
-fn stepped(
+fn outcome_of(
     alloc: Global,
     instruction: u64,
     mode: Mode,
@@ -151,7 +151,7 @@ const NEXT: u64 = CODE + 4;
 
 fn hold(rt: &impl Abort, alloc: Global, cases: &[Case]) -> Result<(), Fail> {
     'cases: for (mode, writes, instruction, line, want) in cases {
-        let found = stepped(alloc, *instruction, *mode, *writes, *line)?;
+        let found = outcome_of(alloc, *instruction, *mode, *writes, *line)?;
         assert_eq!(rt; found, *want, "{instruction} in {mode:?}");
     }
     Ok(())

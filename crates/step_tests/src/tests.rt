@@ -75,7 +75,7 @@ pub(crate) fn put(mem: &mut MapMem, ram: &Span, pa: u64, len: u8, value: u64) ->
 }
 
 /// The number at `DATA`.
-fn held(mem: &MapMem, ram: &Span) -> Result<u64, Fail>
+fn number_at_data(mem: &MapMem, ram: &Span) -> Result<u64, Fail>
     requires ram { mem.now.ram ≡ ram.now }
 {
     if !ram.is_place(DATA, 8) {
@@ -96,7 +96,7 @@ pub(crate) fn memory_with(alloc: Global, ram: Span, instruction: u64) -> Result<
 }
 
 /// What the hart did, where it has not halted.
-pub(crate) fn retired(step: &Stepped) -> Option<Retired> {
+pub(crate) fn retirement_of(step: &Stepped) -> Option<Retired> {
     match step.expected {
         Expected::Halted => None,
         Expected::Retired(retired) => Some(retired),
@@ -105,7 +105,7 @@ pub(crate) fn retired(step: &Stepped) -> Option<Retired> {
 
 /// What a step wrote to rd, and the next pc; none where it trapped.
 fn effects(step: &Stepped) -> Option<(u64, u64)> {
-    let effects = retired(step)?.effects.ok()?;
+    let effects = retirement_of(step)?.effects.ok()?;
     Some((effects.rd_value, effects.next_pc))
 }
 
@@ -133,7 +133,7 @@ fn ran(
         None => None,
         Some((value, _)) => Some(value),
     };
-    Ok((value, held(&hart.mem, &hart.core.map.ram)?))
+    Ok((value, number_at_data(&hart.mem, &hart.core.map.ram)?))
 }
 
 #[test]
@@ -361,7 +361,11 @@ fn values(alloc: Global, steps: &Vec<Stepped>) -> Result<Vec<Option<u64>>, Fail>
 }
 
 /// What LR.D of `DATA`, SC.D at this address, stepped by this row, and another SC.D write to rd.
-fn reserved(alloc: Global, address: u64, line: &[u8]) -> Result<Vec<Option<u64>>, Fail> {
+fn values_after_reservation(
+    alloc: Global,
+    address: u64,
+    line: &[u8],
+) -> Result<Vec<Option<u64>>, Fail> {
     let text = "@80000000 2f 36 05 10 2f b6 b6 18 2f b6 b6 18 @80001000 07";
     let map = ram_and_devices()?;
     let image = image_of(alloc, map.ram, text)?;
@@ -391,7 +395,7 @@ fn stores_where_reserved(rt: HostRuntime) -> Result<(), Fail> {
         (DATA + 0x800, BLANK, 1),
     ];
     for (address, line, want) in cases {
-        let values = reserved(rt.alloc(), address, line)?;
+        let values = values_after_reservation(rt.alloc(), address, line)?;
         assert_eq!(rt;
             values.as_slice(),
             [Some(7), Some(want), Some(1)].as_slice()
@@ -433,7 +437,7 @@ fn orders_and_halts(rt: HostRuntime) -> Result<(), Fail> {
         (Some(2), true, 0, Err(Cause::InstructionAccessFault), None),
     ];
     for (step, (order, lacks, pc, next, insn)) in steps.iter().zip(wanted) {
-        let found = retired(step).ok_or("the hart has not halted")?;
+        let found = retirement_of(step).ok_or("the hart has not halted")?;
         assert_eq!(rt; found.mode, Mode::Machine);
         assert_eq!(rt;
             (found.order, found.lacks_interrupt, found.pc),
@@ -443,7 +447,11 @@ fn orders_and_halts(rt: HostRuntime) -> Result<(), Fail> {
         assert_eq!(rt; after(&found.effects), next);
     }
     assert_eq!(rt; steps.len(), 6);
-    assert!(rt; steps.get(5).is_some_and(|step| retired(step).is_none()));
+    assert!(rt;
+        steps
+            .get(5)
+            .is_some_and(|step| retirement_of(step).is_none())
+    );
     Ok(())
 }
 

@@ -16,7 +16,7 @@ use Rattle.hart_words.specs.declared.privilege.WalkFlags.{WalkFlags}
 use Rattle.hart_words.specs.EntryWrites.{entry_write}
 use Rattle.hart_words.specs.Memory.{Bytes}
 use Rattle.hart_words.specs.Privilege.{access_fault_of, page_fault_of}
-use Rattle.sv39_walk.specs.Entries.{Tables, address_in, final_result, is_leaf, is_marked, leaf_allows, marked, marks_of}
+use Rattle.sv39_walk.specs.Entries.{Tables, address_in, final_result, is_leaf, is_marked, leaf_allows, with_marks, marks_of}
 use Rattle.sv39_walk.specs.Laws.{SetsEntry, is_mark, last_visit, writes_of}
 use Rattle.sv39_walk.specs.Walk.{Visit, chain, chain_wrote, entry_in, entry_writes_of, visit_at, visit_result}
 use Rattle.sv39_walk.proofs.Walks.{translation-by_chain}
@@ -52,8 +52,8 @@ gained true (suc (suc bit)) below = absurd (omega arith)
 gained false bit below = omega arith
 
 pub gains_its_marks : (access : Access) (entry i : ℕ)
-    → bit_at (marked access entry) i ≡ cond (is_mark access i) 1 (bit_at entry i)
-unfolding marked
+    → bit_at (with_marks access entry) i ≡ cond (is_mark access i) 1 (bit_at entry i)
+unfolding with_marks
 gains_its_marks access entry i =
     bit_at_or entry (marks_of access) i ∙ ap (λ n. max (bit_at entry i) n) (mark_bit access i)
     ∙ gained (is_mark access i) (bit_at entry i) (bit_at-lt entry i)
@@ -132,7 +132,7 @@ unmarked_sets asked visit can allowed lacks = elim (cases_Marks asked.tables.mar
     | inl may ↦
         let parts = and_parts (is_leaf (entry_at asked visit))
         (leaf_allows visit.level asked.flags asked.access (entry_at asked visit)) allowed in
-        let entry : ℕ = marked asked.access (entry_at asked visit) in
+        let entry : ℕ = with_marks asked.access (entry_at asked visit) in
         by_result asked visit {result = Ok (place_of asked visit, Some entry)}
         (rw (can, allowed, lacks, set, may) refl)
         (single asked.tables asked.bytes asked.flags asked.access visit (entry_write visit.pa entry) (record {

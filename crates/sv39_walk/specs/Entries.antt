@@ -98,8 +98,8 @@ marks_of Load = 2 ^ bit_of Accessed
 marks_of Store = 2 ^ bit_of Accessed + 2 ^ bit_of Dirty
 
 -- the entry with A set, and for a store D
-unfoldable pub marked : Access → ℕ → ℕ
-marked access entry = bit_or entry (marks_of access)
+unfoldable pub with_marks : Access → ℕ → ℕ
+with_marks access entry = bit_or entry (marks_of access)
 
 -- the bytes of a page at a level: 4 KiB, 2 MiB, 1 GiB
 unfoldable pub page_size : ℕ → ℕ
@@ -127,7 +127,7 @@ address_in level entry va = PAGE_SIZE * page_number entry + va % page_size level
 abbrev pub unmarked_by : Marks → Bool → Access → ℕ → ℕ → Result (ℕ × Option ℕ) Cause
 unmarked_by marks.Fault can_set access entry address = Err (page_fault_of access)
 unmarked_by marks.Set can_set access entry address =
-    if can_set then Ok (address, Some (marked access entry)) else Err (access_fault_of access)
+    if can_set then Ok (address, Some (with_marks access entry)) else Err (access_fault_of access)
 
 abbrev pub unmarked_result : Tables → Access → ℕ → ℕ → ℕ → Result (ℕ × Option ℕ) Cause
 unmarked_result tables access pa entry address =

@@ -14,7 +14,7 @@ use Rattle.hart_words.specs.Memory.{Bytes}
 use Rattle.sv39_walk.specs.declared.entry.Flag.TheVariants.{Accessed, Dirty}
 use Rattle.sv39_walk.specs.declared.entry.TheConstants.{INDEX_BITS, OFFSET_BITS, TOP_LEVEL}
 use Rattle.sv39_walk.specs.Entries.{Tables, address_in, bit_of, entry_address, is_aligned, is_canonical, is_leaf}
-use Rattle.sv39_walk.specs.Entries.{is_marked, leaf_allows, marked, page_number}
+use Rattle.sv39_walk.specs.Entries.{is_marked, leaf_allows, with_marks, page_number}
 use Rattle.sv39_walk.specs.Walk.{IsWalk, Visit, by_chain, chain, entry_in, root_of, translation_of, visit_at}
 
 -- a translation gives what the last entry of its chain decides, reads its entries and writes at most the last
@@ -32,7 +32,7 @@ is_mark Store i = (i == bit_of Accessed) || (i == bit_of Dirty)
 -- the entry that is set gains these bits and no other
 abbrev pub GainsItsMarks : Access → ℕ → Type 0
 GainsItsMarks access entry =
-    (i : ℕ) → bit_at (marked access entry) i ≡ (if is_mark access i then 1 else bit_at entry i)
+    (i : ℕ) → bit_at (with_marks access entry) i ≡ (if is_mark access i then 1 else bit_at entry i)
 
 -- what a translation writes
 abbrev pub writes_of : Tables → Bytes → ℕ → WalkFlags → ℕ → Access → List Write
@@ -47,7 +47,7 @@ pub record SetsEntry (tables : Tables) (bytes : Bytes) (flags : WalkFlags) (acce
   pub leaf : is_leaf (entry_in bytes visit) ≡ true
   pub allows : leaf_allows visit.level flags access (entry_in bytes visit) ≡ true
   pub unmarked : is_marked access (entry_in bytes visit) ≡ false
-  pub write_is : write ≡ entry_write visit.pa (marked access (entry_in bytes visit))
+  pub write_is : write ≡ entry_write visit.pa (with_marks access (entry_in bytes visit))
 
 -- a translation writes at most one entry, the last of its chain
 abbrev pub WritesAtMostOne : Tables → Bytes → ℕ → WalkFlags → ℕ → Access → Type 0

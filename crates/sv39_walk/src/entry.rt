@@ -3,7 +3,7 @@
 
 ghost use Rattle.std.specs.Prelude.{◌≡◌, ◌+◌, ◌%◌, ◌<◌, ◌≤◌, ◌^◌, ◌&&◌};
 ghost use Rattle.hart_words.specs.declared.span.TheConstants.{PAGE_SIZE};
-ghost use Rattle.sv39_walk.specs.Entries.{address_in, bit_of, entry_address, is_canonical, is_leaf, is_link, is_marked, is_meaningless, is_open_to, is_pointer, is_set, leads_on, leaf_allows, leaf_permits, marked, marks_of, page_number, page_size};
+ghost use Rattle.sv39_walk.specs.Entries.{address_in, bit_of, entry_address, is_canonical, is_leaf, is_link, is_marked, is_meaningless, is_open_to, is_pointer, is_set, leads_on, leaf_allows, leaf_permits, with_marks, marks_of, page_number, page_size};
 
 use hart_words::{Access, Cause, Mode, PAGE_SIZE, WalkFlags};
 
@@ -167,9 +167,9 @@ impl Entry {
     }
 
     /// The entry with A set, and for a store D.
-    #[tactic(auto, unfolding(crate::specs::Entries::marked))]
-    pub fn marked(self, access: Access) -> u64
-        ensures { result ≡ marked access self.bits }
+    #[tactic(auto, unfolding(crate::specs::Entries::with_marks))]
+    pub fn with_marks(self, access: Access) -> u64
+        ensures { result ≡ with_marks access self.bits }
     {
         self.bits | marks_of(access)
     }

@@ -106,7 +106,7 @@ fn choices(marks: Marks) -> Choices {
 }
 
 /// What the load of `va` by S gives, and how many entries are read for it.
-fn loaded(tables: Tables, va: u64) -> (Result<u64, Cause>, usize) {
+fn load_result(tables: Tables, va: u64) -> (Result<u64, Cause>, usize) {
     let mut seen = Seen::empty();
     let mut sets = Sets::empty();
     let got = translate(
@@ -145,7 +145,10 @@ fn leaves(rt: HostRuntime) -> Result<(), Fail> {
         (HUGE, 0, 0, 0x8040_3456, 1),
     ];
     for (root, middle, last, pa, reads) in cases {
-        assert_eq!(rt; loaded(memory(root, middle, last), VA), (Ok(pa), reads));
+        assert_eq!(rt;
+            load_result(memory(root, middle, last), VA),
+            (Ok(pa), reads)
+        );
     }
     Ok(())
 }
@@ -162,7 +165,10 @@ fn bits_without_a_meaning_here(rt: HostRuntime) -> Result<(), Fail> {
             (HUGE | extra, 0, 0, 0x8040_3456, 1),
         ];
         for (root, middle, last, pa, reads) in cases {
-            assert_eq!(rt; loaded(memory(root, middle, last), VA), (Ok(pa), reads));
+            assert_eq!(rt;
+                load_result(memory(root, middle, last), VA),
+                (Ok(pa), reads)
+            );
         }
     }
     Ok(())
@@ -197,15 +203,15 @@ fn reads(rt: HostRuntime) -> Result<(), Fail> {
 fn meaningless_entries(rt: HostRuntime) -> Result<(), Fail> {
     for flags in [0xce, 0xcd, 0xc5, 1 << 54 | 0xcf, 1 << 63 | 0xcf] {
         assert_eq!(rt;
-            loaded(memory(0x80000 << 10 | flags, 0, 0), VA),
+            load_result(memory(0x80000 << 10 | flags, 0, 0), VA),
             (Err(Cause::LoadPageFault), 1)
         );
         assert_eq!(rt;
-            loaded(memory(TO_MIDDLE, 0x12200 << 10 | flags, 0), VA),
+            load_result(memory(TO_MIDDLE, 0x12200 << 10 | flags, 0), VA),
             (Err(Cause::LoadPageFault), 2)
         );
         assert_eq!(rt;
-            loaded(memory(TO_MIDDLE, TO_LAST, 0x12345 << 10 | flags), VA),
+            load_result(memory(TO_MIDDLE, TO_LAST, 0x12345 << 10 | flags), VA),
             (Err(Cause::LoadPageFault), 3)
         );
     }
@@ -228,7 +234,7 @@ fn misplaced_entries(rt: HostRuntime) -> Result<(), Fail> {
     ];
     for (root, middle, last, reads) in cases {
         assert_eq!(rt;
-            loaded(memory(root, middle, last), VA),
+            load_result(memory(root, middle, last), VA),
             (Err(Cause::LoadPageFault), reads)
         );
     }
@@ -250,7 +256,7 @@ fn addresses(rt: HostRuntime) -> Result<(), Fail> {
         (VA + 0x1000, Err(Cause::LoadAccessFault), 2),
     ];
     for (va, got, reads) in cases {
-        assert_eq!(rt; loaded(tables, va), (got, reads));
+        assert_eq!(rt; load_result(tables, va), (got, reads));
     }
     Ok(())
 }
@@ -307,7 +313,12 @@ fn permissions(rt: HostRuntime) -> Result<(), Fail> {
 }
 
 /// What an access of S to `VA` gives, with the entries set before and now.
-fn accessed(tables: &Tables, access: Access, marks: Marks, sets: &mut Sets) -> Result<u64, Cause>
+fn access_result(
+    tables: &Tables,
+    access: Access,
+    marks: Marks,
+    sets: &mut Sets,
+) -> Result<u64, Cause>
     requires { length sets.old < MOST_SETS }
     ensures { length sets.new ≤ length sets.old + 1 }
 {
@@ -361,16 +372,16 @@ fn marks_at_each_level(rt: HostRuntime) -> Result<(), Fail> {
         for (access, page_fault, access_fault, clear) in KINDS {
             let mut sets = Sets::empty();
             assert_eq!(rt;
-                accessed(&open, access, Marks::Fault, &mut sets),
+                access_result(&open, access, Marks::Fault, &mut sets),
                 Err(page_fault)
             );
             assert!(rt; sets.is_empty());
             assert_eq!(rt;
-                accessed(&shut, access, Marks::Set, &mut sets),
+                access_result(&shut, access, Marks::Set, &mut sets),
                 Err(access_fault)
             );
             assert!(rt; sets.is_empty());
-            assert_eq!(rt; accessed(&open, access, Marks::Set, &mut sets), Ok(pa));
+            assert_eq!(rt; access_result(&open, access, Marks::Set, &mut sets), Ok(pa));
             let set = [Write {
                 pa: at,
                 len: 8,
@@ -402,7 +413,7 @@ fn marks_that_are_lacking(rt: HostRuntime) -> Result<(), Fail> {
         ] {
             let mut sets = Sets::empty();
             assert_eq!(rt;
-                accessed(&tables, access, Marks::Set, &mut sets),
+                access_result(&tables, access, Marks::Set, &mut sets),
                 Ok(0x1234_5456)
             );
             assert_eq!(rt; sets.entry(LAST), set.map(|low: u64| page | low));
@@ -427,7 +438,7 @@ fn refused_pages_are_not_set(rt: HostRuntime) -> Result<(), Fail> {
             let mut sets = Sets::empty();
             let tables = Tables { locked, ..open };
             assert_eq!(rt;
-                accessed(&tables, access, Marks::Set, &mut sets),
+                access_result(&tables, access, Marks::Set, &mut sets),
                 Err(fault)
             );
             assert!(rt; sets.is_empty());
@@ -442,30 +453,30 @@ fn later_translations(rt: HostRuntime) -> Result<(), Fail> {
     let tables = memory(TO_MIDDLE, TO_LAST, PAGE ^ 0xc0);
     let mut sets = Sets::empty();
     assert_eq!(rt;
-        accessed(&tables, Access::Fetch, Marks::Set, &mut sets),
+        access_result(&tables, Access::Fetch, Marks::Set, &mut sets),
         Ok(0x1234_5456)
     );
     assert_eq!(rt;
-        accessed(&tables, Access::Load, Marks::Fault, &mut sets),
+        access_result(&tables, Access::Load, Marks::Fault, &mut sets),
         Ok(0x1234_5456)
     );
     let fault = Err(Cause::StorePageFault);
     assert_eq!(rt;
-        accessed(&tables, Access::Store, Marks::Fault, &mut sets),
+        access_result(&tables, Access::Store, Marks::Fault, &mut sets),
         fault
     );
     assert_eq!(rt; sets.as_slice().len(), 1);
     let mut sets = Sets::empty();
     assert_eq!(rt;
-        accessed(&tables, Access::Load, Marks::Set, &mut sets),
+        access_result(&tables, Access::Load, Marks::Set, &mut sets),
         Ok(0x1234_5456)
     );
     assert_eq!(rt;
-        accessed(&tables, Access::Store, Marks::Set, &mut sets),
+        access_result(&tables, Access::Store, Marks::Set, &mut sets),
         Ok(0x1234_5456)
     );
     assert_eq!(rt;
-        accessed(&tables, Access::Store, Marks::Set, &mut sets),
+        access_result(&tables, Access::Store, Marks::Set, &mut sets),
         Ok(0x1234_5456)
     );
     let set = [PAGE ^ 0x80, PAGE].map(|value: u64| Write {

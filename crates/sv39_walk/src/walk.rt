@@ -183,5 +183,5 @@ fn unmarked_result<W: WalkMem>(
     if !w.may_set(pa) {
         return Err(request.access.access_fault());
     }
-    Ok((address, Some(entry.marked(request.access))))
+    Ok((address, Some(entry.with_marks(request.access))))
 }

@@ -14,7 +14,7 @@ fn files(alloc: Global, text: &[u8]) -> Result<Vec<NamedFile>, AllocError> {
 
 /// All lines of a text, each followed by a bar, and the ending. A read gives at most a byte more
 /// than `drip`, and the lines are taken so many at a time.
-fn taken(
+fn taken_lines(
     alloc: Global,
     text: &[u8],
     most: u32,
@@ -81,7 +81,7 @@ fn takes_lines(rt: HostRuntime) -> Result<(), Fail> {
     ];
     for (text, most, lines, ending) in cases {
         for (drip, asked) in WAYS {
-            let (found, end) = taken(rt.alloc(), text, most, drip, asked)?;
+            let (found, end) = taken_lines(rt.alloc(), text, most, drip, asked)?;
             assert_eq!(rt; (found.as_slice(), end), (lines, ending));
         }
     }
@@ -109,7 +109,7 @@ fn bounds_a_line(rt: HostRuntime) -> Result<(), Fail> {
         }
         text.extend_from_slice(tail)?;
         for (drip, asked) in [(6, 2), (4095, 1), (65_535, usize::MAX)] {
-            let (found, end) = taken(rt.alloc(), text.as_slice(), most, drip, asked)?;
+            let (found, end) = taken_lines(rt.alloc(), text.as_slice(), most, drip, asked)?;
             assert_eq!(rt; (found.len(), end), (bytes, ending));
         }
     }

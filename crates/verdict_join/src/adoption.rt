@@ -33,7 +33,7 @@ pub(crate) fn is_met<M: PhysMem + Drop>(now: &Hart<M>, guess: &Hart<M>, judged: 
 }
 
 /// How a segment was judged from a guess, where the guess is met.
-pub(crate) fn adopted<'a, M: PhysMem + Drop>(
+pub(crate) fn adopted_judgement<'a, M: PhysMem + Drop>(
     now: &Hart<M>,
     guess: &Hart<M>,
     judged: Option<&'a Judged<M>>,

@@ -6,7 +6,7 @@ ghost use Rattle.std.specs.List.{All};
 ghost use Rattle.rvfi_rows.specs.Segments.{row_count_of};
 ghost use Rattle.verdict_join.specs.Walks.{ArePlaced};
 
-use crate::adoption::adopted;
+use crate::adoption::adopted_judgement;
 use crate::joined::Round;
 use crate::walk::Walk;
 use hart_step::Hart;
@@ -62,18 +62,18 @@ impl<'a, M: PhysMem + Drop> GuessedSegments<'a, M> {
             rejudged: 0,
         };
         for number in 0..segments.len() {
-            let judged = adopted(&walk.hart, &guesses[number], places[number]);
+            let judged = adopted_judgement(&walk.hart, &guesses[number], places[number]);
             let is_last = is_last(once, judged);
             match walk.pass(alloc, self.columns, &segments[number], judged)? {
                 None => {
                     if is_last {
-                        return Ok(walk.agreed(number + 1));
+                        return Ok(walk.agreeing_round(number + 1));
                     }
                 }
-                Some(verdict) => return Ok(walk.ended(number + 1, verdict)),
+                Some(verdict) => return Ok(walk.ending_round(number + 1, verdict)),
             }
         }
-        Ok(walk.agreed(segments.len()))
+        Ok(walk.agreeing_round(segments.len()))
     }
 }
 

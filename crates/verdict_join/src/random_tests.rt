@@ -93,7 +93,7 @@ fn roll_hart(alloc: Global, dice: &mut Dice) -> Result<Hart<MapMem>, Fail>
 }
 
 /// What the hart did, and the instruction.
-fn retired(stepped: &Stepped) -> Result<(Retired, u64), Fail> {
+fn retirement_of(stepped: &Stepped) -> Result<(Retired, u64), Fail> {
     match stepped.expected {
         Expected::Halted => Err(Fail::from("it halted")),
         Expected::Retired(retired) => {
@@ -104,7 +104,7 @@ fn retired(stepped: &Stepped) -> Result<(Retired, u64), Fail> {
 }
 
 /// The address of what is written, a bit for each of its bytes, and these.
-fn written(effects: &Effects) -> (u64, u64, u64) {
+fn write_of(effects: &Effects) -> (u64, u64, u64) {
     match &effects.access {
         None => (0, 0, 0),
         Some(access) => match access.written {
@@ -122,7 +122,7 @@ fn written(effects: &Effects) -> (u64, u64, u64) {
 /// A row that shows all, or the instruction and its address alone; seldom another number than was
 /// written.
 fn line_of(alloc: Global, stepped: &Stepped, dice: &mut Dice) -> Result<String, Fail> {
-    let (retired, insn) = retired(stepped)?;
+    let (retired, insn) = retirement_of(stepped)?;
     let front = format!(in alloc; "{insn},{}", retired.pc)?;
     if dice.roll(3) == 0 {
         return Ok(format!(in alloc; "{front},,,,,,,")?);
@@ -132,7 +132,7 @@ fn line_of(alloc: Global, stepped: &Stepped, dice: &mut Dice) -> Result<String, 
         Ok(effects) => {
             let wrong = if dice.roll(24) == 0 { 1 } else { 0 };
             let value = effects.rd_value ^ wrong;
-            let (place, mask, bytes) = written(effects);
+            let (place, mask, bytes) = write_of(effects);
             let front = format!(in alloc; "{front},0,{},{value},{}", effects.rd, effects.next_pc)?;
             Ok(format!(in alloc; "{front},{place},{mask},{bytes}")?)
         }
@@ -333,7 +333,7 @@ impl Walker {
             let line = segment.lines.get(number).ok_or("a line")?;
             let row = read_row(alloc, columns, line)?.ok_or("the row is valid")?;
             let stepped = self.hart.step(&row)?;
-            let (retired, insn) = retired(&stepped)?;
+            let (retired, insn) = retirement_of(&stepped)?;
             for read in reads_of(&retired, insn) {
                 has_all = has_read(guess, &stores, read)? && has_all;
             }

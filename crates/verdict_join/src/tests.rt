@@ -264,7 +264,7 @@ impl Trial {
     }
 }
 
-fn prepared(
+fn trial_of(
     alloc: Global,
     start: Hart<MapMem>,
     trace: Trace,
@@ -452,7 +452,7 @@ fn orders_of(alloc: Global, set: u32) -> Result<[Vec<Find>; 3], Fail> {
 /// The join of what was found of the silent rows.
 fn join_silent(rt: &impl Abort, alloc: Global, finds: &[Find]) -> Result<(Verdict, u32), Fail> {
     let hart = start(alloc, &SUMS, &[])?;
-    let trial = prepared(alloc, hart, trace_of(alloc, &SILENT)?, &[])?;
+    let trial = trial_of(alloc, hart, trace_of(alloc, &SILENT)?, &[])?;
     hold_joined(rt, alloc, &trial, finds)
 }
 
@@ -504,7 +504,7 @@ type Case<'a> = (
 fn hold_cases(rt: &impl Abort, alloc: Global, cases: &[Case]) -> Result<(), Fail> {
     'cases: for (program, numbers, rows, damages, wanted) in cases {
         let hart = start(alloc, *program, *numbers)?;
-        let trial = prepared(alloc, hart, trace_of(alloc, rows)?, *damages)?;
+        let trial = trial_of(alloc, hart, trace_of(alloc, rows)?, *damages)?;
         let found = join_each(rt, alloc, &trial)?;
         assert_eq!(rt; found, *wanted, "{damages:?}");
     }
@@ -659,7 +659,7 @@ const MAPS: [u32; 4] = [0x0005_8293, 0x0055_3023, 0x0010_0293, 0x0006_3303];
 /// In S, by page tables that map the first 2 MiB from `CODE` on to themselves, where an entry of
 /// protection grants all. x10 has the place of the next entry, which is not valid yet, x11 what is
 /// stored there, and x12 an address that it will map to `DATA`.
-fn translated(alloc: Global) -> Result<Hart<MapMem>, Fail>
+fn translating_hart(alloc: Global) -> Result<Hart<MapMem>, Fail>
     ensures { IfOk result (CanStep (λ mem. mem.ram)) }
 {
     let numbers = [
@@ -695,7 +695,12 @@ fn walks_page_tables_again(rt: HostRuntime) -> Result<(), Fail> {
             b"0x00063303,0x8000000c,6,0x8899aabbccddeeff",
         ];
         let rows: Rows = (b"insn,pc_rdata,rd_addr,rd_wdata", &rows, 3);
-        let trial = prepared(alloc, translated(alloc)?, trace_of(alloc, &rows)?, &[])?;
+        let trial = trial_of(
+            alloc,
+            translating_hart(alloc)?,
+            trace_of(alloc, &rows)?,
+            &[],
+        )?;
         assert_eq!(rt; join_each(&rt, alloc, &trial)?, (agrees(4), rejudged));
     }
     Ok(())

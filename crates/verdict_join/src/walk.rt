@@ -28,7 +28,7 @@ pub(crate) struct Walk<M> {
 
 impl<M: PhysMem + Drop> Walk<M> {
     /// So many segments that were walked, and agree.
-    pub fn agreed(self, settled: usize) -> Round<M>
+    pub fn agreeing_round(self, settled: usize) -> Round<M>
         ensures { result ≡ record {
           verdict = Agrees self.counts.rows self.counts.valid;
           end = Some self.hart;
@@ -48,7 +48,7 @@ impl<M: PhysMem + Drop> Walk<M> {
     }
 
     /// So many segments that were walked, to this verdict on the last.
-    pub fn ended(self, settled: usize, verdict: Verdict) -> Round<M>
+    pub fn ending_round(self, settled: usize, verdict: Verdict) -> Round<M>
         ensures { result ≡ record {
           verdict = verdict;
           end = None;

@@ -22,7 +22,7 @@ rounds-init g c =
 
 pub returns-then-segments-settling-clause-rounds : goal.returns-then-segments-settling-clause-rounds
 returns-then-segments-settling-clause-rounds g c =
-    so_far_all c.agreed.result c.if-segments-settling.true c.rounds.invariant.so_far c.agreed.ensures
+    so_far_all c.agreement.result c.if-segments-settling.true c.rounds.invariant.so_far c.agreement.ensures
 
 pub rounds-preserved : goal.rounds-preserved
 rounds-preserved g c =

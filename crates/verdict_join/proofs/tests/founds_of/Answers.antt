@@ -7,7 +7,7 @@ pub finds-preserved : goal.finds-preserved
 finds-preserved c =
     let trial = c.args.trial.now in
     rw c.in_ok-push.ensures.items (
-      All-push
-      (IsLawfulFound map_bytes (λ mem. mem.ram) trial.columns trial.segments.items trial.guesses.items)
-      c.finds.founds.items c.in_ok-found_of.field-0 c.finds.invariant c.in_ok-found_of.ensures
+    All-push
+    (IsLawfulFound map_bytes (λ mem. mem.ram) trial.columns trial.segments.items trial.guesses.items)
+    c.finds.founds.items c.in_ok-found_of.field-0 c.finds.invariant c.in_ok-found_of.ensures
     )

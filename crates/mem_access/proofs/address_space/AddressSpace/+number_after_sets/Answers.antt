@@ -10,15 +10,15 @@ returns-then-len-eq1-clause-value g t c =
     c.from-byte.ensures ∙ c.byte_after_sets.ensures ∙ one_byte bytes c.args.pa
     ∙ ap (λ (n : ℕ). number_at bytes c.args.pa n) (sym c.if-len-eq1.true)
 
-pub joined-requires-clause-high : goal.joined-requires-clause-high
-joined-requires-clause-high g t c =
+pub join_numbers-requires-clause-high : goal.join_numbers-requires-clause-high
+join_numbers-requires-clause-high g t c =
     high_fits 1 (c.args.len - 1) c.number_after_sets.result (omega (arith, c.requires.at_most_8))
     c.number_after_sets.ensures.fits
 
 pub returns-clause-value : goal.returns-clause-value
 returns-clause-value g t c =
     let bytes = after_writes c.args.sets.now (g.M.PhysMem.bytes c.args.self.now.mem.now) in
-    c.joined.ensures.value
+    c.join_numbers.ensures.value
     ∙ ap (λ (b : ℕ). joined_value 1 b c.number_after_sets.result) (c.from-byte.ensures ∙ c.byte_after_sets.ensures)
     ∙ ap (λ (n : ℕ). joined_value 1 (bytes c.args.pa) n) c.number_after_sets.ensures.value
     ∙ first_joined bytes c.args.pa c.args.len c.requires.nonempty

@@ -10,14 +10,14 @@ returns-then-len-eq1-clause-value t c =
     c.from-byte.ensures ∙ c.byte.ensures ∙ one_byte bytes c.args.pa
     ∙ ap (λ (n : ℕ). number_at bytes c.args.pa n) (sym c.if-len-eq1.true)
 
-pub joined-requires-clause-high : goal.joined-requires-clause-high
-joined-requires-clause-high t c =
+pub join_numbers-requires-clause-high : goal.join_numbers-requires-clause-high
+join_numbers-requires-clause-high t c =
     high_fits 1 (c.args.len - 1) c.number.result (omega (arith, c.requires.at_most_8)) c.number.ensures.fits
 
 pub returns-clause-value : goal.returns-clause-value
 returns-clause-value t c =
     let bytes : Bytes = λ at. after_writes c.args.self.now.entries (λ a. a + 1) at % 256 in
-    c.joined.ensures.value
+    c.join_numbers.ensures.value
     ∙ ap (λ (b : ℕ). joined_value 1 b c.number.result) (c.from-byte.ensures ∙ c.byte.ensures)
     ∙ ap (λ (n : ℕ). joined_value 1 (bytes c.args.pa) n) c.number.ensures.value
     ∙ first_joined bytes c.args.pa c.args.len c.requires.nonempty

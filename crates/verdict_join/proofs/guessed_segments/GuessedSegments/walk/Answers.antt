@@ -14,8 +14,8 @@ offset_bounds-guesses-number g c =
     omega (arith, c.loop-number-test.true, c.args.self.now.one_each) in
     search rules
 
-pub adopted-judged-requires-clause-usable : goal.adopted-judged-requires-clause-usable
-adopted-judged-requires-clause-usable g c =
+pub adopted_judgement-judged-requires-clause-usable : goal.adopted_judgement-judged-requires-clause-usable
+adopted_judgement-judged-requires-clause-usable g c =
     let self = c.args.self.now in
     let number = c.loop-number.number in
     let within = c.loop-number-test.true in
@@ -51,7 +51,7 @@ pass-requires-clause-adopted g c =
       guess_is = guess_is;
       place_is = place_is number c.in_ok-places.ensures c.deref.ensures.value within c.index.ensures;
     } in
-    c.adopted-judged.ensures.concludes (rows_of_segment self.columns.now segment)
+    c.adopted_judgement-judged.ensures.concludes (rows_of_segment self.columns.now segment)
     (placed_judgement c.index.result.now stand)
 
 pub loop-number-preserved : goal.loop-number-preserved
@@ -81,14 +81,14 @@ loop-number-preserved g c =
       whole =
           λ same tells. goes_on_after same c.args.once _ _ (sym c.is_last-is_last.ensures ∙ c.if-is_last.false)
           (loop_turn c.args.once same tells stand (record {
-            misses = c.adopted-judged.ensures.misses same tells rows judged;
+            misses = c.adopted_judgement-judged.ensures.misses same tells rows judged;
             again = c.in_ok-pass.ensures.again;
             passes = passes;
           }) (c.loop-number.invariant.whole same tells));
       can_step = c.in_ok-pass.ensures.can_step;
       ram = c.in_ok-pass.ensures.ram ∙ c.loop-number.invariant.ram;
       rows = omega (arith, left, c.in_ok-pass.ensures.rows, c.loop-number.invariant.rows);
-      again = one_more c.adopted-judged.result c.in_ok-pass.ensures.again c.loop-number.invariant.again;
+      again = one_more c.adopted_judgement-judged.result c.in_ok-pass.ensures.again c.loop-number.invariant.again;
     }
 
 pub returns-then-is_last-clause-walks : goal.returns-then-is_last-clause-walks
@@ -113,10 +113,10 @@ returns-then-is_last-clause-walks g c = λ same tells.
     let judged = placed_judgement c.index.result.now stand in
     let rows = rows_of_segment self.columns.now segment in
     let passes = rw c.in-None.is at c.in_ok-pass.ensures.passes in
-    ap (round_of g.M.PhysMem.bytes) c.agreed.ensures
+    ap (round_of g.M.PhysMem.bytes) c.agreeing_round.ensures
     ∙ stops_after g.M.PhysMem.bytes same c.args.once _ (sym c.is_last-is_last.ensures ∙ c.if-is_last.true)
     (loop_turn c.args.once same tells stand (record {
-      misses = c.adopted-judged.ensures.misses same tells rows judged;
+      misses = c.adopted_judgement-judged.ensures.misses same tells rows judged;
       again = c.in_ok-pass.ensures.again;
       passes = passes;
     }) (c.loop-number.invariant.whole same tells))
@@ -143,9 +143,9 @@ returns-in-Some-clause-walks g c = λ same tells.
     let judged = placed_judgement c.index.result.now stand in
     let rows = rows_of_segment self.columns.now segment in
     let passes = rw c.in-Some.is at c.in_ok-pass.ensures.passes in
-    ap (round_of g.M.PhysMem.bytes) c.ended.ensures
+    ap (round_of g.M.PhysMem.bytes) c.ending_round.ensures
     ∙ loop_turn c.args.once same tells stand (record {
-      misses = c.adopted-judged.ensures.misses same tells rows judged;
+      misses = c.adopted_judgement-judged.ensures.misses same tells rows judged;
       again = c.in_ok-pass.ensures.again;
       passes = passes;
     }) (c.loop-number.invariant.whole same tells)
@@ -162,7 +162,7 @@ returns-clause-walks g c = λ same tells.
     ) in
     let all : c.loop-number.number ≡ length c.args.self.now.segments.now =
     omega (arith, c.loop-number-test.false, c.loop-number.auto.number-end) in
-    ap (round_of bytes_of) c.agreed-2.ensures
+    ap (round_of bytes_of) c.agreeing_round-2.ensures
     ∙ settled_is bytes_of c.loop-number.walk _ _ _ all
     (rest_ends bytes_of same c.args.once c.loop-number.walk
     (candidates_end 0 c.loop-number.number rows _ _ past) (c.loop-number.invariant.whole same tells))

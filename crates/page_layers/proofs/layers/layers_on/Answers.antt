@@ -1,6 +1,6 @@
 use Rattle.std.proofs.Common.{◌∙◌, ◌++◌, ◌∷◌, [], ap}
 use Rattle.page_layers.proofs.Stacks.{PutsCopy, stacked_first, stacked_next, stacked_all}
-use Rattle.page_layers.proofs.layers.stacked.Goals as goal
+use Rattle.page_layers.proofs.layers.layers_on.Goals as goal
 
 pub loop-layer-init : goal.loop-layer-init
 loop-layer-init c =

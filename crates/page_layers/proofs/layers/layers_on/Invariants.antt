@@ -1,7 +1,7 @@
 use Rattle.std.proofs.Common.{◌≡◌, ℕ, drop}
 use Rattle.std.specs.Option.{option_or}
 use Rattle.page_layers.specs.Blocks.{block_among, newest_block}
-use Rattle.page_layers.proofs.layers.stacked.Given as goal
+use Rattle.page_layers.proofs.layers.layers_on.Given as goal
 
 -- the layers that are there, and those that are left
 abbrev pub invariant-loop-layer : goal.invariant-loop-layer

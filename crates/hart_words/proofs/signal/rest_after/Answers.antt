@@ -3,7 +3,7 @@ use Rattle.std.proofs.Common.{nat_eq, Bor}
 use Rattle.std.specs.Cmp.Lexicographic.{pointwise}
 use Rattle.std.specs.Str.{bytes_eq}
 use Rattle.hart_words.proofs.Texts.{bytes_eq-front, bytes_eq-other_front}
-use Rattle.hart_words.proofs.signal.stripped.Goals as goal
+use Rattle.hart_words.proofs.signal.rest_after.Goals as goal
 
 cases : (s p more : List ℕ) (r : Option (Bor (List ℕ)))
     → MatchOption r (pointwise nat_eq (take (length p) s) p ≡ false)

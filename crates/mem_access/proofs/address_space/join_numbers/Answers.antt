@@ -1,6 +1,6 @@
 use Rattle.std.proofs.Common.{arith}
 use Rattle.mem_access.proofs.Joined.{joined_below, joined_fits, joined_is, shifted_whole}
-use Rattle.mem_access.proofs.address_space.joined.Goals as goal
+use Rattle.mem_access.proofs.address_space.join_numbers.Goals as goal
 
 pub overflow_add-result : goal.overflow_add-result
 overflow_add-result c =

@@ -2,7 +2,7 @@ use Rattle.std.proofs.Common.{◌≡◌, ◌⊎◌, ℕ, true, is_some}
 use Rattle.std.specs.Prelude.{nat_eq}
 use Rattle.std.specs.Map.{lookup}
 use Rattle.page_layers.proofs.BlockMaps.{AreFound, IsMerged}
-use Rattle.page_layers.proofs.blocks.Blocks.merged.Given as goal
+use Rattle.page_layers.proofs.blocks.Blocks.union.Given as goal
 
 -- what is no more to be looked at was put over the others
 abbrev pub invariant-loop-number : goal.invariant-loop-number

@@ -4,7 +4,7 @@ use Rattle.std.proofs.lemmas.Map.Iter.{rest_more}
 use Rattle.page_layers.proofs.BlockMaps.{AreFound, IsMerged, entries_done, entry_done, first_found, later_found}
 use Rattle.page_layers.proofs.BlockMaps.{SetsBlock, merge_begins, merged_here, merged_still}
 use Rattle.page_layers.specs.Blocks.{block_at}
-use Rattle.page_layers.proofs.blocks.Blocks.merged.Goals as goal
+use Rattle.page_layers.proofs.blocks.Blocks.union.Goals as goal
 
 pub loop-number-init : goal.loop-number-init
 loop-number-init c =

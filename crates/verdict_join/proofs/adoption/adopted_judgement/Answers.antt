@@ -1,7 +1,7 @@
 use Rattle.hart_step.specs.Harts.{state_of}
 use Rattle.segment_judge.proofs.Ends.{stands}
 use Rattle.verdict_join.proofs.Adopted.{none_missed}
-use Rattle.verdict_join.proofs.adoption.adopted.Goals as goal
+use Rattle.verdict_join.proofs.adoption.adopted_judgement.Goals as goal
 
 pub returns-then-is_met-clause-misses : goal.returns-then-is_met-clause-misses
 returns-then-is_met-clause-misses g c = λ same tells rows judgement.

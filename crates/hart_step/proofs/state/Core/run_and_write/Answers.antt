@@ -2,7 +2,7 @@ use Rattle.std.proofs.Common.{◌∙◌, sym, ap}
 use Rattle.rvfi_rows.specs.Cells.{shown_in}
 use Rattle.hart_step.proofs.WritePlaces.{writes_in_ram}
 use Rattle.hart_step.proofs.Ways.{run_performed}
-use Rattle.hart_step.proofs.state.Core.run_written.Goals as goal
+use Rattle.hart_step.proofs.state.Core.run_and_write.Goals as goal
 
 pub write_all-requires : goal.write_all-requires
 write_all-requires g c =
