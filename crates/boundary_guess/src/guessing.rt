@@ -7,6 +7,7 @@ ghost use Rattle.rvfi_rows.specs.Readings.{reading_of, readings_in};
 ghost use Rattle.rvfi_rows.specs.Rows.{rows_of};
 ghost use Rattle.rvfi_rows.specs.Segments.{segment_lines};
 ghost use Rattle.boundary_guess.specs.Guesses.{CanStep, PassesReading, guess_after, guess_after_row, guesses_of, state_of};
+ghost use Rattle.hart_step.specs.Rows.{after_row};
 
 use hart_step::Hart;
 use hart_words::{NoMemory, PhysMem};
@@ -121,9 +122,21 @@ fn pass_row<M: PhysMem + Drop>(hart: &mut Hart<M>, row: &Row) -> Result<(), NoMe
     ensures can_step { CanStep M.ram hart.new }
 {
     if hart.is_plain(row) {
-        hart.take_shown(row)?;
+        hart.take_shown(row)
     } else {
-        hart.step(row)?;
+        step_past(hart, row)
     }
+}
+
+/// Takes the guess past a row by a step. What a step gives is large, and most rows are plain, so
+/// it has a place only here.
+#[inline(never)]
+fn step_past<M: PhysMem + Drop>(hart: &mut Hart<M>, row: &Row) -> Result<(), NoMemory>
+    requires { CanStep M.ram hart.old }
+    ensures guess { OnOk result (state_of M.bytes hart.new
+        ≡ after_row (state_of M.bytes hart.old) (shown_in row.now)) }
+    ensures can_step { CanStep M.ram hart.new }
+{
+    hart.step(row)?;
     Ok(())
 }

@@ -1,6 +1,6 @@
 //! A hart with its memory.
 
-ghost use Rattle.std.specs.Prelude.{◌≡◌, ◌%◌, [], IfOk, OnErr};
+ghost use Rattle.std.specs.Prelude.{◌≡◌, ◌%◌, [], IfOk, OnOk, OnErr};
 ghost use Rattle.hart_words.specs.Actions.{Performs};
 ghost use Rattle.rvfi_rows.specs.Cells.{shown_in};
 
@@ -52,5 +52,23 @@ impl<M: PhysMem + Drop> Hart<M> {
         ensures ram { M.ram self.new.mem ≡ M.ram self.old.mem }
     {
         self.core.step(&mut self.mem, row)
+    }
+
+    /// The same, where what a step gives is put in place of what an earlier one gave. Without
+    /// memory it stays.
+    pub fn step_into(&mut self, row: &Row, stepped: &mut Stepped) -> Result<(), NoMemory>
+        requires sound { IsSound self.old.core }
+        requires ram { M.ram self.old.mem ≡ self.old.core.map.ram }
+        ensures stepped { OnOk result (Performs (step_of self.old.core (shown_in row.now))
+            (record { next = self.new.core; expected = stepped.new.expected }) []
+            stepped.new.seen [] stepped.new.wrote (M.bytes self.old.mem) (M.bytes self.new.mem)) }
+        ensures err { OnErr result ((self.new.core ≡ self.old.core)
+            × (M.bytes self.new.mem ≡ M.bytes self.old.mem)) }
+        ensures kept { OnErr result (stepped.new ≡ stepped.old) }
+        ensures sound { IsSound self.new.core }
+        ensures map { self.new.core.map ≡ self.old.core.map }
+        ensures ram { M.ram self.new.mem ≡ M.ram self.old.mem }
+    {
+        self.core.step_into(&mut self.mem, row, stepped)
     }
 }

@@ -4,6 +4,7 @@ ghost use Rattle.std.specs.Prelude.{◌≡◌, ◌%◌, true, [], IfOk, IsOk, On
 ghost use Rattle.hart_words.specs.Memory.{after_writes};
 ghost use Rattle.hart_words.specs.Actions.{Performs};
 ghost use Rattle.rvfi_rows.specs.Cells.{shown_in};
+ghost use Rattle.rvfi_rows.specs.declared.expected.Expected.TheVariants.{Halted};
 ghost use Rattle.hart_step.specs.declared.state.Core.{Core};
 ghost use Rattle.hart_step.specs.Cores.{IsSound};
 ghost use Rattle.hart_step.specs.Choices.{asks_interrupt};
@@ -36,15 +37,38 @@ impl Core {
         ensures map { self.new.map ≡ self.old.map }
         ensures ram { M.ram mem.new ≡ M.ram mem.old }
     {
+        let mut stepped = Stepped::halted();
+        match self.step_into(mem, row, &mut stepped) {
+            Ok(()) => Ok(stepped),
+            Err(NoMemory) => Err(NoMemory),
+        }
+    }
+
+    /// The same, where what a step gives is put in place of what an earlier one gave: it is large,
+    /// and who steps by many rows keeps one. Without memory it stays.
+    pub fn step_into<M: PhysMem>(
+        &mut self,
+        mem: &mut M,
+        row: &Row,
+        stepped: &mut Stepped,
+    ) -> Result<(), NoMemory>
+        requires sound { IsSound self.old }
+        requires ram { M.ram mem.old ≡ self.old.map.ram }
+        ensures stepped { OnOk result (Performs (step_of self.old (shown_in row.now))
+            (record { next = self.new; expected = stepped.new.expected }) [] stepped.new.seen []
+            stepped.new.wrote (M.bytes mem.old) (M.bytes mem.new)) }
+        ensures err { OnErr result ((self.new ≡ self.old) × (M.bytes mem.new ≡ M.bytes mem.old)) }
+        ensures kept { OnErr result (stepped.new ≡ stepped.old) }
+        ensures sound { IsSound self.new }
+        ensures map { self.new.map ≡ self.old.map }
+        ensures ram { M.ram mem.new ≡ M.ram mem.old }
+    {
+        if self.halted {
+            set_halted(stepped);
+            return Ok(());
+        }
         let mut accesses = Accesses::nothing();
         let order = self.next_order;
-        if self.halted {
-            return Ok(Stepped {
-                expected: Expected::Halted,
-                seen: accesses.seen,
-                wrote: accesses.stores,
-            });
-        }
         let (notes, lacks_interrupt) = match self.begin(mem, row, &mut accesses) {
             Ok(begun) => begun,
             Err(NoMemory) => return Err(NoMemory),
@@ -55,21 +79,20 @@ impl Core {
         self.apply(&notes.change);
         let effects = effects_of(&registers, self, &notes.executed);
         self.finish(&notes.executed, row);
-        Ok(Stepped {
-            expected: Expected::Retired(Retired {
-                order,
-                lacks_interrupt,
-                pc,
-                mode,
-                insn: notes.executed.insn(),
-                effects,
-                csrs_before,
-                csrs_after: self.csrs,
-                lines: lines_of(row).up,
-            }),
-            seen: accesses.seen,
-            wrote: accesses.stores,
-        })
+        stepped.expected = Expected::Retired(Retired {
+            order,
+            lacks_interrupt,
+            pc,
+            mode,
+            insn: notes.executed.insn(),
+            effects,
+            csrs_before,
+            csrs_after: self.csrs,
+            lines: lines_of(row).up,
+        });
+        stepped.seen = accesses.seen;
+        stepped.wrote = accesses.stores;
+        Ok(())
     }
 
     /// Brings the hart to where the row's instruction finds it, and memory to after that: what is
@@ -257,6 +280,17 @@ impl Core {
         }
         self.halted = row_shows(row, Signal::Halt, 1);
     }
+}
+
+/// A hart that had halted does nothing. Few rows come after that, so this is kept apart.
+#[cold]
+#[inline(never)]
+fn set_halted(stepped: &mut Stepped)
+    ensures expected { stepped.new.expected ≡ Halted }
+    ensures seen { stepped.new.seen ≡ [] }
+    ensures wrote { stepped.new.wrote ≡ [] }
+{
+    *stepped = Stepped::halted();
 }
 
 /// Writes what a step noted. Where memory is refused no byte changes: one write is refused by

@@ -1,5 +1,8 @@
 //! What the reference hart did at a valid row of a trace.
 
+ghost use Rattle.std.specs.Prelude.{◌≡◌, []};
+ghost use Rattle.rvfi_rows.specs.declared.expected.Expected.TheVariants.{Halted};
+
 use csr_file::Csrs;
 use hart_words::{Cause, Mode, Registers, Seen, Wrote};
 
@@ -9,6 +12,21 @@ pub struct Stepped {
     pub expected: Expected,
     pub seen: Seen,
     pub wrote: Wrote,
+}
+
+impl Stepped {
+    /// Of a hart that had halted: it did nothing, and neither read nor wrote.
+    pub fn halted() -> Stepped
+        ensures expected { result.expected ≡ Halted }
+        ensures seen { result.seen ≡ [] }
+        ensures wrote { result.wrote ≡ [] }
+    {
+        Stepped {
+            expected: Expected::Halted,
+            seen: Seen::empty(),
+            wrote: Wrote::empty(),
+        }
+    }
 }
 
 /// What the reference hart did at a row: facts alone. Which signals they hold the row to, and under

@@ -14,12 +14,14 @@ use row_compare::first_difference;
 use rvfi_rows::{Reading, Row, RowCounts, Stepped, Verdict};
 use std::alloc::Global;
 
-/// How far a segment was judged: the hart, what the rows read and wrote, and how many there were.
+/// How far a segment was judged: the hart, what the rows read and wrote, how many there were, and
+/// what the last step gave, which is large and is put in place again by the next.
 #[derive(Drop)]
 pub(crate) struct Progress<M> {
     pub hart: Hart<M>,
     pub footprint: Footprint,
     pub counts: RowCounts,
+    pub stepped: Stepped,
 }
 
 impl<M: PhysMem + Drop> Progress<M> {
@@ -38,6 +40,7 @@ impl<M: PhysMem + Drop> Progress<M> {
             hart,
             footprint: Footprint::empty(alloc),
             counts: RowCounts::zero(),
+            stepped: Stepped::halted(),
         }
     }
 
@@ -75,14 +78,9 @@ impl<M: PhysMem + Drop> Progress<M> {
         ensures ram { M.ram self.new.hart.mem ≡ M.ram self.old.hart.mem }
         ensures rows { IfOk result (λ end. IfNone end (self.new.counts.rows ≡ self.old.counts.rows + 1)) }
     {
-        // What a step gives is large, so it is looked at where it lies.
-        let done = self.hart.step(row);
-        let stepped = match &done {
-            Err(NoMemory) => return Err(NoMemory),
-            Ok(stepped) => stepped,
-        };
-        self.footprint.add(&stepped.seen, &stepped.wrote)?;
-        match first_difference(&stepped.expected, row) {
+        self.hart.step_into(row, &mut self.stepped)?;
+        self.footprint.add(&self.stepped.seen, &self.stepped.wrote)?;
+        match first_difference(&self.stepped.expected, row) {
             Some(difference) => {
                 self.counts = self.counts.with_row(false);
                 Ok(Some(Verdict::Differs {

@@ -152,10 +152,7 @@ fn hold_told(rt: &impl Abort, founds: &[Found<Judged<MapMem>>], wanted: &[Told])
     assert_eq!(rt; founds.len(), wanted.len());
     let mut number: u32 = 0;
     for known_files in wanted {
-        let found = founds
-            .iter()
-            .find(|found| found.seg == number)
-            .map(told_of);
+        let found = founds.iter().find(|found| found.seg == number).map(told_of);
         assert_eq!(rt; found, Some(*known_files), "segment {number}");
         number = number.wrapping_add(1);
     }

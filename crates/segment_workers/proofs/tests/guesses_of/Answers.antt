@@ -5,6 +5,6 @@ use Rattle.segment_workers.proofs.tests.guesses_of.Goals as goal
 pub guesses-preserved : goal.guesses-preserved
 guesses-preserved c =
     rw c.in_ok-push.ensures.items (
-      All-push (CanStep (λ mem. mem.ram)) c.guesses.guesses.items c.in_ok-at.field-0 c.guesses.invariant
-      c.in_ok-at.ensures
+    All-push (CanStep (λ mem. mem.ram)) c.guesses.guesses.items c.in_ok-at.field-0 c.guesses.invariant
+    c.in_ok-at.ensures
     )

@@ -1,5 +1,4 @@
 use Rattle.std.proofs.Common.{sym}
-use Rattle.std.proofs.lemmas.Result.{IfOk-at_ok}
 use Rattle.rvfi_rows.specs.Cells.{shown_in}
 use Rattle.segment_judge.proofs.Progressed.{judges_agreed, judges_differing, still_judges}
 use Rattle.segment_judge.proofs.Within.{performed_reads, performed_writes, reads_narrow, writes_narrow}
@@ -8,22 +7,21 @@ use Rattle.segment_judge.proofs.progress.Progress.judge_valid.Goals as goal
 pub add-requires-clause-reads : goal.add-requires-clause-reads
 add-requires-clause-reads g c =
     let core = c.args.self.now.hart.core in
-    reads_narrow core.map.ram c.in-Ok.stepped.seen
-    (performed_reads core _ (IfOk-at_ok _ c.in-Ok.is c.step-done.ensures.stepped))
+    reads_narrow core.map.ram c.step_into.new.stepped.seen
+    (performed_reads core _ c.in_ok-step_into.ensures.stepped)
 
 pub add-requires-clause-writes : goal.add-requires-clause-writes
 add-requires-clause-writes g c =
     let core = c.args.self.now.hart.core in
-    writes_narrow core.map.ram c.in-Ok.stepped.wrote
-    (performed_writes core _ (IfOk-at_ok _ c.in-Ok.is c.step-done.ensures.stepped))
+    writes_narrow core.map.ram c.step_into.new.stepped.wrote
+    (performed_writes core _ c.in_ok-step_into.ensures.stepped)
 
 pub returns-in-Some-clause-judges : goal.returns-in-Some-clause-judges
 returns-in-Some-clause-judges g c = λ accesses.
     judges_differing g.M.PhysMem.bytes c.args.self.now _ {shown = shown_in c.args.row.now}
-    {expected = c.in-Ok.stepped.expected} {seen = c.in-Ok.stepped.seen} {wrote = c.in-Ok.stepped.wrote} accesses
+    {expected = c.step_into.new.stepped.expected} {seen = c.step_into.new.stepped.seen} {wrote = c.step_into.new.stepped.wrote} accesses
     (record {
-      done =
-          (IfOk-at_ok _ c.in-Ok.is c.step-done.ensures.stepped);
+      done = c.in_ok-step_into.ensures.stepped;
       added = c.in_ok-add.ensures.rows;
       rows = c.with_row-self.ensures.rows;
     })
@@ -32,10 +30,9 @@ returns-in-Some-clause-judges g c = λ accesses.
 pub returns-in-None-clause-judges : goal.returns-in-None-clause-judges
 returns-in-None-clause-judges g c = λ accesses.
     judges_agreed g.M.PhysMem.bytes c.args.self.now _ {shown = shown_in c.args.row.now}
-    {expected = c.in-Ok.stepped.expected} {seen = c.in-Ok.stepped.seen} {wrote = c.in-Ok.stepped.wrote} accesses
+    {expected = c.step_into.new.stepped.expected} {seen = c.step_into.new.stepped.seen} {wrote = c.step_into.new.stepped.wrote} accesses
     (record {
-      done =
-          (IfOk-at_ok _ c.in-Ok.is c.step-done.ensures.stepped);
+      done = c.in_ok-step_into.ensures.stepped;
       added = c.in_ok-add.ensures.rows;
       rows = c.with_row-self-in-None.ensures.rows;
     }) c.with_row-self-in-None.ensures.valid
@@ -44,15 +41,15 @@ returns-in-None-clause-judges g c = λ accesses.
 pub returns-in-Some-clause-can_judge : goal.returns-in-Some-clause-can_judge
 returns-in-Some-clause-can_judge g c =
     let core = c.args.self.now.hart.core in
-    still_judges g.M.PhysMem.ram c.requires.can_judge c.step-done.ensures.sound c.step-done.ensures.map
-    c.step-done.ensures.ram (record { read = c.in_ok-add.ensures.read; wrote = c.in_ok-add.ensures.wrote })
-    (performed_reads core _ (IfOk-at_ok _ c.in-Ok.is c.step-done.ensures.stepped))
-    (performed_writes core _ (IfOk-at_ok _ c.in-Ok.is c.step-done.ensures.stepped))
+    still_judges g.M.PhysMem.ram c.requires.can_judge c.step_into.ensures.sound c.step_into.ensures.map
+    c.step_into.ensures.ram (record { read = c.in_ok-add.ensures.read; wrote = c.in_ok-add.ensures.wrote })
+    (performed_reads core _ c.in_ok-step_into.ensures.stepped)
+    (performed_writes core _ c.in_ok-step_into.ensures.stepped)
 
 pub returns-in-None-clause-can_judge : goal.returns-in-None-clause-can_judge
 returns-in-None-clause-can_judge g c =
     let core = c.args.self.now.hart.core in
-    still_judges g.M.PhysMem.ram c.requires.can_judge c.step-done.ensures.sound c.step-done.ensures.map
-    c.step-done.ensures.ram (record { read = c.in_ok-add.ensures.read; wrote = c.in_ok-add.ensures.wrote })
-    (performed_reads core _ (IfOk-at_ok _ c.in-Ok.is c.step-done.ensures.stepped))
-    (performed_writes core _ (IfOk-at_ok _ c.in-Ok.is c.step-done.ensures.stepped))
+    still_judges g.M.PhysMem.ram c.requires.can_judge c.step_into.ensures.sound c.step_into.ensures.map
+    c.step_into.ensures.ram (record { read = c.in_ok-add.ensures.read; wrote = c.in_ok-add.ensures.wrote })
+    (performed_reads core _ c.in_ok-step_into.ensures.stepped)
+    (performed_writes core _ c.in_ok-step_into.ensures.stepped)

@@ -1,15 +1,15 @@
-use Rattle.std.proofs.Common.{◌∙◌, ap, refl}
+use Rattle.std.proofs.Common.{◌∙◌, [], ap, refl}
 use Rattle.rvfi_rows.specs.Cells.{shown_in}
 use Rattle.hart_step.specs.Instructions.{InstructionRun}
 use Rattle.hart_step.specs.Steps.{core_after_run, effects_of}
 use Rattle.hart_step.specs.Changes.{run_by}
 use Rattle.hart_step.proofs.Ways.{StepParts, step_halted, step_done, step_began, gave_parts}
-use Rattle.hart_step.proofs.state.Core.step.Goals as goal
+use Rattle.hart_step.proofs.state.Core.step_into.Goals as goal
 
 pub returns-then-self-clause-stepped : goal.returns-then-self-clause-stepped
 returns-then-self-clause-stepped g c =
-    rw (c.nothing-accesses.ensures.seen, c.nothing-accesses.ensures.stores)
-    (step_halted c.args.self.now (shown_in c.args.row.now) _ _ (g.M.PhysMem.bytes c.args.mem.now) c.if-self.true)
+    rw (c.set_halted.ensures.expected, c.set_halted.ensures.seen, c.set_halted.ensures.wrote)
+    (step_halted c.args.self.now (shown_in c.args.row.now) [] [] (g.M.PhysMem.bytes c.args.mem.now) c.if-self.true)
 
 pub returns-clause-stepped : goal.returns-clause-stepped
 returns-clause-stepped g c =
