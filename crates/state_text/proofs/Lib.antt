@@ -1,0 +1,14 @@
+pub mod Names
+pub mod Guesses
+pub mod Fronts
+pub mod NumberLines
+pub mod LegalValues
+pub mod Walks
+pub mod Blocks
+pub mod OneText
+pub mod Sound
+pub mod LinesBack
+pub mod BlocksBack
+pub mod ReadBack
+pub mod States
+pub mod TextBack

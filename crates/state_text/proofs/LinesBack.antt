@@ -1,0 +1,230 @@
+-- Lines that are written are read again.
+use Rattle.std.proofs.Common.{◌≡◌, ◌≢◌, ℕ, suc, ◌+◌, ◌<◌, ◌≤◌, Bool, true, false, List, [], ◌∷◌, ◌++◌, Ok}
+use Rattle.std.proofs.Common.{Result, length, drop}
+use Rattle.std.proofs.Common.{refl, sym, ap, ◌∙◌, append_assoc, arith, Option, Some, None, get_or, ◌⊎◌}
+use Rattle.std.proofs.Common.{inl, inr}
+use Rattle.std.specs.Prelude.{codes, not, ◌==◌, ◌%◌, ◌^◌, ◌/◌}
+use Rattle.std.specs.List.{concat}
+use Rattle.std.specs.Option.{ForSome}
+use Rattle.std.proofs.lemmas.Bool.{cases_lt}
+use Rattle.std.proofs.lemmas.Bool.Decides.{nat_tests}
+use Rattle.std.proofs.lemmas.List.{drop_at, append_cancel_left, append-nil, get_or_past}
+use Rattle.hex.specs.Hex.{lower_digits, encode_with}
+use Rattle.hart_words.specs.declared.span.Span.{Span}
+use Rattle.hart_words.specs.declared.privilege.Mode.{Mode}
+use Rattle.hart_words.specs.declared.privilege.Mode.TheVariants.{User, Supervisor, Machine}
+use Rattle.state_text.specs.declared.fault.StateFault.{StateFault}
+use Rattle.state_text.specs.declared.head.Head.{Head}
+use Rattle.state_text.specs.declared.numbers.NumberKind.{NumberKind}
+use Rattle.state_text.specs.Lines.{digits_of, number_line, option_line, version_line, mode_line, flags_line}
+use Rattle.state_text.specs.Texts.{number_lines}
+use Rattle.state_text.specs.Reading.{Left, is_next, after, choice_in, number_guessed, number_in, option_in}
+use Rattle.state_text.specs.Reading.{version_in, pc_in, mode_in, flags_in, reserved_in, head_in, is_misplaced}
+use Rattle.state_text.specs.Reading.{is_outside}
+use Rattle.state_text.specs.Reading.{numbers_in}
+use Rattle.state_text.proofs.Fronts.{next_stands, stands_next, head_lines}
+use Rattle.state_text.proofs.Guesses.{number_again}
+use Rattle.state_text.proofs.NumberLines.{AreLegal}
+use Rattle.state_text.proofs.LegalValues.{all_at}
+
+-- what is left after some lines
+abbrev pub left_after : Left → ℕ → List ℕ → Left
+left_after left lines rest = record { line = left.line + lines; text = rest }
+
+abbrev pub read_with : {A : Type 0} → A → Left → List ℕ → Result (A × Left) StateFault
+read_with value left rest = Ok (value, left_after left 1 rest)
+
+-- the first value that may be chosen is, where its line stands
+pub choice_first : {A : Type 0} (line : A → List ℕ) (value : A) (others : List A) (left : Left) (rest : List ℕ)
+    → left.text ≡ line value ++ rest → choice_in line (value ∷ others) left ≡ read_with value left rest
+unfolding choice_in
+choice_first {A} line value others left rest stands =
+    rw (stands_next (line value) rest left stands)
+    (ap (λ (t : List ℕ). read_with value left t)
+    (ap (drop (length (line value))) stands ∙ drop_at (line value) rest (length (line value)) refl))
+
+-- a value whose line does not stand there is passed over
+pub choice_later : {A : Type 0} (line : A → List ℕ) (value : A) (others : List A) (left : Left)
+    → is_next (line value) left ≡ false → choice_in line (value ∷ others) left ≡ choice_in line others left
+unfolding choice_in
+choice_later line value others left other = rw other refl
+
+pub number_back : (name : List ℕ) (number : ℕ) (left : Left) (rest : List ℕ) → number < 2 ^ 64
+    → left.text ≡ number_line name number ++ rest → number_in name left ≡ read_with number left rest
+unfolding number_in
+number_back name number left rest small stands =
+    let guess : number_guessed (length name) left.text ≡ number =
+    ap (number_guessed (length name)) stands ∙ number_again name rest number small in
+    rw guess (choice_first (number_line name) number [] left rest stands)
+
+-- no digit is the first letter of none
+no_digit : (d : ℕ) → get_or lower_digits d 0 ≢ 110
+no_digit d = λ is. by (cases_lt d 16) is
+  where
+    by : (d < 16) ⊎ (16 ≤ d) → get_or lower_digits d 0 ≡ 110 → ⊥
+    by (inl within) is =
+        let other : not (get_or lower_digits d 0 == 110) ≡ true =
+        all_at (λ c. not (c == 110)) lower_digits d refl within in
+        grind (arith, nat_tests, other, is)
+    by (inr past) is =
+        let nothing : get_or lower_digits d 0 ≡ 0 = get_or_past lower_digits d 0 past in
+        omega (arith, nothing, is)
+
+not_true : (test : Bool) → (test ≡ true → ⊥) → test ≡ false
+not_true true h = absurd (h refl)
+not_true false h = refl
+
+pub no_number : (name : List ℕ) (number : ℕ) (left : Left) (rest : List ℕ)
+    → left.text ≡ option_line name None ++ rest → is_next (number_line name number) left ≡ false
+unfolding number_line encode_with
+no_number name number left rest stands = not_true (is_next (number_line name number) left) (λ next. by next)
+  where
+    by : is_next (number_line name number) left ≡ true → ⊥
+    by next =
+        let line = name ++ (digits_of number ++ codes "\n") in
+        let more = (after line left).text in
+        let both : line ++ more ≡ (name ++ codes "none\n") ++ rest = sym (next_stands line left next) ∙ stands in
+        let beyond : (digits_of number ++ codes "\n") ++ more ≡ codes "none\n" ++ rest =
+        append_cancel_left name ((digits_of number ++ codes "\n") ++ more) (codes "none\n" ++ rest)
+        (sym (append_assoc name (digits_of number ++ codes "\n") more) ∙ both
+        ∙ append_assoc name (codes "none\n") rest) in
+        let first = ap (λ (l : List ℕ). get_or l 0 0) beyond in
+        no_digit (number / 256 ^ 7 % 256 / 16) first
+
+pub option_back : (name : List ℕ) (number : Option ℕ) (left : Left) (rest : List ℕ)
+    → ForSome number (λ number. number < 2 ^ 64)
+    → left.text ≡ option_line name number ++ rest → option_in name left ≡ read_with number left rest
+unfolding option_in
+option_back name None left rest small stands =
+    choice_later (option_line name) (Some (number_guessed (length name) left.text)) (None ∷ []) left
+    (no_number name (number_guessed (length name) left.text) left rest stands)
+    ∙ choice_first (option_line name) None [] left rest stands
+option_back name (Some number) left rest small stands =
+    let guess : number_guessed (length name) left.text ≡ number =
+    ap (number_guessed (length name)) stands ∙ number_again name rest number (small number refl) in
+    rw guess (choice_first (option_line name) (Some number) (None ∷ []) left rest stands)
+
+version_back : (left : Left) (rest : List ℕ) → left.text ≡ version_line ++ rest
+    → version_in left ≡ read_with tt left rest
+unfolding version_in
+version_back left rest stands = choice_first (λ _. version_line) tt [] left rest stands
+
+pc_back : (pc : ℕ) (left : Left) (rest : List ℕ) → pc < 2 ^ 64 → pc % 2 ≡ 0
+    → left.text ≡ number_line (codes "pc ") pc ++ rest → pc_in left ≡ read_with pc left rest
+unfolding pc_in
+pc_back pc left rest small even stands =
+    let passes : (pc % 2 == 1) ≡ false = rw even refl in
+    rw (number_back (codes "pc ") pc left rest small stands, passes) refl
+
+mode_back : (mode : Mode) (left : Left) (rest : List ℕ) → left.text ≡ mode_line mode ++ rest
+    → mode_in left ≡ read_with mode left rest
+unfolding mode_in
+mode_back User left rest stands = choice_first mode_line User _ left rest stands
+mode_back Supervisor left rest stands =
+    let user : is_next (mode_line User) left ≡ false = rw stands refl in
+    choice_later mode_line User _ left user ∙ choice_first mode_line Supervisor _ left rest stands
+mode_back Machine left rest stands =
+    let user : is_next (mode_line User) left ≡ false = rw stands refl in
+    let supervisor : is_next (mode_line Supervisor) left ≡ false = rw stands refl in
+    choice_later mode_line User _ left user ∙ choice_later mode_line Supervisor _ left supervisor
+    ∙ choice_first mode_line Machine _ left rest stands
+
+abbrev line_of_flags : Bool × Bool → List ℕ
+line_of_flags flags = flags_line flags.0 flags.1
+
+flags_back : (trapped_last halted : Bool) (left : Left) (rest : List ℕ)
+    → left.text ≡ flags_line trapped_last halted ++ rest
+    → flags_in left ≡ read_with (trapped_last, halted) left rest
+unfolding flags_in
+flags_back false false left rest stands = choice_first line_of_flags (false, false) _ left rest stands
+flags_back false true left rest stands =
+    let one : is_next (flags_line false false) left ≡ false = rw stands refl in
+    choice_later line_of_flags (false, false) _ left one ∙ choice_first line_of_flags (false, true) _ left rest stands
+flags_back true false left rest stands =
+    let one : is_next (flags_line false false) left ≡ false = rw stands refl in
+    let two : is_next (flags_line false true) left ≡ false = rw stands refl in
+    choice_later line_of_flags (false, false) _ left one ∙ choice_later line_of_flags (false, true) _ left two
+    ∙ choice_first line_of_flags (true, false) _ left rest stands
+flags_back true true left rest stands =
+    let one : is_next (flags_line false false) left ≡ false = rw stands refl in
+    let two : is_next (flags_line false true) left ≡ false = rw stands refl in
+    let three : is_next (flags_line true false) left ≡ false = rw stands refl in
+    choice_later line_of_flags (false, false) _ left one ∙ choice_later line_of_flags (false, true) _ left two
+    ∙ choice_later line_of_flags (true, false) _ left three
+    ∙ choice_first line_of_flags (true, true) _ left rest stands
+
+reserved_back : (ram : Span) (size : ℕ) (reserved : Option ℕ) (left : Left) (rest : List ℕ)
+    → ForSome reserved (λ address. address < 2 ^ 64) → is_misplaced size reserved ≡ false
+    → is_outside ram size reserved ≡ false → left.text ≡ option_line (codes "reserved ") reserved ++ rest
+    → reserved_in ram size left ≡ read_with reserved left rest
+unfolding reserved_in
+reserved_back ram size reserved left rest small placed inside stands =
+    rw (option_back (codes "reserved ") reserved left rest small stands, placed, inside) refl
+
+-- what is known of a head that is written
+pub record IsHead (ram : Span) (size : ℕ) (head : Head) : Type 0 where
+  pub pc : head.pc < 2 ^ 64
+  pub even : head.pc % 2 ≡ 0
+  pub order : ForSome head.next_order (λ order. order < 2 ^ 64)
+  pub reserved : ForSome head.reserved (λ address. address < 2 ^ 64)
+  pub placed : is_misplaced size head.reserved ≡ false
+  pub inside : is_outside ram size head.reserved ≡ false
+
+pub head_back : (ram : Span) (size : ℕ) (head : Head) (text rest : List ℕ) → IsHead ram size head
+    → text ≡ concat (head_lines head) ++ rest
+    → head_in ram size (record { line = 1; text = text }) ≡ Ok (head, record { line = 7; text = rest })
+unfolding head_in
+head_back ram size head text rest is stands =
+    let six = option_line (codes "reserved ") head.reserved ++ rest in
+    let five = flags_line head.trapped_last head.halted ++ six in
+    let four = option_line (codes "order ") head.next_order ++ five in
+    let three = mode_line head.mode ++ four in
+    let two = number_line (codes "pc ") head.pc ++ three in
+    let split : text ≡ version_line ++ two =
+    stands ∙ six_lines version_line (number_line (codes "pc ") head.pc) (mode_line head.mode)
+    (option_line (codes "order ") head.next_order) (flags_line head.trapped_last head.halted)
+    (option_line (codes "reserved ") head.reserved) rest in
+    rw (
+      version_back (record { line = 1; text = text }) two split,
+      pc_back head.pc (record { line = 2; text = two }) three is.pc is.even refl,
+      mode_back head.mode (record { line = 3; text = three }) four refl,
+      option_back (codes "order ") head.next_order (record { line = 4; text = four }) five is.order refl,
+      flags_back head.trapped_last head.halted (record { line = 5; text = five }) six refl,
+      reserved_back ram size head.reserved (record { line = 6; text = six }) rest is.reserved is.placed is.inside refl,
+    )
+    refl
+  where
+    six_lines : (a b c d e f rest : List ℕ)
+        → concat (a ∷ b ∷ c ∷ d ∷ e ∷ f ∷ []) ++ rest ≡ a ++ (b ++ (c ++ (d ++ (e ++ (f ++ rest)))))
+    six_lines a b c d e f rest = simp append_assoc
+
+abbrev numbers_read : List ℕ → ℕ → List ℕ → Result (List ℕ × Left) StateFault
+numbers_read numbers line text = Ok (numbers, record { line = line; text = text })
+
+same_done : (x y : List ℕ) (l m : ℕ) (t u : List ℕ) → x ≡ y → l ≡ m → t ≡ u → numbers_read x l t ≡ numbers_read y m u
+same_done x y l m t u p q r = cc
+
+-- the numbers that are written are read again
+pub numbers_back : (names : List (List ℕ)) (kinds : List NumberKind) (numbers before : List ℕ) (left : Left)
+    (rest : List ℕ) → length names ≡ length kinds → length numbers ≡ length names → AreLegal kinds numbers
+    → ((k : ℕ) → get_or numbers k 0 < 2 ^ 64) → left.text ≡ concat (number_lines names numbers) ++ rest
+    → numbers_in names kinds before left ≡ Ok (before ++ numbers, left_after left (length names) rest)
+unfolding numbers_in number_lines AreLegal
+numbers_back [] [] [] before left rest one two legal small stands =
+    same_done before (before ++ []) left.line (left.line + 0) left.text rest (sym (append-nil before))
+    (omega arith) stands
+numbers_back [] (kind ∷ kinds) numbers before left rest one two legal small stands = absurd (omega arith)
+numbers_back [] [] (number ∷ numbers) before left rest one two legal small stands = absurd (omega arith)
+numbers_back (name ∷ names) [] numbers before left rest one two legal small stands = absurd (omega arith)
+numbers_back (name ∷ names) (kind ∷ kinds) [] before left rest one two legal small stands = absurd (omega arith)
+numbers_back (name ∷ names) (kind ∷ kinds) (number ∷ numbers) before left rest one two legal small stands =
+    let more = concat (number_lines names numbers) ++ rest in
+    let first : left.text ≡ number_line name number ++ more =
+    stands ∙ append_assoc (number_line name number) (concat (number_lines names numbers)) rest in
+    let read = number_back name number left more (small 0) first in
+    let others =
+    numbers_back names kinds numbers (before ++ number ∷ []) (left_after left 1 more) rest (omega arith) (omega arith)
+    legal.1 (λ k. small (suc k)) refl in
+    rw (read, legal.0)
+    (others ∙ same_done _ _ (left.line + 1 + length names) (left.line + suc (length names)) rest rest
+    (append_assoc before (number ∷ []) numbers) (omega arith) refl)

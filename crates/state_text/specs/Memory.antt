@@ -1,0 +1,53 @@
+-- Memory in a saved state: its blocks of 16 bytes, as a text has them and as a reader finds them.
+use Rattle.std.specs.Prelude.{ℕ, zero, suc, ◌+◌, ◌-◌, if◌then◌else◌, List, [], ◌∷◌, length, map, slice_index}
+use Rattle.std.specs.Prelude.{Result, Ok, Err, unwrap_or}
+use Rattle.std.specs.List.{range_with_len}
+use Rattle.hart_words.specs.declared.span.Span.{Span}
+use Rattle.hart_words.specs.Memory.{Bytes, is_within}
+use Rattle.hart_words.specs.Results.{◌>>=◌}
+use Rattle.image_text.specs.declared.pieces.Pieces.{Pieces}
+use Rattle.image_text.specs.Bytes.{byte_at}
+use Rattle.state_text.specs.declared.fault.FaultKind.TheVariants.{BadLine}
+use Rattle.state_text.specs.declared.fault.StateFault.{StateFault}
+use Rattle.state_text.specs.Lines.{block_line, end_line}
+use Rattle.state_text.specs.declared.memory.MemoryBlock.{MemoryBlock}
+use Rattle.state_text.specs.Reading.{Left, fault_at, is_next, after, is_zero, block_in}
+
+-- the 16 bytes from an address on
+abbrev pub bytes_from : Bytes → ℕ → List ℕ
+bytes_from bytes address = map bytes (range_with_len address 16)
+
+-- the lines of so many blocks from an address on, of those alone that are not all 0
+unfoldable pub memory_lines : Bytes → ℕ → ℕ → List (List ℕ)
+memory_lines bytes address zero = []
+memory_lines bytes address (suc count) =
+    if is_zero (bytes_from bytes address) then memory_lines bytes (address + 16) count
+    else block_line address (bytes_from bytes address) ∷ memory_lines bytes (address + 16) count
+
+-- memory with a block
+abbrev pub with_block : MemoryBlock → Bytes → Bytes
+with_block block bytes address =
+    if is_within block.address (length block.bytes) address
+    then slice_index block.bytes (address - block.address)
+    else bytes address
+
+-- the last line, with nothing after it
+abbrev pub end_in : Bytes → Left → Result Bytes StateFault
+end_in bytes left = nothing_after left.text
+  where
+    nothing_after : List ℕ → Result Bytes StateFault
+    nothing_after [] = Ok bytes
+    nothing_after (_ ∷ _) = Err (fault_at left BadLine)
+
+-- Memory after the blocks of a text, each at or above the least address that it may have, and the end. There are fewer
+-- lines than the first number says: one more than there are bytes will do.
+unfoldable pub memory_in : Span → ℕ → ℕ → Bytes → Left → Result Bytes StateFault
+memory_in ram zero least bytes left = Err (fault_at left BadLine)
+memory_in ram (suc most) least bytes left =
+    if is_next end_line left then end_in bytes (after end_line left)
+    else (block_in ram least left
+    >>= λ read. memory_in ram most (read.0.address + 16) (with_block read.0 bytes) read.1)
+
+-- the bytes of pieces, 0 where they have none
+abbrev pub memory_of : Pieces → Bytes
+memory_of pieces address = unwrap_or (byte_at pieces address) 0

@@ -1,0 +1,148 @@
+-- The state that a text says, or its first fault. Each line is one of those that the values in question have: a value
+-- is
+-- guessed from the text, and the text goes on with that value's line, or it has another line there.
+use Rattle.std.specs.Prelude.{ℕ, ◌+◌, ◌*◌, ◌%◌, ◌==◌, ◌||◌, Bool, true, false, not, nat_lt, if◌then◌else◌}
+use Rattle.std.specs.Prelude.{List, [], ◌∷◌, ◌++◌, codes, length, take, drop, replicate, Option, Some, None, Result}
+use Rattle.std.specs.Prelude.{Ok, Err}
+use Rattle.std.specs.List.{list_all, starts_with}
+use Rattle.std.specs.Int.{w64, from_be_bytes}
+use Rattle.hex.specs.declared.error.FromHexError.{FromHexError}
+use Rattle.hex.specs.Hex.{decode_sized}
+use Rattle.hart_words.specs.declared.span.Span.{Span}
+use Rattle.hart_words.specs.declared.privilege.Mode.{Mode}
+use Rattle.hart_words.specs.declared.privilege.Mode.TheVariants.{User, Supervisor, Machine}
+use Rattle.hart_words.specs.Results.{◌>>=◌, ◌>>◌, refuse_if}
+use Rattle.hart_words.specs.Spans.{holds_all}
+use Rattle.state_text.specs.declared.fault.FaultKind.{FaultKind}
+use Rattle.state_text.specs.declared.fault.FaultKind.TheVariants.{BadLine, BadValue, OutsideRam}
+use Rattle.state_text.specs.declared.fault.StateFault.{StateFault}
+use Rattle.state_text.specs.declared.head.Head.{Head}
+use Rattle.state_text.specs.declared.numbers.NumberKind.{NumberKind}
+use Rattle.state_text.specs.declared.memory.MemoryBlock.{MemoryBlock}
+use Rattle.state_text.specs.Lines.{number_line, option_line, version_line, mode_line, flags_line, block_line}
+use Rattle.state_text.specs.Values.{is_legal}
+
+-- what is left of a text, and the number of the line in which that begins
+pub record Left : Type 0 where
+  pub line : ℕ
+  pub text : List ℕ
+
+-- a fault of the line at hand
+abbrev pub fault_at : Left → FaultKind → StateFault
+fault_at left kind = record { kind = kind; line = left.line }
+
+-- the line is the next one
+abbrev pub is_next : List ℕ → Left → Bool
+is_next line left = starts_with (λ a b. a == b) left.text line
+
+-- what is left after it
+abbrev pub after : List ℕ → Left → Left
+after line left = record { line = left.line + 1; text = drop (length line) left.text }
+
+-- the first of some values whose line is the next one, with what is left after it
+unfoldable pub choice_in : {A : Type 0} → (A → List ℕ) → List A → Left → Result (A × Left) StateFault
+choice_in line [] left = Err (fault_at left BadLine)
+choice_in line (value ∷ others) left =
+    if is_next (line value) left then Ok (value, after (line value) left) else choice_in line others left
+
+-- so many bytes in hexadecimal digits, from a place of the text on; zeros where there are no such digits
+abbrev pub bytes_or_zeros : ℕ → Result (List ℕ) FromHexError → List ℕ
+bytes_or_zeros count (Ok bytes) = bytes
+bytes_or_zeros count (Err e) = replicate count 0
+
+unfoldable pub bytes_guessed : ℕ → ℕ → List ℕ → List ℕ
+bytes_guessed place count text = bytes_or_zeros count (decode_sized (take (2 * count) (drop place text)) count)
+
+unfoldable pub number_guessed : ℕ → List ℕ → ℕ
+number_guessed place text = from_be_bytes w64 (bytes_guessed place 8 text)
+
+-- the number of the next line, which has this name
+unfoldable pub number_in : List ℕ → Left → Result (ℕ × Left) StateFault
+number_in name left = choice_in (number_line name) (number_guessed (length name) left.text ∷ []) left
+
+-- the same where there may be none
+unfoldable pub option_in : List ℕ → Left → Result (Option ℕ × Left) StateFault
+option_in name left =
+    choice_in (option_line name) (Some (number_guessed (length name) left.text) ∷ None ∷ []) left
+
+unfoldable pub version_in : Left → Result ((Unit {0}) × Left) StateFault
+version_in left = choice_in (λ _. version_line) (tt ∷ []) left
+
+-- pc is even
+unfoldable pub pc_in : Left → Result (ℕ × Left) StateFault
+pc_in left = do
+  read ← number_in (codes "pc ") left
+  refuse_if (read.0 % 2 == 1) (fault_at left BadValue)
+  Ok read
+
+unfoldable pub mode_in : Left → Result (Mode × Left) StateFault
+mode_in left = choice_in mode_line (User ∷ Supervisor ∷ Machine ∷ []) left
+
+unfoldable pub flags_in : Left → Result ((Bool × Bool) × Left) StateFault
+flags_in left =
+    choice_in (λ flags. flags_line flags.0 flags.1)
+    ((false, false) ∷ (false, true) ∷ (true, false) ∷ (true, true) ∷ []) left
+
+-- a reserved block begins at a multiple of its size, and lies in RAM
+abbrev pub is_misplaced : ℕ → Option ℕ → Bool
+is_misplaced size None = false
+is_misplaced size (Some address) = not (address % size == 0)
+
+abbrev pub is_outside : Span → ℕ → Option ℕ → Bool
+is_outside ram size None = false
+is_outside ram size (Some address) = not (holds_all ram address size)
+
+unfoldable pub reserved_in : Span → ℕ → Left → Result (Option ℕ × Left) StateFault
+reserved_in ram size left = do
+  read ← option_in (codes "reserved ") left
+  refuse_if (is_misplaced size read.0) (fault_at left BadValue)
+  refuse_if (is_outside ram size read.0) (fault_at left OutsideRam)
+  Ok read
+
+-- the first six lines
+unfoldable pub head_in : Span → ℕ → Left → Result (Head × Left) StateFault
+head_in ram size left = do
+  version ← version_in left
+  pc ← pc_in version.1
+  mode ← mode_in pc.1
+  order ← option_in (codes "order ") mode.1
+  flags ← flags_in order.1
+  reserved ← reserved_in ram size flags.1
+  Ok (
+    record {
+      pc = pc.0;
+      mode = mode.0;
+      next_order = order.0;
+      trapped_last = flags.0.0;
+      halted = flags.0.1;
+      reserved = reserved.0;
+    },
+    reserved.1,
+  )
+
+-- the numbers of lines with these names, after some numbers; each is one that the hart can have there
+unfoldable pub numbers_in :
+    List (List ℕ) → List NumberKind → List ℕ → Left → Result (List ℕ × Left) StateFault
+numbers_in (name ∷ names) (kind ∷ kinds) before left = do
+  read ← number_in name left
+  refuse_if (not (is_legal kind read.0)) (fault_at left BadValue)
+  numbers_in names kinds (before ++ read.0 ∷ []) read.1
+numbers_in _ _ before left = Ok (before, left)
+
+abbrev pub is_zero : List ℕ → Bool
+is_zero bytes = list_all (λ byte. byte == 0) bytes
+
+abbrev pub block_guessed : List ℕ → MemoryBlock
+block_guessed text = record { address = number_guessed 1 text; bytes = bytes_guessed 18 16 text }
+
+-- a block with zeros alone, at no multiple of 16, or below the least address at which one may stand
+abbrev pub is_no_block : ℕ → MemoryBlock → Bool
+is_no_block least block = is_zero block.bytes || not (block.address % 16 == 0) || nat_lt block.address least
+
+-- the block of the next line
+unfoldable pub block_in : Span → ℕ → Left → Result (MemoryBlock × Left) StateFault
+block_in ram least left = do
+  read ← choice_in (λ block. block_line block.address block.bytes) (block_guessed left.text ∷ []) left
+  refuse_if (is_no_block least read.0) (fault_at left BadLine)
+  refuse_if (not (holds_all ram read.0.address 16)) (fault_at left OutsideRam)
+  Ok read
