@@ -26,7 +26,7 @@ use Rattle.mem_access.specs.declared.place.Place.{Place}
 use Rattle.mem_access.specs.Places.{is_device, is_permitted, place_in, place_of}
 use Rattle.mem_access.specs.Translation.{is_translated, place_after_translation, physical_address_of, tables_of}
 use Rattle.mem_access.specs.Translation.{virtual_place_of, walk_flags_of}
-use Rattle.mem_access.specs.Accesses.{Exception, Part, Places, after_first, after_place, alone, data_load, data_places_of}
+use Rattle.mem_access.specs.Accesses.{Exception, Part, Places, after_first, after_place, one_place, data_load, data_places_of}
 use Rattle.mem_access.specs.Accesses.{data_store, fetch_result, first_len, first_part, has_second_part, is_split}
 use Rattle.mem_access.specs.Accesses.{joined_value, load_from, load_result, parcel_at, parcel_fetch, parcel_from}
 use Rattle.mem_access.specs.Accesses.{part_place_of, request_for, second_part, second_place_of, split_places_of}
@@ -229,7 +229,7 @@ second_place_raises P core request part (Err exception) bytes holds raises = rai
 second_place_raises P core request part (Ok first) bytes holds raises =
     after_place_raises P first _ (part_raises P core request part bytes holds)
 
-alone_raises : (P : Exception → Type 0) (place : Result Place Exception) → Raises P place → Raises P (alone place)
+alone_raises : (P : Exception → Type 0) (place : Result Place Exception) → Raises P place → Raises P (one_place place)
 alone_raises P (Err exception) raises = raises
 alone_raises P (Ok place) raises = tt
 

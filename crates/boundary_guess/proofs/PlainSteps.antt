@@ -17,7 +17,7 @@ use Rattle.hart_step.specs.declared.state.Core.{Core}
 use Rattle.hart_step.specs.declared.instruction.Instruction.{Instruction}
 use Rattle.hart_step.specs.declared.instruction.InstructionOutcome.{InstructionOutcome}
 use Rattle.hart_step.specs.declared.instruction.InstructionOutcome.TheVariants.{Trapped, Retired}
-use Rattle.hart_step.specs.Choices.{choices_of}
+use Rattle.hart_step.specs.Choices.{row_choices_of}
 use Rattle.hart_step.specs.Instructions.{Completion, InstructionRun, run_of_decoded, run_of_result, execution_of}
 use Rattle.hart_step.specs.Instructions.{run_of_fetched, fetch_at_pc, op_for, op_of, instruction_run}
 use Rattle.hart_step.specs.PlainRows.{insn_bits_of, insn_shown, is_store, is_system_or_atomic, insn_length_of}
@@ -134,9 +134,9 @@ unfolding pure mapped
 decoded_runs core shown bits len None bytes faults is = record { len = len; word = is.0; fault = λ plain. refl }
 decoded_runs core shown bits len (Some op) bytes faults is =
     let i : Instruction = record { op = op; bits = bits; len = len } in
-    let run = (execution_of core (choices_of shown (operands_of op).rd) i).run bytes in
+    let run = (execution_of core (row_choices_of shown (operands_of op).rd) i).run bytes in
     ended_runs core i run.value run.wrote is.0 is.1
-    (λ plain. plain_does core (choices_of shown (operands_of op).rd) i bytes plain faults)
+    (λ plain. plain_does core (row_choices_of shown (operands_of op).rd) i bytes plain faults)
 
 fetched_runs : (core : Core) (shown : Shown) (word : Result (ℕ × ℕ) Exception) (bytes : Bytes)
     → SetsNone core.choices → RaisesFaults word → IfOk word IsFetchedWord

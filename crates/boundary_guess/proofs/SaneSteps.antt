@@ -47,7 +47,7 @@ use Rattle.hart_step.specs.declared.instruction.Instruction.{Instruction}
 use Rattle.hart_step.specs.declared.instruction.InstructionOutcome.{InstructionOutcome}
 use Rattle.hart_step.specs.declared.instruction.InstructionOutcome.TheVariants.{Trapped, Retired}
 use Rattle.hart_step.specs.declared.memory.AccessResult.{AccessResult}
-use Rattle.hart_step.specs.Choices.{asks_interrupt, choices_of, pending_lines_of}
+use Rattle.hart_step.specs.Choices.{asks_interrupt, row_choices_of, pending_lines_of}
 use Rattle.hart_step.specs.CsrAccess.{csr_access_result}
 use Rattle.hart_step.specs.Returns.{may_use_supervisor_instruction, may_mret, core_after_mret, core_after_sret}
 use Rattle.hart_step.specs.Returns.{wfi_traps}
@@ -264,8 +264,8 @@ ended_sane : (core : Core) (i : Instruction) (result : Result Completion Excepti
 ended_sane core i (Err exception) sane words = record { core = sane; traps = words }
 ended_sane core i (Ok done) sane words = record { core = words; traps = tt }
 
-row_word : (rd : ℕ) (shown : Shown) → ShowsWords shown → IfSome (choices_of shown rd).rd_wdata (λ v. v < 2 ^ 64)
-unfolding choices_of
+row_word : (rd : ℕ) (shown : Shown) → ShowsWords shown → IfSome (row_choices_of shown rd).rd_wdata (λ v. v < 2 ^ 64)
+unfolding row_choices_of
 row_word rd shown words = by (rd == 0) (shown RdWdata) (words RdWdata)
   where
     by : (zeroth : Bool) (value : Option ℕ) → IfSome value (λ v. v < 2 ^ 64)
@@ -290,7 +290,7 @@ unfolding pure mapped
 decoded_sane bits len None sane word means = record { core = sane.state; traps = fetched_fits bits len word }
 decoded_sane {core} {shown} {bytes} bits len (Some op) sane word means =
     let i : Instruction = record { op = op; bits = bits; len = len } in
-    let choices = choices_of shown (operands_of op).rd in
+    let choices = row_choices_of shown (operands_of op).rd in
     let start : IsSaneStart core choices i bytes = record {
       state = sane.state;
       instruction = record {

@@ -17,7 +17,7 @@ use Rattle.mem_access.specs.declared.place.Place.{Place}
 use Rattle.mem_access.specs.Places.{is_device, is_permitted, place_in, place_of}
 use Rattle.mem_access.specs.Translation.{is_translated, physical_address_of, place_after_translation, tables_of}
 use Rattle.mem_access.specs.Translation.{virtual_place_of, walk_flags_of}
-use Rattle.mem_access.specs.Accesses.{Exception, Part, Places, after_place, alone, data_places_of, data_store, first_len}
+use Rattle.mem_access.specs.Accesses.{Exception, Part, Places, after_place, one_place, data_places_of, data_store, first_len}
 use Rattle.mem_access.specs.Accesses.{first_part, has_second_part, is_split, part_place_of, request_for, second_part}
 use Rattle.mem_access.specs.Accesses.{second_place_of, split_places_of, store_place_of, whole_place_of, with_address}
 use Rattle.mem_access.proofs.Grants.{then_gives}
@@ -127,7 +127,7 @@ StandAt core request va (first, Some second) = StandInTwo core request va first 
 
 alone_stands : (core : Core) (request : AccessRequest) (va : ℕ) (place : Result Place Exception)
     → IfOk place (IsPlaceOf core (request_for request (record { va = va; len = request.len })) va)
-    → IfOk (alone place) (StandAt core request va)
+    → IfOk (one_place place) (StandAt core request va)
 alone_stands core request va (Err exception) stands = tt
 alone_stands core request va (Ok place) stands = record { stands = stands.stands; physical = stands.physical }
 

@@ -14,7 +14,7 @@ use Rattle.image_text.proofs.Runs.{put_inside, put_outside}
 use Rattle.image_text.proofs.Pages.{is_eq_same, is_eq_other}
 use Rattle.elf_image.specs.declared.program_header.ProgramHeader.{ProgramHeader}
 use Rattle.elf_image.specs.Image.{with_segment}
-use Rattle.elf_image.specs.Loading.{IsFilePart, end_of}
+use Rattle.elf_image.specs.Loading.{IsFilePart, segment_end}
 use Rattle.elf_image.proofs.Overlaps.{end_here, end_there}
 
 -- no byte is put
@@ -95,7 +95,7 @@ put_segment file header part bytes is = fun_ext (λ at. rw is.len (by at (is_wit
 -- one more end is kept
 pub ends_more : (header : ProgramHeader) (earlier : List ProgramHeader) (before after : ℕ → Option ℕ)
     → ((q : ℕ) → after q ≡ cond (is_eq (nat_cmp header.paddr q)) (Some (header.paddr + header.memsz)) (before q))
-    → ((q : ℕ) → before q ≡ end_of earlier q) → (q : ℕ) → after q ≡ end_of (header ∷ earlier) q
+    → ((q : ℕ) → before q ≡ segment_end earlier q) → (q : ℕ) → after q ≡ segment_end (header ∷ earlier) q
 ends_more header earlier before after updates ends q = elim (cases_eq q header.paddr) [
   | inl same ↦
       rw (updates q, same, is_eq_same header.paddr) (sym (end_here header earlier header.paddr refl))

@@ -15,8 +15,8 @@ use Rattle.elf_image.specs.declared.header.ElfHeader.{ElfHeader}
 use Rattle.elf_image.specs.declared.program_header.ProgramHeader.{ProgramHeader}
 use Rattle.elf_image.specs.Headers.{checked_header, table_of}
 use Rattle.elf_image.specs.Segments.{is_loading, overlaps, checked_segment, segments_after}
-use Rattle.elf_image.specs.Image.{with_segment, bytes_of, elf_of}
-use Rattle.elf_image.specs.Laws.{has_address, HasSegment, HasSegments}
+use Rattle.elf_image.specs.Image.{with_segment, segment_bytes, elf_of}
+use Rattle.elf_image.specs.Laws.{is_segment_address, HasSegment, HasSegments}
 use Rattle.elf_image.proofs.Checks.{HasNoFault, has_no_fault}
 use Rattle.elf_image.proofs.Overlaps.{or_left, or_right}
 use Rattle.elf_image.proofs.Underway.{has_header}
@@ -136,31 +136,31 @@ segment_aside : (file : List ℕ) (header : ProgramHeader) (bytes : ℕ → Opti
 segment_aside file header bytes address apart = rw apart refl
 
 -- a smaller part has no address that the whole lacks
-part_aside : (header : ProgramHeader) (address : ℕ) → header.filesz ≤ header.memsz → has_address header address ≡ false
+part_aside : (header : ProgramHeader) (address : ℕ) → header.filesz ≤ header.memsz → is_segment_address header address ≡ false
     → is_within header.paddr header.filesz address ≡ false
 part_aside header address fits apart = grind (arith, nat_tests)
 
 -- no segment has a byte at an address that is none of theirs
 nothing_at : (ram : Span) (file : List ℕ) (len : ℕ) (headers : List ProgramHeader) (address : ℕ)
-    → AreKept ram len headers → AllByRecursion (λ header. has_address header address ≡ false) headers
-    → bytes_of file headers address ≡ None
-unfolding bytes_of AreKept
+    → AreKept ram len headers → AllByRecursion (λ header. is_segment_address header address ≡ false) headers
+    → segment_bytes file headers address ≡ None
+unfolding segment_bytes AreKept
 nothing_at ram file len [] address good apart = refl
 nothing_at ram file len (header ∷ headers) address good apart =
-    segment_aside file header (bytes_of file headers) address (part_aside header address good.0.fits apart.0)
+    segment_aside file header (segment_bytes file headers) address (part_aside header address good.0.fits apart.0)
     ∙ nothing_at ram file len headers address good.1 apart.1
 
 -- an address of a segment that is apart from another
 apart_at : (one other : ProgramHeader) (k : ℕ) → overlaps one other ≡ false → k < one.memsz
-    → has_address other (one.paddr + k) ≡ false
+    → is_segment_address other (one.paddr + k) ≡ false
 apart_at one other k apart below = grind (arith, nat_tests)
 
 apart_back : (one other : ProgramHeader) (k : ℕ) → overlaps one other ≡ false → k < other.memsz
-    → has_address one (other.paddr + k) ≡ false
+    → is_segment_address one (other.paddr + k) ≡ false
 apart_back one other k apart below = grind (arith, nat_tests)
 
 aside_all : (header : ProgramHeader) (headers : List ProgramHeader) (k : ℕ) → list_any (overlaps header) headers ≡ false
-    → k < header.memsz → AllByRecursion (λ other. has_address other (header.paddr + k) ≡ false) headers
+    → k < header.memsz → AllByRecursion (λ other. is_segment_address other (header.paddr + k) ≡ false) headers
 aside_all header [] k none below = tt
 aside_all header (other ∷ others) k none below = (
   apart_at header other k (or_left (overlaps header other) _ none) below,
@@ -194,21 +194,21 @@ still ram file bytes header (other ∷ others) fits none good all =
 
 -- each segment of those that are kept has its bytes
 all_filled : (ram : Span) (file : List ℕ) (headers : List ProgramHeader) → AreKept ram (length file) headers
-    → AllByRecursion (HasSegment ram file (bytes_of file headers)) headers
-unfolding bytes_of AreKept
+    → AllByRecursion (HasSegment ram file (segment_bytes file headers)) headers
+unfolding segment_bytes AreKept
 all_filled ram file [] good = tt
 all_filled ram file (header ∷ headers) good = (
   one,
-  still ram file (bytes_of file headers) header headers good.0.fits good.0.apart good.1
+  still ram file (segment_bytes file headers) header headers good.0.fits good.0.apart good.1
       (all_filled ram file headers good.1),
 )
   where
-    one : HasSegment ram file (with_segment file header (bytes_of file headers)) header
+    one : HasSegment ram file (with_segment file header (segment_bytes file headers)) header
     one = record {
-      filled = segment_here file header (bytes_of file headers);
+      filled = segment_here file header (segment_bytes file headers);
       empty =
           λ k from below.
-          segment_aside file header (bytes_of file headers) (header.paddr + k)
+          segment_aside file header (segment_bytes file headers) (header.paddr + k)
           (within-false header.paddr header.filesz (header.paddr + k) (inr (omega (arith, from))))
           ∙ nothing_at ram file (length file) headers (header.paddr + k) good.1
           (aside_all header headers k good.0.apart below);
@@ -224,23 +224,23 @@ within_ram header address ram fits low high within =
 
 -- every byte of segments that are kept is in RAM
 kept_inside : (ram : Span) (file : List ℕ) (len : ℕ) (headers : List ProgramHeader) (address : ℕ)
-    → AreKept ram len headers → is_some (bytes_of file headers address) ≡ true → LiesIn address ram
-unfolding bytes_of AreKept
+    → AreKept ram len headers → is_some (segment_bytes file headers address) ≡ true → LiesIn address ram
+unfolding segment_bytes AreKept
 kept_inside ram file len [] address good some = cc
 kept_inside ram file len (header ∷ headers) address good some =
     by (kept_inside ram file len headers address good.1) (is_within header.paddr header.filesz address) refl some
   where
-    by : (is_some (bytes_of file headers address) ≡ true → LiesIn address ram)
+    by : (is_some (segment_bytes file headers address) ≡ true → LiesIn address ram)
         → (test : Bool) → is_within header.paddr header.filesz address ≡ test
         → is_some (if test then Some (slice_index file (header.offset + (address - header.paddr)))
-        else bytes_of file headers address) ≡ true
+        else segment_bytes file headers address) ≡ true
         → LiesIn address ram
     by rest true within some = within_ram header address ram good.0.fits good.0.low good.0.high within
     by rest false within some = rest some
 
 pub bytes_inside : (ram : Span) (file : List ℕ) (headers segments : List ProgramHeader)
     → segments_after ram (length file) [] 0 headers ≡ Ok segments → (a : ℕ)
-    → IsTrue (is_some (bytes_of file segments a)) → LiesIn a ram
+    → IsTrue (is_some (segment_bytes file segments a)) → LiesIn a ram
 unfolding AreKept
 bytes_inside ram file headers segments h a some =
     kept_inside ram file (length file) segments a (all_kept ram (length file) [] 0 headers segments h tt) some
@@ -249,26 +249,26 @@ bytes_inside ram file headers segments h a some =
 image_parts : (ram : Span) (file : List ℕ) (image : (ℕ → Option ℕ) × ℕ) → elf_of ram file ≡ Ok image
     → (header : ElfHeader) × (segments : List ProgramHeader) × (checked_header file ≡ Ok header)
     × (segments_after ram (length file) [] 0 (table_of file header) ≡ Ok segments)
-    × ((bytes_of file segments, header.entry) ≡ image)
+    × ((segment_bytes file segments, header.entry) ≡ image)
 unfolding elf_of
 image_parts ram file image h = by (checked_header file) refl h
   where
     then_segments : (header : ElfHeader) (checked : checked_header file ≡ Ok header)
         (result : Result (List ProgramHeader) ElfFault)
         → segments_after ram (length file) [] 0 (table_of file header) ≡ result
-        → (result >>= (λ segments. Ok (bytes_of file segments, header.entry))) ≡ Ok image
+        → (result >>= (λ segments. Ok (segment_bytes file segments, header.entry))) ≡ Ok image
         → (header : ElfHeader) × (segments : List ProgramHeader) × (checked_header file ≡ Ok header)
         × (segments_after ram (length file) [] 0 (table_of file header) ≡ Ok segments)
-        × ((bytes_of file segments, header.entry) ≡ image)
+        × ((segment_bytes file segments, header.entry) ≡ image)
     then_segments header checked (Ok segments) is h = (header, segments, checked, is, ok_same _ _ h)
     then_segments header checked (Err fault) is h = cc
 
     by : (result : Result ElfHeader ElfFault) → checked_header file ≡ result
         → (result >>= (λ header. segments_after ram (length file) [] 0 (table_of file header)
-        >>= (λ segments. Ok (bytes_of file segments, header.entry)))) ≡ Ok image
+        >>= (λ segments. Ok (segment_bytes file segments, header.entry)))) ≡ Ok image
         → (header : ElfHeader) × (segments : List ProgramHeader) × (checked_header file ≡ Ok header)
         × (segments_after ram (length file) [] 0 (table_of file header) ≡ Ok segments)
-        × ((bytes_of file segments, header.entry) ≡ image)
+        × ((segment_bytes file segments, header.entry) ≡ image)
     by (Ok header) checked h =
         then_segments header checked (segments_after ram (length file) [] 0 (table_of file header)) refl h
     by (Err fault) checked h = cc
@@ -287,13 +287,13 @@ has_segments ram file image h =
     let P : (ℕ → Option ℕ) × ℕ → Type 0 = λ i. HasSegments ram file i in
     subst P parts.4 (record {
       segments =
-          All-from_recursion (HasSegment ram file (bytes_of file segments)) _
-          (outward (HasSegment ram file (bytes_of file segments)) ram (length file) [] 0 _ segments loads
+          All-from_recursion (HasSegment ram file (segment_bytes file segments)) _
+          (outward (HasSegment ram file (segment_bytes file segments)) ram (length file) [] 0 _ segments loads
           (all_filled ram file segments good)).1;
       elsewhere =
           λ address none.
           nothing_at ram file (length file) segments address good
-          (inward (λ header. has_address header address ≡ false) ram (length file) [] 0 _ segments loads tt
-          (recursion_from_All (λ header. has_address header address ≡ false) _ none));
+          (inward (λ header. is_segment_address header address ≡ false) ram (length file) [] 0 _ segments loads tt
+          (recursion_from_All (λ header. is_segment_address header address ≡ false) _ none));
       entry = ap (λ h. h.entry) is;
     })

@@ -8,7 +8,7 @@ use Rattle.std.proofs.lemmas.Bool.Decides.{nat_tests}
 use Rattle.image_text.proofs.Pages.{eq_same, eq_other}
 use Rattle.elf_image.specs.declared.program_header.ProgramHeader.{ProgramHeader}
 use Rattle.elf_image.specs.Segments.{overlaps}
-use Rattle.elf_image.specs.Loading.{end_of, AreApart}
+use Rattle.elf_image.specs.Loading.{segment_end, AreApart}
 use Rattle.elf_image.specs.Laws.{HaveInCommon}
 
 pub or_left : (a b : Bool) → (a || b) ≡ false → a ≡ false
@@ -51,21 +51,21 @@ begins_after one other after = grind (arith, nat_tests)
 
 -- the end of the first of the segments, and of another
 pub end_here : (header : ProgramHeader) (headers : List ProgramHeader) (k : ℕ) → k ≡ header.paddr
-    → end_of (header ∷ headers) k ≡ Some (header.paddr + header.memsz)
-unfolding end_of
+    → segment_end (header ∷ headers) k ≡ Some (header.paddr + header.memsz)
+unfolding segment_end
 end_here header headers k same = rw (same, eq_same header.paddr) refl
 
 pub end_there : (header : ProgramHeader) (headers : List ProgramHeader) (k : ℕ) → (k ≡ header.paddr → ⊥)
-    → end_of (header ∷ headers) k ≡ end_of headers k
-unfolding end_of
+    → segment_end (header ∷ headers) k ≡ segment_end headers k
+unfolding segment_end
 end_there header headers k apart = rw (eq_other k header.paddr apart) refl
 
-end_none : (k end : ℕ) → end_of [] k ≡ Some end → ⊥
-unfolding end_of
+end_none : (k end : ℕ) → segment_end [] k ≡ Some end → ⊥
+unfolding segment_end
 end_none k end h = cc
 
 -- a segment that begins at an address and overlaps
-pub found : (header : ProgramHeader) (headers : List ProgramHeader) (k end : ℕ) → end_of headers k ≡ Some end
+pub found : (header : ProgramHeader) (headers : List ProgramHeader) (k end : ℕ) → segment_end headers k ≡ Some end
     → header.paddr < end → k < header.paddr + header.memsz → list_any (overlaps header) headers ≡ true
 found header [] k end h before after = absurd (end_none k end h)
 found header (g ∷ gs) k end h before after = elim (cases_eq k g.paddr) [
@@ -78,7 +78,7 @@ found header (g ∷ gs) k end h before after = elim (cases_eq k g.paddr) [
 ]
 
 -- the same, where none overlaps
-unfound : (header : ProgramHeader) (headers : List ProgramHeader) (k end : ℕ) → end_of headers k ≡ Some end
+unfound : (header : ProgramHeader) (headers : List ProgramHeader) (k end : ℕ) → segment_end headers k ≡ Some end
     → list_any (overlaps header) headers ≡ false → header.paddr < end → header.paddr + header.memsz ≤ k
 unfound header headers k end h none before = elim (cases_lt k (header.paddr + header.memsz)) [
   | inl after ↦ (let some = found header headers k end h before after in cc)
@@ -86,7 +86,7 @@ unfound header headers k end h none before = elim (cases_lt k (header.paddr + he
 ]
 
 -- a segment ends after its beginning
-nonempty : (headers : List ProgramHeader) (k end : ℕ) → AreApart headers → end_of headers k ≡ Some end → k < end
+nonempty : (headers : List ProgramHeader) (k end : ℕ) → AreApart headers → segment_end headers k ≡ Some end → k < end
 unfolding AreApart
 nonempty [] k end apart h = absurd (end_none k end h)
 nonempty (g ∷ gs) k end apart h = elim (cases_eq k g.paddr) [
@@ -112,7 +112,7 @@ apart_from g (f ∷ fs) some none =
       apart_from g fs some (or_right (overlaps g f) _ none),
     )
 
-end_by : (headers : List ProgramHeader) (k end : ℕ) → AreApart headers → end_of headers k ≡ Some end
+end_by : (headers : List ProgramHeader) (k end : ℕ) → AreApart headers → segment_end headers k ≡ Some end
     → EndBy k end headers
 unfolding AreApart EndBy
 end_by [] k end apart h = tt
@@ -134,10 +134,10 @@ end_by (g ∷ gs) k end apart h = elim (cases_eq k g.paddr) [
 
 -- no segment that begins before an address begins after k
 abbrev pub IsLastBefore : ℕ → ℕ → List ProgramHeader → Type 0
-IsLastBefore past k headers = (q : ℕ) → q < past → is_some (end_of headers q) ≡ true → q ≤ k
+IsLastBefore past k headers = (q : ℕ) → q < past → is_some (segment_end headers q) ≡ true → q ≤ k
 
-still_some : (g : ProgramHeader) (gs : List ProgramHeader) (q : ℕ) → is_some (end_of gs q) ≡ true
-    → is_some (end_of (g ∷ gs) q) ≡ true
+still_some : (g : ProgramHeader) (gs : List ProgramHeader) (q : ℕ) → is_some (segment_end gs q) ≡ true
+    → is_some (segment_end (g ∷ gs) q) ≡ true
 still_some g gs q some = elim (cases_eq q g.paddr) [
   | inl same ↦ rw (end_here g gs q same) refl
   | inr apart ↦ rw (end_there g gs q apart) some
@@ -153,7 +153,7 @@ none_past header (g ∷ gs) k end last by before =
     none_past header gs k end (λ q below some. last q below (still_some g gs q some)) by.1 before in
     let first : overlaps header g ≡ false = elim (cases_lt g.paddr (header.paddr + header.memsz)) [
       | inl below ↦
-          (let is : is_some (end_of (g ∷ gs) g.paddr) ≡ true = rw (end_here g gs g.paddr refl) refl in
+          (let is : is_some (segment_end (g ∷ gs) g.paddr) ≡ true = rw (end_here g gs g.paddr refl) refl in
           ends_before header g (omega (arith, before, by.0 (last g.paddr below is))))
       | inr after ↦ begins_after header g after
     ] in
@@ -161,7 +161,7 @@ none_past header (g ∷ gs) k end last by before =
 
 -- the last of the segments that begin before another's end decides
 pub decided : (header : ProgramHeader) (headers : List ProgramHeader) (k end : ℕ) → AreApart headers
-    → end_of headers k ≡ Some end → k < header.paddr + header.memsz
+    → segment_end headers k ≡ Some end → k < header.paddr + header.memsz
     → IsLastBefore (header.paddr + header.memsz) k headers
     → nat_lt header.paddr end ≡ list_any (overlaps header) headers
 decided header headers k end apart h below last = elim (cases_lt header.paddr end) [
@@ -175,7 +175,7 @@ decided header headers k end apart h below last = elim (cases_lt header.paddr en
 
 -- where none begins before the end, none overlaps
 pub undecided : (header : ProgramHeader) (headers : List ProgramHeader)
-    → ((q : ℕ) → q < header.paddr + header.memsz → end_of headers q ≡ None)
+    → ((q : ℕ) → q < header.paddr + header.memsz → segment_end headers q ≡ None)
     → list_any (overlaps header) headers ≡ false
 undecided header [] none = refl
 undecided header (g ∷ gs) none =
@@ -185,7 +185,7 @@ undecided header (g ∷ gs) none =
     ] in
     or_none (overlaps header g) _ first (undecided header gs (λ q below. rest q (none q below)))
   where
-    rest : (q : ℕ) → end_of (g ∷ gs) q ≡ None → end_of gs q ≡ None
+    rest : (q : ℕ) → segment_end (g ∷ gs) q ≡ None → segment_end gs q ≡ None
     rest q h = elim (cases_eq q g.paddr) [
       | inl same ↦ (let some = sym (end_here g gs q same) ∙ h in cc)
       | inr apart ↦ sym (end_there g gs q apart) ∙ h

@@ -12,7 +12,7 @@ use Rattle.elf_image.specs.declared.segments.LoadedSegments.{LoadedSegments}
 use Rattle.elf_image.specs.Headers.{checked_header, header_of, has_cut_table, has_bad_table, is_riscv_executable}
 use Rattle.elf_image.specs.Headers.{program_header_at, program_headers_at, table_of}
 use Rattle.elf_image.specs.Segments.{is_loading, checked_segment, segments_after}
-use Rattle.elf_image.specs.Image.{bytes_of, elf_of}
+use Rattle.elf_image.specs.Image.{segment_bytes, elf_of}
 use Rattle.elf_image.specs.Loading.{HoldsSegments}
 use Rattle.elf_image.proofs.Checks.{passed}
 
@@ -132,7 +132,7 @@ table_inside file header index checked below = by (has_header file header checke
 pub elf_is : (ram : Span) (file : List ℕ) (header : ElfHeader) (segments : List ProgramHeader)
     → checked_header file ≡ Ok header
     → segments_after ram (length file) [] 0 (table_of file header) ≡ Ok segments
-    → elf_of ram file ≡ Ok (bytes_of file segments, header.entry)
+    → elf_of ram file ≡ Ok (segment_bytes file segments, header.entry)
 unfolding elf_of
 elf_is ram file header segments checked all = rw (checked, all) refl
 

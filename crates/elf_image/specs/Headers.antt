@@ -10,30 +10,30 @@ use Rattle.elf_image.specs.declared.fault.ElfFault.{ElfFault}
 use Rattle.elf_image.specs.declared.fault.ElfFault.TheVariants.{CutShort, WrongKind, BadTable, BadEntry}
 
 -- the number that so many bytes of a file are from an offset on, little-endian
-abbrev pub number_in : List ℕ → ℕ → ℕ → ℕ
-number_in file at len = number_at (slice_index file) at len
+abbrev pub number_at_offset : List ℕ → ℕ → ℕ → ℕ
+number_at_offset file at len = number_at (slice_index file) at len
 
 -- the ELF header, 64 bytes at the front of the file
 unfoldable pub header_of : List ℕ → ElfHeader
 header_of file = record {
-  class = number_in file 4 1;
-  encoding = number_in file 5 1;
-  kind = number_in file 16 2;
-  machine = number_in file 18 2;
-  entry = number_in file 24 8;
-  phoff = number_in file 32 8;
-  phentsize = number_in file 54 2;
-  phnum = number_in file 56 2;
+  class = number_at_offset file 4 1;
+  encoding = number_at_offset file 5 1;
+  kind = number_at_offset file 16 2;
+  machine = number_at_offset file 18 2;
+  entry = number_at_offset file 24 8;
+  phoff = number_at_offset file 32 8;
+  phentsize = number_at_offset file 54 2;
+  phnum = number_at_offset file 56 2;
 }
 
 -- a program header, 56 bytes at an offset
 unfoldable pub program_header_at : List ℕ → ℕ → ProgramHeader
 program_header_at file at = record {
-  kind = number_in file at 4;
-  offset = number_in file (at + 8) 8;
-  paddr = number_in file (at + 24) 8;
-  filesz = number_in file (at + 32) 8;
-  memsz = number_in file (at + 40) 8;
+  kind = number_at_offset file at 4;
+  offset = number_at_offset file (at + 8) 8;
+  paddr = number_at_offset file (at + 24) 8;
+  filesz = number_at_offset file (at + 32) 8;
+  memsz = number_at_offset file (at + 40) 8;
 }
 
 -- so many program headers, one after another, from an offset on

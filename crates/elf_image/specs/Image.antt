@@ -25,13 +25,13 @@ with_segment file header bytes address =
     else bytes address
 
 -- the bytes that segments have in the file
-unfoldable pub bytes_of : List ℕ → List ProgramHeader → ℕ → Option ℕ
-bytes_of file [] = λ _. None
-bytes_of file (header ∷ headers) = with_segment file header (bytes_of file headers)
+unfoldable pub segment_bytes : List ℕ → List ProgramHeader → ℕ → Option ℕ
+segment_bytes file [] = λ _. None
+segment_bytes file (header ∷ headers) = with_segment file header (segment_bytes file headers)
 
 -- the bytes of a file's segments, where they stand, and its entry point
 unfoldable pub elf_of : Span → List ℕ → Result ((ℕ → Option ℕ) × ℕ) ElfFault
 elf_of ram file = do
   header ← checked_header file
   segments ← segments_after ram (length file) [] 0 (table_of file header)
-  Ok (bytes_of file segments, header.entry)
+  Ok (segment_bytes file segments, header.entry)

@@ -13,8 +13,8 @@ abbrev pub loading_segments : List ℕ → List ProgramHeader
 loading_segments file = filter is_loading (table_of file (header_of file))
 
 -- the address is one of the segment's
-abbrev pub has_address : ProgramHeader → ℕ → Bool
-has_address header address = is_within header.paddr header.memsz address
+abbrev pub is_segment_address : ProgramHeader → ℕ → Bool
+is_segment_address header address = is_within header.paddr header.memsz address
 
 -- Each byte of a segment is its byte in the file. Past those none stands, which means 0.
 pub record HasSegment (ram : Span) (file : List ℕ) (bytes : ℕ → Option ℕ) (header : ProgramHeader) : Type 0 where
@@ -27,10 +27,10 @@ pub record HasSegment (ram : Span) (file : List ℕ) (bytes : ℕ → Option ℕ
 pub record HasSegments (ram : Span) (file : List ℕ) (image : (ℕ → Option ℕ) × ℕ) : Type 0 where
   pub segments : All (HasSegment ram file image.0) (loading_segments file)
   pub elsewhere :
-      (address : ℕ) → All (λ header. has_address header address ≡ false) (loading_segments file)
+      (address : ℕ) → All (λ header. is_segment_address header address ≡ false) (loading_segments file)
       → image.0 address ≡ None
   pub entry : image.1 ≡ (header_of file).entry
 
 -- an address is one of both segments'
 abbrev pub HaveInCommon : ProgramHeader → ProgramHeader → ℕ → Type 0
-HaveInCommon one other address = (has_address one address ≡ true) × (has_address other address ≡ true)
+HaveInCommon one other address = (is_segment_address one address ≡ true) × (is_segment_address other address ≡ true)

@@ -13,7 +13,7 @@ use Rattle.elf_image.specs.declared.program_header.ProgramHeader.{ProgramHeader}
 use Rattle.elf_image.specs.declared.segments.LoadedSegments.{LoadedSegments}
 use Rattle.elf_image.specs.declared.segments.Segment.{Segment}
 use Rattle.elf_image.specs.Segments.{overlaps, checked_segment}
-use Rattle.elf_image.specs.Image.{bytes_of, elf_fault}
+use Rattle.elf_image.specs.Image.{segment_bytes, elf_fault}
 
 -- the bytes that a segment has in the file
 pub record IsFilePart (file : List ℕ) (header : ProgramHeader) (part : List ℕ) : Type 0 where
@@ -21,10 +21,10 @@ pub record IsFilePart (file : List ℕ) (header : ProgramHeader) (part : List �
   pub value : (k : ℕ) → k < header.filesz → slice_index part k ≡ slice_index file (header.offset + k)
 
 -- the end of the segment that begins at an address
-unfoldable pub end_of : List ProgramHeader → ℕ → Option ℕ
-end_of [] address = None
-end_of (header ∷ headers) address =
-    if address == header.paddr then Some (header.paddr + header.memsz) else end_of headers address
+unfoldable pub segment_end : List ProgramHeader → ℕ → Option ℕ
+segment_end [] address = None
+segment_end (header ∷ headers) address =
+    if address == header.paddr then Some (header.paddr + header.memsz) else segment_end headers address
 
 -- each segment has a byte, and none that another has
 unfoldable pub AreApart : List ProgramHeader → Type 0
@@ -34,8 +34,8 @@ AreApart (header ∷ headers) =
 
 -- the bytes and the ends of segments, the last one first
 pub record HoldsSegments (file : List ℕ) (earlier : List ProgramHeader) (loaded : LoadedSegments) : Type 0 where
-  pub bytes : byte_at loaded.pieces ≡ bytes_of file earlier
-  pub ends : (address : ℕ) → get nat_cmp loaded.ends address ≡ end_of earlier address
+  pub bytes : byte_at loaded.pieces ≡ segment_bytes file earlier
+  pub ends : (address : ℕ) → get nat_cmp loaded.ends address ≡ segment_end earlier address
   pub apart : AreApart earlier
 
 -- the same with one segment more, where it is apart from the others

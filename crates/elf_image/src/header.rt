@@ -1,7 +1,7 @@
 //! The ELF header.
 
 ghost use Rattle.std.specs.Prelude.{◌≡◌, ◌+◌, ◌≤◌, ◌<◌, ◌^◌, length};
-ghost use Rattle.elf_image.specs.Headers.{number_in, header_of, checked_header};
+ghost use Rattle.elf_image.specs.Headers.{number_at_offset, header_of, checked_header};
 
 use crate::fault::ElfFault;
 use crate::program_header::ENTRY_BYTES;
@@ -66,10 +66,10 @@ impl ElfHeader {
 }
 
 /// The number that `len` bytes from an offset on are, little-endian.
-pub fn number_in(file: &[u8], at: usize, len: u8) -> u64
+pub fn number_at_offset(file: &[u8], at: usize, len: u8) -> u64
     requires at_most_8 { len ≤ 8 }
     requires inside { at + len ≤ length file.now }
-    ensures value { result ≡ number_in file.now at len }
+    ensures value { result ≡ number_at_offset file.now at len }
     ensures fits { result < 256 ^ len }
 {
     let mut number = 0;
@@ -87,14 +87,14 @@ fn header_of(file: &[u8]) -> ElfHeader
     ensures { result ≡ header_of file.now }
 {
     ElfHeader {
-        class: number_in(file, 4, 1) as u8,
-        encoding: number_in(file, 5, 1) as u8,
-        kind: number_in(file, 16, 2) as u16,
-        machine: number_in(file, 18, 2) as u16,
-        entry: number_in(file, 24, 8),
-        phoff: number_in(file, 32, 8),
-        phentsize: number_in(file, 54, 2) as u16,
-        phnum: number_in(file, 56, 2) as u16,
+        class: number_at_offset(file, 4, 1) as u8,
+        encoding: number_at_offset(file, 5, 1) as u8,
+        kind: number_at_offset(file, 16, 2) as u16,
+        machine: number_at_offset(file, 18, 2) as u16,
+        entry: number_at_offset(file, 24, 8),
+        phoff: number_at_offset(file, 32, 8),
+        phentsize: number_at_offset(file, 54, 2) as u16,
+        phnum: number_at_offset(file, 56, 2) as u16,
     }
 }
 

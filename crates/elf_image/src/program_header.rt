@@ -3,7 +3,7 @@
 ghost use Rattle.std.specs.Prelude.{◌≡◌, ◌+◌, ◌≤◌, length};
 ghost use Rattle.elf_image.specs.Headers.{program_header_at};
 
-use crate::header::number_in;
+use crate::header::number_at_offset;
 use hart_words::Span;
 
 /// The bytes of a program header.
@@ -60,10 +60,10 @@ pub fn program_header_at(file: &[u8], at: usize) -> ProgramHeader
     ensures { result ≡ program_header_at file.now at }
 {
     ProgramHeader {
-        kind: number_in(file, at, 4) as u32,
-        offset: number_in(file, at + 8, 8),
-        paddr: number_in(file, at + 24, 8),
-        filesz: number_in(file, at + 32, 8),
-        memsz: number_in(file, at + 40, 8),
+        kind: number_at_offset(file, at, 4) as u32,
+        offset: number_at_offset(file, at + 8, 8),
+        paddr: number_at_offset(file, at + 24, 8),
+        filesz: number_at_offset(file, at + 32, 8),
+        memsz: number_at_offset(file, at + 40, 8),
     }
 }

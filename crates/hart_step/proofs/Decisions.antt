@@ -45,7 +45,7 @@ use Rattle.hart_step.specs.declared.choices.RowChoices.{RowChoices}
 use Rattle.hart_step.specs.declared.choices.Lines.{Lines}
 use Rattle.hart_step.specs.declared.instruction.Instruction.{Instruction}
 use Rattle.hart_step.specs.declared.memory.AccessResult.{AccessResult}
-use Rattle.hart_step.specs.Choices.{shows, order_after, asks_interrupt, pending_lines_of, choices_of, load_bytes_shown}
+use Rattle.hart_step.specs.Choices.{shows, order_after, asks_interrupt, pending_lines_of, row_choices_of, load_bytes_shown}
 use Rattle.hart_step.specs.Choices.{device_value, register_says_stored, says_stored}
 use Rattle.rv_atomic.specs.declared.reservation.Reservation.{Reservation}
 use Rattle.rv_atomic.specs.Blocks.{is_covered}
@@ -170,8 +170,8 @@ told_same one other rd mask =
     ap (λ r. register_says_stored r other.mem_wmask) rd ∙ ap (λ m. register_says_stored one.rd_wdata m) mask
 
 rd_same : (one other : Shown) (rd : ℕ) → SameAt RdWdata one other
-    → (choices_of other rd).rd_wdata ≡ (choices_of one rd).rd_wdata
-unfolding choices_of
+    → (row_choices_of other rd).rd_wdata ≡ (row_choices_of one rd).rd_wdata
+unfolding row_choices_of
 rd_same one other rd same = ap (λ v. if rd == 0 then None else v) same
 
 found_by : (one other : RowChoices) (request : MemoryRequest) (io : Bool) (held : ℕ)
@@ -185,26 +185,26 @@ found_by one other request false held same = refl
 
 found_same : (one other : Shown) (rd : ℕ) (request : MemoryRequest) (found : LocatedValue) (signed : Bool)
     → AgreeOnAccess (Ok found) (memory.Load signed) one other
-    → value_found (choices_of other rd) request found.0 found.2
-    ≡ value_found (choices_of one rd) request found.0 found.2
-unfolding choices_of
+    → value_found (row_choices_of other rd) request found.0 found.2
+    ≡ value_found (row_choices_of one rd) request found.0 found.2
+unfolding row_choices_of
 found_same one other rd request found signed agree =
-    found_by (choices_of one rd) (choices_of other rd) request found.0.io found.2 (λ io.
-    device_same (choices_of one rd) (choices_of other rd) request.address (bytes_of request.size)
+    found_by (row_choices_of one rd) (row_choices_of other rd) request found.0.io found.2 (λ io.
+    device_same (row_choices_of one rd) (row_choices_of other rd) request.address (bytes_of request.size)
     (rd_same one other rd (agree io).0) (agree io).1.0 (agree io).1.1)
 
 stored_same : (core : Core) (one other : Shown) (rd : ℕ) (request : MemoryRequest) (place : Place)
     → SameAt RdWdata one other → SameAt MemWmask one other
-    → is_stored core (choices_of other rd) request place ≡ is_stored core (choices_of one rd) request place
-unfolding choices_of
+    → is_stored core (row_choices_of other rd) request place ≡ is_stored core (row_choices_of one rd) request place
+unfolding row_choices_of
 stored_same core one other rd request place value mask =
     ap (λ says. is_covered core.reservation.block place.pa (bytes_of request.size) && says)
-    (told_same (choices_of one rd) (choices_of other rd) (rd_same one other rd value) mask)
+    (told_same (row_choices_of one rd) (row_choices_of other rd) (rd_same one other rd value) mask)
 
 answer_same : (core : Core) (one other : Shown) (rd : ℕ) (request : MemoryRequest) (found : LocatedValue)
     (op : MemoryOp) → AgreeOnAccess (Ok found) op one other
-    → access_result_by core (choices_of other rd) request found.0 found.2 op
-    ≡ access_result_by core (choices_of one rd) request found.0 found.2 op
+    → access_result_by core (row_choices_of other rd) request found.0 found.2 op
+    ≡ access_result_by core (row_choices_of one rd) request found.0 found.2 op
 answer_same core one other rd request found (memory.Load signed) agree =
     ap (λ value.
     record {
@@ -227,8 +227,8 @@ answer_same core one other rd request found (memory.Amo op width b) agree = refl
 
 answered_same : (core : Core) (one other : Shown) (rd : ℕ) (request : MemoryRequest)
     (found : Result LocatedValue Exception) (bytes : Bytes) → AgreeOnAccess found request.op one other
-    → (access_after_location core (choices_of other rd) request found).run bytes
-    ≡ (access_after_location core (choices_of one rd) request found).run bytes
+    → (access_after_location core (row_choices_of other rd) request found).run bytes
+    ≡ (access_after_location core (row_choices_of one rd) request found).run bytes
 unfolding access_result_of
 answered_same core one other rd request (Err exception) bytes agree = refl
 answered_same core one other rd request (Ok (first, second, held)) bytes agree =
@@ -238,15 +238,15 @@ answered_same core one other rd request (Ok (first, second, held)) bytes agree =
 
 access_same : (core : Core) (one other : Shown) (rd : ℕ) (request : MemoryRequest) (bytes : Bytes)
     → AgreeOnAccess ((located_access core request).run bytes).value request.op one other
-    → (memory_access core (choices_of other rd) request).run bytes
-    ≡ (memory_access core (choices_of one rd) request).run bytes
+    → (memory_access core (row_choices_of other rd) request).run bytes
+    ≡ (memory_access core (row_choices_of one rd) request).run bytes
 unfolding memory_access
 access_same core one other rd request bytes agree =
     let before = (located_access core request).run bytes in
-    run_then-is (located_access core request) (access_after_location core (choices_of other rd) request) bytes
+    run_then-is (located_access core request) (access_after_location core (row_choices_of other rd) request) bytes
     ∙ ap (followed_by before)
     (answered_same core one other rd request before.value (after_writes before.wrote bytes) agree)
-    ∙ sym (run_then-is (located_access core request) (access_after_location core (choices_of one rd) request) bytes)
+    ∙ sym (run_then-is (located_access core request) (access_after_location core (row_choices_of one rd) request) bytes)
 
 -- what an access to a register takes
 abbrev TakesSame : RowChoices → RowChoices → Csr → Type 0
@@ -317,39 +317,39 @@ old_by_same core one other address row lines takes =
     ∙ ap (λ r. if traps_at row.csr one then refused else r) (by (csr_read_at core.csrs address core.mode one.lines.up))
 
 traps_same : (one other : Shown) (rd : ℕ) → SameAt Trap one other
-    → (choices_of other rd).traps ≡ (choices_of one rd).traps
-unfolding choices_of
+    → (row_choices_of other rd).traps ≡ (row_choices_of one rd).traps
+unfolding row_choices_of
 traps_same one other rd same = ap (λ t. shows t 1) same
 
 traps_at_same : (one other : Shown) (rd : ℕ) (csr : Csr) → AgreeOnTime csr one other
-    → traps_at csr (choices_of other rd) ≡ traps_at csr (choices_of one rd)
+    → traps_at csr (row_choices_of other rd) ≡ traps_at csr (row_choices_of one rd)
 traps_at_same one other rd Time agree = traps_same one other rd agree
 traps_at_same one other rd _ agree = refl
 
 lines_same : (one other : Shown) (rd : ℕ) → pending_lines_of other ≡ pending_lines_of one
-    → (choices_of other rd).lines ≡ (choices_of one rd).lines
-unfolding choices_of
+    → (row_choices_of other rd).lines ≡ (row_choices_of one rd).lines
+unfolding row_choices_of
 lines_same one other rd same = same
 
 row_same : (core : Core) (one other : Shown) (rd address : ℕ) (row : Option CsrRow)
     → pending_lines_of other ≡ pending_lines_of one → AgreeOnRead row one other
-    → old_value_by core (choices_of other rd) address row ≡ old_value_by core (choices_of one rd) address row
+    → old_value_by core (row_choices_of other rd) address row ≡ old_value_by core (row_choices_of one rd) address row
 row_same core one other rd address None lines agree = refl
 row_same core one other rd address (Some row) lines agree =
-    old_by_same core (choices_of one rd) (choices_of other rd) address row (lines_same one other rd lines)
+    old_by_same core (row_choices_of one rd) (row_choices_of other rd) address row (lines_same one other rd lines)
     (traps_at_same one other rd row.csr agree.0, λ adopted. rd_same one other rd (agree.1 adopted))
 
 read_same : (core : Core) (one other : Shown) (rd : ℕ) (address : ℕ) (reads : Bool)
     → pending_lines_of other ≡ pending_lines_of one → (reads ≡ true → AgreeOnRead (csr_row_of address) one other)
-    → (if reads then old_value_by core (choices_of other rd) address (csr_row_of address) else Ok (0, 0))
-    ≡ (if reads then old_value_by core (choices_of one rd) address (csr_row_of address) else Ok (0, 0))
+    → (if reads then old_value_by core (row_choices_of other rd) address (csr_row_of address) else Ok (0, 0))
+    ≡ (if reads then old_value_by core (row_choices_of one rd) address (csr_row_of address) else Ok (0, 0))
 read_same core one other rd address true lines agree =
     row_same core one other rd address (csr_row_of address) lines (agree refl)
 read_same core one other rd address false lines agree = refl
 
 csr_same : (core : Core) (one other : Shown) (rd : ℕ) (request : CsrRequest)
     → pending_lines_of other ≡ pending_lines_of one → AgreeOnSystem (system.Csr request) one other
-    → csr_access_result core (choices_of other rd) request ≡ csr_access_result core (choices_of one rd) request
+    → csr_access_result core (row_choices_of other rd) request ≡ csr_access_result core (row_choices_of one rd) request
 unfolding csr_access_result old_value_of
 csr_same core one other rd request lines agree =
     let rest : OldValue → Result (ℕ × Csrs) Illegal =
@@ -358,7 +358,7 @@ csr_same core one other rd request lines agree =
 
 system_same : (core : Core) (one other : Shown) (rd : ℕ) (i : Instruction) (request : SystemRequest)
     → pending_lines_of other ≡ pending_lines_of one → AgreeOnSystem request one other
-    → system_execution core (choices_of other rd) i request ≡ system_execution core (choices_of one rd) i request
+    → system_execution core (row_choices_of other rd) i request ≡ system_execution core (row_choices_of one rd) i request
 unfolding system_execution wfi_traps
 system_same core one other rd i (system.Csr request) lines agree =
     ap (after_csr core i) (csr_same core one other rd request lines agree)
@@ -379,8 +379,8 @@ record AgreeOnChoices (core : Core) (bytes : Bytes) (asks : Option IntResult) (o
 
 executed_by_same : (core : Core) (one other : Shown) (rd : ℕ) (i : Instruction) (result : IntResult) (bytes : Bytes)
     → AgreeOnChoices core bytes (Some result) one other
-    → (execution_by core (choices_of other rd) i result).run bytes
-    ≡ (execution_by core (choices_of one rd) i result).run bytes
+    → (execution_by core (row_choices_of other rd) i result).run bytes
+    ≡ (execution_by core (row_choices_of one rd) i result).run bytes
 unfolding mapped
 executed_by_same core one other rd i (results.Value value) bytes agree = refl
 executed_by_same core one other rd i (results.Jump link target) bytes agree = refl

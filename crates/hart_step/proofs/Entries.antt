@@ -38,7 +38,7 @@ use Rattle.hart_step.specs.declared.instruction.Instruction.{Instruction}
 use Rattle.hart_step.specs.declared.instruction.InstructionOutcome.{InstructionOutcome}
 use Rattle.hart_step.specs.declared.instruction.InstructionOutcome.TheVariants.{Trapped, Retired}
 use Rattle.hart_step.specs.declared.memory.AccessResult.{AccessResult}
-use Rattle.hart_step.specs.Choices.{asks_interrupt, choices_of}
+use Rattle.hart_step.specs.Choices.{asks_interrupt, row_choices_of}
 use Rattle.hart_step.specs.MemoryAccess.{memory_access}
 use Rattle.hart_step.specs.CsrAccess.{OldValue, old_value_of, new_value_of, csrs_after_request, csr_access_result}
 use Rattle.hart_step.specs.Returns.{may_use_supervisor_instruction, may_mret, core_after_mret, core_after_sret}
@@ -192,7 +192,7 @@ unfolding pure mapped execution_of
 decoded_changes core shown bits len None bytes = inl refl
 decoded_changes core shown bits len (Some op) bytes =
     let i : Instruction = record { op = op; bits = bits; len = len } in
-    let choices = choices_of shown (operands_of op).rd in
+    let choices = row_choices_of shown (operands_of op).rd in
     let result = result_of op (first_value core op) (second_value core op) core.pc len in
     ended_changes core i ((execution_of core choices i).run bytes).value
     (executed_by_changes core choices i result bytes)

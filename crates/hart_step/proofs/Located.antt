@@ -17,7 +17,7 @@ use Rattle.rv_integer.specs.declared.int_result.MemoryOp.TheVariants.{Load, Load
 use Rattle.csr_file.specs.declared.csrs.Csrs.{Csrs}
 use Rattle.mem_access.specs.declared.place.AccessRequest.{AccessRequest}
 use Rattle.mem_access.specs.declared.place.Place.{Place}
-use Rattle.mem_access.specs.Accesses.{Exception, LocatedValue, Places, alone, data_request, data_store, first_part, has_second_part}
+use Rattle.mem_access.specs.Accesses.{Exception, LocatedValue, Places, one_place, data_request, data_store, first_part, has_second_part}
 use Rattle.mem_access.specs.Accesses.{data_places_of, part_place_of, second_part, split_places_of, store_place_of}
 use Rattle.mem_access.specs.Accesses.{whole_place_of, with_address}
 use Rattle.mem_access.specs.Laws.{ArePlacesFound}
@@ -61,7 +61,7 @@ read_places len (Ok (first, second)) P bytes holds = holds
 -- what an AMO reads at its place, where no device is
 amo_own : (request : AccessRequest) (va : ℕ) (walk : List CheckedRead) (placed : Result Place Cause) (bytes : Bytes)
     → IfOk placed IsMemory
-    → reads_in walk ++ ((found_with_read request.len (alone (with_address va placed))).run bytes).reads
+    → reads_in walk ++ ((found_with_read request.len (one_place (with_address va placed))).run bytes).reads
     ≡ reads_in ((walk ++ if_found placed []) ++ own_reads_of request
     (with_first (whole_part va request.len) placed (Ok [])))
 unfolding pure mapped read_memory
@@ -99,13 +99,13 @@ amo_reads csrs map choices request va true bytes none =
     let walk = walk_reads_of csrs map request.mode va bytes in
     let reached = reach_run csrs map choices request va bytes in
     let known : Run (Result Places Exception) = record {
-      value = alone (with_address va placed);
+      value = one_place (with_address va placed);
       reads = reached.reads;
       wrote = reached.wrote;
     } in
     let is : (whole_place_of csrs map choices request va).run bytes ≡ known =
     ap (λ (r : Run (Result Place Cause)). record {
-      value = alone (with_address va r.value);
+      value = one_place (with_address va r.value);
       reads = r.reads;
       wrote = r.wrote;
     })

@@ -33,7 +33,7 @@ use Rattle.hart_step.specs.declared.instruction.Instruction.{Instruction}
 use Rattle.hart_step.specs.declared.instruction.InstructionOutcome.{InstructionOutcome}
 use Rattle.hart_step.specs.declared.instruction.InstructionOutcome.TheVariants.{Trapped, Retired}
 use Rattle.hart_step.specs.declared.memory.AccessResult.{AccessResult}
-use Rattle.hart_step.specs.Choices.{choices_of}
+use Rattle.hart_step.specs.Choices.{row_choices_of}
 use Rattle.hart_step.specs.MemoryAccess.{memory_access}
 use Rattle.hart_step.specs.CsrAccess.{csr_access_result}
 use Rattle.hart_step.specs.Returns.{may_use_supervisor_instruction, may_in_mode, may_mret, core_after_mret}
@@ -193,7 +193,7 @@ unfolding pure mapped execution_of
 decoded_keeps core shown bits len None bytes = λ retires. cc
 decoded_keeps core shown bits len (Some op) bytes =
     let i : Instruction = record { op = op; bits = bits; len = len } in
-    let choices = choices_of shown (operands_of op).rd in
+    let choices = row_choices_of shown (operands_of op).rd in
     let result = result_of op (first_value core op) (second_value core op) core.pc len in
     ended_keeps core (Some result) i ((execution_of core choices i).run bytes).value
     (executed_by_keeps core choices i result bytes)

@@ -45,7 +45,7 @@ use Rattle.hart_step.specs.declared.instruction.Instruction.{Instruction}
 use Rattle.hart_step.specs.declared.instruction.InstructionOutcome.{InstructionOutcome}
 use Rattle.hart_step.specs.declared.instruction.InstructionOutcome.TheVariants.{Trapped, Retired}
 use Rattle.hart_step.specs.declared.memory.AccessResult.{AccessResult}
-use Rattle.hart_step.specs.Choices.{choices_of}
+use Rattle.hart_step.specs.Choices.{row_choices_of}
 use Rattle.hart_step.specs.MemoryAccess.{access_after_location, access_result_by, access_result_of}
 use Rattle.hart_step.specs.MemoryAccess.{expected_access, is_stored}
 use Rattle.hart_step.specs.MemoryAccess.{located_access, memory_access, number_written, put, put_to}
@@ -416,7 +416,7 @@ decoded_granted core shown bits len None bytes =
     record { reads = refl; access = tt }
 decoded_granted core shown bits len (Some op) bytes =
     let i : Instruction = record { op = op; bits = bits; len = len } in
-    let choices = choices_of shown (operands_of op).rd in
+    let choices = row_choices_of shown (operands_of op).rd in
     let result = result_of op (first_value core op) (second_value core op) core.pc len in
     let done = executed_by_granted core choices i result bytes in
     record {

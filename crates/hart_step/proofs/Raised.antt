@@ -29,14 +29,14 @@ use Rattle.mem_access.specs.declared.place.Place.{Place}
 use Rattle.mem_access.specs.Translation.{virtual_place_of}
 use Rattle.mem_access.specs.Accesses.{Exception, LocatedValue, Part, Places, data_load, data_store, parcel_fetch, parcel_from}
 use Rattle.mem_access.specs.Accesses.{parcel_at, with_second, after_first, fetch_result, first_part, second_part}
-use Rattle.mem_access.specs.Accesses.{has_second_part, request_for, with_address, part_place_of, alone, after_place}
+use Rattle.mem_access.specs.Accesses.{has_second_part, request_for, with_address, part_place_of, one_place, after_place}
 use Rattle.mem_access.specs.Accesses.{second_place_of, whole_place_of, split_places_of, is_split, data_places_of}
 use Rattle.mem_access.specs.Accesses.{value_at, load_from, load_result, store_place_of}
 use Rattle.hart_step.specs.declared.state.Core.{Core}
 use Rattle.hart_step.specs.declared.choices.RowChoices.{RowChoices}
 use Rattle.hart_step.specs.declared.instruction.Instruction.{Instruction}
 use Rattle.hart_step.specs.declared.memory.AccessResult.{AccessResult}
-use Rattle.hart_step.specs.Choices.{choices_of}
+use Rattle.hart_step.specs.Choices.{row_choices_of}
 use Rattle.hart_step.specs.MemoryAccess.{found_without_value, found_with_read, located_access_by}
 use Rattle.hart_step.specs.MemoryAccess.{load_at, store_places, located_access, access_after_location, memory_access}
 use Rattle.hart_step.specs.CsrAccess.{csr_access_result}
@@ -141,7 +141,7 @@ place_is_at core request part bytes =
     let found = virtual_place_of core.csrs core.map core.choices (request_for request part) part.va in
     with_address_at part.va (found.run bytes).value
 
-alone_at : (va : ℕ) (place : Result Place Exception) → IsAt va place → IsAt va (alone place)
+alone_at : (va : ℕ) (place : Result Place Exception) → IsAt va place → IsAt va (one_place place)
 alone_at va (Err e) at = at
 alone_at va (Ok place) at = tt
 
@@ -151,7 +151,7 @@ unfolding mapped
 whole_is_at core request va bytes =
     let part : Part = record { va = va; len = request.len } in
     let place = ((part_place_of core.csrs core.map core.choices request part).run bytes).value in
-    at_first core va request.len (alone place) (alone_at va place (place_is_at core request part bytes))
+    at_first core va request.len (one_place place) (alone_at va place (place_is_at core request part bytes))
 
 after_at : (first : Place) (va : ℕ) (second : Result Place Exception) → IsAt va second
     → IsAt va (after_place first second)
@@ -355,7 +355,7 @@ unfolding pure mapped execution_of
 decoded_raises core shown bits len None bytes exception is = sym is
 decoded_raises core shown bits len (Some op) bytes exception is =
     let i : Instruction = record { op = op; bits = bits; len = len } in
-    let choices = choices_of shown (operands_of op).rd in
+    let choices = row_choices_of shown (operands_of op).rd in
     let result = result_of op (first_value core op) (second_value core op) core.pc len in
     ended_raises core i ((execution_of core choices i).run bytes).value (IsRaisedAs core bits (Some result)) exception
     (executed_by_raises core choices i result bytes) is

@@ -18,7 +18,7 @@ use Rattle.rv_integer.specs.declared.int_result.MemoryOp.TheVariants.{StoreCondi
 use Rattle.rv_atomic.specs.declared.reservation.Reservation.{Reservation}
 use Rattle.rv_atomic.specs.Blocks.{is_covered}
 use Rattle.mem_access.specs.declared.place.Place.{Place}
-use Rattle.mem_access.specs.Accesses.{Exception, LocatedValue, Places, alone, data_places_of, data_store, part_place_of}
+use Rattle.mem_access.specs.Accesses.{Exception, LocatedValue, Places, one_place, data_places_of, data_store, part_place_of}
 use Rattle.mem_access.specs.Accesses.{split_places_of, store_place_of, whole_place_of}
 use Rattle.hart_step.specs.declared.state.Core.{Core}
 use Rattle.hart_step.specs.declared.choices.RowChoices.{RowChoices}
@@ -36,7 +36,7 @@ use Rattle.hart_step.proofs.StepSets.{access_stores, step_stores}
 abbrev pub IsOnePlace : Result Places Exception → Type 0
 IsOnePlace found = IfOk found (λ places. places.1 ≡ None)
 
-alone_is_one : (place : Result Place Exception) → IsOnePlace (alone place)
+alone_is_one : (place : Result Place Exception) → IsOnePlace (one_place place)
 alone_is_one (Err exception) = tt
 alone_is_one (Ok place) = refl
 

@@ -30,7 +30,7 @@ use Rattle.mem_access.proofs.Sets.{fetch_sets_alone, load_sets_alone, sets_appen
 use Rattle.hart_step.specs.declared.state.Core.{Core}
 use Rattle.hart_step.specs.declared.choices.RowChoices.{RowChoices}
 use Rattle.hart_step.specs.declared.instruction.Instruction.{Instruction}
-use Rattle.hart_step.specs.Choices.{choices_of}
+use Rattle.hart_step.specs.Choices.{row_choices_of}
 use Rattle.hart_step.specs.MemoryAccess.{found_with_read, located_access, located_access_by, store_places}
 use Rattle.hart_step.specs.MemoryAccess.{access_after_location, memory_access}
 use Rattle.hart_step.specs.Instructions.{execution_of, execution_by, fetch_at_pc, first_value, second_value, op_for}
@@ -165,7 +165,7 @@ unfolding pure mapped execution_of
 decoded_stores core shown bits len None bytes P holds = stores_alone core bytes P [] holds.none
 decoded_stores core shown bits len (Some op) bytes P holds =
     let i : Instruction = record { op = op; bits = bits; len = len } in
-    executed_by_stores core (choices_of shown (operands_of op).rd) i
+    executed_by_stores core (row_choices_of shown (operands_of op).rd) i
     (result_of op (first_value core op) (second_value core op) core.pc len) bytes P holds
 
 fetched_stores : (core : Core) (shown : Shown) (word : Result (ℕ × ℕ) Exception) (bytes : Bytes)

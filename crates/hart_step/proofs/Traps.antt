@@ -21,7 +21,7 @@ use Rattle.hart_step.specs.declared.instruction.Instruction.{Instruction}
 use Rattle.hart_step.specs.declared.instruction.InstructionOutcome.{InstructionOutcome}
 use Rattle.hart_step.specs.declared.instruction.InstructionOutcome.TheVariants.{Trapped, Retired}
 use Rattle.hart_step.specs.declared.memory.AccessResult.{AccessResult}
-use Rattle.hart_step.specs.Choices.{choices_of}
+use Rattle.hart_step.specs.Choices.{row_choices_of}
 use Rattle.hart_step.specs.MemoryAccess.{located_access, access_after_location, memory_access}
 use Rattle.hart_step.specs.Instructions.{Completion, after_access, execution_of, execution_by, first_value}
 use Rattle.hart_step.specs.Instructions.{second_value, InstructionRun, run_of_result, op_for, run_of_decoded}
@@ -105,9 +105,9 @@ unfolding pure mapped
 decoded_clean core shown bits len None bytes = λ trapped. (refl, sets_nothing core bytes)
 decoded_clean core shown bits len (Some op) bytes =
     let i : Instruction = record { op = op; bits = bits; len = len } in
-    let did = (execution_of core (choices_of shown (operands_of op).rd) i).run bytes in
+    let did = (execution_of core (row_choices_of shown (operands_of op).rd) i).run bytes in
     ended_clean core i bytes did.value did.reads did.wrote
-    (executed_clean core (choices_of shown (operands_of op).rd) i bytes)
+    (executed_clean core (row_choices_of shown (operands_of op).rd) i bytes)
 
 fetched_clean : (core : Core) (shown : Shown) (word : Result (ℕ × ℕ) Exception) (bytes : Bytes)
     → IsClean core bytes ((run_of_fetched core shown word).run bytes)

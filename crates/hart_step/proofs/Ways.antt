@@ -29,7 +29,7 @@ use Rattle.hart_step.specs.declared.choices.RowChoices.{RowChoices}
 use Rattle.hart_step.specs.declared.choices.Lines.{Lines}
 use Rattle.hart_step.specs.declared.instruction.Instruction.{Instruction}
 use Rattle.hart_step.specs.declared.memory.AccessResult.{AccessResult}
-use Rattle.hart_step.specs.Choices.{choices_of, pending_lines_of, asks_interrupt}
+use Rattle.hart_step.specs.Choices.{row_choices_of, pending_lines_of, asks_interrupt}
 use Rattle.hart_step.specs.MemoryAccess.{found_without_value, found_with_read, store_places, exchange_at}
 use Rattle.hart_step.specs.MemoryAccess.{located_access}
 use Rattle.hart_step.specs.MemoryAccess.{located_access_by, access_result_of, access_result_by, number_written, put_to}
@@ -287,14 +287,14 @@ ran_decoded core shown word len {done} {s1} {s2} {w1} {w2} {bytes} looked is did
 
 pub ran_executed : (core : Core) (shown : Shown) (word len : ℕ) (op : Op) {done : Result Completion Exception}
     {choices : RowChoices} {s0 s1 : List Read} {w0 w1 : List Write} {bytes : Bytes}
-    → choices ≡ choices_of shown (operands_of op).rd
+    → choices ≡ row_choices_of shown (operands_of op).rd
     → Notes (execution_of core choices (record { op = op; bits = word; len = len })) done s0 s1 w0 w1 bytes
     → Notes (run_of_decoded core shown word len (Some op))
     (run_of_result core (record { op = op; bits = word; len = len }) done) s0 s1 w0 w1 bytes
 ran_executed core shown word len op {done} {s0} {s1} {w0} {w1} {bytes} chosen did =
     let i : Instruction = record { op = op; bits = word; len = len } in
     let P : RowChoices → Type 0 = λ c. Notes (execution_of core c i) done s0 s1 w0 w1 bytes in
-    Notes-mapped (run_of_result core i) (execution_of core (choices_of shown (operands_of op).rd) i)
+    Notes-mapped (run_of_result core i) (execution_of core (row_choices_of shown (operands_of op).rd) i)
     (subst P chosen did)
 
 -- an exception, as it is noted

@@ -36,8 +36,8 @@ unfoldable pub asks_interrupt : Core → Shown → Bool
 asks_interrupt core shown = shows (shown Intr) 1 && not (core.trapped_last && shows (shown PcRdata) core.pc)
 
 -- what an instruction takes from its row, whose `rd_wdata` says nothing where the destination is x0
-unfoldable pub choices_of : Shown → ℕ → RowChoices
-choices_of shown rd = record {
+unfoldable pub row_choices_of : Shown → ℕ → RowChoices
+row_choices_of shown rd = record {
   rd_wdata = if rd == 0 then None else shown RdWdata;
   mem_addr = shown MemAddr;
   mem_rdata = shown MemRdata;

@@ -30,7 +30,7 @@ use Rattle.hart_step.specs.declared.instruction.Instruction.{Instruction}
 use Rattle.hart_step.specs.declared.instruction.InstructionOutcome.{InstructionOutcome}
 use Rattle.hart_step.specs.declared.instruction.InstructionOutcome.TheVariants.{Trapped, Retired}
 use Rattle.hart_step.specs.declared.memory.AccessResult.{AccessResult}
-use Rattle.hart_step.specs.Choices.{choices_of}
+use Rattle.hart_step.specs.Choices.{row_choices_of}
 use Rattle.hart_step.specs.MemoryAccess.{memory_access}
 use Rattle.hart_step.specs.CsrAccess.{csr_access_result}
 use Rattle.hart_step.specs.Returns.{may_use_supervisor_instruction, may_mret, core_after_mret, core_after_sret}
@@ -153,7 +153,7 @@ abbrev pub run_of_decoded : Core → Shown → ℕ → ℕ → Option Op → Act
 run_of_decoded core shown bits len None = pure (run_of_exception core (Some bits) (IllegalInstruction, bits))
 run_of_decoded core shown bits len (Some op) =
     let instruction : Instruction = record { op = op; bits = bits; len = len } in
-    mapped (run_of_result core instruction) (execution_of core (choices_of shown (operands_of op).rd) instruction)
+    mapped (run_of_result core instruction) (execution_of core (row_choices_of shown (operands_of op).rd) instruction)
 
 abbrev pub run_of_fetched : Core → Shown → Result (ℕ × ℕ) Exception → Action InstructionRun
 run_of_fetched core shown (Err exception) = pure (run_of_exception core None exception)

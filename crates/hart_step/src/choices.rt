@@ -2,7 +2,7 @@
 
 ghost use Rattle.std.specs.Prelude.{◌≡◌, ◌≤◌, ◌<◌, ◌+◌, ◌*◌, ◌%◌, ◌^◌, IfSome};
 ghost use Rattle.rvfi_rows.specs.Cells.{shown_in};
-ghost use Rattle.hart_step.specs.Choices.{shows, order_after, pending_lines_under, pending_lines_of, choices_of, bytes_at, load_bytes_shown, device_value, mask_says_stored, register_says_stored, says_stored};
+ghost use Rattle.hart_step.specs.Choices.{shows, order_after, pending_lines_under, pending_lines_of, row_choices_of, bytes_at, load_bytes_shown, device_value, mask_says_stored, register_says_stored, says_stored};
 
 use hart_words::{CsrName, CsrSide, Signal};
 use rvfi_rows::{Row, distance_in_window, moved_down};
@@ -80,9 +80,9 @@ fn lines_under(mip: Option<u64>, mask: Option<u64>) -> Lines
 }
 
 /// What an instruction with the destination `rd` takes from its row.
-#[tactic(auto, unfolding(crate::specs::Choices::choices_of))]
-pub fn choices_of(row: &Row, rd: u8) -> RowChoices
-    ensures { result ≡ choices_of (shown_in row.now) rd }
+#[tactic(auto, unfolding(crate::specs::Choices::row_choices_of))]
+pub fn row_choices_of(row: &Row, rd: u8) -> RowChoices
+    ensures { result ≡ row_choices_of (shown_in row.now) rd }
 {
     RowChoices {
         rd_wdata: if rd == 0 {

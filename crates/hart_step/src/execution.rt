@@ -13,7 +13,7 @@ ghost use Rattle.hart_step.specs.Changes.{retirement_of, completion_by, completi
 
 use crate::accesses::Accesses;
 use crate::changes::{Change, InstructionNotes, Retirement};
-use crate::choices::{RowChoices, choices_of};
+use crate::choices::{RowChoices, row_choices_of};
 use crate::instruction::{Exception, Instruction, InstructionOutcome};
 use crate::state::Core;
 use csr_file::fields::{TSR, TVM};
@@ -70,7 +70,7 @@ impl Core {
             bits,
             len: u64::from(len),
         };
-        let choices = choices_of(row, op.operands().rd);
+        let choices = row_choices_of(row, op.operands().rd);
         match self.execute(&instruction, &choices, mem, accesses) {
             Ok((change, access)) => InstructionNotes {
                 executed: InstructionOutcome::Retired {

@@ -43,8 +43,8 @@ use Rattle.judge_run.specs.declared.tally.Tally.{Tally}
 use Rattle.judge_run.specs.declared.tally.AfterRound.{AfterRound}
 use Rattle.judge_run.specs.declared.tally.AfterRound.TheVariants.{Continue, Ends}
 use Rattle.judge_run.specs.Events.{AreLeft}
-use Rattle.judge_run.specs.Settling.{IsCountedOn, IsNew, IsPartOver, IsRoundOver, IsSettled, IsTallied, LeadsBy}
-use Rattle.judge_run.specs.Settling.{LeadsTo, LeadsToBy, SettlesInRounds}
+use Rattle.judge_run.specs.Settling.{IsCountedOn, IsNewTally, IsPartOver, IsRoundOver, IsSettled, IsTallied, LeadsBy}
+use Rattle.judge_run.specs.Settling.{LeadsToRound, LeadsToBy, SettlesInRounds}
 
 -- ---- a round in code is one of the definitions
 
@@ -136,7 +136,7 @@ pub record IsNextRound {M : Type 0} (bytes_of : M → Bytes) (ram_of : M → Spa
       (state_of bytes_of settling.hart) round
 
 pub so_far_begins : {M : Type 0} (bytes_of : M → Bytes) (columns : ColumnList) (segments : List Segment)
-    (hart : Hart M) (tally : Tally) (count : ℕ) → IsNew tally
+    (hart : Hart M) (tally : Tally) (count : ℕ) → IsNewTally tally
     → SoFar bytes_of columns segments (state_of bytes_of hart) count count (record { hart = hart; tally = tally })
 so_far_begins bytes_of columns segments hart tally count new = record {
   extend =
@@ -353,7 +353,7 @@ Followed bytes_of columns segments start before now (Ends joined) =
 round_follows : {M : Type 0} {bytes_of : M → Bytes} {ram_of : M → Span} {columns : ColumnList}
     {segments : List Segment} {start : HartState} {before now : ℕ} {settling : Settling M} {round : Round M}
     (next : AfterRound M) → IsNextRound bytes_of ram_of columns segments settling round
-    → SoFar bytes_of columns segments start before now settling → LeadsTo settling.tally round next
+    → SoFar bytes_of columns segments start before now settling → LeadsToRound settling.tally round next
     → Followed bytes_of columns segments start before (now + 1) next
 round_follows {M} {bytes_of} {ram_of} {columns} {segments} {start} {before} {now} {settling} {round} next is_next so_far
     leads =
@@ -459,7 +459,7 @@ part_tallied : {M : Type 0} {bytes_of : M → Bytes} {ram_of : M → Span} {colu
     {segments : List Segment} {round : Round M} (settling : Settling M) (next : AfterRound M)
     → IsTallied columns segments settling.tally
     → IsPartOver bytes_of ram_of columns (drop settling.tally.settled segments) (state_of bytes_of settling.hart)
-    round → LeadsTo settling.tally round next → IsTalliedAfter ram_of columns segments settling.tally next
+    round → LeadsToRound settling.tally round next → IsTalliedAfter ram_of columns segments settling.tally next
 part_tallied {M} {bytes_of} {ram_of} {columns} {segments} {round} settling next tallied over leads =
     by round.verdict round.end next (part_within round over) over.can_step leads
   where

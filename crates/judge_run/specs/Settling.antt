@@ -64,11 +64,11 @@ LeadsToBy tally round verdict end (Ends joined) =
       rejudged = tally.rejudged + round.rejudged;
     }
 
-abbrev pub LeadsTo : {M : Type 0} → Tally → Round M → AfterRound M → Type 0
-LeadsTo tally round next = LeadsToBy tally round round.verdict round.end next
+abbrev pub LeadsToRound : {M : Type 0} → Tally → Round M → AfterRound M → Type 0
+LeadsToRound tally round next = LeadsToBy tally round round.verdict round.end next
 
 -- nothing was counted yet
-pub record IsNew (tally : Tally) : Type 0 where
+pub record IsNewTally (tally : Tally) : Type 0 where
   pub rows : tally.counts.rows ≡ 0
   pub valid : tally.counts.valid ≡ 0
   pub settled : tally.settled ≡ 0
@@ -129,4 +129,4 @@ pub record LeadsBy {M : Type 0} (bytes_of : M → Bytes) (ram_of : M → Span) (
   pub round : Round M
   pub over : IsRoundOver bytes_of ram_of columns (drop settling.tally.settled segments)
       (state_of bytes_of settling.hart) round
-  pub leads : LeadsTo settling.tally round next
+  pub leads : LeadsToRound settling.tally round next

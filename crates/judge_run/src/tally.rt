@@ -4,7 +4,7 @@ ghost use Rattle.std.specs.Prelude.{◌≡◌, ◌≤◌, ◌<◌, ◌+◌, ◌^
 ghost use Rattle.rvfi_rows.specs.declared.verdict.Verdict.TheVariants.{Agrees};
 ghost use Rattle.segment_judge.specs.Judgements.{verdict_after_rows};
 ghost use Rattle.verdict_join.specs.Walks.{IsWithinRows};
-ghost use Rattle.judge_run.specs.Settling.{IsNew, LeadsTo};
+ghost use Rattle.judge_run.specs.Settling.{IsNewTally, LeadsToRound};
 
 use hart_step::Hart;
 use rvfi_rows::{RowCounts, Verdict};
@@ -37,7 +37,7 @@ pub(crate) enum AfterRound<M> {
 impl Tally {
     /// No segment was settled yet.
     pub fn new() -> Tally
-        ensures { IsNew result }
+        ensures { IsNewTally result }
     {
         Tally {
             counts: RowCounts::zero(),
@@ -70,7 +70,7 @@ impl Tally {
         requires within { IsWithinRows (2 ^ 62) round.verdict }
         requires settled { self.settled + round.settled < 2 ^ 32 }
         requires rejudged { self.rejudged + round.rejudged < 2 ^ 32 }
-        ensures { LeadsTo self round result }
+        ensures { LeadsToRound self round result }
     {
         let settled = self.settled + round.settled;
         let rejudged = self.rejudged + round.rejudged;

@@ -12,7 +12,7 @@ use Rattle.clap.proofs.OnLiterals.{clap_on_literals}
 use Rattle.clap.specs.Walk.{Row, first_of}
 use Rattle.hart_words.specs.Numbers.{digits_number, number_of, number_within}
 use Rattle.judge_words.specs.Values.{◌>>=◌, at_most, image_limit_in, io_in, made_number_in, made_rows_in}
-use Rattle.judge_words.specs.Values.{number_at_most, number_in, number_up_to, pc_in, span_in, trace_limit_in}
+use Rattle.judge_words.specs.Values.{number_at_most, number_of_text, number_up_to, first_pc_in, span_in, trace_limit_in}
 use Rattle.judge_words.specs.Commands.{command_line, command_entered, values_given_to}
 use Rattle.hart_words.specs.Choices.{plain_choices}
 use Rattle.judge_words.specs.Job.{IsMadeJob, JobView, given_choices, files_job, job_from, job_of, made_job, sharing_of}
@@ -62,7 +62,7 @@ unfolding number_at_most
 within most text =
     let Within : ℕ → Type 0 = λ value. value ≤ most in
     following Within text (number_at_most most)
-    (λ text there. following Within (number_in text) (at_most most) (λ value read. within_most most value))
+    (λ text there. following Within (number_of_text text) (at_most most) (λ value read. within_most most value))
 
 -- jobs over files are not made
 of_files : (job : JobView) (image trace : List ℕ) → job.command ≡ Judge image trace → ForSome (Some job) IfMade
@@ -76,7 +76,7 @@ unfolding files_job
 files_named given =
     following IfMade (first_of (codes "image") given) _ (λ image e1.
     following IfMade (first_of (codes "trace") given) _ (λ trace e2.
-    following IfMade (pc_in (first_of (codes "pc") given)) _ (λ pc e3.
+    following IfMade (first_pc_in (first_of (codes "pc") given)) _ (λ pc e3.
     following IfMade (first_of (codes "ram") given >>= span_in) _ (λ ram e4.
     following IfMade (io_in (first_of (codes "io") given)) _ (λ io e5.
     following IfMade (map_of ram io) _ (λ map e6.
@@ -176,6 +176,6 @@ made_plain words job number rows asked made =
 -- words that ask for such a job
 pub made_asked : option_map (λ job. job.command)
     (job_of (codes "rvjudge" ∷ codes "make" ∷ codes "7" ∷ codes "3" ∷ [])) ≡ Some (Make 7 3)
-unfolding job_of command_line command_entered made_job sharing_of number_at_most number_up_to number_in number_within
+unfolding job_of command_line command_entered made_job sharing_of number_at_most number_up_to number_of_text number_within
     number_of digits_number span_of map_of clap_on_literals
 made_asked = refl

@@ -7,7 +7,7 @@ use Rattle.hart_words.specs.Choices.{choices_of, plain_choices}
 use Rattle.hart_words.specs.Spans.{span_of}
 use Rattle.clap.specs.Walk.{Row, first_of}
 use Rattle.judge_words.specs.Commands.{command_line, command_entered, values_given_to}
-use Rattle.judge_words.specs.Values.{◌>>=◌, pc_in, span_in, io_in, image_limit_in, trace_limit_in, workers_in}
+use Rattle.judge_words.specs.Values.{◌>>=◌, first_pc_in, span_in, io_in, image_limit_in, trace_limit_in, workers_in}
 use Rattle.judge_words.specs.Values.{segment_in, window_in, made_number_in, made_rows_in, misaligned_in}
 use Rattle.judge_words.specs.Values.{trap_values_in, marks_in, block_size_in, bits_in}
 use Rattle.judge_words.specs.declared.values.TheConstants.{RAM_BASE, RAM_SIZE, MOST_IMAGE_BYTES, MOST_TRACE_BYTES}
@@ -54,7 +54,7 @@ unfoldable pub files_job : List Row → Option JobView
 files_job given = do
   image ← first_of (codes "image") given
   trace ← first_of (codes "trace") given
-  pc ← pc_in (first_of (codes "pc") given)
+  pc ← first_pc_in (first_of (codes "pc") given)
   ram ← first_of (codes "ram") given >>= span_in
   io ← io_in (first_of (codes "io") given)
   map ← map_of ram io

@@ -24,20 +24,20 @@ None >>= f = None
 (Some x) >>= f = f x
 
 -- the number that a text writes, below 2^64
-unfoldable pub number_in : List ℕ → Option ℕ
-number_in text = result_ok (number_within 64 text)
+unfoldable pub number_of_text : List ℕ → Option ℕ
+number_of_text text = result_ok (number_within 64 text)
 
 abbrev pub if_even : ℕ → Option ℕ
 if_even value = if value % 2 == 0 then Some value else None
 
 -- an even number, as the address of an instruction is
 unfoldable pub even_in : List ℕ → Option ℕ
-even_in text = number_in text >>= if_even
+even_in text = number_of_text text >>= if_even
 
 -- the address of the first instruction, which may be left out
-abbrev pub pc_in : Option (List ℕ) → Option (Option ℕ)
-pc_in None = Some None
-pc_in (Some text) = option_map (λ pc. Some pc) (even_in text)
+abbrev pub first_pc_in : Option (List ℕ) → Option (Option ℕ)
+first_pc_in None = Some None
+first_pc_in (Some text) = option_map (λ pc. Some pc) (even_in text)
 
 -- a number from 1 to `most`
 abbrev pub up_to : ℕ → ℕ → Option ℕ
@@ -45,7 +45,7 @@ up_to most value = if nat_le 1 value && nat_le value most then Some value else N
 
 -- the number from 1 to `most` that a text writes
 unfoldable pub number_up_to : ℕ → List ℕ → Option ℕ
-number_up_to most text = number_in text >>= up_to most
+number_up_to most text = number_of_text text >>= up_to most
 
 -- a number of bytes of an image, at least one
 abbrev pub image_limit_in : List ℕ → Option ℕ
@@ -98,7 +98,7 @@ at_most most value = if nat_le value most then Some value else None
 
 -- the number up to `most` that a text writes
 unfoldable pub number_at_most : ℕ → List ℕ → Option ℕ
-number_at_most most text = number_in text >>= at_most most
+number_at_most most text = number_of_text text >>= at_most most
 
 -- the number of a made trace
 abbrev pub made_number_in : List ℕ → Option ℕ
@@ -115,8 +115,8 @@ colon = 58
 -- two numbers and one colon, the base and the size of a range
 unfoldable pub span_in : List ℕ → Option Span
 span_in text = do
-  base ← number_in (before_first (λ byte. byte == colon) text)
-  size ← number_in (after_first (λ byte. byte == colon) text)
+  base ← number_of_text (before_first (λ byte. byte == colon) text)
+  size ← number_of_text (after_first (λ byte. byte == colon) text)
   span_of base size
 
 -- a range that may be left out

@@ -1,7 +1,7 @@
 //! The values of options, read from their texts.
 
 ghost use Rattle.std.specs.Prelude.{◌≡◌, ◌≤◌, ◌%◌, IfSome, option_map};
-ghost use Rattle.judge_words.specs.Values.{number_in, number_up_to, even_in, image_limit_in, trace_limit_in, workers_in, segment_in, window_in, block_size_in, misaligned_in, trap_values_in, marks_in, bits_in, number_at_most, made_number_in, made_rows_in, span_in, io_in, pc_in};
+ghost use Rattle.judge_words.specs.Values.{number_of_text, number_up_to, even_in, image_limit_in, trace_limit_in, workers_in, segment_in, window_in, block_size_in, misaligned_in, trap_values_in, marks_in, bits_in, number_at_most, made_number_in, made_rows_in, span_in, io_in, first_pc_in};
 
 use hart_words::{Marks, Misaligned, Span, TrapValues, read_number};
 
@@ -39,9 +39,9 @@ pub const MOST_MADE_NUMBER: u64 = 0xffff_ffff;
 pub const MOST_MADE_ROWS: u64 = 1 << 18;
 
 /// A number below 2^64.
-#[tactic(auto, unfolding(crate::specs::Values::number_in))]
+#[tactic(auto, unfolding(crate::specs::Values::number_of_text))]
 fn read_u64(text: &str) -> Option<u64>
-    ensures { result ≡ number_in text.now }
+    ensures { result ≡ number_of_text text.now }
 {
     read_number(text.as_bytes(), 64).ok()
 }
@@ -58,7 +58,7 @@ fn read_even(text: &str) -> Option<u64>
 
 /// The address of the first instruction, which may be left out.
 pub fn read_pc(text: Option<&str>) -> Option<Option<u64>>
-    ensures value { result ≡ pc_in (option_map (λ text. text.now) text.entry) }
+    ensures value { result ≡ first_pc_in (option_map (λ text. text.now) text.entry) }
     ensures even { IfSome result (λ pc. IfSome pc (λ pc. pc % 2 ≡ 0)) }
 {
     match text {
@@ -210,7 +210,7 @@ pub fn read_made_rows(text: &str) -> Option<u32>
 }
 
 /// A range of addresses, as `BASE:SIZE`.
-#[tactic(auto, unfolding(crate::specs::Values::span_in, crate::specs::Values::number_in))]
+#[tactic(auto, unfolding(crate::specs::Values::span_in, crate::specs::Values::number_of_text))]
 pub fn read_span(text: &str) -> Option<Span>
     ensures { result ≡ span_in text.now }
 {

@@ -5,7 +5,7 @@ use Rattle.std.proofs.Common.{get_or, slice_get, take, drop, ◌-◌, ◌<◌, �
 use Rattle.std.proofs.lemmas.Bool.{eqb-true, eqb-false, ne_eqb}
 use Rattle.std.proofs.lemmas.List.{take_at, drop_at, drop-drop, get_or_read}
 use Rattle.std.proofs.lemmas.List.Elements.{All-nil, All-cons, All-head, All-tail}
-use Rattle.line_text.specs.Lines.{start_in, line_feed, with_first_byte, text_lines, IsLine, text_of, ends_from}
+use Rattle.line_text.specs.Lines.{line_start, line_feed, with_first_byte, text_lines, IsLine, text_of, ends_from}
 use Rattle.line_text.specs.Lines.{IsLaidOut}
 
 -- each is a line
@@ -112,7 +112,7 @@ abbrev start_from : ℕ → List ℕ → ℕ → ℕ
 start_from at ends zero = at
 start_from at ends (suc place) = get_or ends place 0 + 1
 
-start_from-is : (ends : List ℕ) (place : ℕ) → start_from 0 ends place ≡ start_in ends place
+start_from-is : (ends : List ℕ) (place : ℕ) → start_from 0 ends place ≡ line_start ends place
 start_from-is ends zero = refl
 start_from-is ends (suc place) =
     let less : suc place - 1 ≡ place = omega arith in
@@ -177,7 +177,7 @@ cut_at at (line ∷ lines) (suc (suc place)) within =
 
 -- the same of a text that is laid out
 pub cut_laid_out : (text ends : List ℕ) (place : ℕ) → IsLaidOut text ends → place < length ends
-    → IsCut (text_lines text) text 0 place (start_in ends place) (get_or ends place 0)
+    → IsCut (text_lines text) text 0 place (line_start ends place) (get_or ends place 0)
 cut_laid_out text ends place out within =
     let P : List ℕ → List ℕ → Type 0 =
     λ (t e : List ℕ). IsCut (text_lines text) t 0 place (start_from 0 e place) (get_or e place 0) in
@@ -189,7 +189,7 @@ cut_laid_out text ends place out within =
 
 -- the same of the places that the code has
 pub is_cut : {text ends : List ℕ} (number start end : ℕ) → IsLaidOut text ends → number < length ends
-    → start ≡ start_in ends number → end ≡ get_or ends number end → IsCut (text_lines text) text 0 number start end
+    → start ≡ line_start ends number → end ≡ get_or ends number end → IsCut (text_lines text) text 0 number start end
 is_cut {text} {ends} number start end out within from to =
     rw (from, get_or_read ends number end within to 0) (cut_laid_out text ends number out within)
 

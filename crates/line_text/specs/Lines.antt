@@ -32,8 +32,8 @@ ends_from at [] = []
 ends_from at (line ∷ lines) = (at + length line) ∷ ends_from (at + length line + 1) lines
 
 -- where the line of a number begins, by the places of the line feeds: after the one before it
-abbrev pub start_in : List ℕ → ℕ → ℕ
-start_in ends number = if number == 0 then 0 else slice_index ends (number - 1) + 1
+abbrev pub line_start : List ℕ → ℕ → ℕ
+line_start ends number = if number == 0 then 0 else slice_index ends (number - 1) + 1
 
 -- a text is made of its lines, and the places are those of its line feeds
 pub record IsLaidOut (text ends : List ℕ) : Type 0 where

@@ -1,7 +1,7 @@
 //! Lines kept as one text.
 
 ghost use Rattle.std.specs.Prelude.{◌≡◌, ◌≤◌, ◌<◌, ◌+◌, ◌-◌, ◌^◌, ◌++◌, ◌∷◌, ◌==◌, [], ℕ, List, length, take, drop, slice_get, option_copied, IfOk, OnOk, OnErr};
-ghost use Rattle.line_text.specs.Lines.{IsLine, text_lines, start_in};
+ghost use Rattle.line_text.specs.Lines.{IsLine, text_lines, line_start};
 
 use std::alloc::{AllocError, Global};
 use std::marker::Model;
@@ -100,8 +100,8 @@ impl Lines {
 /// Where the line of this number begins: after the line feed of the one before it.
 fn start_of(ends: &[usize], number: usize) -> usize
     requires within { number ≤ length ends.now }
-    requires fits { start_in ends.now number < 2 ^ 64 }
-    ensures { result ≡ start_in ends.now number }
+    requires fits { line_start ends.now number < 2 ^ 64 }
+    ensures { result ≡ line_start ends.now number }
 {
     match number {
         0 => 0,

@@ -20,7 +20,7 @@ use Rattle.hart_words.specs.Registers.{registers_at_reset}
 use Rattle.hart_step.specs.Cores.{core_at_reset}
 use Rattle.made_runs.specs.Laws.{MadeState}
 use Rattle.made_runs.specs.Shows.{made_readings, shown_of}
-use Rattle.made_runs.specs.States.{HasImage, IsMadeMap, core_with}
+use Rattle.made_runs.specs.States.{HasImage, IsMadeMap, core_at}
 use Rattle.made_runs.proofs.Steps.{AgreesTo, addi_agrees, first_agrees, jal_agrees, ld_agrees, sd_agrees, xor_agrees}
 
 -- a row that agrees, and the others after it
@@ -74,14 +74,14 @@ none_left number core bytes r = refl
 
 -- the hart before a row: at a place of a turn after others
 abbrev at_addi : Map → (number t x4 r : ℕ) → Core
-at_addi map number t x4 r = core_with map 0x80000004 (x1_after number t) 0x80001000 (x3_after number t) x4 (Some r)
+at_addi map number t x4 r = core_at map 0x80000004 (x1_after number t) 0x80001000 (x3_after number t) x4 (Some r)
 
 abbrev at_xor : Map → (number t x4 r : ℕ) → Core
-at_xor map number t x4 r = core_with map 0x80000008 (x1_after number (t + 1)) 0x80001000 (x3_after number t) x4 (Some r)
+at_xor map number t x4 r = core_at map 0x80000008 (x1_after number (t + 1)) 0x80001000 (x3_after number t) x4 (Some r)
 
 abbrev in_turn : Map → (pc number t x4 r : ℕ) → Core
 in_turn map pc number t x4 r =
-    core_with map pc (x1_after number (t + 1)) 0x80001000 (x3_after number (t + 1)) x4 (Some r)
+    core_at map pc (x1_after number (t + 1)) 0x80001000 (x3_after number (t + 1)) x4 (Some r)
 
 -- a made row that agrees as a row of its turn, and the others
 row_agrees : {core next : Core} {bytes : Bytes} {wrote : List Write} {n : ℕ} (number t k r : ℕ) → r ≡ 5 * t + 1 + k

@@ -17,7 +17,7 @@ use Rattle.rv_decode.specs.Table.{decoded_op_of}
 use Rattle.mem_access.specs.Accesses.{Exception, fetch_result}
 use Rattle.hart_step.specs.declared.state.Core.{Core}
 use Rattle.hart_step.specs.declared.instruction.Instruction.{Instruction}
-use Rattle.hart_step.specs.Choices.{asks_interrupt, choices_of}
+use Rattle.hart_step.specs.Choices.{asks_interrupt, row_choices_of}
 use Rattle.hart_step.specs.Instructions.{Completion, InstructionRun, run_of_result, execution_of, run_of_fetched}
 use Rattle.hart_step.specs.Instructions.{instruction_run}
 use Rattle.hart_step.specs.Steps.{before_instruction, core_after_count, step_result_of, core_after_interrupt}
@@ -42,7 +42,7 @@ use Rattle.made_runs.proofs.Images.{IsWordAt, auipc_at, addi_at, xor_at, sd_at, 
 use Rattle.made_runs.proofs.Decodes.{decoded_plainly, auipc_means, addi_means, xor_means, sd_means, ld_means, jal_means}
 use Rattle.trace_maker.specs.declared.made_row.MadeRow.{MadeRow}
 use Rattle.made_runs.specs.Shows.{shown_of}
-use Rattle.made_runs.specs.States.{core_with}
+use Rattle.made_runs.specs.States.{core_at}
 
 -- no made row asks for an interrupt
 begun_made : (core : Core) (row : MadeRow)
@@ -70,7 +70,7 @@ pub judged_as : {word : ℕ} {op : Op} {reads : List Read} (map : Map) (core : C
     let instruction : Instruction = record { op = op; bits = word; len = 4 } in
     (by_hart core (shown_of row)).run bytes
     ≡ judged_by core row instruction reads
-    ((execution_of (core_after_count core (shown_of row)) (choices_of (shown_of row) (operands_of op).rd)
+    ((execution_of (core_after_count core (shown_of row)) (row_choices_of (shown_of row) (operands_of op).rd)
     instruction).run bytes)
 unfolding by_hart step_of mapped instruction_run core_after_count after_writes
 judged_as {word} {op} {reads} map core row bytes fetch means =
@@ -79,7 +79,7 @@ judged_as {word} {op} {reads} map core row bytes fetch means =
     let now : Core = core_after_count core shown in
     let instruction : Instruction = record { op = op; bits = word; len = 4 } in
     let run : Run (Result Completion Exception) =
-    (execution_of now (choices_of shown (operands_of op).rd) instruction).run bytes in
+    (execution_of now (row_choices_of shown (operands_of op).rd) instruction).run bytes in
     let all : (instruction_run now shown).run bytes
     ≡ record { value = run_of_result now instruction run.value; reads = reads ++ run.reads; wrote = run.wrote } =
     run_then-is (fetch_result csrs_at_reset map plain_choices Machine core.pc) (run_of_fetched now shown) bytes
@@ -120,14 +120,14 @@ fetch_word made pc word low high at =
 
 -- AUIPC
 pub first_agrees : {number : ℕ} (made : MadeState number)
-    → AgreesTo (core_with made.map 0x80000000 0 0 0 0 None) first_row made.bytes
-    (core_with made.map 0x80000004 0 0x80001000 0 0 (Some 1)) []
+    → AgreesTo (core_at made.map 0x80000000 0 0 0 0 None) first_row made.bytes
+    (core_at made.map 0x80000004 0 0x80001000 0 0 (Some 1)) []
 unfolding execution_of result_of immediate_result register_result core_after_retirement core_after_count
     core_after_run step_result_of expected_of difference_of pure before_instruction core_after_interrupt
     asks_interrupt lacks_interrupt
 first_agrees {number} made =
     let fetch = fetch_word made 0x80000000 0x00001117 (lit≤ tt) (lit≤ tt) (auipc_at number made.bytes made.has_image) in
-    let all = judged_as made.map (core_with made.map 0x80000000 0 0 0 0 None) first_row made.bytes fetch auipc_means in
+    let all = judged_as made.map (core_at made.map 0x80000000 0 0 0 0 None) first_row made.bytes fetch auipc_means in
     record {
       next_is = rw all refl;
       difference =
@@ -151,9 +151,9 @@ first_agrees {number} made =
 
 -- ADDI
 pub addi_agrees : {number : ℕ} (made : MadeState number) (x1 x2 x3 x4 later r : ℕ)
-    → AgreesTo (core_with made.map 0x80000004 x1 x2 x3 x4 (Some r))
+    → AgreesTo (core_at made.map 0x80000004 x1 x2 x3 x4 (Some r))
     (turn_row number ((x1 + immediate_of number) % 2 ^ 64) later r 0) made.bytes
-    (core_with made.map 0x80000008 ((x1 + immediate_of number) % 2 ^ 64) x2 x3 x4 (Some ((r + 1) % 2 ^ 64))) []
+    (core_at made.map 0x80000008 ((x1 + immediate_of number) % 2 ^ 64) x2 x3 x4 (Some ((r + 1) % 2 ^ 64))) []
 unfolding execution_of result_of immediate_result register_result core_after_retirement core_after_count
     core_after_run step_result_of expected_of difference_of pure before_instruction core_after_interrupt
     asks_interrupt lacks_interrupt turn_row
@@ -162,7 +162,7 @@ addi_agrees {number} made x1 x2 x3 x4 later r =
     let fetch =
     fetch_word made 0x80000004 (addi_of number) (lit≤ tt) (lit≤ tt) (addi_at number made.bytes made.has_image) in
     let all =
-    judged_as made.map (core_with made.map 0x80000004 x1 x2 x3 x4 (Some r)) row made.bytes fetch (addi_means number) in
+    judged_as made.map (core_at made.map 0x80000004 x1 x2 x3 x4 (Some r)) row made.bytes fetch (addi_means number) in
     record {
       next_is = rw all refl;
       difference =
@@ -186,8 +186,8 @@ addi_agrees {number} made x1 x2 x3 x4 later r =
 
 -- XOR
 pub xor_agrees : {number : ℕ} (made : MadeState number) (x1 x2 x3 x4 r : ℕ)
-    → AgreesTo (core_with made.map 0x80000008 x1 x2 x3 x4 (Some r)) (turn_row number x1 (bit_xor x3 x1) r 1) made.bytes
-    (core_with made.map 0x8000000c x1 x2 (bit_xor x3 x1) x4 (Some ((r + 1) % 2 ^ 64))) []
+    → AgreesTo (core_at made.map 0x80000008 x1 x2 x3 x4 (Some r)) (turn_row number x1 (bit_xor x3 x1) r 1) made.bytes
+    (core_at made.map 0x8000000c x1 x2 (bit_xor x3 x1) x4 (Some ((r + 1) % 2 ^ 64))) []
 unfolding execution_of result_of immediate_result register_result core_after_retirement core_after_count
     core_after_run step_result_of expected_of difference_of pure before_instruction core_after_interrupt
     asks_interrupt lacks_interrupt turn_row
@@ -196,7 +196,7 @@ xor_agrees {number} made x1 x2 x3 x4 r =
     let fetch =
     fetch_word made 0x80000008 0x0011c1b3 (lit≤ tt) (lit≤ tt) (xor_at number made.bytes made.has_image) in
     let all =
-    judged_as made.map (core_with made.map 0x80000008 x1 x2 x3 x4 (Some r)) row made.bytes fetch xor_means in
+    judged_as made.map (core_at made.map 0x80000008 x1 x2 x3 x4 (Some r)) row made.bytes fetch xor_means in
     record {
       next_is = rw all refl;
       difference =
@@ -220,8 +220,8 @@ xor_agrees {number} made x1 x2 x3 x4 r =
 
 -- JAL
 pub jal_agrees : {number : ℕ} (made : MadeState number) (x1 x2 x3 x4 one three r : ℕ)
-    → AgreesTo (core_with made.map 0x80000014 x1 x2 x3 x4 (Some r)) (turn_row number one three r 4) made.bytes
-    (core_with made.map 0x80000004 x1 x2 x3 x4 (Some ((r + 1) % 2 ^ 64))) []
+    → AgreesTo (core_at made.map 0x80000014 x1 x2 x3 x4 (Some r)) (turn_row number one three r 4) made.bytes
+    (core_at made.map 0x80000004 x1 x2 x3 x4 (Some ((r + 1) % 2 ^ 64))) []
 unfolding execution_of result_of immediate_result register_result core_after_retirement core_after_count
     core_after_run step_result_of expected_of difference_of pure before_instruction core_after_interrupt
     asks_interrupt lacks_interrupt turn_row
@@ -230,7 +230,7 @@ jal_agrees {number} made x1 x2 x3 x4 one three r =
     let fetch =
     fetch_word made 0x80000014 0xff1ff06f (lit≤ tt) (lit≤ tt) (jal_at number made.bytes made.has_image) in
     let all =
-    judged_as made.map (core_with made.map 0x80000014 x1 x2 x3 x4 (Some r)) row made.bytes fetch jal_means in
+    judged_as made.map (core_at made.map 0x80000014 x1 x2 x3 x4 (Some r)) row made.bytes fetch jal_means in
     record {
       next_is = rw all refl;
       difference =
@@ -254,22 +254,22 @@ jal_agrees {number} made x1 x2 x3 x4 one three r =
 
 -- SD
 pub sd_agrees : {number : ℕ} (made : MadeState number) (x1 x3 x4 one r : ℕ) → x3 < 2 ^ 64
-    → AgreesTo (core_with made.map 0x8000000c x1 0x80001000 x3 x4 (Some r)) (turn_row number one x3 r 2) made.bytes
-    (core_with made.map 0x80000010 x1 0x80001000 x3 x4 (Some ((r + 1) % 2 ^ 64)))
+    → AgreesTo (core_at made.map 0x8000000c x1 0x80001000 x3 x4 (Some r)) (turn_row number one x3 r 2) made.bytes
+    (core_at made.map 0x80000010 x1 0x80001000 x3 x4 (Some ((r + 1) % 2 ^ 64)))
     (record { pa = 0x80001000; len = 8; value = x3 } ∷ [])
 unfolding execution_of result_of core_after_retirement core_after_count core_after_run step_result_of expected_of
     difference_of pure before_instruction core_after_interrupt asks_interrupt lacks_interrupt turn_row mapped
     after_access
 sd_agrees {number} made x1 x3 x4 one r small =
     let row : MadeRow = turn_row number one x3 r 2 in
-    let core : Core = core_with made.map 0x8000000c x1 0x80001000 x3 x4 (Some r) in
+    let core : Core = core_at made.map 0x8000000c x1 0x80001000 x3 x4 (Some r) in
     let fetch =
     fetch_word made 0x8000000c 0x00313023 (lit≤ tt) (lit≤ tt) (sd_at number made.bytes made.has_image) in
     let all = judged_as made.map core row made.bytes fetch sd_means in
     let low : x3 % 2 ^ 64 ≡ x3 = mod-eq_of_lt small in
     let access =
-    store_accessed made.map (core_with made.map 0x8000000c x1 0x80001000 x3 x4 (Some ((r + 1) % 2 ^ 64))) x3
-    (choices_of (shown_of row) 0) made.bytes made.is_map in
+    store_accessed made.map (core_at made.map 0x8000000c x1 0x80001000 x3 x4 (Some ((r + 1) % 2 ^ 64))) x3
+    (row_choices_of (shown_of row) 0) made.bytes made.is_map in
     record {
       next_is = rw (all, low, access) refl;
       difference =
@@ -297,8 +297,8 @@ sd_agrees {number} made x1 x3 x4 one r small =
 -- LD
 pub ld_agrees : {number : ℕ} (made : MadeState number) (x1 x3 x4 one r : ℕ) → x3 < 2 ^ 64
     → number_at made.bytes 0x80001000 8 ≡ x3
-    → AgreesTo (core_with made.map 0x80000010 x1 0x80001000 x3 x4 (Some r)) (turn_row number one x3 r 3) made.bytes
-    (core_with made.map 0x80000014 x1 0x80001000 x3 x3 (Some ((r + 1) % 2 ^ 64))) []
+    → AgreesTo (core_at made.map 0x80000010 x1 0x80001000 x3 x4 (Some r)) (turn_row number one x3 r 3) made.bytes
+    (core_at made.map 0x80000014 x1 0x80001000 x3 x3 (Some ((r + 1) % 2 ^ 64))) []
 unfolding execution_of result_of core_after_retirement core_after_count core_after_run step_result_of expected_of
     difference_of pure before_instruction core_after_interrupt asks_interrupt lacks_interrupt turn_row mapped
     after_access
@@ -307,11 +307,11 @@ ld_agrees {number} made x1 x3 x4 one r small cell =
     let fetch =
     fetch_word made 0x80000010 0x00013203 (lit≤ tt) (lit≤ tt) (ld_at number made.bytes made.has_image) in
     let all =
-    judged_as made.map (core_with made.map 0x80000010 x1 0x80001000 x3 x4 (Some r)) row made.bytes fetch ld_means in
+    judged_as made.map (core_at made.map 0x80000010 x1 0x80001000 x3 x4 (Some r)) row made.bytes fetch ld_means in
     let access =
     rw (cell, same_extended x3 small) at
-    (load_accessed made.map (core_with made.map 0x80000010 x1 0x80001000 x3 x4 (Some ((r + 1) % 2 ^ 64)))
-    (choices_of (shown_of row) 4) made.bytes made.is_map) in
+    (load_accessed made.map (core_at made.map 0x80000010 x1 0x80001000 x3 x4 (Some ((r + 1) % 2 ^ 64)))
+    (row_choices_of (shown_of row) 4) made.bytes made.is_map) in
     record {
       next_is = rw (all, access) refl;
       difference =

@@ -11,7 +11,7 @@ use Rattle.std.proofs.lemmas.List.Sums.{AllPass-from_list_all}
 use Rattle.line_text.specs.Lines.{text_of}
 use Rattle.trace_lines.specs.declared.next.TheConstants.{LONGEST}
 use Rattle.trace_lines.specs.declared.piece.Ending.TheVariants.{End}
-use Rattle.trace_lines.specs.Lines.{RemainingLines, Part, line_in, lines_from, file_lines, parts_of, with_byte_in_first}
+use Rattle.trace_lines.specs.Lines.{RemainingLines, TextPart, line_in, lines_from, file_lines, text_parts_of, with_byte_in_first}
 use Rattle.trace_lines.specs.Lines.{with_line, without_mark}
 use Rattle.trace_maker.specs.declared.made_row.MadeRow.{MadeRow}
 use Rattle.trace_maker.specs.Rows.{made_row}
@@ -32,8 +32,8 @@ AreWhole [] = Unit {0}
 AreWhole (line ∷ lines) = IsWhole line × AreWhole lines
 
 part_ended : (line rest : List ℕ) → All IsLineByte line
-    → parts_of (line ++ 10 ∷ rest) ≡ record { bytes = line; ended = true } ∷ parts_of rest
-unfolding parts_of
+    → text_parts_of (line ++ 10 ∷ rest) ≡ record { bytes = line; ended = true } ∷ text_parts_of rest
+unfolding text_parts_of
 part_ended [] rest bytes = refl
 part_ended (byte ∷ line) rest bytes =
     let low : 44 ≤ byte = (All-head IsLineByte byte line bytes).0 in
@@ -48,7 +48,7 @@ no_return_dropped line is =
     ne_eqb (slice_index line (length line - 1)) 13 (omega arith) in
     rw last refl
 
-line_taken : (number : ℕ) (line : List ℕ) (parts : List Part) (lines : List (List ℕ)) → IsWhole line
+line_taken : (number : ℕ) (line : List ℕ) (parts : List TextPart) (lines : List (List ℕ)) → IsWhole line
     → lines_from false (number + 1) parts ≡ record { lines = lines; ending = End }
     → lines_from false number (record { bytes = line; ended = true } ∷ parts)
     ≡ record { lines = line ∷ lines; ending = End }
@@ -61,12 +61,12 @@ line_taken number line parts lines is more =
     ∙ rw nonempty refl)
 
 lines_taken : (number : ℕ) (lines : List (List ℕ)) → AreWhole lines
-    → lines_from false number (parts_of (text_of lines)) ≡ record { lines = lines; ending = End }
-unfolding text_of parts_of lines_from
+    → lines_from false number (text_parts_of (text_of lines)) ≡ record { lines = lines; ending = End }
+unfolding text_of text_parts_of lines_from
 lines_taken number [] are = refl
 lines_taken number (line ∷ lines) are =
-    ap (λ (parts : List Part). lines_from false number parts) (part_ended line (text_of lines) are.0.bytes)
-    ∙ line_taken number line (parts_of (text_of lines)) lines are.0 (lines_taken (number + 1) lines are.1)
+    ap (λ (parts : List TextPart). lines_from false number parts) (part_ended line (text_of lines) are.0.bytes)
+    ∙ line_taken number line (text_parts_of (text_of lines)) lines are.0 (lines_taken (number + 1) lines are.1)
 
 -- a made trace is its lines
 rows_text : (rows : List MadeRow) → flat_map row_text rows ≡ text_of (map row_line rows)
@@ -164,10 +164,10 @@ pub lines_are : (number rows most : ℕ) → rows ≤ 2 ^ 64 → length (made_tr
 unfolding file_lines
 lines_are number rows most small fits =
     let trace : List ℕ = made_trace number rows in
-    ap (λ (more : Bool). lines_from more 1 (parts_of (without_mark (take most trace))))
+    ap (λ (more : Bool). lines_from more 1 (text_parts_of (without_mark (take most trace))))
     (le-ltb most (length trace) fits)
-    ∙ ap (λ (text : List ℕ). lines_from false 1 (parts_of (without_mark text))) (take_all most trace fits)
-    ∙ ap (λ (text : List ℕ). lines_from false 1 (parts_of text)) (unmarked number rows ∙ trace_text number rows)
+    ∙ ap (λ (text : List ℕ). lines_from false 1 (text_parts_of (without_mark text))) (take_all most trace fits)
+    ∙ ap (λ (text : List ℕ). lines_from false 1 (text_parts_of text)) (unmarked number rows ∙ trace_text number rows)
     ∙ lines_taken 1 (header_line ∷ made_lines number rows) (header_whole, rows_whole number 0 rows (omega arith))
 
 pub trace_len : (number rows : ℕ) → rows ≤ 2 ^ 64 → length (made_trace number rows) ≤ 110 + 179 * rows

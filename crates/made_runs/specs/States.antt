@@ -9,8 +9,8 @@ use Rattle.hart_step.specs.declared.state.Core.{Core}
 use Rattle.trace_maker.specs.Texts.{made_bytes}
 
 -- in M, with values in x1 to x4 and 0 in all others
-abbrev pub core_with : Map → (pc x1 x2 x3 x4 : ℕ) → Option ℕ → Core
-core_with map pc x1 x2 x3 x4 order = record {
+abbrev pub core_at : Map → (pc x1 x2 x3 x4 : ℕ) → Option ℕ → Core
+core_at map pc x1 x2 x3 x4 order = record {
   registers = record { values = x1 ∷ x2 ∷ x3 ∷ x4 ∷ replicate 27 0 };
   pc = pc;
   mode = Machine;

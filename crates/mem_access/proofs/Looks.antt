@@ -19,7 +19,7 @@ use Rattle.mem_access.specs.declared.place.AccessRequest.{AccessRequest}
 use Rattle.mem_access.specs.declared.place.Place.{Place}
 use Rattle.mem_access.specs.Places.{place_of}
 use Rattle.mem_access.specs.Translation.{is_translated, physical_address_of, place_after_translation, virtual_place_of}
-use Rattle.mem_access.specs.Accesses.{Exception, LocatedValue, Part, Places, after_first, after_place, alone, data_places_of}
+use Rattle.mem_access.specs.Accesses.{Exception, LocatedValue, Part, Places, after_first, after_place, one_place, data_places_of}
 use Rattle.mem_access.specs.Accesses.{data_load, data_store, fetch_result, first_len, first_part, has_second_part}
 use Rattle.mem_access.specs.Accesses.{joined_value, load_by, load_from, load_result, parcel_at, parcel_fetch}
 use Rattle.mem_access.specs.Accesses.{parcel_from, part_place_of, second_part, second_place_of, split_places_of}
@@ -149,9 +149,9 @@ pub whole_at : (csrs : Csrs) (map : Map) (choices : Choices) (request : AccessRe
     {placed : Result Place Exception} {seen seen' : List Read} {wrote wrote' : List Write} {bytes : Bytes}
     → Notes (part_place_of csrs map choices request (record { va = va; len = request.len })) placed
     seen seen' wrote wrote' bytes
-    → Notes (whole_place_of csrs map choices request va) (alone placed) seen seen' wrote wrote' bytes
+    → Notes (whole_place_of csrs map choices request va) (one_place placed) seen seen' wrote wrote' bytes
 whole_at csrs map choices request va look =
-    Notes-mapped alone (part_place_of csrs map choices request (record { va = va; len = request.len })) look
+    Notes-mapped one_place (part_place_of csrs map choices request (record { va = va; len = request.len })) look
 
 pub whole_refused : (csrs : Csrs) (map : Map) (choices : Choices) (request : AccessRequest) (va : ℕ)
     {exception : Exception} {seen seen' : List Read} {wrote wrote' : List Write} {bytes : Bytes}

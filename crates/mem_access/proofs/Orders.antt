@@ -22,7 +22,7 @@ use Rattle.mem_access.specs.declared.place.AccessRequest.{AccessRequest}
 use Rattle.mem_access.specs.declared.place.Place.{Place}
 use Rattle.mem_access.specs.Translation.{is_readable, is_translated, physical_address_of, place_after_translation}
 use Rattle.mem_access.specs.Translation.{tables_of, virtual_place_of, walk_flags_of}
-use Rattle.mem_access.specs.Accesses.{Exception, Part, Places, after_first, after_place, alone, data_load}
+use Rattle.mem_access.specs.Accesses.{Exception, Part, Places, after_first, after_place, one_place, data_load}
 use Rattle.mem_access.specs.Accesses.{data_places_of, data_store, fetch_result, first_len, first_part, has_second_part}
 use Rattle.mem_access.specs.Accesses.{is_split, load_from, load_result, parcel_at, parcel_fetch, parcel_from}
 use Rattle.mem_access.specs.Accesses.{part_place_of, request_for, second_part, second_place_of, split_places_of}
@@ -273,7 +273,7 @@ run_of value walk sets = record { value = value; reads = reads_in walk; wrote = 
 
 -- one part
 whole_by : (trap : Exception) (part : Part) (found : Result Place Cause) (walk : List CheckedRead) (sets : List Write)
-    → run_of (alone (with_address part.va found)) walk sets
+    → run_of (one_place (with_address part.va found)) walk sets
     ≡ run_of (places_by trap (with_first part found (Ok []))) (walk ++ if_found found [])
     (sets ++ if_found found [])
 whole_by trap part (Err cause) walk sets =
@@ -290,7 +290,7 @@ whole_is : (csrs : Csrs) (map : Map) (choices : Choices) (request : AccessReques
 unfolding mapped parts_found part_walks_of part_sets_of
 whole_is csrs map choices request trap va bytes =
     let part = whole_part va request.len in
-    ap (λ got. record { value = alone got.value; reads = got.reads; wrote = got.wrote })
+    ap (λ got. record { value = one_place got.value; reads = got.reads; wrote = got.wrote })
     (part_is csrs map choices request part bytes)
     ∙ whole_by trap part (part_found csrs map choices request part bytes)
     (walk_reads_of csrs map request.mode va bytes) (walk_sets_of csrs map choices request va bytes)

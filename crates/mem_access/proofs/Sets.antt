@@ -16,7 +16,7 @@ use Rattle.csr_file.specs.declared.csrs.Csrs.{Csrs}
 use Rattle.csr_file.specs.declared.stored_csr.StoredCsr.TheVariants.{Satp}
 use Rattle.csr_file.specs.Registers.{at}
 use Rattle.sv39_walk.specs.Entries.{entry_address, is_link, page_number}
-use Rattle.sv39_walk.specs.Laws.{SetsEntry, last_visit, writes_of}
+use Rattle.sv39_walk.specs.Laws.{SetsEntry, last_visit, walk_writes_of}
 use Rattle.sv39_walk.specs.Walk.{Visit, chain, chain_from, chain_wrote, root_of}
 use Rattle.sv39_walk.proofs.Marked.{sets_its_last, writes_at_most_one}
 use Rattle.sv39_walk.proofs.Walks.{translation-by_chain}
@@ -102,7 +102,7 @@ by_walk csrs map choices request va true bytes =
     let tables = tables_of csrs map choices in
     let satp = at csrs Satp in
     let flags = walk_flags_of csrs request.mode in
-    let writes = writes_of tables bytes satp flags va request.access in
+    let writes = walk_writes_of tables bytes satp flags va request.access in
     let P : List Write → Type 0 = AreTableSets csrs map choices bytes in
     subst P (ap (λ run. run.wrote) (translation-by_chain tables bytes satp flags va request.access))
     (one_at_most csrs map choices bytes writes

@@ -100,9 +100,9 @@ unfoldable pub part_place_of : Csrs → Map → Choices → AccessRequest → Pa
 part_place_of csrs map choices request part =
     mapped (with_address part.va) (virtual_place_of csrs map choices (request_for request part) part.va)
 
-abbrev pub alone : Result Place Exception → Result Places Exception
-alone (Err exception) = Err exception
-alone (Ok place) = Ok (place, None)
+abbrev pub one_place : Result Place Exception → Result Places Exception
+one_place (Err exception) = Err exception
+one_place (Ok place) = Ok (place, None)
 
 abbrev pub after_place : Place → Result Place Exception → Result Places Exception
 after_place first (Err exception) = Err exception
@@ -118,7 +118,7 @@ second_place_of csrs map choices request part (Ok first) =
 -- an access of one part
 abbrev pub whole_place_of : Csrs → Map → Choices → AccessRequest → ℕ → Action (Result Places Exception)
 whole_place_of csrs map choices request va =
-    mapped alone (part_place_of csrs map choices request (record { va = va; len = request.len }))
+    mapped one_place (part_place_of csrs map choices request (record { va = va; len = request.len }))
 
 -- an access that may run into the next page
 unfoldable pub split_places_of : Csrs → Map → Choices → AccessRequest → ℕ → Action (Result Places Exception)

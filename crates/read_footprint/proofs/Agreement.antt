@@ -9,7 +9,7 @@ use Rattle.std.proofs.lemmas.List.Folds.{list_all-append}
 use Rattle.hart_words.specs.declared.accesses.Read.{Read}
 use Rattle.hart_words.specs.declared.accesses.Write.{Write}
 use Rattle.hart_words.specs.Memory.{AgreeOn, Bytes, SameBytes, after_writes, is_within, bytes_after_store}
-use Rattle.read_footprint.specs.Footprints.{Accesses, agree, bytes_from, bytes_read, footprint_of, is_written, moved}
+use Rattle.read_footprint.specs.Footprints.{Accesses, agree, addresses_from, bytes_read, footprint_of, is_written, moved}
 use Rattle.read_footprint.specs.Footprints.{writes_of}
 use Rattle.read_footprint.specs.Sets.{has_address}
 use Rattle.read_footprint.proofs.Entries.{all_agree, among_agree}
@@ -22,11 +22,11 @@ parts one other first second all =
     both_hold (agree one other first) (agree one other second)
     (sym (list_all-append (λ address. one address == other address) first second) ∙ all)
 
-bytes_alike : (pa len : ℕ) (one other : Bytes) → agree one other (bytes_from pa len) ≡ true → SameBytes pa len one other
-unfolding bytes_from SameBytes
+bytes_alike : (pa len : ℕ) (one other : Bytes) → agree one other (addresses_from pa len) ≡ true → SameBytes pa len one other
+unfolding addresses_from SameBytes
 bytes_alike pa zero one other all = tt
 bytes_alike pa (suc len) one other all =
-    let both = both_hold (one pa == other pa) (agree one other (bytes_from (pa + 1) len)) all in
+    let both = both_hold (one pa == other pa) (agree one other (addresses_from (pa + 1) len)) all in
     (sym (eqb-true (one pa) (other pa) both.0), bytes_alike (pa + 1) len one other both.1)
 
 reads_alike : (reads : List Read) (one other : Bytes) → agree one other (bytes_read reads) ≡ true
@@ -34,7 +34,7 @@ reads_alike : (reads : List Read) (one other : Bytes) → agree one other (bytes
 unfolding AgreeOn
 reads_alike [] one other all = tt
 reads_alike (read ∷ reads) one other all =
-    let both = parts one other (bytes_from read.pa read.len) (bytes_read reads) all in
+    let both = parts one other (addresses_from read.pa read.len) (bytes_read reads) all in
     (bytes_alike read.pa read.len one other both.0, reads_alike reads one other both.1)
 
 first_alike : (one other : Bytes) (row : Accesses) (rows : List Accesses)

@@ -9,7 +9,7 @@ use Rattle.hart_words.specs.Memory.{is_within}
 use Rattle.read_footprint.specs.declared.block.Block.{Block}
 use Rattle.read_footprint.specs.declared.footprint.Footprint.{Footprint}
 use Rattle.read_footprint.specs.Bits.{has_bit}
-use Rattle.read_footprint.specs.Sets.{IsAsBefore, Notes, footprint_block_at, has_read, has_written}
+use Rattle.read_footprint.specs.Sets.{IsAsBefore, NotesBlock, footprint_block_at, has_read, has_written}
 use Rattle.read_footprint.proofs.Bits.{none_has}
 
 abbrev pub nothing : Block
@@ -109,7 +109,7 @@ wrote_noted {number} {old} {later} {before = before} address replaces follows = 
 ]
 
 pub noted : {number : ℕ} {old later new : Block} {before after : Footprint} → Replaces number old new before after
-    → Follows old later new → Notes number later before after
+    → Follows old later new → NotesBlock number later before after
 noted replaces follows = record {
   read = λ address. read_noted address replaces follows;
   wrote = λ address. wrote_noted address replaces follows;
@@ -128,7 +128,7 @@ absent_is (Some block) absent = cc
 pub noted_first : (before middle after : Footprint) (number : ℕ) (later : Block) → IsAsBefore before middle
     → is_some (get nat_eq middle.blocks number) ≡ false
     → ((q : ℕ) → get nat_eq after.blocks q ≡ cond (nat_eq number q) (Some later) (get nat_eq middle.blocks q))
-    → Notes number later before after
+    → NotesBlock number later before after
 noted_first before middle after number later same absent sets =
     let replaces : Replaces number nothing later middle after = record { was = absent_is _ absent; sets = sets } in
     let from = noted replaces (first_follows later) in
@@ -220,7 +220,7 @@ bits_up_to {pa} is_end are = record {
 
 -- a block of a read was noted
 pub read_more : {number bits pa len : ℕ} {now next : Footprint} (start : Footprint) (address : ℕ)
-    → Notes number (record { read = bits; wrote = 0 }) now next → AreBitsOf pa len number bits
+    → NotesBlock number (record { read = bits; wrote = 0 }) now next → AreBitsOf pa len number bits
     → has_read now address
     ≡ (has_read start address
     || (is_within pa len address && nat_lt (address / 64) number && not (has_written start address)))
@@ -237,17 +237,17 @@ read_more {number} {bits} {pa} {len} {now} start address notes bits_of had kept 
     (not (has_written start address)) (has_bit bits (address % 64)) (bits_of.are address)
 
 pub written_same : (now next : Footprint) (number bits address : ℕ)
-    → Notes number (record { read = bits; wrote = 0 }) now next → has_written next address ≡ has_written now address
+    → NotesBlock number (record { read = bits; wrote = 0 }) now next → has_written next address ≡ has_written now address
 written_same now next number bits address notes =
     notes.wrote address ∙ none_more_written _ _ _ (none_has (address % 64))
 
 pub read_same : (now next : Footprint) (number bits address : ℕ)
-    → Notes number (record { read = 0; wrote = bits }) now next → has_read next address ≡ has_read now address
+    → NotesBlock number (record { read = 0; wrote = bits }) now next → has_read next address ≡ has_read now address
 read_same now next number bits address notes = notes.read address ∙ none_more_read _ _ _ _ (none_has (address % 64))
 
 -- a block of a write was noted
 pub written_more : {number bits pa len : ℕ} {now next : Footprint} (start : Footprint) (address : ℕ)
-    → Notes number (record { read = 0; wrote = bits }) now next → AreBitsOf pa len number bits
+    → NotesBlock number (record { read = 0; wrote = bits }) now next → AreBitsOf pa len number bits
     → has_written now address
     ≡ (has_written start address || (is_within pa len address && nat_lt (address / 64) number))
     → has_written next address

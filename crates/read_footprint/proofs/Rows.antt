@@ -11,13 +11,13 @@ use Rattle.hart_words.specs.declared.accesses.Read.{Read}
 use Rattle.hart_words.specs.declared.accesses.Write.{Write}
 use Rattle.hart_words.specs.Memory.{is_within}
 use Rattle.read_footprint.specs.declared.footprint.Footprint.{Footprint}
-use Rattle.read_footprint.specs.Footprints.{Accesses, bytes_from, bytes_read, is_written, writes_of, footprint_of}
+use Rattle.read_footprint.specs.Footprints.{Accesses, addresses_from, bytes_read, is_written, writes_of, footprint_of}
 use Rattle.read_footprint.specs.Sets.{IsAsBefore, IsFootprintOf, has_read, has_written, has_address, is_read}
 use Rattle.read_footprint.proofs.Noting.{or_false}
 
 -- the addresses of an access are those within it
-bytes_among : (pa len address : ℕ) → has_address (bytes_from pa len) address ≡ is_within pa len address
-unfolding bytes_from
+bytes_among : (pa len address : ℕ) → has_address (addresses_from pa len) address ≡ is_within pa len address
+unfolding addresses_from
 bytes_among pa zero address = sym (none_within pa address)
   where
     none_within : (pa address : ℕ) → is_within pa 0 address ≡ false
@@ -32,7 +32,7 @@ bytes_among pa (suc len) address =
 pub read_among : (reads : List Read) (address : ℕ) → has_address (bytes_read reads) address ≡ is_read reads address
 read_among [] address = refl
 read_among (read ∷ reads) address =
-    list_any-append (λ other. other == address) (bytes_from read.pa read.len) (bytes_read reads)
+    list_any-append (λ other. other == address) (addresses_from read.pa read.len) (bytes_read reads)
     ∙ ap (λ b. b || has_address (bytes_read reads) address) (bytes_among read.pa read.len address)
     ∙ ap (λ b. is_within read.pa read.len address || b) (read_among reads address)
 

@@ -12,13 +12,13 @@ pub record Accesses : Type 0 where
   pub wrote : List Write
 
 -- the addresses of so many bytes from one on
-unfoldable pub bytes_from : ℕ → ℕ → List ℕ
-bytes_from pa zero = []
-bytes_from pa (suc len) = pa ∷ bytes_from (pa + 1) len
+unfoldable pub addresses_from : ℕ → ℕ → List ℕ
+addresses_from pa zero = []
+addresses_from pa (suc len) = pa ∷ addresses_from (pa + 1) len
 
 -- the addresses of the bytes that were read
 abbrev pub bytes_read : List Read → List ℕ
-bytes_read reads = flat_map (λ read. bytes_from read.pa read.len) reads
+bytes_read reads = flat_map (λ read. addresses_from read.pa read.len) reads
 
 -- the byte at an address was written
 abbrev pub is_written : List Write → ℕ → Bool

@@ -67,7 +67,7 @@ abbrev pub IsNarrow : ℕ → ℕ → Type 0
 IsNarrow pa len = pa + len ≤ 2 ^ 56
 
 -- a footprint has noted what came later of a block
-pub record Notes (number : ℕ) (later : Block) (before after : Footprint) : Type 0 where
+pub record NotesBlock (number : ℕ) (later : Block) (before after : Footprint) : Type 0 where
   pub read : (address : ℕ) → has_read after address
       ≡ (has_read before address
       || ((address / BLOCK_SIZE == number) && has_bit later.read (address % BLOCK_SIZE)

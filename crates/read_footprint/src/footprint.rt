@@ -24,7 +24,7 @@ impl Footprint {
     ghost use Rattle.hart_words.specs.declared.accesses.Write.{Write};
     ghost use Rattle.read_footprint.specs.Bits.{has_bit};
     ghost use Rattle.read_footprint.specs.Footprints.{Accesses, agree, footprint_of, is_written, moved, writes_of};
-    ghost use Rattle.read_footprint.specs.Sets.{ArePartlyMoved, IsAsBefore, IsNarrow, IsFootprintOf, LiesInRam, has_read, has_written, is_read, Notes};
+    ghost use Rattle.read_footprint.specs.Sets.{ArePartlyMoved, IsAsBefore, IsNarrow, IsFootprintOf, LiesInRam, has_read, has_written, is_read, NotesBlock};
 
     /// Nothing read or written. It takes no memory.
     pub fn empty(alloc: Global) -> Footprint
@@ -167,7 +167,7 @@ impl Footprint {
     /// Notes what came later of a block.
     fn note(&mut self, number: u64, later: Block)
         requires room { 1 ≤ spare self.old.blocks }
-        ensures noted { Notes number later self.old self.new }
+        ensures noted { NotesBlock number later self.old self.new }
         ensures room { spare self.old.blocks ≤ spare self.new.blocks + 1 }
     {
         if self.note_known(number, later) {
@@ -181,7 +181,7 @@ impl Footprint {
 
     /// Notes what came later of a block, if the block is there.
     fn note_known(&mut self, number: u64, later: Block) -> bool
-        ensures noted { result ≡ true → Notes number later self.old self.new }
+        ensures noted { result ≡ true → NotesBlock number later self.old self.new }
         ensures same { result ≡ false → IsAsBefore self.old self.new }
         ensures absent { result ≡ false → is_some (get nat_eq self.new.blocks number) ≡ false }
         ensures room { spare self.new.blocks ≡ spare self.old.blocks }

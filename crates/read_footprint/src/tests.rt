@@ -65,7 +65,7 @@ impl Low {
 
 impl PhysMem for Low {
     ghost use Rattle.std.specs.Prelude.{slice_index_or};
-    ghost use Rattle.read_footprint.specs.LowMemory.{byte_at};
+    ghost use Rattle.read_footprint.specs.LowMemory.{byte_at_is_below_256};
 
     ghost bytes = { λ mem at. slice_index_or mem.bytes.items at 0 };
 
@@ -73,7 +73,7 @@ impl PhysMem for Low {
 
     ghost is_ready = { λ _ _. ⊥ };
 
-    ghost bytes_are_bytes = { λ mem. byte_at mem.bytes.items mem.small };
+    ghost bytes_are_bytes = { λ mem. byte_at_is_below_256 mem.bytes.items mem.small };
 
     fn read(&self, pa: u64, len: u8) -> u64 {
         self.number(pa, len)

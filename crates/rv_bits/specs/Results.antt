@@ -35,8 +35,8 @@ abbrev pub filled_byte : ℕ → ℕ
 filled_byte byte = if byte == 0 then 0 else 0xff
 
 -- the bit that the low 6 bits of the second operand name, alone
-abbrev pub bit_of : ℕ → ℕ
-bit_of b = 2 ^ (b % 64)
+abbrev pub selected_bit : ℕ → ℕ
+selected_bit b = 2 ^ (b % 64)
 
 -- by instruction, rs1's value, and the value of rs2 or the shift amount
 unfoldable pub bits_result : BitsOp → ℕ → ℕ → ℕ
@@ -70,7 +70,7 @@ bits_result Ror a b = rotated_right 64 a (b % 64)
 bits_result Rorw a b = sign_extended 32 (rotated_right 32 (low a) (b % 32))
 bits_result OrcB a b = from_le_bytes w64 (map filled_byte (to_le_bytes w64 a))
 bits_result Rev8 a b = from_le_bytes w64 (reverse (to_le_bytes w64 a))
-bits_result Bclr a b = bit_and a (bit_not w64 (bit_of b))
-bits_result Bext a b = a / bit_of b % 2
-bits_result Binv a b = bit_xor a (bit_of b)
-bits_result Bset a b = bit_or a (bit_of b)
+bits_result Bclr a b = bit_and a (bit_not w64 (selected_bit b))
+bits_result Bext a b = a / selected_bit b % 2
+bits_result Binv a b = bit_xor a (selected_bit b)
+bits_result Bset a b = bit_or a (selected_bit b)

@@ -1,7 +1,7 @@
 //! What an instruction computes.
 
 ghost use Rattle.std.specs.Prelude.{◌≡◌, ◌<◌};
-ghost use Rattle.rv_bits.specs.Results.{bit_of, bits_result, greater_signed, lesser_signed, low, shifted_sum};
+ghost use Rattle.rv_bits.specs.Results.{selected_bit, bits_result, greater_signed, lesser_signed, low, shifted_sum};
 
 use crate::bytes::{filled_bytes, reversed_bytes};
 use crate::counts::{
@@ -50,10 +50,10 @@ pub fn compute_bits(op: BitsOp, a: u64, b: u64) -> u64
         BitsOp::Rorw => rotated_word_right(low_word(a) as u32, b),
         BitsOp::OrcB => filled_bytes(a),
         BitsOp::Rev8 => reversed_bytes(a),
-        BitsOp::Bclr => a & !bit_of(b),
+        BitsOp::Bclr => a & !selected_bit(b),
         BitsOp::Bext => a >> (b % 64) & 1,
-        BitsOp::Binv => a ^ bit_of(b),
-        BitsOp::Bset => a | bit_of(b),
+        BitsOp::Binv => a ^ selected_bit(b),
+        BitsOp::Bset => a | selected_bit(b),
     }
 }
 
@@ -95,8 +95,8 @@ fn lesser_signed(a: u64, b: u64) -> u64
 }
 
 /// The bit that the low 6 bits of `b` name, alone.
-fn bit_of(b: u64) -> u64
-    ensures { result ≡ bit_of b }
+fn selected_bit(b: u64) -> u64
+    ensures { result ≡ selected_bit b }
 {
     1 << (b % 64)
 }

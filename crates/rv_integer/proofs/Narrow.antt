@@ -6,7 +6,8 @@ use Rattle.hart_words.proofs.Extended.{extends_signs}
 use Rattle.rv_decode.specs.declared.operation.RegisterWordOp.TheVariants.{Addw, Subw, Sllw, Srlw, Sraw, Mulw, Divw}
 use Rattle.rv_decode.specs.declared.operation.RegisterWordOp.TheVariants.{Divuw, Remw, Remuw}
 use Rattle.rv_decode.specs.declared.operation.ImmediateWordOp.TheVariants.{Addiw, Slliw, Srliw, Sraiw}
-use Rattle.rv_integer.specs.Results.{low, immediate_word_result, register_word_result}
+use Rattle.rv_integer.specs.Results.{immediate_word_result, register_word_result}
+use Rattle.rv_bits.specs.Results.{low}
 use Rattle.rv_integer.specs.WordForms.{RegisterWordsAreWords, ImmediateWordsAreWords, RegisterWordsIgnoreUpperBits}
 use Rattle.rv_integer.specs.WordForms.{ImmediateWordsIgnoreUpperBits}
 use Rattle.std.specs.Int.{w64}

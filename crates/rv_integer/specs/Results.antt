@@ -3,6 +3,7 @@
 -- Extension for Integer Multiplication and Division", "A Extension for Atomic Instructions" and "Zicsr Extension for
 -- Control and Status Register (CSR) Instructions", and the Privileged Architecture's "Machine-Level ISA" and
 -- "Supervisor-Level ISA". The equations of bit manipulation are those of rv_bits.
+use Rattle.rv_bits.specs.Results.{low}
 use Rattle.std.specs.Prelude.{ℕ, ◌+◌, ◌-◌, ◌*◌, ◌/◌, ◌%◌, ◌^◌, Bool, true, false, not, ◌==◌, nat_lt, pos, int_lt}
 use Rattle.std.specs.Prelude.{if◌then◌else◌, bit_and, bit_or, bit_xor}
 use Rattle.std.specs.Int.{w32, w64, cast_signed, int_div_euclid}
@@ -37,10 +38,6 @@ use Rattle.rv_integer.specs.declared.int_result.IntResult.TheVariants as results
 use Rattle.rv_integer.specs.declared.int_result.SystemRequest.TheVariants as system
 use Rattle.rv_integer.specs.declared.int_result.MemoryOp.{MemoryOp}
 use Rattle.rv_integer.specs.declared.int_result.MemoryOp.TheVariants as memory_ops
-
--- the low 32 bits
-abbrev pub low : ℕ → ℕ
-low x = x % 2 ^ 32
 
 -- a sum modulo 2 ^ 64
 abbrev pub wrapped_sum : ℕ → ℕ → ℕ

@@ -5,7 +5,8 @@ use Rattle.std.specs.Prelude.{◌≡◌, ℕ, ◌^◌, ◌<◌}
 use Rattle.hart_words.specs.Words.{sign_extended}
 use Rattle.rv_decode.specs.declared.operation.ImmediateWordOp.{ImmediateWordOp}
 use Rattle.rv_decode.specs.declared.operation.RegisterWordOp.{RegisterWordOp}
-use Rattle.rv_integer.specs.Results.{low, immediate_word_result, register_word_result}
+use Rattle.rv_integer.specs.Results.{immediate_word_result, register_word_result}
+use Rattle.rv_bits.specs.Results.{low}
 
 -- the number is the sign extension of its low 32 bits
 abbrev pub IsWord : ℕ → Type 0

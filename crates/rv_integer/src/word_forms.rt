@@ -3,7 +3,8 @@
 ghost use Rattle.std.specs.Prelude.{◌≡◌, ◌+◌, ◌-◌, ◌*◌, ◌/◌, ◌%◌, ◌^◌, pos};
 ghost use Rattle.std.specs.Int.{w32, cast_signed, int_div_euclid};
 ghost use Rattle.hart_words.specs.Words.{sign_extended, residue, quotient_signed, quotient_unsigned, remainder_signed, remainder_unsigned};
-ghost use Rattle.rv_integer.specs.Results.{immediate_word_result, register_word_result, low};
+ghost use Rattle.rv_integer.specs.Results.{immediate_word_result, register_word_result};
+ghost use Rattle.rv_bits.specs.Results.{low};
 
 use hart_words::sext;
 use rv_decode::{ImmediateWordOp, RegisterWordOp};

@@ -16,7 +16,7 @@ use Rattle.state_text.specs.declared.memory.MemoryBlock.{MemoryBlock}
 use Rattle.state_text.specs.Lines.{block_line, end_line}
 use Rattle.state_text.specs.Reading.{Left, fault_at, is_next, after, choice_in, is_zero, is_no_block, block_guessed}
 use Rattle.state_text.specs.Reading.{block_in}
-use Rattle.state_text.specs.Memory.{bytes_from, memory_lines, with_block, end_in, memory_in}
+use Rattle.state_text.specs.Memory.{bytes_from, memory_lines, with_block, memory_end_in, memory_in}
 use Rattle.state_text.proofs.Fronts.{next_stands, choice_stands, one_choice, then_read, not_refused, same_read}
 use Rattle.state_text.proofs.Guesses.{guessed_fit}
 
@@ -144,10 +144,10 @@ line_there final block count there some =
     rw test
     (ap (λ (bytes : List ℕ). block_line block.address bytes ∷ memory_lines final (block.address + 16) count) there)
 
-ended : (bytes final : Bytes) (left : Left) → end_in bytes left ≡ Ok final → (left.text ≡ []) × (bytes ≡ final)
+ended : (bytes final : Bytes) (left : Left) → memory_end_in bytes left ≡ Ok final → (left.text ≡ []) × (bytes ≡ final)
 ended bytes final left h = by left.text left.line h
   where
-    by : (text : List ℕ) (line : ℕ) → end_in bytes (record { line = line; text = text }) ≡ Ok final
+    by : (text : List ℕ) (line : ℕ) → memory_end_in bytes (record { line = line; text = text }) ≡ Ok final
         → (text ≡ []) × (bytes ≡ final)
     by [] line h = (refl, cc)
     by (byte ∷ text) line h = absurd cc
@@ -161,7 +161,7 @@ Remembers ram most final =
     → HasMemory bytes final address count left
 
 last_line : (bytes final : Bytes) (left : Left) (address count : ℕ) → is_next end_line left ≡ true
-    → end_in bytes (after end_line left) ≡ Ok final → ((a : ℕ) → address ≤ a → bytes a ≡ 0)
+    → memory_end_in bytes (after end_line left) ≡ Ok final → ((a : ℕ) → address ≤ a → bytes a ≡ 0)
     → HasMemory bytes final address count left
 unfolding memory_lines
 last_line bytes final left address count next h zeros =
@@ -202,7 +202,7 @@ one_more ram least bytes final left address count block next has above fits whol
 
 one_turn : (ram : Span) (most : ℕ) (final : Bytes) → Remembers ram most final → (least : ℕ) (bytes : Bytes)
     (left : Left) (address count : ℕ) (test : Bool) → is_next end_line left ≡ test
-    → (if test then end_in bytes (after end_line left)
+    → (if test then memory_end_in bytes (after end_line left)
     else (block_in ram least left
     >>= λ read. memory_in ram most (read.0.address + 16) (with_block read.0 bytes) read.1)) ≡ Ok final
     → address + 16 * count ≡ ram.base + ram.size → address % 16 ≡ 0

@@ -21,7 +21,7 @@ use Rattle.state_text.specs.declared.memory.MemoryBlock.{MemoryBlock}
 use Rattle.state_text.specs.Lines.{digits_of, block_line, end_line}
 use Rattle.state_text.specs.Reading.{Left, is_next, after, choice_in, bytes_guessed, number_guessed, is_zero}
 use Rattle.state_text.specs.Reading.{block_guessed, block_in}
-use Rattle.state_text.specs.Memory.{bytes_from, memory_lines, with_block, end_in, memory_in}
+use Rattle.state_text.specs.Memory.{bytes_from, memory_lines, with_block, memory_end_in, memory_in}
 use Rattle.state_text.proofs.Fronts.{stands_next}
 use Rattle.state_text.proofs.Guesses.{small_bytes, bytes_again}
 use Rattle.state_text.proofs.Blocks.{block_away, within_block}
@@ -177,7 +177,7 @@ Recalls ram final count =
 abbrev done : Bytes → Result Bytes StateFault
 done bytes = Ok bytes
 
-ended : (bytes : Bytes) (left : Left) → left.text ≡ [] → end_in bytes left ≡ done bytes
+ended : (bytes : Bytes) (left : Left) → left.text ≡ [] → memory_end_in bytes left ≡ done bytes
 ended bytes left nothing = rw nothing refl
 
 -- after the last block

@@ -17,7 +17,7 @@ use Rattle.csr_file.specs.Registers.{at}
 use Rattle.csr_file.specs.Fields.{mpp_of}
 use Rattle.state_text.specs.declared.numbers.NumberKind.TheVariants.{Register, Stored, Configurations, EntryAddress}
 use Rattle.state_text.specs.declared.numbers.TheConstants.{KINDS}
-use Rattle.state_text.specs.Numbers.{configurations_in, entry_in, csrs_with}
+use Rattle.state_text.specs.Numbers.{configurations_in, pmp_entry_in, csrs_with}
 use Rattle.state_text.specs.Values.{is_legal, is_legal_stored, is_legal_configuration}
 use Rattle.state_text.proofs.NumberLines.{AreLegal, legal_at}
 
@@ -178,7 +178,7 @@ legal_csrs numbers len legal = record {
         (bytes_legal (get_or numbers 53 0) (here 53 (omega arith)))
 
     entry : (k : ℕ) → k < 16 → is_legal EntryAddress (get_or numbers (54 + k) 0) ≡ true
-        → IsLegalEntry (entry_in numbers k)
+        → IsLegalEntry (pmp_entry_in numbers k)
     entry k within h = record {
       configuration = legal_configuration (get_or (configurations_in numbers) k 0)
           (all_at is_legal_configuration (configurations_in numbers) k configurations within);

@@ -17,7 +17,7 @@ use Rattle.state_text.specs.declared.fault.StateFault.{StateFault}
 use Rattle.state_text.specs.declared.memory.MemoryBlock.{MemoryBlock}
 use Rattle.state_text.specs.Lines.{end_line}
 use Rattle.state_text.specs.Reading.{Left, fault_at, is_next, after, block_in}
-use Rattle.state_text.specs.Memory.{with_block, end_in, memory_in, memory_of}
+use Rattle.state_text.specs.Memory.{with_block, memory_end_in, memory_in, memory_of}
 
 -- what the rest of the text gives, after what was found so far, is what all of it gives
 pub record GoesOn (ram : Span) (whole : Result Bytes StateFault) (least : ℕ) (bytes : Bytes)
@@ -33,7 +33,7 @@ goes_on ram least bytes left = record { most = length left.text + 1; room = omeg
 -- one turn of it
 unfoldable turn : Span → ℕ → ℕ → Bytes → Left → Bool → Result Bytes StateFault
 turn ram most least bytes left ended =
-    if ended then end_in bytes (after end_line left)
+    if ended then memory_end_in bytes (after end_line left)
     else (block_in ram least left
     >>= λ read. memory_in ram most (read.0.address + 16) (with_block read.0 bytes) read.1)
 
@@ -48,7 +48,7 @@ turned ram whole least bytes left ended goes test = by goes.most goes.room goes.
     by zero room leads = absurd (omega arith)
     by (suc most) room leads = (most, omega arith, rw test at leads)
 
-end_with : (bytes : Bytes) (left : Left) → left.text ≡ [] → end_in bytes left ≡ Ok bytes
+end_with : (bytes : Bytes) (left : Left) → left.text ≡ [] → memory_end_in bytes left ≡ Ok bytes
 end_with bytes left nothing = rw nothing refl
 
 pub ends : (ram : Span) (whole : Result Bytes StateFault) (least : ℕ) (bytes : Bytes) (left : Left)
@@ -68,12 +68,12 @@ ends_early ram whole least bytes left goes test more =
     sym last.2 ∙ by (after end_line left) more
   where
     cases : (text : List ℕ) (line : ℕ) → 0 < length text
-        → end_in bytes (record { line = line; text = text })
+        → memory_end_in bytes (record { line = line; text = text })
         ≡ Err (fault_at (record { line = line; text = text }) BadLine)
     cases [] line more = absurd (omega arith)
     cases (byte ∷ text) line more = refl
 
-    by : (left : Left) → 0 < length left.text → end_in bytes left ≡ Err (fault_at left BadLine)
+    by : (left : Left) → 0 < length left.text → memory_end_in bytes left ≡ Err (fault_at left BadLine)
     by left more = cases left.text left.line more
 
 pub no_block : (ram : Span) (whole : Result Bytes StateFault) (least : ℕ) (bytes : Bytes) (left : Left)

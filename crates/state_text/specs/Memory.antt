@@ -32,8 +32,8 @@ with_block block bytes address =
     else bytes address
 
 -- the last line, with nothing after it
-abbrev pub end_in : Bytes → Left → Result Bytes StateFault
-end_in bytes left = nothing_after left.text
+abbrev pub memory_end_in : Bytes → Left → Result Bytes StateFault
+memory_end_in bytes left = nothing_after left.text
   where
     nothing_after : List ℕ → Result Bytes StateFault
     nothing_after [] = Ok bytes
@@ -44,7 +44,7 @@ end_in bytes left = nothing_after left.text
 unfoldable pub memory_in : Span → ℕ → ℕ → Bytes → Left → Result Bytes StateFault
 memory_in ram zero least bytes left = Err (fault_at left BadLine)
 memory_in ram (suc most) least bytes left =
-    if is_next end_line left then end_in bytes (after end_line left)
+    if is_next end_line left then memory_end_in bytes (after end_line left)
     else (block_in ram least left
     >>= λ read. memory_in ram most (read.0.address + 16) (with_block read.0 bytes) read.1)
 

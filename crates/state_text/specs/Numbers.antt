@@ -57,12 +57,12 @@ stored_places =
 abbrev pub configurations_in : List ℕ → List ℕ
 configurations_in numbers = to_le_bytes w64 (slice_index numbers 52) ++ to_le_bytes w64 (slice_index numbers 53)
 
-abbrev pub entry_in : List ℕ → ℕ → PmpEntry
-entry_in numbers k =
+abbrev pub pmp_entry_in : List ℕ → ℕ → PmpEntry
+pmp_entry_in numbers k =
     record { cfg = slice_index (configurations_in numbers) k; addr = slice_index numbers (54 + k) }
 
 unfoldable pub csrs_with : List ℕ → Csrs
 csrs_with numbers = record {
   values = map (slice_index numbers) stored_places;
-  entries = map (entry_in numbers) (range_with_len 0 16);
+  entries = map (pmp_entry_in numbers) (range_with_len 0 16);
 }

@@ -5,7 +5,7 @@ ghost use Rattle.std.specs.Prelude.{◌≡◌, [], map, slice_index};
 ghost use Rattle.std.specs.List.{range_with_len};
 ghost use Rattle.hart_words.specs.Results.{result_view};
 ghost use Rattle.state_text.specs.declared.numbers.TheConstants.{KINDS, NUMBERS};
-ghost use Rattle.state_text.specs.Numbers.{number_names, stored_places, entry_in, registers_with, csrs_with};
+ghost use Rattle.state_text.specs.Numbers.{number_names, stored_places, pmp_entry_in, registers_with, csrs_with};
 ghost use Rattle.state_text.specs.Reading.{numbers_in};
 ghost use Rattle.state_text.specs.Views.{left_of, seen};
 
@@ -255,7 +255,7 @@ fn stored_values(numbers: &[u64; NUMBERS]) -> [u64; STORED_CSRS]
 
 /// The entries of physical memory protection.
 fn entries_with(numbers: &[u64; NUMBERS]) -> [PmpEntry; 16]
-    ensures { result ≡ map (entry_in numbers.now) (range_with_len 0 16) }
+    ensures { result ≡ map (pmp_entry_in numbers.now) (range_with_len 0 16) }
 {
     let low = numbers[52].to_le_bytes();
     let high = numbers[53].to_le_bytes();

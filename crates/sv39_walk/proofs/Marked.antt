@@ -17,7 +17,7 @@ use Rattle.hart_words.specs.EntryWrites.{entry_write}
 use Rattle.hart_words.specs.Memory.{Bytes}
 use Rattle.hart_words.specs.Privilege.{access_fault_of, page_fault_of}
 use Rattle.sv39_walk.specs.Entries.{Tables, address_in, final_result, is_leaf, is_marked, leaf_allows, with_marks, marks_of}
-use Rattle.sv39_walk.specs.Laws.{SetsEntry, is_mark, last_visit, writes_of}
+use Rattle.sv39_walk.specs.Laws.{SetsEntry, is_mark, last_visit, walk_writes_of}
 use Rattle.sv39_walk.specs.Walk.{Visit, chain, chain_wrote, entry_in, entry_writes_of, visit_at, visit_result}
 use Rattle.sv39_walk.proofs.Walks.{translation-by_chain}
 
@@ -186,7 +186,7 @@ chain_sets asked (visit ∷ next ∷ more) =
 
 translation_sets : (asked : Asked) (satp : ℕ)
     → SetsOne asked (last_visit (chain asked.tables.readable asked.bytes satp asked.va))
-    (writes_of asked.tables asked.bytes satp asked.flags asked.va asked.access)
+    (walk_writes_of asked.tables asked.bytes satp asked.flags asked.va asked.access)
 translation_sets asked satp =
     let visits : List Visit = chain asked.tables.readable asked.bytes satp asked.va in
     let P : List Write → Type 0 = λ writes. SetsOne asked (last_visit visits) writes in
@@ -201,13 +201,13 @@ asked_of tables bytes flags va access =
     record { tables = tables; bytes = bytes; flags = flags; va = va; access = access }
 
 pub writes_at_most_one : (tables : Tables) (bytes : Bytes) (satp : ℕ) (flags : WalkFlags) (va : ℕ) (access : Access)
-    → length (writes_of tables bytes satp flags va access) ≤ 1
+    → length (walk_writes_of tables bytes satp flags va access) ≤ 1
 writes_at_most_one tables bytes satp flags va access =
     (translation_sets (asked_of tables bytes flags va access) satp).one
 
 pub sets_its_last : (tables : Tables) (bytes : Bytes) (satp : ℕ) (flags : WalkFlags) (va : ℕ) (access : Access)
     → All (SetsEntry tables bytes flags access (last_visit (chain tables.readable bytes satp va)))
-    (writes_of tables bytes satp flags va access)
+    (walk_writes_of tables bytes satp flags va access)
 sets_its_last tables bytes satp flags va access =
     (translation_sets (asked_of tables bytes flags va access) satp).entries
 
@@ -221,7 +221,7 @@ none_of_all asked visit (write ∷ more) all fault =
     cc
 
 pub writes_none_under_fault : (tables : Tables) (bytes : Bytes) (satp : ℕ) (flags : WalkFlags) (va : ℕ)
-    (access : Access) → tables.marks ≡ marks.Fault → writes_of tables bytes satp flags va access ≡ []
+    (access : Access) → tables.marks ≡ marks.Fault → walk_writes_of tables bytes satp flags va access ≡ []
 writes_none_under_fault tables bytes satp flags va access =
     none_of_all (asked_of tables bytes flags va access) (last_visit (chain tables.readable bytes satp va))
-    (writes_of tables bytes satp flags va access) (sets_its_last tables bytes satp flags va access)
+    (walk_writes_of tables bytes satp flags va access) (sets_its_last tables bytes satp flags va access)

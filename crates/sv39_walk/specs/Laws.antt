@@ -35,8 +35,8 @@ GainsItsMarks access entry =
     (i : ℕ) → bit_at (with_marks access entry) i ≡ (if is_mark access i then 1 else bit_at entry i)
 
 -- what a translation writes
-abbrev pub writes_of : Tables → Bytes → ℕ → WalkFlags → ℕ → Access → List Write
-writes_of tables bytes satp flags va access = ((translation_of tables satp flags va access).run bytes).wrote
+abbrev pub walk_writes_of : Tables → Bytes → ℕ → WalkFlags → ℕ → Access → List Write
+walk_writes_of tables bytes satp flags va access = ((translation_of tables satp flags va access).run bytes).wrote
 
 -- a write sets the entry of a visit, a page that may be set and that allows the access but lacks A, or D
 pub record SetsEntry (tables : Tables) (bytes : Bytes) (flags : WalkFlags) (access : Access) (visit : Visit)
@@ -51,7 +51,7 @@ pub record SetsEntry (tables : Tables) (bytes : Bytes) (flags : WalkFlags) (acce
 
 -- a translation writes at most one entry, the last of its chain
 abbrev pub WritesAtMostOne : Tables → Bytes → ℕ → WalkFlags → ℕ → Access → Type 0
-WritesAtMostOne tables bytes satp flags va access = length (writes_of tables bytes satp flags va access) ≤ 1
+WritesAtMostOne tables bytes satp flags va access = length (walk_writes_of tables bytes satp flags va access) ≤ 1
 
 abbrev pub last_visit : List Visit → Visit
 last_visit visits = visit_at visits (length visits - 1)
@@ -59,12 +59,12 @@ last_visit visits = visit_at visits (length visits - 1)
 abbrev pub SetsItsLast : Tables → Bytes → ℕ → WalkFlags → ℕ → Access → Type 0
 SetsItsLast tables bytes satp flags va access =
     All (SetsEntry tables bytes flags access (last_visit (chain tables.readable bytes satp va)))
-    (writes_of tables bytes satp flags va access)
+    (walk_writes_of tables bytes satp flags va access)
 
 -- and none where A and D that are clear are page faults
 abbrev pub WritesNoneUnderFault : Tables → Bytes → ℕ → WalkFlags → ℕ → Access → Type 0
 WritesNoneUnderFault tables bytes satp flags va access =
-    tables.marks ≡ marks.Fault → writes_of tables bytes satp flags va access ≡ []
+    tables.marks ≡ marks.Fault → walk_writes_of tables bytes satp flags va access ≡ []
 
 -- a walk from level 2 on, in the table that satp names
 abbrev pub IsWalkFromRoot : (ℕ → Bool) → Bytes → ℕ → ℕ → List Visit → Type 0

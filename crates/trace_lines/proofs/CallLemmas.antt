@@ -5,7 +5,7 @@ use Rattle.std.proofs.lemmas.List.{append_assoc, drop_all, length-take-le, take-
 use Rattle.std.proofs.lemmas.Bool.{leb-true, leb-false}
 use Rattle.trace_lines.specs.declared.next.TheConstants.{LONGEST}
 use Rattle.trace_lines.specs.declared.piece.Ending.TheVariants.{More, TooLong, TooLarge}
-use Rattle.trace_lines.specs.Lines.{RemainingLines, Part, parts_of, lines_from, file_lines, with_line, line_in}
+use Rattle.trace_lines.specs.Lines.{RemainingLines, TextPart, text_parts_of, lines_from, file_lines, with_line, line_in}
 use Rattle.trace_lines.specs.Lines.{without_mark}
 use Rattle.trace_lines.specs.Pieces.{front_of, back_of, IsLast}
 use Rattle.trace_lines.specs.Calls.{left_after_calls, pieces_by, all_lines_of, piece_after, EndsLines}
@@ -98,7 +98,7 @@ pub short_ends : (calls : List ℕ) (asked : ℕ) (left : RemainingLines)
 short_ends calls asked left short = all_ends calls asked left (short_is_all asked (left_after_calls calls left) short)
 
 -- the ending of a file's lines is a last one
-lines_from-last : (more : Bool) (number : ℕ) (parts : List Part) → IsLast (lines_from more number parts).ending
+lines_from-last : (more : Bool) (number : ℕ) (parts : List TextPart) → IsLast (lines_from more number parts).ending
 unfolding lines_from
 lines_from-last true number [] = tt
 lines_from-last false number [] = tt
@@ -116,4 +116,4 @@ lines_from-last more number (part ∷ parts) =
 
 pub lines_of-last : (most : ℕ) (file : List ℕ) → IsLast (file_lines most file).ending
 unfolding file_lines
-lines_of-last most file = lines_from-last (nat_lt most (length file)) 1 (parts_of (without_mark (take most file)))
+lines_of-last most file = lines_from-last (nat_lt most (length file)) 1 (text_parts_of (without_mark (take most file)))

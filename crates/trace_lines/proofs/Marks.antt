@@ -4,7 +4,7 @@ use Rattle.std.proofs.Common.{[], ◌∷◌, ◌++◌, length, take, drop, refl,
 use Rattle.trace_lines.specs.declared.line_cursor.Following.{Following}
 use Rattle.trace_lines.specs.declared.line_cursor.Following.TheVariants.{Unread, End, TooLarge}
 use Rattle.trace_lines.specs.Cursors.{unread_of}
-use Rattle.trace_lines.specs.Lines.{lines_from, parts_of, has_mark, without_mark, file_lines}
+use Rattle.trace_lines.specs.Lines.{lines_from, text_parts_of, has_mark, without_mark, file_lines}
 
 -- a text with a mark has three bytes
 marked_by : (first second : Bool) → (first && second && false) ≡ true → ⊥
@@ -46,22 +46,22 @@ pub record IsAtFront (most : ℕ) (file : List ℕ) (more : Bool) (number : ℕ)
 -- its lines
 left_first : {most : ℕ} {file : List ℕ} {more : Bool} {number : ℕ} {whole text : List ℕ}
     → IsAtFront most file more number whole → without_mark whole ≡ text
-    → lines_from more number (parts_of text) ≡ file_lines most file
+    → lines_from more number (text_parts_of text) ≡ file_lines most file
 unfolding file_lines
 left_first {most} {file} {more} {number} {whole} {text} front passed =
-    ap (λ n. lines_from more n (parts_of text)) front.first
-    ∙ ap (λ (m : Bool). lines_from m 1 (parts_of text)) front.more_is
-    ∙ ap (λ bytes. lines_from (nat_lt most (length file)) 1 (parts_of bytes))
+    ap (λ n. lines_from more n (text_parts_of text)) front.first
+    ∙ ap (λ (m : Bool). lines_from m 1 (text_parts_of text)) front.more_is
+    ∙ ap (λ bytes. lines_from (nat_lt most (length file)) 1 (text_parts_of bytes))
     (sym passed ∙ ap without_mark front.text_is)
 
 pub left_marked : {most : ℕ} {file : List ℕ} {more : Bool} {number : ℕ} (bytes unread : List ℕ)
     → IsAtFront most file more number (bytes ++ unread) → true ≡ has_mark bytes
-    → lines_from more number (parts_of (drop 3 bytes ++ unread)) ≡ file_lines most file
+    → lines_from more number (text_parts_of (drop 3 bytes ++ unread)) ≡ file_lines most file
 left_marked bytes unread front marked = left_first front (text_marked bytes unread (sym marked))
 
 pub left_unmarked : {most : ℕ} {file : List ℕ} {more : Bool} {number : ℕ} (bytes unread : List ℕ)
     → IsAtFront most file more number (bytes ++ unread) → false ≡ has_mark bytes
-    → (3 ≤ length bytes) ⊎ (unread ≡ []) → lines_from more number (parts_of (bytes ++ unread)) ≡ file_lines most file
+    → (3 ≤ length bytes) ⊎ (unread ≡ []) → lines_from more number (text_parts_of (bytes ++ unread)) ≡ file_lines most file
 left_unmarked bytes unread front plain enough = left_first front (text_unmarked bytes unread (sym plain) enough)
 
 -- three bytes were read, or all

@@ -6,7 +6,7 @@ use Rattle.trace_lines.specs.declared.line_cursor.Following.{Following}
 use Rattle.trace_lines.specs.declared.line_cursor.Following.TheVariants.{Unread, End, TooLarge}
 use Rattle.trace_lines.specs.declared.line_cursor.LineCursor.{LineCursor}
 use Rattle.trace_lines.specs.declared.next.TheConstants.{LONGEST}
-use Rattle.trace_lines.specs.Lines.{RemainingLines, lines_from, parts_of}
+use Rattle.trace_lines.specs.Lines.{RemainingLines, lines_from, text_parts_of}
 
 -- the bytes that are held and were not taken
 abbrev pub buffered_bytes : LineCursor → List ℕ
@@ -37,13 +37,13 @@ text_in file cursor = buffered_bytes cursor ++ unread_in file cursor
 -- the lines from the cursor's place on
 abbrev pub lines_from_cursor : List ℕ → LineCursor → RemainingLines
 lines_from_cursor file cursor =
-    lines_from (more_in file cursor) cursor.number (parts_of (text_in file cursor))
+    lines_from (more_in file cursor) cursor.number (text_parts_of (text_in file cursor))
 
 -- the lines after the next one, which takes so many of the bytes that are held
 abbrev pub lines_after_next : List ℕ → LineCursor → ℕ → RemainingLines
 lines_after_next file cursor used =
     lines_from (more_in file cursor) (cursor.number + 1)
-    (parts_of (drop used (buffered_bytes cursor) ++ unread_in file cursor))
+    (text_parts_of (drop used (buffered_bytes cursor) ++ unread_in file cursor))
 
 -- how many bytes may still come: those that are held, and those that are not read
 abbrev pub room_in : LineCursor → ℕ
@@ -55,8 +55,8 @@ remaining_reads Unread left = left + 1
 remaining_reads End left = 0
 remaining_reads TooLarge left = 0
 
-abbrev pub reads_in : LineCursor → ℕ
-reads_in cursor = remaining_reads cursor.following (cursor.most - cursor.place)
+abbrev pub read_count : LineCursor → ℕ
+read_count cursor = remaining_reads cursor.following (cursor.most - cursor.place)
 
 -- a fact of the file, where it is told
 abbrev pub ForFile : Option (List ℕ) → (List ℕ → Type 0) → Type 0
@@ -80,10 +80,10 @@ pub record StaysAt (before now : LineCursor) : Type 0 where
   pub most : now.most ≡ before.most
   pub room : room_in now ≡ room_in before
   pub at : now.at ≤ before.at
-  pub reads : reads_in now < reads_in before
+  pub reads : read_count now < read_count before
 
 -- nothing was read
-pub record IsNew (limit : ℕ) (cursor : LineCursor) : Type 0 where
+pub record IsNewCursor (limit : ℕ) (cursor : LineCursor) : Type 0 where
   pub bytes : cursor.bytes.items ≡ []
   pub at : cursor.at ≡ 0
   pub number : cursor.number ≡ 1

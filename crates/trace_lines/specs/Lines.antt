@@ -1,32 +1,30 @@
 -- The lines of a file of which at most so many bytes are read.
+use Rattle.line_text.specs.Lines.{line_feed}
 use Rattle.std.specs.Prelude.{ℕ, ◌+◌, ◌-◌, Bool, true, false, not, ◌&&◌, ◌==◌, nat_lt, if◌then◌else◌, List, [], ◌∷◌}
 use Rattle.std.specs.Prelude.{length, take, drop, slice_index}
 use Rattle.trace_lines.specs.declared.piece.Ending.{Ending}
 use Rattle.trace_lines.specs.declared.next.TheConstants.{LONGEST}
 use Rattle.trace_lines.specs.declared.piece.Ending.TheVariants.{End, TooLong, TooLarge}
 
-abbrev pub line_feed : ℕ
-line_feed = 10
-
 abbrev pub carriage_return : ℕ
 carriage_return = 13
 
 -- what stands between two line feeds, and whether a line feed follows
-pub record Part : Type 0 where
+pub record TextPart : Type 0 where
   pub bytes : List ℕ
   pub ended : Bool
 
 -- a byte goes before the first part
-abbrev pub with_byte_in_first : ℕ → List Part → List Part
+abbrev pub with_byte_in_first : ℕ → List TextPart → List TextPart
 with_byte_in_first byte [] = record { bytes = byte ∷ []; ended = false } ∷ []
 with_byte_in_first byte (part ∷ parts) = record { bytes = byte ∷ part.bytes; ended = part.ended } ∷ parts
 
 -- what the line feeds of a text separate; nothing follows a last line feed
-unfoldable pub parts_of : List ℕ → List Part
-parts_of [] = []
-parts_of (byte ∷ bytes) =
-    if byte == line_feed then record { bytes = []; ended = true } ∷ parts_of bytes
-    else with_byte_in_first byte (parts_of bytes)
+unfoldable pub text_parts_of : List ℕ → List TextPart
+text_parts_of [] = []
+text_parts_of (byte ∷ bytes) =
+    if byte == line_feed then record { bytes = []; ended = true } ∷ text_parts_of bytes
+    else with_byte_in_first byte (text_parts_of bytes)
 
 -- lines, and how they end
 pub record RemainingLines : Type 0 where
@@ -48,7 +46,7 @@ with_line line left = record {
 
 -- the lines of parts that begin with the line of this number; `more` says that the file has bytes
 -- past these
-unfoldable pub lines_from : Bool → ℕ → List Part → RemainingLines
+unfoldable pub lines_from : Bool → ℕ → List TextPart → RemainingLines
 lines_from more number [] = record { lines = []; ending = if more then TooLarge else End }
 lines_from more number (part ∷ parts) =
     if nat_lt LONGEST (length part.bytes) then record { lines = []; ending = TooLong number }
@@ -65,4 +63,4 @@ without_mark text = if has_mark text then drop 3 text else text
 
 -- the lines of a file
 unfoldable pub file_lines : ℕ → List ℕ → RemainingLines
-file_lines most file = lines_from (nat_lt most (length file)) 1 (parts_of (without_mark (take most file)))
+file_lines most file = lines_from (nat_lt most (length file)) 1 (text_parts_of (without_mark (take most file)))

@@ -55,7 +55,7 @@ impl LineCursor {
     ghost use Rattle.std.specs.Prelude.{List, ℕ, IfOk, OnOk, length};
     ghost use Rattle.outside_ports.specs.Faults.{CountsFault, CountsMiss};
     ghost use Rattle.outside_ports.specs.Ports.{file_of, IsThere};
-    ghost use Rattle.trace_lines.specs.Cursors.{lines_from_cursor, room_in, ForFile, IsUntaken, IsNew, Holds};
+    ghost use Rattle.trace_lines.specs.Cursors.{lines_from_cursor, room_in, ForFile, IsUntaken, IsNewCursor, Holds};
     ghost use Rattle.trace_lines.specs.Errors.{is_read_fault};
     ghost use Rattle.trace_lines.specs.Lines.{file_lines};
     ghost use Rattle.trace_lines.specs.Nexts.{TakesNext, LeavesRoom};
@@ -132,7 +132,7 @@ impl LineCursor {
     /// A cursor at the front of a file of which nothing was read.
     fn new(alloc: Global, most: u64) -> Result<Self, AllocError>
         requires { most < 2 ^ 62 }
-        ensures { IfOk result (IsNew most) }
+        ensures { IfOk result (IsNewCursor most) }
     {
         let chunk = new_chunk(alloc)?;
         Ok(LineCursor {

@@ -17,7 +17,7 @@ use Rattle.board_core.proofs.Machines.{least_with, range_count}
 use Rattle.verdict_board.specs.declared.view.View.{View}
 use Rattle.verdict_board.specs.Views.{cut_first, cut_rest, view_after_draw, is_done, is_past, joined_views, lead}
 use Rattle.verdict_board.specs.Views.{view_after_look, numbers_below, view_after_post, spent_view}
-use Rattle.verdict_board.specs.Rule.{AreOwn, Fits, HasNumber, Knows, Mirrors, all_of, draws_of, looks_of, numbers_of}
+use Rattle.verdict_board.specs.Rule.{AreOwn, Fits, HasNumber, Knows, Mirrors, all_of, draws_of, looks_of, view_numbers}
 use Rattle.verdict_board.specs.Rule.{posts_of}
 use Rattle.verdict_board.specs.Points.{IsIdle}
 use Rattle.verdict_board.proofs.Gathered.{gathered-alone, gathered-push, gathered-set, gathered-two, none_pass}
@@ -108,9 +108,9 @@ not_passed {n} {seats} {machine} {views = views} {place} {view} number for shows
         let some_past : 0 < count (is_past n) view.draws = counted (is_past n) view.draws draw has past in
         omega (arith, some_past, none))
 
-    once : count (λ one. one == number) (all_of numbers_of views) ≤ 1
+    once : count (λ one. one == number) (all_of view_numbers views) ≤ 1
     once =
-        let is : as_number (nat_lt number seats) ≡ count (λ one. one == number) (all_of numbers_of views) =
+        let is : as_number (nat_lt number seats) ≡ count (λ one. one == number) (all_of view_numbers views) =
         sym (range_count seats number) ∙ shows.mirrors.numbers_are (λ one. as_number (one == number)) in
         omega (arith, is, at_most_one (nat_lt number seats))
       where
@@ -129,7 +129,7 @@ not_passed {n} {seats} {machine} {views = views} {place} {view} number for shows
           own,
           theirs,
           once,
-          gathered-two numbers_of (λ one. as_number (one == number)) views place elsewhere view other shows.exists
+          gathered-two view_numbers (λ one. as_number (one == number)) views place elsewhere view other shows.exists
               there apart,
         ))
 
@@ -156,7 +156,7 @@ claim_mirrors {n} {seats} {machine} {answers} {views = views} {place} {view} sho
           bag_grows draws_of views place view new at machine.draws mirrors.draws_are (lead view, machine.next) refl;
       posts_are = bag_stays posts_of views place view new at machine.posts mirrors.posts_are refl;
       looks_are = bag_stays looks_of views place view new at answers mirrors.looks_are refl;
-      numbers_are = bag_stays numbers_of views place view new at (numbers_below seats) mirrors.numbers_are refl;
+      numbers_are = bag_stays view_numbers views place view new at (numbers_below seats) mirrors.numbers_are refl;
       fit =
           all_fit views place mirrors.fit
           (λ other fits. record {
@@ -233,7 +233,7 @@ look_mirrors {n} {seats} {machine} {answers} {views = views} {place} {view} soun
       draws_are = bag_stays draws_of views place view new at machine.draws mirrors.draws_are refl;
       posts_are = bag_stays posts_of views place view new at machine.posts mirrors.posts_are refl;
       looks_are = bag_grows looks_of views place view new at answers mirrors.looks_are (lead view, machine.least) refl;
-      numbers_are = bag_stays numbers_of views place view new at (numbers_below seats) mirrors.numbers_are refl;
+      numbers_are = bag_stays view_numbers views place view new at (numbers_below seats) mirrors.numbers_are refl;
       fit = all_fit views place mirrors.fit (λ other fits. fits) (record {
         own_draws = old.own_draws;
         own_posts = old.own_posts;
@@ -282,7 +282,7 @@ post_mirrors {n} {seats} {machine} {answers} {views = views} {place} {view} numb
       draws_are = bag_stays draws_of views place view new at machine.draws mirrors.draws_are refl;
       posts_are = bag_grows posts_of views place view new at machine.posts mirrors.posts_are (number, segment) refl;
       looks_are = bag_stays looks_of views place view new at answers mirrors.looks_are refl;
-      numbers_are = bag_stays numbers_of views place view new at (numbers_below seats) mirrors.numbers_are refl;
+      numbers_are = bag_stays view_numbers views place view new at (numbers_below seats) mirrors.numbers_are refl;
       fit = all_fit views place mirrors.fit on (record {
         own_draws = old.own_draws;
         own_posts =
@@ -437,7 +437,7 @@ join_mirrors {n} {seats} {machine} {answers} {views = views} {place} {elsewhere}
           bag_joins posts_of views place elsewhere view other at there machine.posts mirrors.posts_are refl refl;
       looks_are = bag_joins looks_of views place elsewhere view other at there answers mirrors.looks_are refl refl;
       numbers_are =
-          bag_joins numbers_of views place elsewhere view other at there (numbers_below seats) mirrors.numbers_are refl
+          bag_joins view_numbers views place elsewhere view other at there (numbers_below seats) mirrors.numbers_are refl
           refl;
       fit = all_fit joined elsewhere
           (all_fit views place mirrors.fit (λ one fits. fits)
@@ -511,7 +511,7 @@ split_mirrors {n} {seats} {machine} {answers} {views = views} {place} {view} sho
       posts_are = bag_splits posts_of views place view at machine.posts mirrors.posts_are (λ h. omega arith);
       looks_are = bag_splits looks_of views place view at answers mirrors.looks_are (λ h. omega arith);
       numbers_are =
-          bag_splits numbers_of views place view at (numbers_below seats) mirrors.numbers_are
+          bag_splits view_numbers views place view at (numbers_below seats) mirrors.numbers_are
           (λ h. first_and_rest h view.numbers);
       fit =
           λ elsewhere other there. elim

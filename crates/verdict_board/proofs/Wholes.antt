@@ -14,7 +14,7 @@ use Rattle.board_core.proofs.Bags.{counted, equal_test, weigh-append}
 use Rattle.board_core.proofs.Machines.{drawn_once, overs_drawn, posted_looks, range_count, sound}
 use Rattle.verdict_board.specs.declared.view.View.{View}
 use Rattle.verdict_board.specs.Views.{AreBelow, DrewBelow, IsExact, IsWhole, is_past, numbers_below}
-use Rattle.verdict_board.specs.Rule.{Kept, Shows, all_of, draws_of, looks_of, numbers_of, posts_of}
+use Rattle.verdict_board.specs.Rule.{Kept, Shows, all_of, draws_of, looks_of, view_numbers, posts_of}
 use Rattle.verdict_board.specs.Points.{FollowsRule, IsOrderly, IsSeen}
 use Rattle.verdict_board.proofs.Gathered.{gathered-alone, gathered-one, gathered-two, no_pairs, weigh_each}
 use Rattle.verdict_board.proofs.Mirrors.{ShowsLive}
@@ -28,10 +28,10 @@ others_spent : {n seats : ℕ} {machine : Machine} {answers : List (ℕ × ℕ)}
     → length other.numbers ≡ 0
 others_spent {seats = seats} {views = views} {place} {view} shows whole elsewhere other there apart =
     let knows = (shows.mirrors.fit place view shows.exists).knows shows.live in
-    let all : seats ≡ weigh (λ number. 1) (all_of numbers_of views) =
+    let all : seats ≡ weigh (λ number. 1) (all_of view_numbers views) =
     sym (length-range_with_len 0 seats) ∙ sym (weigh_each (numbers_below seats))
     ∙ shows.mirrors.numbers_are (λ number. 1) in
-    let two = gathered-two numbers_of (λ number. 1) views place elsewhere view other shows.exists there apart in
+    let two = gathered-two view_numbers (λ number. 1) views place elsewhere view other shows.exists there apart in
     omega (arith, all, two, whole, knows.seats_is, weigh_each view.numbers, weigh_each other.numbers)
 
 -- what it has is all that there is
@@ -170,10 +170,10 @@ few_drawn n seats events words views shows =
     let machine = machine_after_events (machine_at_start n) events in
     let overs : machine.next - n ≡ count (is_past n) (all_of draws_of views) =
     sym (overs_drawn n machine (sound n events)) ∙ shows.draws_are (λ draw. as_number (is_past n draw)) in
-    let at_most : count (is_past n) (all_of draws_of views) ≤ weigh (λ number. 1) (all_of numbers_of views) =
-    gathered_le draws_of numbers_of (λ draw. as_number (is_past n draw)) (λ number. 1) views
+    let at_most : count (is_past n) (all_of draws_of views) ≤ weigh (λ number. 1) (all_of view_numbers views) =
+    gathered_le draws_of view_numbers (λ draw. as_number (is_past n draw)) (λ number. 1) views
     (λ place view at. omega (arith, (shows.fit place view at).few_past, weigh_each view.numbers)) in
-    let all : seats ≡ weigh (λ number. 1) (all_of numbers_of views) =
+    let all : seats ≡ weigh (λ number. 1) (all_of view_numbers views) =
     sym (length-range_with_len 0 seats) ∙ sym (weigh_each (numbers_below seats))
     ∙ shows.numbers_are (λ number. 1) in
     omega (arith, overs, at_most, all)

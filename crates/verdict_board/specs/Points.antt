@@ -6,7 +6,7 @@ use Rattle.verdict_board.specs.declared.view.View.{View}
 use Rattle.board_core.specs.Bags.{Has, Names, as_number, count}
 use Rattle.board_core.specs.Sound.{AreDrawn, IsLeast}
 use Rattle.verdict_board.specs.Views.{DrewBelow, is_past}
-use Rattle.verdict_board.specs.Rule.{AreOwn, all_of, draws_of, numbers_of, posts_of}
+use Rattle.verdict_board.specs.Rule.{AreOwn, all_of, draws_of, view_numbers, posts_of}
 
 -- it has done nothing
 pub record IsIdle (view : View) : Type 0 where
@@ -46,7 +46,7 @@ pub record IsOrderly (n least : ℕ) (views : List View) (view : View) : Type 0 
 pub record FollowsRule (n seats : ℕ) (words : List ℕ) (views : List View) : Type 0 where
   -- each number of a seat stands in one view, once
   pub numbers_once : (number : ℕ) →
-      count (λ one. one == number) (all_of numbers_of views) ≡ as_number (nat_lt number seats)
+      count (λ one. one == number) (all_of view_numbers views) ≡ as_number (nat_lt number seats)
   -- each number below the first word was drawn once over all views, and no other was
   pub draws_once : DrewBelow (slice_index words 0) (all_of draws_of views)
   -- the second word is the least posted, or n

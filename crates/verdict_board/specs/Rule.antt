@@ -23,8 +23,8 @@ posts_of view = view.posts
 abbrev pub looks_of : View → List (ℕ × ℕ)
 looks_of view = view.looks
 
-abbrev pub numbers_of : View → List ℕ
-numbers_of view = view.numbers
+abbrev pub view_numbers : View → List ℕ
+view_numbers view = view.numbers
 
 -- the number is one of these
 abbrev pub HasNumber : List ℕ → ℕ → Type 0
@@ -59,7 +59,7 @@ pub record Mirrors (n seats : ℕ) (machine : Machine) (answers : List (ℕ × �
   pub draws_are : SameBag machine.draws (all_of draws_of views)
   pub posts_are : SameBag machine.posts (all_of posts_of views)
   pub looks_are : SameBag answers (all_of looks_of views)
-  pub numbers_are : SameBag (numbers_below seats) (all_of numbers_of views)
+  pub numbers_are : SameBag (numbers_below seats) (all_of view_numbers views)
   pub fit : (place : ℕ) (view : View) → get_elem? views place ≡ some view → Fits n seats machine view
 
 -- the words and the views are those of a run of the machine

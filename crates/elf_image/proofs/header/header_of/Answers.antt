@@ -6,12 +6,12 @@ pub returns : goal.returns
 unfolding header_of
 returns c =
     rw (
-      c.number_in.ensures.value,
-      c.number_in-2.ensures.value,
-      c.number_in-3.ensures.value,
-      c.number_in-4.ensures.value,
-      c.number_in-5.ensures.value,
-      c.number_in-6.ensures.value,
-      c.number_in-7.ensures.value,
-      c.number_in-8.ensures.value,
+      c.number_at_offset.ensures.value,
+      c.number_at_offset-2.ensures.value,
+      c.number_at_offset-3.ensures.value,
+      c.number_at_offset-4.ensures.value,
+      c.number_at_offset-5.ensures.value,
+      c.number_at_offset-6.ensures.value,
+      c.number_at_offset-7.ensures.value,
+      c.number_at_offset-8.ensures.value,
     ) refl

@@ -6,9 +6,9 @@ pub returns : goal.returns
 unfolding program_header_at
 returns c =
     rw (
-      c.number_in.ensures.value,
-      c.number_in-2.ensures.value,
-      c.number_in-3.ensures.value,
-      c.number_in-4.ensures.value,
-      c.number_in-5.ensures.value,
+      c.number_at_offset.ensures.value,
+      c.number_at_offset-2.ensures.value,
+      c.number_at_offset-3.ensures.value,
+      c.number_at_offset-4.ensures.value,
+      c.number_at_offset-5.ensures.value,
     ) refl

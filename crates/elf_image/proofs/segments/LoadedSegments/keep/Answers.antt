@@ -1,12 +1,12 @@
 use Rattle.std.proofs.Common.{◌<◌, ap, ◌∙◌, arith}
 use Rattle.std.proofs.lemmas.Bool.Decides.{nat_tests}
-use Rattle.elf_image.specs.Image.{with_segment, bytes_of}
+use Rattle.elf_image.specs.Image.{with_segment, segment_bytes}
 use Rattle.elf_image.specs.Loading.{AreApart}
 use Rattle.elf_image.proofs.Bytes.{put_segment, ends_more}
 use Rattle.elf_image.proofs.segments.LoadedSegments.keep.Goals as goal
 
 pub returns : goal.returns
-unfolding bytes_of AreApart
+unfolding segment_bytes AreApart
 returns c = λ earlier loaded apart.
     let file = c.args.segment.file.now in
     let header = c.args.segment.header in

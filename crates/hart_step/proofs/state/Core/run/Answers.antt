@@ -47,7 +47,7 @@ pub returns-in-Ok-execute-clause-ran : goal.returns-in-Ok-execute-clause-ran
 returns-in-Ok-execute-clause-ran g c =
     let core = c.args.self.now in
     let shown = shown_in c.args.row.now in
-    let chosen = rw c.operands.ensures at c.choices_of-choices.ensures in
+    let chosen = rw c.operands.ensures at c.row_choices_of-choices.ensures in
     ran_decoded core shown c.in-Ok.word.0 c.in-Ok.word.1
     c.in-Ok.ensures.looked c.in-Some.ensures.meaning
     (rw (← c.from-bits.ensures, ← c.from.ensures)
@@ -58,7 +58,7 @@ pub returns-in-Err-execute-clause-ran : goal.returns-in-Err-execute-clause-ran
 returns-in-Err-execute-clause-ran g c =
     let core = c.args.self.now in
     let shown = shown_in c.args.row.now in
-    let chosen = rw c.operands.ensures at c.choices_of-choices.ensures in
+    let chosen = rw c.operands.ensures at c.row_choices_of-choices.ensures in
     ran_raised core shown (Some c.from-bits.result) c.in-Err-execute.exception c.trap_notes-in-Err-execute.ensures
     (ran_decoded core shown c.in-Ok.word.0 c.in-Ok.word.1
     c.in-Ok.ensures.looked c.in-Some.ensures.meaning

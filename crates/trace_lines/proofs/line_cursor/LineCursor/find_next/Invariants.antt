@@ -1,6 +1,6 @@
 use Rattle.std.proofs.Common.{◌≡◌}
 use Rattle.outside_ports.specs.Ports.{file_of}
-use Rattle.trace_lines.specs.Cursors.{ForFile, lines_from_cursor, room_in, reads_in}
+use Rattle.trace_lines.specs.Cursors.{ForFile, lines_from_cursor, room_in, read_count}
 use Rattle.trace_lines.proofs.line_cursor.LineCursor.find_next.Given as goal
 
 abbrev pub invariant-reading : goal.invariant-reading
@@ -14,4 +14,4 @@ invariant-reading g l = record {
 }
 
 abbrev pub decreases-reading : goal.decreases-reading
-decreases-reading g l = reads_in l.self
+decreases-reading g l = read_count l.self

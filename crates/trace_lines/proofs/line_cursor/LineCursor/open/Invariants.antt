@@ -1,6 +1,6 @@
 use Rattle.std.proofs.Common.{◌≡◌, ◌≤◌}
 use Rattle.outside_ports.specs.Ports.{file_of, IsThere}
-use Rattle.trace_lines.specs.Cursors.{ForFile, Holds, room_in, reads_in}
+use Rattle.trace_lines.specs.Cursors.{ForFile, Holds, room_in, read_count}
 use Rattle.trace_lines.proofs.line_cursor.LineCursor.open.Given as goal
 
 abbrev pub invariant-marking : goal.invariant-marking
@@ -17,4 +17,4 @@ invariant-marking g l = record {
 }
 
 abbrev pub decreases-marking : goal.decreases-marking
-decreases-marking g l = reads_in l.cursor
+decreases-marking g l = read_count l.cursor

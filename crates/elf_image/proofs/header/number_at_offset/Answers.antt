@@ -2,7 +2,7 @@ use Rattle.std.proofs.Common.{◌≡◌, ◌+◌, ◌-◌, ◌<◌, arith, refl,
 use Rattle.std.specs.Prelude.{slice_index}
 use Rattle.hart_words.specs.Memory.{number_at}
 use Rattle.elf_image.proofs.Numbers.{number_more, number_grows, number_fits}
-use Rattle.elf_image.proofs.header.number_in.Goals as goal
+use Rattle.elf_image.proofs.header.number_at_offset.Goals as goal
 
 pub loop-k-init : goal.loop-k-init
 unfolding number_at
