@@ -1,5 +1,6 @@
 -- No access to memory raises an environment call or a breakpoint, and what a fetch gives is a word of its length.
-use Rattle.std.proofs.Common.{◌≡◌, ℕ, zero, suc, ◌+◌, ◌-◌, ◌*◌, ◌%◌, ◌^◌, ◌<◌, ◌==◌, Bool, true, false, Option, Some, None}
+use Rattle.std.proofs.Common.{◌≡◌, ℕ, zero, suc, ◌+◌, ◌-◌, ◌*◌, ◌%◌, ◌^◌, ◌<◌, ◌==◌, Bool, true, false, Option, Some}
+use Rattle.std.proofs.Common.{None}
 use Rattle.std.proofs.Common.{List, [], ◌∷◌, refl, sym, ap, ◌∙◌, subst, arith, Ok, Err, Result, if◌then◌else◌, lit<}
 use Rattle.std.specs.Prelude.{IfOk, IfErr, ◌&&◌}
 use Rattle.std.proofs.Math.Nat.{pow-suc}
@@ -26,11 +27,13 @@ use Rattle.mem_access.specs.declared.place.Place.{Place}
 use Rattle.mem_access.specs.Places.{is_device, is_permitted, place_in, place_of}
 use Rattle.mem_access.specs.Translation.{is_translated, place_after_translation, physical_address_of, tables_of}
 use Rattle.mem_access.specs.Translation.{virtual_place_of, walk_flags_of}
-use Rattle.mem_access.specs.Accesses.{Exception, Part, Places, after_first, after_place, one_place, data_load, data_places_of}
+use Rattle.mem_access.specs.Accesses.{Exception, Part, Places, after_first, after_place, one_place, data_load}
+use Rattle.mem_access.specs.Accesses.{data_places_of}
 use Rattle.mem_access.specs.Accesses.{data_store, fetch_result, first_len, first_part, has_second_part, is_split}
 use Rattle.mem_access.specs.Accesses.{joined_value, load_from, load_result, parcel_at, parcel_fetch, parcel_from}
 use Rattle.mem_access.specs.Accesses.{part_place_of, request_for, second_part, second_place_of, split_places_of}
-use Rattle.mem_access.specs.Accesses.{store_place_of, value_at, value_of_parts, whole_place_of, with_address, with_second}
+use Rattle.mem_access.specs.Accesses.{store_place_of, value_at, value_of_parts, whole_place_of, with_address}
+use Rattle.mem_access.specs.Accesses.{with_second}
 use Rattle.mem_access.proofs.Grants.{then_gives}
 use Rattle.row_compare.specs.Signals.{is_call_or_breakpoint}
 use Rattle.hart_step.specs.declared.state.Core.{Core}

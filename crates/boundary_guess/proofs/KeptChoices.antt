@@ -28,8 +28,10 @@ use Rattle.hart_step.specs.declared.memory.AccessResult.{AccessResult}
 use Rattle.hart_step.specs.Choices.{asks_interrupt, row_choices_of}
 use Rattle.hart_step.specs.CsrAccess.{csr_access_result}
 use Rattle.hart_step.specs.MemoryAccess.{memory_access}
-use Rattle.hart_step.specs.Returns.{core_after_mret, core_after_sret, may_mret, may_use_supervisor_instruction, wfi_traps}
-use Rattle.hart_step.specs.Instructions.{Completion, InstructionRun, after_access, after_csr, completion_if, core_at_next}
+use Rattle.hart_step.specs.Returns.{core_after_mret, core_after_sret, may_mret, may_use_supervisor_instruction}
+use Rattle.hart_step.specs.Returns.{wfi_traps}
+use Rattle.hart_step.specs.Instructions.{Completion, InstructionRun, after_access, after_csr, completion_if}
+use Rattle.hart_step.specs.Instructions.{core_at_next}
 use Rattle.hart_step.specs.Instructions.{core_after_retirement, execution_by, execution_of, fetch_at_pc, first_value}
 use Rattle.hart_step.specs.Instructions.{instruction_run, op_for, run_of_decoded, run_of_fetched, run_of_result}
 use Rattle.hart_step.specs.Instructions.{second_value, system_execution}

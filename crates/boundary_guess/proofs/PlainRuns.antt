@@ -1,6 +1,7 @@
 -- What an instruction that is neither of SYSTEM nor atomic does: it raises a fault, or changes a register and pc, and
 -- stores where it is a store.
-use Rattle.std.proofs.Common.{◌≡◌, ℕ, ◌+◌, ◌-◌, ◌/◌, ◌^◌, ◌<◌, Bool, true, false, List, [], ◌∷◌, ◌++◌, Option, Some, None}
+use Rattle.std.proofs.Common.{◌≡◌, ℕ, ◌+◌, ◌-◌, ◌/◌, ◌^◌, ◌<◌, Bool, true, false, List, [], ◌∷◌, ◌++◌, Option, Some}
+use Rattle.std.proofs.Common.{None}
 use Rattle.std.proofs.Common.{refl, sym, ap, ◌∙◌, subst, Ok, Err, Result, if◌then◌else◌, lit<}
 use Rattle.std.specs.Prelude.{IfOk}
 use Rattle.std.proofs.lemmas.Nat.{mod_below, pow_pos}
@@ -28,7 +29,8 @@ use Rattle.hart_step.specs.declared.choices.RowChoices.{RowChoices}
 use Rattle.hart_step.specs.declared.instruction.Instruction.{Instruction}
 use Rattle.hart_step.specs.declared.memory.AccessResult.{AccessResult}
 use Rattle.hart_step.specs.MemoryAccess.{expected_access, memory_access, access_result_of}
-use Rattle.hart_step.specs.MemoryAccess.{access_after_location, located_access, put, put_at, put_to, found_without_value}
+use Rattle.hart_step.specs.MemoryAccess.{access_after_location, located_access, put, put_at, put_to}
+use Rattle.hart_step.specs.MemoryAccess.{found_without_value}
 use Rattle.hart_step.specs.MemoryAccess.{number_written}
 use Rattle.hart_step.specs.Instructions.{Completion, after_access, execution_of, execution_by, first_value}
 use Rattle.hart_step.specs.Instructions.{core_after_retirement, second_value}

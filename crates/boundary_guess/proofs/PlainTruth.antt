@@ -223,7 +223,8 @@ ran_true {core} {shown} bytes (Trapped (Some bits) exception) plain shows agrees
     let common : is_system_or_atomic bits ≡ false =
     sym (ap is_system_or_atomic (insn_as shown bits is)) ∙ plain.common in
     absurd
-    (took_no_fault agrees did.effects (runs.fault (plain_word (core_after_count core shown) bits runs.len runs.word common)) shows.trap plain.trap)
+    (took_no_fault agrees did.effects (runs.fault
+    (plain_word (core_after_count core shown) bits runs.len runs.word common)) shows.trap plain.trap)
 ran_true {core} {shown} {after} {wrote} bytes (Retired i access) plain shows agrees did =
     let runs = did.runs in
     let rd = (operands_of i.op).rd in
@@ -231,7 +232,8 @@ ran_true {core} {shown} {after} {wrote} bytes (Retired i access) plain shows agr
     let common : is_system_or_atomic i.bits ≡ false =
     sym (ap is_system_or_atomic (insn_as shown i.bits is)) ∙ plain.common in
     let done = runs.does (plain_word (core_after_count core shown) i.bits i.len runs.word common i.op runs.means) in
-    let rd_fits : rd < 2 ^ 64 = below_word rd (destination_below (core_after_count core shown) i.bits i.len i.op runs.means) in
+    let rd_fits : rd < 2 ^ 64 = below_word rd (destination_below (core_after_count core shown) i.bits i.len i.op
+    runs.means) in
     let shows_after : ShowsAfter shown i after = record {
       register = rd_is _ agrees did.effects rd_fits shows.register;
       value = value_is _ agrees did.effects (did.in_range.registers rd) shows.value;

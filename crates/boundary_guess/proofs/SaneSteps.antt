@@ -176,7 +176,8 @@ access_sane {core} {choices} {i} {bytes} request start small =
     let P : Result AccessResult Exception → Type 0 = λ answer. IsSaneResult (after_access core i answer) in
     subst P (sym (accessed_value core choices request bytes))
     (after_access_sane core i (answer_from core choices request found) start.state start.instruction
-    (answer_raises core choices request found (located_raises (λ exception. exception.1 < 2 ^ 64) core request bytes (all_words request.address small)))
+    (answer_raises core choices request found
+    (located_raises (λ exception. exception.1 < 2 ^ 64) core request bytes (all_words request.address small)))
     (answer_fits core choices request found (found_fits core request bytes start.memory)))
 
 after_csr_sane : (core : Core) (i : Instruction) (answer : Result (ℕ × Csrs) Illegal) → IsSane core → IsInstruction i

@@ -72,8 +72,8 @@ near va len named small word at_most none = by (nat_le (above va named + len) 8)
         let close : nat_le (above va named + len) 8 ≡ true = grind (arith, nat_tests, zero_away, at_most) in
         absurd cc
 
--- a value is shown of each of three signals, and the physical address too where addresses are translated; then all bytes
--- are in one page
+-- a value is shown of each of three signals, and the physical address too where addresses are translated; then all
+-- bytes are in one page
 pub record ShowsAccess (core : Core) (shown : Shown) : Type 0 where
   pub address : ℕ
   pub mask : ℕ
@@ -217,7 +217,8 @@ shows_mask {shown} {retired} {va} {pa} {len} {value} shows stored agrees =
 
 place_by : {core : Core} {shown : Shown} {retired : Retired} {va pa len value : ℕ} (paddr : Option ℕ)
     (shows : ShowsAccess core shown) → IsStored retired va pa len value × GoesTo core va pa len
-    → RowAgrees retired shown → distance_in_window va len shows.address ≡ Some (above va shows.address) → shown MemPaddr ≡ paddr
+    → RowAgrees retired shown → distance_in_window va len shows.address ≡ Some (above va shows.address)
+    → shown MemPaddr ≡ paddr
     → (is_some paddr || not (translates_data core)) ≡ true
     → pa ≡ (unwrap_or paddr shows.address + above va shows.address) % 2 ^ 64
 place_by {core} {shown} {va} None shows stored agrees near is known =

@@ -16,7 +16,8 @@ use Rattle.rv_integer.specs.declared.int_result.MemoryOp.TheVariants as memory
 use Rattle.rv_integer.specs.declared.int_result.MemoryRequest.{MemoryRequest}
 use Rattle.rvfi_rows.specs.Window.{distance_in_window}
 use Rattle.mem_access.specs.declared.place.Place.{Place}
-use Rattle.mem_access.specs.Accesses.{Exception, LocatedValue, Places, data_load, data_places_of, first_len, joined_value, load_from}
+use Rattle.mem_access.specs.Accesses.{Exception, LocatedValue, Places, data_load, data_places_of, first_len}
+use Rattle.mem_access.specs.Accesses.{joined_value, load_from}
 use Rattle.mem_access.specs.Accesses.{load_result, store_place_of, value_at, value_of_parts}
 use Rattle.mem_access.proofs.Grants.{then_gives}
 use Rattle.hart_step.specs.declared.state.Core.{Core}

@@ -1,4 +1,5 @@
--- Where a store goes: to one place, in RAM or at a device, or to two, both in RAM; without translation to its own address.
+-- Where a store goes: to one place, in RAM or at a device, or to two, both in RAM; without translation to its own
+-- address.
 use Rattle.std.proofs.Common.{◌≡◌, ℕ, ◌+◌, ◌-◌, ◌%◌, ◌^◌, ◌==◌, Bool, true, false, ◌&&◌, Some, None, Ok, Err, Result}
 use Rattle.std.proofs.Common.{refl, sym, ap, ◌∙◌, subst, if◌then◌else◌}
 use Rattle.std.specs.Prelude.{IfOk}
@@ -17,7 +18,8 @@ use Rattle.mem_access.specs.declared.place.Place.{Place}
 use Rattle.mem_access.specs.Places.{is_device, is_permitted, place_in, place_of}
 use Rattle.mem_access.specs.Translation.{is_translated, physical_address_of, place_after_translation, tables_of}
 use Rattle.mem_access.specs.Translation.{virtual_place_of, walk_flags_of}
-use Rattle.mem_access.specs.Accesses.{Exception, Part, Places, after_place, one_place, data_places_of, data_store, first_len}
+use Rattle.mem_access.specs.Accesses.{Exception, Part, Places, after_place, one_place, data_places_of, data_store}
+use Rattle.mem_access.specs.Accesses.{first_len}
 use Rattle.mem_access.specs.Accesses.{first_part, has_second_part, is_split, part_place_of, request_for, second_part}
 use Rattle.mem_access.specs.Accesses.{second_place_of, split_places_of, store_place_of, whole_place_of, with_address}
 use Rattle.mem_access.proofs.Grants.{then_gives}

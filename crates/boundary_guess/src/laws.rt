@@ -33,9 +33,9 @@ pub fn states_hold_words()
 {}
 
 /// Where A and D that are clear are page faults, rows agree with the hart, and each valid one shows
-/// `insn`, `trap`, `rd_addr`, `rd_wdata` and `pc_wdata`, the guess after them is the true state; and
-/// where the rows of all segments but the last are such, the guess before each segment is. Where the
-/// hart sets A and D itself, no row shows the entries that it sets.
+/// `insn`, `trap`, `rd_addr`, `rd_wdata` and `pc_wdata`, the guess after them is the true state;
+/// and where the rows of all segments but the last are such, the guess before each segment is.
+/// Where the hart sets A and D itself, no row shows the entries that it sets.
 pub fn guesses_are_true_where_rows_show_changes()
     ensures rows { (state : HartState) (columns : ColumnList) (lines : List (List ℕ))
         → IsSound state.core → HoldsWords state → state.core.choices.marks ≡ Fault

@@ -125,7 +125,8 @@ pub(crate) fn write(core: &mut Core, address: u16, value: u64) -> Result<(), Fai
         .map_err(|_| Fail::from("no register"))
 }
 
-/// That hart in S, with satp's MODE at Sv39: it can fetch nothing, and each step traps to address 0.
+/// That hart in S, with satp's MODE at Sv39: it can fetch nothing, and each step traps to address
+/// 0.
 fn translating_hart(alloc: Global) -> Result<Hart<MapMem>, Fail>
     ensures sound { IfOk result (λ hart. IsSound hart.core) }
     ensures ram { IfOk result (λ hart. hart.mem.ram ≡ hart.core.map.ram) }

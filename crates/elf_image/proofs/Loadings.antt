@@ -136,7 +136,8 @@ segment_aside : (file : List ℕ) (header : ProgramHeader) (bytes : ℕ → Opti
 segment_aside file header bytes address apart = rw apart refl
 
 -- a smaller part has no address that the whole lacks
-part_aside : (header : ProgramHeader) (address : ℕ) → header.filesz ≤ header.memsz → is_segment_address header address ≡ false
+part_aside : (header : ProgramHeader) (address : ℕ) → header.filesz ≤ header.memsz
+    → is_segment_address header address ≡ false
     → is_within header.paddr header.filesz address ≡ false
 part_aside header address fits apart = grind (arith, nat_tests)
 

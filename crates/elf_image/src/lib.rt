@@ -2,8 +2,8 @@
 //! "ELF Object Files").
 //!
 //! In come a file and the range of RAM. Out come the bytes of its loadable segments at their
-//! physical addresses and the entry point, or the first fault: what `elf_of` (`specs/Image.antt`) gives over
-//! the file's headers (`specs/Headers.antt`).
+//! physical addresses and the entry point, or the first fault: what `elf_of` (`specs/Image.antt`)
+//! gives over the file's headers (`specs/Headers.antt`).
 #![tactic(auto)]
 
 mod fault;

@@ -45,7 +45,8 @@ use Rattle.hart_step.specs.declared.choices.RowChoices.{RowChoices}
 use Rattle.hart_step.specs.declared.choices.Lines.{Lines}
 use Rattle.hart_step.specs.declared.instruction.Instruction.{Instruction}
 use Rattle.hart_step.specs.declared.memory.AccessResult.{AccessResult}
-use Rattle.hart_step.specs.Choices.{shows, order_after, asks_interrupt, pending_lines_of, row_choices_of, load_bytes_shown}
+use Rattle.hart_step.specs.Choices.{shows, order_after, asks_interrupt, pending_lines_of, row_choices_of}
+use Rattle.hart_step.specs.Choices.{load_bytes_shown}
 use Rattle.hart_step.specs.Choices.{device_value, register_says_stored, says_stored}
 use Rattle.rv_atomic.specs.declared.reservation.Reservation.{Reservation}
 use Rattle.rv_atomic.specs.Blocks.{is_covered}
@@ -358,7 +359,8 @@ csr_same core one other rd request lines agree =
 
 system_same : (core : Core) (one other : Shown) (rd : ℕ) (i : Instruction) (request : SystemRequest)
     → pending_lines_of other ≡ pending_lines_of one → AgreeOnSystem request one other
-    → system_execution core (row_choices_of other rd) i request ≡ system_execution core (row_choices_of one rd) i request
+    → system_execution core (row_choices_of other rd) i request
+    ≡ system_execution core (row_choices_of one rd) i request
 unfolding system_execution wfi_traps
 system_same core one other rd i (system.Csr request) lines agree =
     ap (after_csr core i) (csr_same core one other rd request lines agree)

@@ -17,7 +17,8 @@ use Rattle.rv_integer.specs.declared.int_result.MemoryOp.TheVariants.{Load, Load
 use Rattle.csr_file.specs.declared.csrs.Csrs.{Csrs}
 use Rattle.mem_access.specs.declared.place.AccessRequest.{AccessRequest}
 use Rattle.mem_access.specs.declared.place.Place.{Place}
-use Rattle.mem_access.specs.Accesses.{Exception, LocatedValue, Places, one_place, data_request, data_store, first_part, has_second_part}
+use Rattle.mem_access.specs.Accesses.{Exception, LocatedValue, Places, one_place, data_request, data_store, first_part}
+use Rattle.mem_access.specs.Accesses.{has_second_part}
 use Rattle.mem_access.specs.Accesses.{data_places_of, part_place_of, second_part, split_places_of, store_place_of}
 use Rattle.mem_access.specs.Accesses.{whole_place_of, with_address}
 use Rattle.mem_access.specs.Laws.{ArePlacesFound}

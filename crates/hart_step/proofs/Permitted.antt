@@ -34,7 +34,8 @@ use Rattle.pmp_check.specs.Protection.{is_allowed}
 use Rattle.rvfi_rows.specs.declared.expected.Accessed.{Accessed}
 use Rattle.rvfi_rows.specs.declared.expected.Expected.TheVariants.{Halted}
 use Rattle.mem_access.specs.declared.place.Place.{Place}
-use Rattle.mem_access.specs.Accesses.{Exception, LocatedValue, Part, Places, first_len, first_part, request_for, second_part}
+use Rattle.mem_access.specs.Accesses.{Exception, LocatedValue, Part, Places, first_len, first_part, request_for}
+use Rattle.mem_access.specs.Accesses.{second_part}
 use Rattle.mem_access.specs.Laws.{ArePlacesFound, AreReads, AreTableSets, IsPermittedPart, IsPermittedPlace}
 use Rattle.mem_access.specs.Laws.{IsTableSet, place_list}
 use Rattle.mem_access.specs.Reads.{CheckedRead, IsPermittedRead, PlacedPart, fetch_reads_of, reads_in}

@@ -27,7 +27,8 @@ use Rattle.csr_file.specs.declared.fields.TheConstants.{TSR, TVM}
 use Rattle.mem_access.specs.declared.place.AccessRequest.{AccessRequest}
 use Rattle.mem_access.specs.declared.place.Place.{Place}
 use Rattle.mem_access.specs.Translation.{virtual_place_of}
-use Rattle.mem_access.specs.Accesses.{Exception, LocatedValue, Part, Places, data_load, data_store, parcel_fetch, parcel_from}
+use Rattle.mem_access.specs.Accesses.{Exception, LocatedValue, Part, Places, data_load, data_store, parcel_fetch}
+use Rattle.mem_access.specs.Accesses.{parcel_from}
 use Rattle.mem_access.specs.Accesses.{parcel_at, with_second, after_first, fetch_result, first_part, second_part}
 use Rattle.mem_access.specs.Accesses.{has_second_part, request_for, with_address, part_place_of, one_place, after_place}
 use Rattle.mem_access.specs.Accesses.{second_place_of, whole_place_of, split_places_of, is_split, data_places_of}

@@ -18,7 +18,8 @@ use Rattle.rv_integer.specs.declared.int_result.MemoryOp.TheVariants.{StoreCondi
 use Rattle.rv_atomic.specs.declared.reservation.Reservation.{Reservation}
 use Rattle.rv_atomic.specs.Blocks.{is_covered}
 use Rattle.mem_access.specs.declared.place.Place.{Place}
-use Rattle.mem_access.specs.Accesses.{Exception, LocatedValue, Places, one_place, data_places_of, data_store, part_place_of}
+use Rattle.mem_access.specs.Accesses.{Exception, LocatedValue, Places, one_place, data_places_of, data_store}
+use Rattle.mem_access.specs.Accesses.{part_place_of}
 use Rattle.mem_access.specs.Accesses.{split_places_of, store_place_of, whole_place_of}
 use Rattle.hart_step.specs.declared.state.Core.{Core}
 use Rattle.hart_step.specs.declared.choices.RowChoices.{RowChoices}

@@ -1,6 +1,7 @@
 -- The access of an instruction to memory: its place, what comes of it, and what is written. From the Unprivileged ISA's
 -- chapters "RV32I Base Integer Instruction Set" and "A Extension for Atomic Instructions".
-use Rattle.std.specs.Prelude.{ℕ, ◌-◌, ◌*◌, ◌/◌, ◌^◌, Bool, true, false, ◌&&◌, if◌then◌else◌, Option, Some, None, Result, Ok, Err}
+use Rattle.std.specs.Prelude.{ℕ, ◌-◌, ◌*◌, ◌/◌, ◌^◌, Bool, true, false, ◌&&◌, if◌then◌else◌, Option, Some, None, Result}
+use Rattle.std.specs.Prelude.{Ok, Err}
 use Rattle.hart_words.specs.Words.{sign_extended}
 use Rattle.hart_words.specs.AccessSizes.{bytes_of}
 use Rattle.hart_words.specs.Actions.{Action, pure, read_memory, write_memory, mapped, ◌>>=◌}

@@ -130,7 +130,8 @@ written_range write = (write.pa, write.len)
 abbrev pub placed_range : PlacedPart → ℕ × ℕ
 placed_range placed = (placed.place.pa, placed.part.len)
 
--- the stores of an instruction that asks for one: one to each of its parts, in their order, at the places that are found
+-- the stores of an instruction that asks for one: one to each of its parts, in their order, at the places that are
+-- found
 pub record AreStoresOf (core : Core) (request : MemoryRequest) (bytes : Bytes) (stores : List Write) : Type 0 where
   pub kind : access_kind_of request.op ≡ kind.Store
   pub placed : List PlacedPart

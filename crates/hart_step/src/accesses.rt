@@ -5,8 +5,8 @@ ghost use Rattle.hart_words.specs.declared.accesses.TheConstants.{MOST_WRITES};
 
 use hart_words::{Seen, Sets, Write, Wrote};
 
-/// What a step read from memory, the entries of page tables that it sets, and what it stores, each in
-/// their order. Memory gets what is set, and then what is stored, at the end of the step.
+/// What a step read from memory, the entries of page tables that it sets, and what it stores, each
+/// in their order. Memory gets what is set, and then what is stored, at the end of the step.
 #[derive(Debug, Drop)]
 pub struct Accesses {
     pub seen: Seen,

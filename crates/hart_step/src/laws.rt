@@ -86,8 +86,9 @@ pub fn interrupts_are_entered_where_asked()
 /// A step whose instruction raises an exception leads to the handler of S, where the instruction
 /// ran in S or U and medeleg has the bit of the cause, and else to that of M: at the vector's base,
 /// with the cause, the trap value and the instruction's pc in the registers of that mode. The trap
-/// value is the address of a fetch, or of the part of an access, that is refused, 0 of a call, pc of
-/// a breakpoint, and the bits of an illegal instruction; or 0 in every trap, where a core has it so.
+/// value is the address of a fetch, or of the part of an access, that is refused, 0 of a call, pc
+/// of a breakpoint, and the bits of an illegal instruction; or 0 in every trap, where a core has it
+/// so.
 pub fn exceptions_lead_to_handlers()
     ensures leads { (core : Core) (shown : Shown) (bytes : Bytes) (exception : Exception)
         → IsSound core → core.halted ≡ false → Raises (executed_at core shown bytes) exception

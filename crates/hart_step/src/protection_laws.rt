@@ -28,15 +28,16 @@ pub fn lower_modes_leave_protection()
         → pmp_entries_of (after_rows state rows).core.csrs ≡ pmp_entries_of state.core.csrs }
 {}
 
-/// What a step reads is, in order, what its fetch at pc reads, and then, where memory is as the fetch
-/// leaves it, what its instruction asks for: the entries of page tables on the way of each parcel and
-/// of each part of the access, read as by loads of S, and the own bytes of each at the place that is
-/// found, in the mode that makes the access. Each read is of RAM and granted to that mode. What a
-/// step writes is first entries of page tables, each 8 bytes of RAM that S may load and store, which
-/// gain A, or A and D, and no more. Then it is what its instruction stores, nothing or one store to
-/// each part of the access, at the places that are found, of RAM, which the mode of loads and stores
-/// may store. The access that is expected of the row is the one that the instruction asks for, at its
-/// address and from the place of its first part on, and this mode may make it at each part.
+/// What a step reads is, in order, what its fetch at pc reads, and then, where memory is as the
+/// fetch leaves it, what its instruction asks for: the entries of page tables on the way of each
+/// parcel and of each part of the access, read as by loads of S, and the own bytes of each at the
+/// place that is found, in the mode that makes the access. Each read is of RAM and granted to that
+/// mode. What a step writes is first entries of page tables, each 8 bytes of RAM that S may load
+/// and store, which gain A, or A and D, and no more. Then it is what its instruction stores,
+/// nothing or one store to each part of the access, at the places that are found, of RAM, which the
+/// mode of loads and stores may store. The access that is expected of the row is the one that the
+/// instruction asks for, at its address and from the place of its first part on, and this mode may
+/// make it at each part.
 pub fn steps_access_what_is_permitted()
     ensures { (core : Core) (shown : Shown) (bytes : Bytes) → StepIsPermitted core shown bytes }
 {}

@@ -130,7 +130,8 @@ by_bits l p q h split lt =
     let small : q ≤ q * p = le-mul_of_pos_right q split.positive in
     let narrow : q ≤ 2 ^ 64 = omega (arith, small, split.whole) in
     elim (cases_lt l h) [
-      | inl low ↦ let test : nat_lt l h ≡ true = grind (arith, nat_tests) in rw test (kept l q h split.double narrow low)
+      | inl low ↦ let test : nat_lt l h ≡ true = grind (arith, nat_tests)
+          in rw test (kept l q h split.double narrow low)
       | inr over ↦
           let test : nat_lt l h ≡ false = grind (arith, nat_tests) in
           rw test (repeated l p q h split narrow over lt)

@@ -45,8 +45,8 @@ impl Choices {
     }
 
     /// The choices where none is said: misaligned accesses trap, trap values are as the causes have
-    /// them, A and D that are clear are page faults, a reservation has 64 bytes, and there is no bit
-    /// manipulation.
+    /// them, A and D that are clear are page faults, a reservation has 64 bytes, and there is no
+    /// bit manipulation.
     #[tactic(auto, unfolding(crate::specs::Choices::plain_choices))]
     pub fn plain() -> Choices
         ensures { result ≡ plain_choices }

@@ -1,8 +1,8 @@
-//! Words that every other crate of the judge speaks: ranges of addresses, numbers as they are written,
-//! the signals of a trace, integer registers, modes, causes and access sizes, arithmetic on words, and
-//! memory as a trait. Values go in and out; each call meets the definition of its stem in `specs/`,
-//! which also has what several crates share. From the Unprivileged ISA, the Privileged Architecture's
-//! chapter "Machine-Level ISA", and riscv-formal's description of RVFI.
+//! Words that every other crate of the judge speaks: ranges of addresses, numbers as they are
+//! written, the signals of a trace, integer registers, modes, causes and access sizes, arithmetic
+//! on words, and memory as a trait. Values go in and out; each call meets the definition of its
+//! stem in `specs/`, which also has what several crates share. From the Unprivileged ISA, the
+//! Privileged Architecture's chapter "Machine-Level ISA", and riscv-formal's description of RVFI.
 #![tactic(auto)]
 
 mod access_size;

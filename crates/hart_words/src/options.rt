@@ -48,8 +48,8 @@ impl TrapValues {
     }
 }
 
-/// What an access does where the leaf of its page lacks A, or for a store D, and lacks nothing else.
-/// From the Privileged Architecture's chapter "Supervisor-Level ISA".
+/// What an access does where the leaf of its page lacks A, or for a store D, and lacks nothing
+/// else. From the Privileged Architecture's chapter "Supervisor-Level ISA".
 #[derive(Clone, Copy, Debug, PartialEq, Eq)]
 pub enum Marks {
     /// It is a page fault.

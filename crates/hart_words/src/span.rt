@@ -53,8 +53,8 @@ impl Span {
         self.base <= pa && pa - self.base <= self.size - len
     }
 
-    /// Whether `len` bytes from the address `pa` on, 1 to 8 of them, lie in the range and within one
-    /// page.
+    /// Whether `len` bytes from the address `pa` on, 1 to 8 of them, lie in the range and within
+    /// one page.
     pub fn is_place(&self, pa: u64, len: u8) -> bool
         ensures { Decides result (IsPlace self.now pa len) }
     {

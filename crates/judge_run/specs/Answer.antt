@@ -130,7 +130,8 @@ columns_in job left = by_first left.lines
 
 -- the verdict on rows, by which a hart is stepped from reset at the first pc over the memory
 abbrev pub verdict_on : JobView → StartView → List RowReading → Verdict
-verdict_on job start rows = (judgement_of by_hart (core_at_reset start.pc job.map job.choices) rows start.memory).verdict
+verdict_on job start rows = (judgement_of by_hart (core_at_reset start.pc job.map job.choices) rows
+    start.memory).verdict
 
 -- the first line is the header, each other a row
 unfoldable pub lines_outcome : JobView → StartView → RemainingLines → Step Outcome

@@ -105,8 +105,8 @@ pub record IsPartOver {M : Type 0} (bytes_of : M → Bytes) (ram_of : M → Span
       ≡ (conclusion_from by_hart start (rows_of columns (flat_map segment_lines (take part.settled segments)))).end
   pub can_step : IfSome part.end (CanStep ram_of)
 
--- what all of the segments come to; where their rows show what they change, none is judged again: A and D that are clear
--- are page faults then, since no row shows the entries that a hart sets
+-- what all of the segments come to; where their rows show what they change, none is judged again: A and D that are
+-- clear are page faults then, since no row shows the entries that a hart sets
 pub record IsSettled {M : Type 0} (bytes_of : M → Bytes) (ram_of : M → Span) (columns : ColumnList)
     (segments : List Segment) (start : HartState) (joined : JoinedSegments M) : Type 0 where
   pub verdict : joined.verdict

@@ -176,6 +176,7 @@ made_plain words job number rows asked made =
 -- words that ask for such a job
 pub made_asked : option_map (λ job. job.command)
     (job_of (codes "rvjudge" ∷ codes "make" ∷ codes "7" ∷ codes "3" ∷ [])) ≡ Some (Make 7 3)
-unfolding job_of command_line command_entered made_job sharing_of number_at_most number_up_to number_of_text number_within
+unfolding job_of command_line command_entered made_job sharing_of number_at_most number_up_to number_of_text
+    number_within
     number_of digits_number span_of map_of clap_on_literals
 made_asked = refl

@@ -17,8 +17,10 @@ unfolding span_in
 span_in-no_colon text none =
     let past : drop (position_or_len (λ byte. byte == colon) text + 1) text ≡ [] =
     drop_of_length-le text (omega arith) in
-    let size : number_of_text (after_first (λ byte. byte == colon) text) ≡ None = ap number_of_text past ∙ number_of_text-nil in
-    go (number_of_text (before_first (λ byte. byte == colon) text)) (number_of_text (after_first (λ byte. byte == colon) text))
+    let size : number_of_text (after_first (λ byte. byte == colon) text) ≡ None = ap number_of_text past
+    ∙ number_of_text-nil in
+    go (number_of_text (before_first (λ byte. byte == colon) text))
+    (number_of_text (after_first (λ byte. byte == colon) text))
     size
   where
     go : (base size : Option ℕ) → size ≡ None → (base >>= (λ b. size >>= (λ s. span_of b s))) ≡ None

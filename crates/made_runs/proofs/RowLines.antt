@@ -177,7 +177,10 @@ others_are row are = (
               are.mem_addr.is_field,
               (
                 are.mem_rmask.is_field,
-                (are.mem_wmask.is_field, (are.mem_rdata.is_field, (are.mem_wdata.is_field, (are.mem_paddr.is_field, tt)))),
+                (
+                  are.mem_wmask.is_field,
+                  (are.mem_rdata.is_field, (are.mem_wdata.is_field, (are.mem_paddr.is_field, tt))),
+                ),
               ),
             ),
           ),

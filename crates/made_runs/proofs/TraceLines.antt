@@ -11,7 +11,8 @@ use Rattle.std.proofs.lemmas.List.Sums.{AllPass-from_list_all}
 use Rattle.line_text.specs.Lines.{text_of}
 use Rattle.trace_lines.specs.declared.next.TheConstants.{LONGEST}
 use Rattle.trace_lines.specs.declared.piece.Ending.TheVariants.{End}
-use Rattle.trace_lines.specs.Lines.{RemainingLines, TextPart, line_in, lines_from, file_lines, text_parts_of, with_byte_in_first}
+use Rattle.trace_lines.specs.Lines.{RemainingLines, TextPart, line_in, lines_from, file_lines, text_parts_of}
+use Rattle.trace_lines.specs.Lines.{with_byte_in_first}
 use Rattle.trace_lines.specs.Lines.{with_line, without_mark}
 use Rattle.trace_maker.specs.declared.made_row.MadeRow.{MadeRow}
 use Rattle.trace_maker.specs.Rows.{made_row}

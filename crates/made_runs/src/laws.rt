@@ -50,10 +50,10 @@ pub fn made_images_read_back()
 {}
 
 /// From the two texts to the verdict, where RAM is 0x80000000:0x8000000 and as many bytes are read
-/// as the trace has: the image is read as a memory, the trace as a header that names the columns and
-/// as many lines as rows, and then it ends; and the verdict on these lines, from reset at 0x80000000
-/// with the choices that stand where none is said, over that memory, is that they agree, each of
-/// them valid.
+/// as the trace has: the image is read as a memory, the trace as a header that names the columns
+/// and as many lines as rows, and then it ends; and the verdict on these lines, from reset at
+/// 0x80000000 with the choices that stand where none is said, over that memory, is that they agree,
+/// each of them valid.
 pub fn made_texts_agree()
     ensures { (map : Map) (number rows most : ℕ) → MadeTextsAgree map number rows most }
 {}

@@ -21,7 +21,8 @@ use Rattle.sv39_walk.specs.Walk.{Visit, entry_read, entry_reads_of}
 use Rattle.mem_access.specs.declared.place.AccessRequest.{AccessRequest}
 use Rattle.mem_access.specs.declared.place.Place.{Place}
 use Rattle.mem_access.specs.Translation.{is_readable, is_translated}
-use Rattle.mem_access.specs.Accesses.{Exception, LocatedValue, Part, Places, data_load, data_store, parcel_fetch, request_for}
+use Rattle.mem_access.specs.Accesses.{Exception, LocatedValue, Part, Places, data_load, data_store, parcel_fetch}
+use Rattle.mem_access.specs.Accesses.{request_for}
 use Rattle.mem_access.specs.Reads.{CheckedRead, IsPermittedRead, PlacedPart, access_reads_of, address_found}
 use Rattle.mem_access.specs.Reads.{bytes_after_walk, chain_of, data_reads_of, entry_load, entry_loads, fetch_reads_of}
 use Rattle.mem_access.specs.Reads.{has_second, own_read, own_reads_at, own_reads_of, part_found, part_reads_of}

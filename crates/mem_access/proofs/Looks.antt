@@ -19,7 +19,8 @@ use Rattle.mem_access.specs.declared.place.AccessRequest.{AccessRequest}
 use Rattle.mem_access.specs.declared.place.Place.{Place}
 use Rattle.mem_access.specs.Places.{place_of}
 use Rattle.mem_access.specs.Translation.{is_translated, physical_address_of, place_after_translation, virtual_place_of}
-use Rattle.mem_access.specs.Accesses.{Exception, LocatedValue, Part, Places, after_first, after_place, one_place, data_places_of}
+use Rattle.mem_access.specs.Accesses.{Exception, LocatedValue, Part, Places, after_first, after_place, one_place}
+use Rattle.mem_access.specs.Accesses.{data_places_of}
 use Rattle.mem_access.specs.Accesses.{data_load, data_store, fetch_result, first_len, first_part, has_second_part}
 use Rattle.mem_access.specs.Accesses.{joined_value, load_by, load_from, load_result, parcel_at, parcel_fetch}
 use Rattle.mem_access.specs.Accesses.{parcel_from, part_place_of, second_part, second_place_of, split_places_of}

@@ -161,7 +161,8 @@ same_allows set level flags asked entry below =
     let permits = same_permits flags.mxr set asked entry in
     let opens = same_open flags.mode flags.sum set asked entry in
     let aligned = same_aligned set level entry below in
-    ap (λ b. b && is_open_to flags.mode flags.sum asked (with_marks set entry) && is_aligned level (with_marks set entry))
+    ap (λ b. b && is_open_to flags.mode flags.sum asked (with_marks set entry) && is_aligned level
+    (with_marks set entry))
     permits
     ∙ ap (λ b. leaf_permits flags.mxr asked entry && b && is_aligned level (with_marks set entry)) opens
     ∙ ap (λ b. leaf_permits flags.mxr asked entry && is_open_to flags.mode flags.sum asked entry && b) aligned

@@ -9,7 +9,8 @@ use Rattle.std.proofs.lemmas.List.Folds.{list_all-append}
 use Rattle.hart_words.specs.declared.accesses.Read.{Read}
 use Rattle.hart_words.specs.declared.accesses.Write.{Write}
 use Rattle.hart_words.specs.Memory.{AgreeOn, Bytes, SameBytes, after_writes, is_within, bytes_after_store}
-use Rattle.read_footprint.specs.Footprints.{Accesses, agree, addresses_from, bytes_read, footprint_of, is_written, moved}
+use Rattle.read_footprint.specs.Footprints.{Accesses, agree, addresses_from, bytes_read, footprint_of, is_written}
+use Rattle.read_footprint.specs.Footprints.{moved}
 use Rattle.read_footprint.specs.Footprints.{writes_of}
 use Rattle.read_footprint.specs.Sets.{has_address}
 use Rattle.read_footprint.proofs.Entries.{all_agree, among_agree}
@@ -22,7 +23,8 @@ parts one other first second all =
     both_hold (agree one other first) (agree one other second)
     (sym (list_all-append (λ address. one address == other address) first second) ∙ all)
 
-bytes_alike : (pa len : ℕ) (one other : Bytes) → agree one other (addresses_from pa len) ≡ true → SameBytes pa len one other
+bytes_alike : (pa len : ℕ) (one other : Bytes) → agree one other (addresses_from pa len) ≡ true
+    → SameBytes pa len one other
 unfolding addresses_from SameBytes
 bytes_alike pa zero one other all = tt
 bytes_alike pa (suc len) one other all =

@@ -237,7 +237,8 @@ read_more {number} {bits} {pa} {len} {now} start address notes bits_of had kept 
     (not (has_written start address)) (has_bit bits (address % 64)) (bits_of.are address)
 
 pub written_same : (now next : Footprint) (number bits address : ℕ)
-    → NotesBlock number (record { read = bits; wrote = 0 }) now next → has_written next address ≡ has_written now address
+    → NotesBlock number (record { read = bits; wrote = 0 }) now next
+    → has_written next address ≡ has_written now address
 written_same now next number bits address notes =
     notes.wrote address ∙ none_more_written _ _ _ (none_has (address % 64))
 

@@ -12,7 +12,8 @@ pub record IsLow (footprint : Footprint) : Type 0 where
   pub wrote : (address : ℕ) → has_written footprint address ≡ true → address < 4096
 
 -- each value of a list of bytes is one, and so is 0 after them
-pub byte_at_is_below_256 : (bytes : List ℕ) → All (λ byte. byte < 256) bytes → (at : ℕ) → slice_index_or bytes at 0 < 256
+pub byte_at_is_below_256 : (bytes : List ℕ) → All (λ byte. byte < 256) bytes → (at : ℕ)
+    → slice_index_or bytes at 0 < 256
 byte_at_is_below_256 bytes are at = elim (cases_lt at (length bytes)) [
   | inl below ↦ are at 0 below
   | inr past ↦ rw (get_or-eq_default bytes 0 past) (lit< tt)

@@ -1,5 +1,5 @@
-//! What the footprint of rows is good for: memories that agree on it are read alike, row by row, and
-//! what rows write goes over from one such memory to the other.
+//! What the footprint of rows is good for: memories that agree on it are read alike, row by row,
+//! and what rows write goes over from one such memory to the other.
 
 ghost use Rattle.std.specs.Prelude.{◌≡◌, ℕ, Bool, true, not, ◌&&◌, ◌||◌, List, ◌∷◌, ◌++◌};
 ghost use Rattle.hart_words.specs.Memory.{AgreeOn, Bytes, after_writes};

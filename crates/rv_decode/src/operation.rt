@@ -155,8 +155,8 @@ pub enum Op {
     },
 }
 
-/// The registers of an instruction by number, 0 where it has none: the one that it writes, and those
-/// that it reads as rs1 and rs2.
+/// The registers of an instruction by number, 0 where it has none: the one that it writes, and
+/// those that it reads as rs1 and rs2.
 #[derive(Clone, Copy, Debug, PartialEq, Eq)]
 pub struct Operands {
     pub rd: u8,

@@ -727,9 +727,9 @@ fn decodes_every_csr(rt: HostRuntime) -> Result<(), Fail> {
     Ok(())
 }
 
-/// Words of SYSTEM with funct3 0 and x0 or x1 as rd and rs1: those that the disassembler of the list
-/// above names, without URET, HRET, DRET and the old SFENCE.VM, which RV64IMAC with M, S and U has
-/// not.
+/// Words of SYSTEM with funct3 0 and x0 or x1 as rd and rs1: those that the disassembler of the
+/// list above names, without URET, HRET, DRET and the old SFENCE.VM, which RV64IMAC with M, S and U
+/// has not.
 #[test]
 fn decodes_control_words(rt: HostRuntime) -> Result<(), Fail> {
     for upper in 0..4096u32 {

@@ -18,8 +18,8 @@ use rv_decode::{BranchOp, CsrOp, LoadOp, Op, StoreOp, Width};
 /// stands at the address `pc` with `len` bytes (2 or 4). From the Unprivileged ISA's chapters
 /// "RV32I Base Integer Instruction Set", "RV64I Base Integer Instruction Set", "M Extension for
 /// Integer Multiplication and Division", "A Extension for Atomic Instructions" and "Zicsr Extension
-/// for Control and Status Register (CSR) Instructions", the Bit-Manipulation ISA-extensions, and the
-/// Privileged Architecture's "Machine-Level ISA" and "Supervisor-Level ISA".
+/// for Control and Status Register (CSR) Instructions", the Bit-Manipulation ISA-extensions, and
+/// the Privileged Architecture's "Machine-Level ISA" and "Supervisor-Level ISA".
 #[tactic(auto, unfolding(crate::specs::Results::result_of))]
 pub fn compute(op: Op, a: u64, b: u64, pc: u64, len: u64) -> IntResult
     ensures value { result ≡ result_of op a b pc len }

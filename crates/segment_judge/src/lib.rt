@@ -1,7 +1,7 @@
 //! The judging of a segment of a trace, from a state of the hart before it.
 //!
-//! In come the hart before the segment, and the rows of its lines. Out come the verdict on them, the
-//! hart after them where they agree, and what they read and wrote in memory: the judgement that
+//! In come the hart before the segment, and the rows of its lines. Out come the verdict on them,
+//! the hart after them where they agree, and what they read and wrote in memory: the judgement that
 //! `specs/Judgements.antt` gives. `laws` says that a judgement stands for every state that is the
 //! same but for bytes that were not read, and that rows may be judged in parts. The form is this
 //! project's own: the steps of the hart follow the standards, and the cutting follows none.

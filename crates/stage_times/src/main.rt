@@ -1,10 +1,11 @@
-//! Tells what the stages take through which the rows of a trace go, with one worker and with several.
+//! Tells what the stages take through which the rows of a trace go, with one worker and with
+//! several.
 //!
 //!     stage_times IMAGE TRACE WORKERS PASSES
 //!
-//! The trace is gone through so often with one worker and as often with so many, by turns: window by
-//! window, as the judge's defaults cut it, in each stage after stage. For each window and stage the
-//! least time counts, so that what else the machine does tells little. What is printed are the
+//! The trace is gone through so often with one worker and as often with so many, by turns: window
+//! by window, as the judge's defaults cut it, in each stage after stage. For each window and stage
+//! the least time counts, so that what else the machine does tells little. What is printed are the
 //! microseconds of all windows by stage, and how many times as fast the two stages are that all
 //! workers share, reading and judging. The judge itself does stages of several parts at once.
 #![tactic(auto)]

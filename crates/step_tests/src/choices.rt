@@ -18,8 +18,8 @@ use rvfi_rows::{Row, Stepped, read_header, read_row};
 use std::alloc::Global;
 use std::test::Fail;
 
-/// The root of the page tables, with a leaf of 1 GiB for `CODE` and one for `DATA_AGAIN`. Both lead to
-/// the pages from `CODE` on.
+/// The root of the page tables, with a leaf of 1 GiB for `CODE` and one for `DATA_AGAIN`. Both lead
+/// to the pages from `CODE` on.
 const ROOT: u64 = 0x8000_2000;
 
 const CODE_LEAF: u64 = ROOT + 8 * 2;
@@ -302,7 +302,8 @@ fn writes_all_or_nothing(rt: HostRuntime) -> Result<(), Fail> {
     Ok(())
 }
 
-/// What an instruction gives in S, what it writes, and both leaves and the number at `DATA` after it.
+/// What an instruction gives in S, what it writes, and both leaves and the number at `DATA` after
+/// it.
 type Translated = (Option<Result<u64, Cause>>, usize, (u64, u64), u64);
 
 fn result_in_supervisor_mode(

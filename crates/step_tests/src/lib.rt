@@ -1,9 +1,9 @@
 //! Examples of single steps of the hart, over both memories.
 //!
 //! The crate has tests alone, and stands above `hart_step` and the memories, which do not stand on
-//! each other. In come an instruction, registers, a mode and a row; out comes what `Hart::step` does. The
-//! expected values are from the Unprivileged ISA and the Privileged Architecture. Plain rows, and what
-//! is taken from them, have examples too.
+//! each other. In come an instruction, registers, a mode and a row; out comes what `Hart::step`
+//! does. The expected values are from the Unprivileged ISA and the Privileged Architecture. Plain
+//! rows, and what is taken from them, have examples too.
 #![tactic(auto)]
 
 #[cfg(test)]

@@ -16,7 +16,8 @@ use Rattle.hart_words.specs.declared.privilege.WalkFlags.{WalkFlags}
 use Rattle.hart_words.specs.EntryWrites.{entry_write}
 use Rattle.hart_words.specs.Memory.{Bytes}
 use Rattle.hart_words.specs.Privilege.{access_fault_of, page_fault_of}
-use Rattle.sv39_walk.specs.Entries.{Tables, address_in, final_result, is_leaf, is_marked, leaf_allows, with_marks, marks_of}
+use Rattle.sv39_walk.specs.Entries.{Tables, address_in, final_result, is_leaf, is_marked, leaf_allows, with_marks}
+use Rattle.sv39_walk.specs.Entries.{marks_of}
 use Rattle.sv39_walk.specs.Laws.{SetsEntry, is_mark, last_visit, walk_writes_of}
 use Rattle.sv39_walk.specs.Walk.{Visit, chain, chain_wrote, entry_in, entry_writes_of, visit_at, visit_result}
 use Rattle.sv39_walk.proofs.Walks.{translation-by_chain}

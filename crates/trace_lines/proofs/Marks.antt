@@ -61,7 +61,8 @@ left_marked bytes unread front marked = left_first front (text_marked bytes unre
 
 pub left_unmarked : {most : ℕ} {file : List ℕ} {more : Bool} {number : ℕ} (bytes unread : List ℕ)
     → IsAtFront most file more number (bytes ++ unread) → false ≡ has_mark bytes
-    → (3 ≤ length bytes) ⊎ (unread ≡ []) → lines_from more number (text_parts_of (bytes ++ unread)) ≡ file_lines most file
+    → (3 ≤ length bytes) ⊎ (unread ≡ [])
+    → lines_from more number (text_parts_of (bytes ++ unread)) ≡ file_lines most file
 left_unmarked bytes unread front plain enough = left_first front (text_unmarked bytes unread (sym plain) enough)
 
 -- three bytes were read, or all

@@ -21,7 +21,8 @@ part_ended (byte ∷ line) rest is =
     by : (test : Bool) → (byte == 10) ≡ test
         → text_parts_of (line ++ line_feed ∷ rest) ≡ record { bytes = line; ended = true } ∷ text_parts_of rest
         → (if test then record { bytes = []; ended = true }
-        ∷ text_parts_of (line ++ line_feed ∷ rest) else with_byte_in_first byte (text_parts_of (line ++ line_feed ∷ rest)))
+        ∷ text_parts_of (line ++ line_feed ∷ rest) else with_byte_in_first byte
+        (text_parts_of (line ++ line_feed ∷ rest)))
         ≡ record { bytes = byte ∷ line; ended = true } ∷ text_parts_of rest
     by true e more = absurd (All-head (λ (b : ℕ). b ≢ line_feed) byte line is (eqb-true byte 10 e))
     by false e more = ap (with_byte_in_first byte) more
@@ -33,7 +34,8 @@ unfolding text_parts_of
 part_last byte [] is = by (byte == 10) refl
   where
     by : (test : Bool) → (byte == 10) ≡ test
-        → (if test then record { bytes = []; ended = true } ∷ text_parts_of [] else with_byte_in_first byte (text_parts_of []))
+        → (if test then record { bytes = []; ended = true }
+        ∷ text_parts_of [] else with_byte_in_first byte (text_parts_of []))
         ≡ record { bytes = byte ∷ []; ended = false } ∷ []
     by true e = absurd (All-head (λ (b : ℕ). b ≢ line_feed) byte [] is (eqb-true byte 10 e))
     by false e = refl
@@ -116,7 +118,8 @@ left_long more number place held unread is long =
 pub left_line : (more : Bool) (number place : ℕ) (held unread : List ℕ) → IsBeforeFeed held place
     → place < length held → place ≤ LONGEST
     → lines_from more number (text_parts_of (held ++ unread))
-    ≡ with_line (line_in (take place held)) (lines_from more (number + 1) (text_parts_of (drop (place + 1) held ++ unread)))
+    ≡ with_line (line_in (take place held))
+    (lines_from more (number + 1) (text_parts_of (drop (place + 1) held ++ unread)))
 left_line more number place held unread is ended short =
     let here : drop place held ≡ line_feed ∷ drop (place + 1) held =
     drop_more held place 0 ended ∙ ap (λ byte. byte ∷ drop (place + 1) held) (is.feed ended) in

@@ -437,7 +437,8 @@ join_mirrors {n} {seats} {machine} {answers} {views = views} {place} {elsewhere}
           bag_joins posts_of views place elsewhere view other at there machine.posts mirrors.posts_are refl refl;
       looks_are = bag_joins looks_of views place elsewhere view other at there answers mirrors.looks_are refl refl;
       numbers_are =
-          bag_joins view_numbers views place elsewhere view other at there (numbers_below seats) mirrors.numbers_are refl
+          bag_joins view_numbers views place elsewhere view other at there (numbers_below seats) mirrors.numbers_are
+          refl
           refl;
       fit = all_fit joined elsewhere
           (all_fit views place mirrors.fit (λ one fits. fits)

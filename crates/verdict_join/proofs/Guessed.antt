@@ -122,7 +122,8 @@ all_met (lines ∷ pieces) from state columns founds shows judged =
       λ following is.
           let ends = ends_truly rows state following is in
           let guess : guess_after state rows ≡ following =
-          rows_guessed state columns lines shows.sound shows.words shows.faults ends.agree showed.0 ∙ sym ends.true_state in
+          rows_guessed state columns lines shows.sound shows.words shows.faults ends.agree showed.0
+          ∙ sym ends.true_state in
           let later : AreJudgedInTurn by_hart (guessed_from (from + 1) following columns pieces founds) =
           subst (λ guess. AreJudgedInTurn by_hart (guessed_from (from + 1) guess columns pieces founds)) guess
           (judged.1 (judgement_agrees state following rows is)) in

@@ -20,8 +20,8 @@ abbrev pub guessed_candidates : HartState → ColumnList → List (List (List �
 guessed_candidates start columns pieces founds =
     candidates (map (rows_of columns) pieces) (guesses_of start columns pieces) founds
 
--- a hart's state before pieces of lines, whose valid rows show what they change: A and D that are clear are page faults,
--- since no row shows the entries that a hart sets
+-- a hart's state before pieces of lines, whose valid rows show what they change: A and D that are clear are page
+-- faults, since no row shows the entries that a hart sets
 pub record ShowsFrom (start : HartState) (columns : ColumnList) (pieces : List (List (List ℕ))) : Type 0 where
   pub sound : IsSound start.core
   pub words : HoldsWords start

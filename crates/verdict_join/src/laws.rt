@@ -37,8 +37,8 @@ pub fn guesses_cost_judging_again<C>()
 {}
 
 /// A trace whose valid rows show what they change, where A and D that are clear are page faults, is
-/// judged once, whether they agree or not: up to the first segment that does not agree each guess is
-/// the true state, and none is judged again.
+/// judged once, whether they agree or not: up to the first segment that does not agree each guess
+/// is the true state, and none is judged again.
 pub fn true_guesses_cost_nothing()
     ensures { (start : HartState) (columns : ColumnList) (pieces : List (List (List ℕ)))
         (founds : List (Found (Judgement Core))) (same : Sameness Core)
@@ -54,8 +54,8 @@ pub fn rows_agree_where_the_verdict_says_so()
     ensures { (start : HartState) (rows : List RowReading) → AgreeAsJudged start rows }
 {}
 
-/// Where the rows of a trace agree, the valid ones show what they change, and A and D that are clear
-/// are page faults, each segment that is judged in turn is judged: none is skipped.
+/// Where the rows of a trace agree, the valid ones show what they change, and A and D that are
+/// clear are page faults, each segment that is judged in turn is judged: none is skipped.
 pub fn agreeing_segments_are_judged()
     ensures { (start : HartState) (columns : ColumnList) (pieces : List (List (List ℕ)))
         (founds : List (Found (Judgement Core))) → AgreesFrom start columns pieces
@@ -80,9 +80,9 @@ pub fn a_round_settles_some<C>()
 {}
 
 /// Rounds, each made anew from the true state after the one before, come to the verdict on all
-/// lines: there are as many as segments that are judged again, or one more, at least one where there
-/// is a segment, and no more than segments. Where the valid rows show what they change, and A and D
-/// that are clear are page faults, no segment is judged again.
+/// lines: there are as many as segments that are judged again, or one more, at least one where
+/// there is a segment, and no more than segments. Where the valid rows show what they change, and A
+/// and D that are clear are page faults, no segment is judged again.
 pub fn rounds_settle_all()
     ensures all { (start : HartState) (columns : ColumnList) (pieces : List (List (List ℕ)))
         (rounds : List (Joined Core)) → AreRounds start columns pieces rounds
@@ -92,7 +92,8 @@ pub fn rounds_settle_all()
         → ShowsFrom start columns pieces → rejudged_in rounds ≡ 0 }
 {}
 
-/// Some test tells the states of a hart apart, so that what holds of every such test says something.
+/// Some test tells the states of a hart apart, so that what holds of every such test says
+/// something.
 pub fn states_are_told_apart()
     ensures { (same : Sameness Core) × TellsApart same }
 {}

@@ -214,8 +214,8 @@ fn shuffle_in(finds: &mut Vec<Find>, find: Find, dice: &mut Dice) -> Result<(), 
     Ok(())
 }
 
-/// What is found of each segment, in any order: nothing, that it was skipped, or how it was judged, by
-/// some twice.
+/// What is found of each segment, in any order: nothing, that it was skipped, or how it was judged,
+/// by some twice.
 fn roll_finds(alloc: Global, count: u32, dice: &mut Dice) -> Result<Vec<Find>, Fail> {
     let mut finds = Vec::new(alloc);
     'segments: for number in 0..count {
@@ -396,8 +396,8 @@ impl Counts {
     }
 }
 
-/// Goes through the segments up to the one that ends the walk. One is to be judged again if it was not
-/// judged, or its guess is not the one hart, but for memory that it does not read.
+/// Goes through the segments up to the one that ends the walk. One is to be judged again if it was
+/// not judged, or its guess is not the one hart, but for memory that it does not read.
 fn counts_of(
     alloc: Global,
     trial: &Trial,

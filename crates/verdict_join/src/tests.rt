@@ -649,8 +649,8 @@ const ROOT: u64 = 0x8000_2000;
 
 const BELOW: u64 = 0x8000_3000;
 
-/// An entry of a page table that is valid, may be read, written and executed, has A and D, and is of
-/// the page at `CODE`.
+/// An entry of a page table that is valid, may be read, written and executed, has A and D, and is
+/// of the page at `CODE`.
 const LEAF: u64 = (CODE >> 12) << 10 | 0xcf;
 
 /// ADDI x5, x11, 0; SD x5, 0(x10); ADDI x5, x0, 1; LD x6, 0(x12).
@@ -679,7 +679,8 @@ fn translating_hart(alloc: Global) -> Result<Hart<MapMem>, Fail>
     Ok(hart)
 }
 
-/// Where the first row does not show x5, the guess before the last has no entry where the load walks.
+/// Where the first row does not show x5, the guess before the last has no entry where the load
+/// walks.
 #[test]
 fn walks_page_tables_again(rt: HostRuntime) -> Result<(), Fail> {
     let alloc = rt.alloc();

@@ -25,5 +25,6 @@ returns-clause-count g c =
 pub returns-clause-none : goal.returns-clause-none
 returns-clause-none g c = λ faults shows.
     IfOk-weaker c.settle_in_rounds.result _ _
-    (λ joined settles. none_rejudged joined c.requires.can_step.sound c.settle_in_rounds.ensures.words faults shows settles)
+    (λ joined settles. none_rejudged joined c.requires.can_step.sound c.settle_in_rounds.ensures.words faults shows
+    settles)
     c.settle_in_rounds.ensures.rounds

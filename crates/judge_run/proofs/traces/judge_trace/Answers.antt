@@ -82,5 +82,6 @@ returns-clause-misses g c =
       takes = c.in-Ok.ensures.takes;
     } in
     rw c.line_stop-in-Err-judge_rows.ensures
-    (later_missed c.in-Err-judge_rows.error known_files (λ files. trace_outcome job start (files c.args.name.now)) _ _ header
+    (later_missed c.in-Err-judge_rows.error known_files (λ files. trace_outcome job start (files c.args.name.now))
+    _ _ header
     (rw (c.in-Ok.ensures.known_files, c.in-Ok.ensures.misses) at c.in-Err-judge_rows.ensures.misses))

@@ -14,7 +14,8 @@ returns-clause-set_in_ram g c =
     let bytes = after_writes before (g.M.PhysMem.bytes c.args.mem.now) in
     let len = c.bytes.result in
     let load = load_result core.csrs core.map core.choices core.mode request.address len c.args.atomic in
-    sets_in_ram core.csrs core.map core.choices bytes before (load.run bytes).wrote c.load.ensures.looked.wrote_is c.requires.sets_in_ram
+    sets_in_ram core.csrs core.map core.choices bytes before (load.run bytes).wrote c.load.ensures.looked.wrote_is
+    c.requires.sets_in_ram
     (load_sets_alone core.csrs core.map core.choices core.mode request.address len c.args.atomic bytes)
 
 pub returns-clause-in_ram : goal.returns-clause-in_ram

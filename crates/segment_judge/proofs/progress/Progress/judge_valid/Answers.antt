@@ -19,7 +19,8 @@ add-requires-clause-writes g c =
 pub returns-in-Some-clause-judges : goal.returns-in-Some-clause-judges
 returns-in-Some-clause-judges g c = λ accesses.
     judges_differing g.M.PhysMem.bytes c.args.self.now _ {shown = shown_in c.args.row.now}
-    {expected = c.step_into.new.stepped.expected} {seen = c.step_into.new.stepped.seen} {wrote = c.step_into.new.stepped.wrote} accesses
+    {expected = c.step_into.new.stepped.expected} {seen = c.step_into.new.stepped.seen}
+    {wrote = c.step_into.new.stepped.wrote} accesses
     (record {
       done = c.in_ok-step_into.ensures.stepped;
       added = c.in_ok-add.ensures.rows;
@@ -30,7 +31,8 @@ returns-in-Some-clause-judges g c = λ accesses.
 pub returns-in-None-clause-judges : goal.returns-in-None-clause-judges
 returns-in-None-clause-judges g c = λ accesses.
     judges_agreed g.M.PhysMem.bytes c.args.self.now _ {shown = shown_in c.args.row.now}
-    {expected = c.step_into.new.stepped.expected} {seen = c.step_into.new.stepped.seen} {wrote = c.step_into.new.stepped.wrote} accesses
+    {expected = c.step_into.new.stepped.expected} {seen = c.step_into.new.stepped.seen}
+    {wrote = c.step_into.new.stepped.wrote} accesses
     (record {
       done = c.in_ok-step_into.ensures.stepped;
       added = c.in_ok-add.ensures.rows;

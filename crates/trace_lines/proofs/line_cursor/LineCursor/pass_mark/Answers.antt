@@ -24,7 +24,8 @@ returns-else-begins_with_mark-clause-left c file holds =
     let enough =
     enough_read self.following self.place self.most file self.bytes.items
     (λ unread. omega (arith, c.requires.enough unread, self.bytes.ok.0)) in
-    ap (λ n. lines_from (more_in file self) self.number (text_parts_of (drop n self.bytes.items ++ unread_in file self)))
+    ap (λ n. lines_from (more_in file self) self.number
+    (text_parts_of (drop n self.bytes.items ++ unread_in file self)))
     c.requires.at
     ∙ left_unmarked self.bytes.items (unread_in file self) front
     (c.if-begins_with_mark.ensures ∙ ap has_mark c.deref.ensures.value) enough
