@@ -3,3 +3,4 @@ pub mod Places
 pub mod Legal
 pub mod Writes
 pub mod Protection
+pub mod LegalTests

@@ -1,6 +1,7 @@
 -- The values that the registers can have, from the Privileged Architecture's chapters "Machine-Level ISA" and
 -- "Supervisor-Level ISA": all of them from reset on.
-use Rattle.std.specs.Prelude.{◌≡◌, ◌≢◌, ◌⊎◌, ℕ, ◌-◌, ◌/◌, ◌%◌, ◌^◌, ◌<◌, bit_and, length, All}
+use Rattle.std.specs.Prelude.{◌≡◌, ◌≢◌, ◌⊎◌, ℕ, ◌-◌, ◌/◌, ◌%◌, ◌^◌, ◌<◌, Bool, true, ◌==◌, ◌&&◌, ◌||◌, not, nat_lt}
+use Rattle.std.specs.Prelude.{bit_and, length, All}
 use Rattle.std.specs.Int.{bit_at}
 use Rattle.hart_words.specs.declared.privilege.PmpEntry.{PmpEntry}
 use Rattle.csr_file.specs.declared.csrs.Csrs.{Csrs}
@@ -63,3 +64,53 @@ pub record IsLegal (csrs : Csrs) : Type 0 where
   pub whole : length csrs.values ≡ STORED_CSRS
   pub values : (stored : StoredCsr) → IsLegalValue stored (at csrs stored)
   pub entries : All IsLegalEntry csrs.entries
+
+-- the same as tests: all bits of the value are in the mask
+abbrev pub is_within_mask : ℕ → ℕ → Bool
+is_within_mask mask value = bit_and value mask == value
+
+abbrev pub is_legal_status : ℕ → Bool
+is_legal_status value =
+    (bit_and value (all_bits - writable_bits Mstatus) == status_constant) && not (mpp_of value == 2)
+
+-- a vector's mode is 0 or 1
+abbrev pub is_legal_vector : ℕ → Bool
+is_legal_vector value = bit_at value 1 == 0
+
+-- an address of an instruction is even
+abbrev pub is_legal_pc : ℕ → Bool
+is_legal_pc value = value % 2 == 0
+
+-- satp's mode is Bare or Sv39
+abbrev pub is_legal_satp : ℕ → Bool
+is_legal_satp value = (value / 2 ^ 60 == 0) || (value / 2 ^ 60 == 8)
+
+-- a stored register can have the value
+unfoldable pub is_legal_value : StoredCsr → ℕ → Bool
+is_legal_value Mstatus value = is_legal_status value
+is_legal_value Medeleg value = is_within_mask (writable_bits Medeleg) value
+is_legal_value Mideleg value = is_within_mask (writable_bits Mideleg) value
+is_legal_value Mie value = is_within_mask (writable_bits Mie) value
+is_legal_value Mtvec value = is_legal_vector value
+is_legal_value Mcounteren value = is_within_mask (writable_bits Mcounteren) value
+is_legal_value Menvcfg value = is_within_mask (writable_bits Menvcfg) value
+is_legal_value Mcountinhibit value = is_within_mask (writable_bits Mcountinhibit) value
+is_legal_value Mscratch value = true
+is_legal_value Mepc value = is_legal_pc value
+is_legal_value Mcause value = true
+is_legal_value Mtval value = true
+is_legal_value Mip value = is_within_mask (writable_bits Mip) value
+is_legal_value Stvec value = is_legal_vector value
+is_legal_value Scounteren value = is_within_mask (writable_bits Scounteren) value
+is_legal_value Senvcfg value = is_within_mask (writable_bits Senvcfg) value
+is_legal_value Sscratch value = true
+is_legal_value Sepc value = is_legal_pc value
+is_legal_value Scause value = true
+is_legal_value Stval value = true
+is_legal_value Satp value = is_legal_satp value
+
+abbrev pub is_legal_configuration : ℕ → Bool
+is_legal_configuration byte = (byte / 32 % 4 == 0) && not (byte % 4 == 2)
+
+abbrev pub is_legal_address : ℕ → Bool
+is_legal_address address = nat_lt address (2 ^ 54)

@@ -13,14 +13,12 @@ ghost use Rattle.csr_file.specs.Legal.{IsLegal};
 use crate::access::{CsrRead, Illegal};
 use crate::csr_kind::CsrKind;
 use crate::fields::{
-    BARE, LINE_BITS, MPP, PMP_LOCK, PMP_MATCHING, SATP_MODE, SV39, TVM, has_bit, merge,
+    BARE, LINE_BITS, MPP, PMP_LOCK, PMP_MATCHING, SATP_MODE, STATUS_CONSTANT, SV39, TVM, has_bit,
+    merge,
 };
 use crate::stored_csr::{STORED_CSRS, StoredCsr};
 use csr_table::{Csr, CsrRow, row};
 use hart_words::{CsrName, Mode, PmpEntry};
-
-/// The constants of mstatus: UXL and SXL are 2.
-const STATUS_CONSTANT: u64 = 0xA_0000_0000;
 
 /// The bits of mstatus without MPP that a write can set.
 const WRITABLE_WITHOUT_MPP: u64 = 0x7E_01AA;

@@ -36,6 +36,9 @@ pub const UXL: u8 = 32;
 
 pub const SXL: u8 = 34;
 
+/// The constants of mstatus: UXL and SXL are 2.
+pub const STATUS_CONSTANT: u64 = 0xA_0000_0000;
+
 // The bits of mip, mie, mideleg, sip and sie, which are the codes of interrupts.
 pub const SSIP: u8 = 1;
 
