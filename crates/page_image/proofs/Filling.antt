@@ -6,7 +6,7 @@ use Rattle.std.specs.Prelude.{option_and_then, nat_eq}
 use Rattle.std.specs.List.{slice_index_or}
 use Rattle.std.specs.Ordering.{is_eq}
 use Rattle.std.specs.BTreeMap as tree
-use Rattle.std.specs.HashMap.{get}
+use Rattle.std.specs.HashMap.{HashMap, get}
 use Rattle.std.proofs.lemmas.Bool.{cases_eq}
 use Rattle.image_text.proofs.Pages.{is_eq_other, eq_same, eq_other}
 use Rattle.std.specs.Prelude.{Box}
@@ -15,10 +15,9 @@ use Rattle.image_text.specs.declared.pieces.PiecePage.{PiecePage}
 use Rattle.image_text.specs.declared.pieces.Pieces.{Pieces}
 use Rattle.image_text.specs.Bytes.{byte_at}
 use Rattle.page_image.specs.declared.page.Page.{Page}
-use Rattle.page_image.specs.declared.image.PageImage.{PageImage}
-use Rattle.page_image.specs.Pages.{byte_or_zero}
+use Rattle.page_image.specs.Pages.{byte_among, byte_or_zero}
 use Rattle.page_image.specs.Pages as pages
-use Rattle.page_image.specs.Bytes.{byte_of, with_zeros}
+use Rattle.page_image.specs.Bytes.{with_zeros}
 
 -- the byte of a page that is made, else of one that is left to be made, else 0
 abbrev pub over : {A B : Type 0} → (A → ℕ → ℕ) → (B → ℕ → ℕ) → Option A → Option B → ℕ → ℕ
@@ -74,16 +73,16 @@ shown (Some page) pa = refl
 abbrev pub piece_byte : Box PiecePage Global → ℕ → ℕ
 piece_byte page k = unwrap_or (slice_index_or page.value.bytes k None) 0
 
-pub all_made : (image : PageImage) (pieces : Pieces)
+pub all_made : {S : Type 0} (pages : HashMap ℕ (Box Page Global) S) (pieces : Pieces)
     → ((q k : ℕ) → k < 4096
-    → over page_byte piece_byte (get nat_eq image.pages q) None k
+    → over page_byte piece_byte (get nat_eq pages q) None k
     ≡ over page_byte piece_byte None (tree.get nat_cmp pieces.pages q) k)
-    → byte_of image ≡ with_zeros (byte_at pieces)
-unfolding byte_of byte_at
-all_made image pieces kept =
+    → byte_among pages ≡ with_zeros (byte_at pieces)
+unfolding byte_at
+all_made pages pieces kept =
     fun_ext
-    (λ a. shown (get nat_eq image.pages (a / 4096)) a
-    ∙ made page_byte piece_byte (get nat_eq image.pages (a / 4096)) (a % 4096)
+    (λ a. shown (get nat_eq pages (a / 4096)) a
+    ∙ made page_byte piece_byte (get nat_eq pages (a / 4096)) (a % 4096)
     ∙ kept (a / 4096) (a % 4096) (grind arith)
     ∙ given page_byte (λ p j. slice_index_or p.value.bytes j None) (tree.get nat_cmp pieces.pages (a / 4096))
     (a % 4096))

@@ -1,3 +1,6 @@
 pub mod Filling
 pub mod Stored
 pub mod PageBytes
+pub mod Entries
+pub mod Numbers
+pub mod NextPages

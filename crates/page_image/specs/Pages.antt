@@ -1,6 +1,7 @@
 -- The bytes of a page.
-use Rattle.std.specs.Prelude.{ℕ, ◌%◌, ◌<◌, Option, Some, None, slice_index, option_map, unwrap_or}
-use Rattle.std.proofs.Common.{lit<}
+use Rattle.std.specs.Prelude.{◌≡◌, ℕ, ◌/◌, ◌%◌, ◌<◌, Option, Some, None, nat_eq, slice_index, option_map, unwrap_or, Box}
+use Rattle.std.specs.HashMap.{HashMap, get}
+use Rattle.std.proofs.Common.{lit<, Global}
 use Rattle.page_image.specs.declared.page.Page.{Page}
 use Rattle.hart_words.specs.declared.span.TheConstants.{PAGE_SIZE}
 
@@ -17,3 +18,15 @@ pub byte_or_zero-fits : (page : Option Page) (pa : ℕ) → byte_or_zero page pa
 unfolding page_byte
 byte_or_zero-fits None pa = lit< tt
 byte_or_zero-fits (Some page) pa = page.small (pa % PAGE_SIZE)
+
+-- the page that is kept at a number, among pages by their number
+abbrev pub page_at : {S : Type 0} → HashMap ℕ (Box Page Global) S → ℕ → Option Page
+page_at pages number = option_map (λ page. page.value) (get nat_eq pages number)
+
+-- the byte at an address, 0 where there is no page
+abbrev pub byte_among : {S : Type 0} → HashMap ℕ (Box Page Global) S → ℕ → ℕ
+byte_among pages pa = byte_or_zero (page_at pages (pa / PAGE_SIZE)) pa
+
+-- a page holds a byte other than 0
+abbrev pub IsNonzero : Option Page → Type 0
+IsNonzero page = ((pa : ℕ) → byte_or_zero page pa ≡ 0) → ⊥

@@ -7,9 +7,11 @@
 
 mod image;
 mod page;
+mod page_numbers;
 
 pub use image::PageImage;
 pub use page::Page;
+pub use page_numbers::{PAGES, PageNumbers};
 
 #[cfg(test)]
 mod tests;

@@ -71,7 +71,7 @@ impl Page {
     }
 
     /// Whether each byte is 0.
-    fn is_zero(&self) -> bool
+    pub(crate) fn is_zero(&self) -> bool
         ensures { Decides result ((pa : ℕ) → page_byte self.now pa ≡ 0) }
     {
         self.same_as(&Page::zeros())

@@ -52,3 +52,50 @@ fn pages_of_an_image(rt: HostRuntime) -> Result<(), Fail> {
     assert!(&rt; !Page::same_bytes(Some(page), image.page(0x8_0005)));
     Ok(())
 }
+
+#[test]
+fn pages_that_hold_bytes(rt: HostRuntime) -> Result<(), Fail> {
+    let ram = Span::new(0x8000_0000, 0x1_0000).ok_or("no range")?;
+    let text = b"@8000f000 01 @80001ffe 12 34 56 @80004000 00 @80008800 00 07";
+    let pieces = read_image(rt.alloc(), text, ram)?;
+    let image = PageImage::build(rt.alloc(), &pieces, ram)?;
+    for (from, page) in [
+        (0, Some(0x8000_1000)),
+        (0x8000_1000, Some(0x8000_1000)),
+        (0x8000_2000, Some(0x8000_2000)),
+        (0x8000_3000, Some(0x8000_8000)),
+        (0x8000_8000, Some(0x8000_8000)),
+        (0x8000_9000, Some(0x8000_f000)),
+        (0x8001_0000, None),
+        (u64::MAX - 4095, None),
+    ] {
+        assert_eq!(rt; image.next_page(from), page);
+    }
+    Ok(())
+}
+
+#[test]
+fn numbers_of_pages(rt: HostRuntime) -> Result<(), Fail> {
+    let mut odd = PageNumbers::none(rt.alloc());
+    for number in [7, 3, 5, 3] {
+        odd.add(number)?;
+    }
+    let mut far = PageNumbers::none(rt.alloc());
+    for number in [5, 9, PAGES] {
+        far.add(number)?;
+    }
+    let all = odd.union(&far)?;
+    for (least, next) in [
+        (0, Some(3)),
+        (3, Some(3)),
+        (4, Some(5)),
+        (6, Some(7)),
+        (8, Some(9)),
+        (10, None),
+        (PAGES, None),
+    ] {
+        assert_eq!(rt; all.next(least), next);
+    }
+    assert_eq!(&rt; odd.next(8), None);
+    Ok(())
+}

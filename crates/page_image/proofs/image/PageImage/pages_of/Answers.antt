@@ -7,7 +7,7 @@ use Rattle.std.specs.Map.Iter.{deref_pair}
 use Rattle.std.proofs.lemmas.Cmp.{nat_cmp_total}
 use Rattle.std.proofs.lemmas.Map.Iter.{rest_more, btree_map_turn}
 use Rattle.page_image.proofs.Filling.{IsMade, one_more, all_made, page_byte, piece_byte}
-use Rattle.page_image.proofs.image.PageImage.build.Goals as goal
+use Rattle.page_image.proofs.image.PageImage.pages_of.Goals as goal
 
 pub loop-number-preserved-in_ok-insert : goal.loop-number-preserved-in_ok-insert
 loop-number-preserved-in_ok-insert c =
@@ -22,19 +22,15 @@ loop-number-preserved-in_ok-insert c =
     ordered in
     let found : tree.get nat_cmp c.args.pieces.now.pages c.in-Some.number.now ≡ Some c.in-Some.page.now =
     rw (← c.pages.ensures) turn.1 in
-    let made : IsMade (get nat_eq c.loop-number.image.pages) (get nat_eq c.insert.new.self)
+    let made : IsMade (get nat_eq c.loop-number.pages) (get nat_eq c.insert.new.self)
     (λ q. lookup (tree.is_at (nat_cmp q)) c.loop-number.number-iterator)
     (λ q. lookup (tree.is_at (nat_cmp q)) c.next.new.self) (tree.get nat_cmp c.args.pieces.now.pages)
     c.in-Some.number.now c.in_ok-new.field-0 c.in-Some.page.now =
     record { put = c.in_ok-insert.ensures.updates.0; taken = λ q. rw first refl; found = found } in
-    record {
-      ram = c.loop-number.invariant.ram;
-      kept = λ q k below.
-          one_more page_byte piece_byte k made
-          (rw (c.in_ok-new.ensures.ok, c.of-page.ensures) (rw c.deref.ensures at (c.plain.ensures.value k below)))
-          (λ q. c.loop-number.invariant.kept q k below) q;
-    }
+    λ q k below. one_more page_byte piece_byte k made
+    (rw (c.in_ok-new.ensures.ok, c.of-page.ensures) (rw c.deref.ensures at (c.plain.ensures.value k below)))
+    (λ q. c.loop-number.invariant q k below) q
 
-pub returns-clause-bytes : goal.returns-clause-bytes
-returns-clause-bytes c =
-    all_made _ _ (λ q k below. rw c.in-None.ensures.steps.0 at (c.loop-number.invariant.kept q k below))
+pub returns : goal.returns
+returns c =
+    all_made c.loop-number.pages c.args.pieces.now (λ q k below. rw c.in-None.ensures.steps.0 at (c.loop-number.invariant q k below))
