@@ -10,7 +10,8 @@ use Rattle.page_layers.specs.declared.block.Block.{Block}
 use Rattle.page_layers.specs.declared.blocks.Blocks.{Blocks}
 use Rattle.page_layers.specs.declared.layers.Layer.{Layer}
 use Rattle.page_layers.specs.declared.layered.Layered.{Layered}
-use Rattle.page_layers.specs.Blocks.{block_among, block_at, block_byte, bytes_in, newest_block, over}
+use Rattle.page_layers.specs.Blocks.{block_at, block_byte, bytes_in, over}
+use Rattle.page_layers.specs.Layers.{block_among, newest_block}
 use Rattle.page_layers.specs.Memories.{written_block_of, bytes_under, layered_bytes}
 
 abbrev seen : ℕ → ℕ → Option Block → ℕ

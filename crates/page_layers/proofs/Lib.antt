@@ -5,3 +5,4 @@ pub mod BlockMaps
 pub mod Stacks
 pub mod LayeredBytes
 pub mod SameBlocks
+pub mod NextPages

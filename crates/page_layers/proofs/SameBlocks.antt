@@ -20,12 +20,13 @@ use Rattle.page_layers.specs.declared.block.Block.{Block}
 use Rattle.page_layers.specs.declared.blocks.Blocks.{Blocks}
 use Rattle.page_layers.specs.declared.layers.Layer.{Layer}
 use Rattle.page_layers.specs.declared.layered.Layered.{Layered}
-use Rattle.page_layers.specs.Blocks.{block_among, block_at, block_byte, newest_block}
+use Rattle.page_layers.specs.Blocks.{block_at, block_byte}
+use Rattle.page_layers.specs.Layers.{block_among, newest_block}
 use Rattle.page_layers.specs.Memories.{written_block_of, bytes_under, layered_bytes, IsSameBlock, IsZeroBlock}
 use Rattle.page_layers.proofs.BlockMaps.{far}
 use Rattle.page_layers.proofs.LayeredBytes.{block_absent}
 
-moved : (block : Block) (number pa : ℕ) → block_byte block (number * 64 + pa % 64) ≡ block_byte block pa
+pub moved : (block : Block) (number pa : ℕ) → block_byte block (number * 64 + pa % 64) ≡ block_byte block pa
 unfolding block_byte
 moved block number pa =
     let offset : (number * 64 + pa % 64) % 64 ≡ pa % 64 = grind arith in
@@ -69,7 +70,7 @@ all_done P rest is q (inl left) = let never : false ≡ true = ap (λ keys. is_m
 far_among : (layers : List Layer) (number : ℕ) → 2 ^ 64 ≤ number → block_among layers number ≡ None
 unfolding block_among
 far_among [] number large = refl
-far_among (layer ∷ layers) number large = rw (far layer.blocks.value number large) (far_among layers number large)
+far_among (layer ∷ layers) number large = rw (far layer.blocks.value.blocks number large) (far_among layers number large)
 
 pub far_of : (mem : Layered) (number : ℕ) → 2 ^ 64 ≤ number → written_block_of mem number ≡ None
 far_of mem number large = rw (far mem.written number large) (far_among mem.layers.items number large)
@@ -106,14 +107,14 @@ far_page one other {number} {page} {others} result up has others_has decides = (
 
 -- what no layer has is in none of them
 pub in_layers : (P : Type 0) {layer : Blocks} {first : Layer} {layers older : List Layer} (number : ℕ)
-    → layers ≡ first ∷ older → layer ≡ first.blocks.value → is_some (block_among layers number) ≡ true
+    → layers ≡ first ∷ older → layer ≡ first.blocks.value.blocks → is_some (block_among layers number) ≡ true
     → (is_some (block_at layer number) ≡ true → P) → (is_some (block_among older number) ≡ true → P) → P
 unfolding block_among
 in_layers P {first} {older} number are is there here below =
-    by_first (block_at first.blocks.value number) refl (ap (λ l. is_some (block_among l number)) (sym are) ∙ there)
+    by_first (block_at first.blocks.value.blocks number) refl (ap (λ l. is_some (block_among l number)) (sym are) ∙ there)
   where
-    by_first : (found : Option Block) → block_at first.blocks.value number ≡ found
-        → is_some (option_or (block_at first.blocks.value number) (block_among older number)) ≡ true → P
+    by_first : (found : Option Block) → block_at first.blocks.value.blocks number ≡ found
+        → is_some (option_or (block_at first.blocks.value.blocks number) (block_among older number)) ≡ true → P
     by_first None none there = below (ap (λ f. is_some (option_or f (block_among older number))) (sym none) ∙ there)
     by_first (Some block) found there = here (ap (λ blocks. is_some (block_at blocks number)) is ∙ ap is_some found)
 

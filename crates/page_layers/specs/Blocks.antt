@@ -1,12 +1,10 @@
 -- Blocks of 64 addresses, and their bytes over others.
-use Rattle.std.specs.Prelude.{ℕ, ◌/◌, ◌%◌, ◌^◌, List, [], ◌∷◌, Option, None, nat_eq, nat_lt, option_map, slice_index}
+use Rattle.std.specs.Prelude.{◌≡◌, ℕ, ◌/◌, ◌%◌, ◌^◌, Option, None, nat_eq, nat_lt, option_map, slice_index}
 use Rattle.std.specs.Prelude.{unwrap_or, if◌then◌else◌}
-use Rattle.std.specs.Option.{option_or}
 use Rattle.std.specs.HashMap.{get}
 use Rattle.page_layers.specs.declared.block.Block.{Block}
-use Rattle.page_layers.specs.declared.block.TheConstants.{BLOCK_SIZE}
+use Rattle.page_layers.specs.declared.block.TheConstants.{BLOCK_SIZE, PAGE_BLOCKS}
 use Rattle.page_layers.specs.declared.blocks.Blocks.{Blocks}
-use Rattle.page_layers.specs.declared.layers.Layer.{Layer}
 
 -- the byte that a block has at an address in it
 unfoldable pub block_byte : Block → ℕ → ℕ
@@ -16,15 +14,6 @@ block_byte block pa = slice_index block.bytes (pa % BLOCK_SIZE)
 unfoldable pub block_at : Blocks → ℕ → Option Block
 block_at blocks number = if nat_lt number (2 ^ 64) then get nat_eq blocks.blocks number else None
 
--- the block of a number in the first of layers that has it
-unfoldable pub block_among : List Layer → ℕ → Option Block
-block_among [] number = None
-block_among (layer ∷ older) number = option_or (block_at layer.blocks.value number) (block_among older number)
-
--- the block of a number, or else the one that layers have of it
-abbrev pub newest_block : Blocks → List Layer → ℕ → Option Block
-newest_block blocks layers number = option_or (block_at blocks number) (block_among layers number)
-
 -- the byte at an address, where its block is there
 abbrev pub bytes_in : (ℕ → Option Block) → ℕ → Option ℕ
 bytes_in blocks pa = option_map (λ block. block_byte block pa) (blocks (pa / BLOCK_SIZE))
@@ -32,3 +21,7 @@ bytes_in blocks pa = option_map (λ block. block_byte block pa) (blocks (pa / BL
 -- bytes, and those of the base elsewhere
 abbrev pub over : (ℕ → Option ℕ) → (ℕ → ℕ) → ℕ → ℕ
 over bytes base pa = unwrap_or (bytes pa) (base pa)
+
+-- no block of a page is there
+abbrev pub HasNoBlock : (ℕ → Option Block) → ℕ → Type 0
+HasNoBlock blocks page = (number : ℕ) → number / PAGE_BLOCKS ≡ page → blocks number ≡ None

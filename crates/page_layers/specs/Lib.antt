@@ -1,2 +1,4 @@
 pub mod Blocks
+pub mod Layers
+pub mod NextPages
 pub mod Memories

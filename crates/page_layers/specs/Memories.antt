@@ -13,7 +13,8 @@ use Rattle.page_layers.specs.declared.block.Block.{Block}
 use Rattle.page_layers.specs.declared.block.TheConstants.{BLOCK_SIZE, PAGE_BLOCKS}
 use Rattle.page_layers.specs.declared.blocks.Blocks.{Blocks}
 use Rattle.page_layers.specs.declared.layers.Layer.{Layer}
-use Rattle.page_layers.specs.Blocks.{block_at, block_byte, bytes_in, newest_block, over}
+use Rattle.page_layers.specs.Blocks.{block_at, block_byte, bytes_in, over}
+use Rattle.page_layers.specs.Layers.{newest_block}
 use Rattle.hart_words.specs.declared.span.TheConstants.{PAGE_SIZE}
 
 -- an image's bytes under blocks and layers

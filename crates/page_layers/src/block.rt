@@ -93,6 +93,13 @@ impl Block {
     {
         self.bytes == other.bytes
     }
+
+    /// Whether each byte is 0.
+    pub fn is_zero(&self) -> bool
+        ensures { Decides result ((pa : ℕ) → block_byte self.now pa ≡ 0) }
+    {
+        self.same_as(&Block::zeros())
+    }
 }
 
 impl ByteAt for Block {

@@ -11,6 +11,7 @@ use crate::block::{BLOCK_SIZE, Block, PAGE_BLOCKS};
 use crate::blocks::Blocks;
 use crate::layers::{Layer, block_among, layers_under};
 use crate::numbers::{ByteAt, ByteMem, number_of, put_number};
+use crate::paged_blocks::PagedBlocks;
 use hart_words::{NoMemory, PAGE_SIZE, PhysMem};
 use page_image::PageImage;
 use std::alloc::Global;
@@ -232,10 +233,11 @@ impl<'a> PhysMem for Layered<'a> {
                 written,
             });
         }
+        let newest = PagedBlocks::of(self.alloc, written)?;
         Ok(Layered {
             alloc: self.alloc,
             image: self.image,
-            layers: layers_under(self.alloc, written, &self.layers)?,
+            layers: layers_under(self.alloc, newest, &self.layers)?,
             written: Blocks::none(self.alloc),
         })
     }

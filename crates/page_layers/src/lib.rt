@@ -10,7 +10,9 @@ mod blocks;
 mod layered;
 mod layers;
 mod map_mem;
+mod next_page;
 mod numbers;
+mod paged_blocks;
 mod sameness;
 
 pub use layered::Layered;

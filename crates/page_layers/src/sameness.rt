@@ -11,7 +11,8 @@ impl<'a> Layered<'a> {
     ghost use Rattle.std.specs.Bool.{Decides};
     ghost use Rattle.std.specs.HashMap.{get};
     ghost use Rattle.page_layers.specs.declared.block.TheConstants.{PAGE_BLOCKS};
-    ghost use Rattle.page_layers.specs.Blocks.{block_among, block_at, newest_block};
+    ghost use Rattle.page_layers.specs.Blocks.{block_at};
+    ghost use Rattle.page_layers.specs.Layers.{block_among, newest_block};
     ghost use Rattle.page_layers.specs.Memories.{IsSameBlock, IsZeroBlock, bytes_under, layered_bytes};
 
     /// Whether this memory has the bytes of another at each address.

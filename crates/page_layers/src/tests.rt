@@ -1,4 +1,4 @@
-ghost use Rattle.std.specs.Prelude.{◌≡◌, ◌<◌};
+ghost use Rattle.std.specs.Prelude.{◌≡◌, ◌<◌, ◌^◌};
 
 use super::*;
 use hart_words::{PhysMem, Span};
@@ -302,5 +302,73 @@ fn layers_hold_many_blocks(rt: HostRuntime) -> Result<(), Fail> {
         mem = kept.copy()?;
         assert!(&rt; mem.same_as(&kept));
     }
+    Ok(())
+}
+
+/// Writes a number at the end of each of some blocks, from the one at an address on.
+fn write_ends<M: PhysMem>(
+    rt: &impl Abort,
+    mem: &mut M,
+    ram: &Span,
+    first: u64,
+    value: u64,
+) -> Result<(), Fail>
+    requires ram { M.ram mem.old ≡ ram.now }
+    requires low { first < 2 ^ 32 }
+    ensures { M.ram mem.new ≡ M.ram mem.old }
+{
+    for k in 0..1280_u64 {
+        let pa = first + k * 64 + 56;
+        assert!(rt; ram.is_place(pa, 8));
+        mem.write(pa, 8, value)?;
+    }
+    Ok(())
+}
+
+/// Just these pages hold a byte other than 0.
+fn holds_pages(rt: &impl Abort, mem: &Layered, pages: &[u64]) -> Result<(), Fail> {
+    let mut from = 0;
+    for page in pages {
+        let found = mem.next_page(from).ok_or("no page")?;
+        assert_eq!(rt; found, *page);
+        assert!(rt; found < 0x9000_0000);
+        assert_eq!(rt; mem.next_page(found), Some(found));
+        from = found + 0x1000;
+    }
+    assert_eq!(rt; mem.next_page(from), None);
+    Ok(())
+}
+
+/// Pages of the image, of blocks that were written, and of layers; pages that became zero.
+#[test]
+fn finds_pages(rt: HostRuntime) -> Result<(), Fail> {
+    let ram = Span::new(0x8000_0000, 0x20_0000).ok_or("no range")?;
+    let pieces = read_image(rt.alloc(), IMAGE, ram)?;
+    let image = PageImage::build(rt.alloc(), &pieces, ram)?;
+    let mut mem = Layered::over(rt.alloc(), &image);
+    holds_pages(&rt, &mem, &[0x8000_0000, 0x8000_1000, 0x8000_2000])?;
+    write_all(
+        &rt,
+        &mut mem,
+        &ram,
+        &[(0x8000_0ffe, 2, 0), (0x8000_5fff, 1, 1)],
+    )?;
+    holds_pages(&rt, &mem, &[0x8000_1000, 0x8000_2000, 0x8000_5000])?;
+    write_ends(&rt, &mut mem, &ram, 0x801e_c000, 9)?;
+    let mut later = mem.copy()?;
+    write_ends(&rt, &mut later, &ram, 0x801e_c000, 0)?;
+    holds_pages(&rt, &later, &[0x8000_1000, 0x8000_2000, 0x8000_5000])?;
+    let mut last = later.copy()?;
+    holds_pages(&rt, &last, &[0x8000_1000, 0x8000_2000, 0x8000_5000])?;
+    write_all(
+        &rt,
+        &mut last,
+        &ram,
+        &[(0x8000_5fff, 1, 0), (0x801f_ffff, 1, 7)],
+    )?;
+    holds_pages(&rt, &last, &[0x8000_1000, 0x8000_2000, 0x801f_f000])?;
+    assert_eq!(&rt; mem.next_page(0x8000_6000), Some(0x801e_c000));
+    assert_eq!(&rt; mem.next_page(0x801f_f000), Some(0x801f_f000));
+    assert_eq!(&rt; mem.next_page(0x8020_0000), None);
     Ok(())
 }

@@ -7,7 +7,7 @@ pub returns-in-Some : goal.returns-in-Some
 returns-in-Some c =
     let looked =
     c.block.ensures ∙ ap (λ blocks. block_at blocks c.args.number) c.blocks-in-loop-layer.ensures
-    ∙ ap (λ layer. block_at layer.blocks.value c.args.number) c.layer-item.is in
+    ∙ ap (λ layer. block_at layer.blocks.value.blocks c.args.number) c.layer-item.is in
     among-next c.args.layers.now c.loop-layer.layer-index _ c.args.number c.loop-layer-test.true
     (ap option_copied (sym c.in-Some.is) ∙ looked) c.loop-layer.invariant
 
@@ -15,7 +15,7 @@ pub loop-layer-preserved : goal.loop-layer-preserved
 loop-layer-preserved c =
     let looked =
     c.block.ensures ∙ ap (λ blocks. block_at blocks c.args.number) c.blocks-in-loop-layer.ensures
-    ∙ ap (λ layer. block_at layer.blocks.value c.args.number) c.layer-item.is in
+    ∙ ap (λ layer. block_at layer.blocks.value.blocks c.args.number) c.layer-item.is in
     among-next c.args.layers.now c.loop-layer.layer-index _ c.args.number c.loop-layer-test.true
     (ap option_copied (sym c.in_default.is) ∙ looked) c.loop-layer.invariant
 

@@ -1,5 +1,5 @@
 use Rattle.std.proofs.Common.{◌≡◌, drop}
-use Rattle.page_layers.specs.Blocks.{block_among}
+use Rattle.page_layers.specs.Layers.{block_among}
 use Rattle.page_layers.proofs.layers.block_among.Given as goal
 
 abbrev pub invariant-loop-layer : goal.invariant-loop-layer

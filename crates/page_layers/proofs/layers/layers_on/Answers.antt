@@ -6,7 +6,7 @@ pub loop-layer-init : goal.loop-layer-init
 loop-layer-init c =
     let items =
     c.in_ok-push.ensures.items ∙ ap (λ layers. layers ++ c.in_ok-of.field-0 ∷ []) c.new-layers.ensures.items in
-    stacked_first c.push.new.self.items c.in_ok-of.field-0 c.args.newest c.args.older.now items c.in_ok-of.ensures
+    stacked_first c.push.new.self.items c.in_ok-of.field-0 c.args.newest.blocks c.args.older.now items (ap (λ paged. paged.blocks) c.in_ok-of.ensures)
 
 pub loop-layer-preserved : goal.loop-layer-preserved
 loop-layer-preserved c = λ number.
@@ -15,7 +15,7 @@ loop-layer-preserved c = λ number.
     record {
       within = c.loop-layer-test.true;
       pushed = c.in_ok-push-2.ensures.items;
-      same = c.in_ok-clone.ensures.cases ∙ ap (λ layer. layer.blocks.value) c.layer-item.is;
+      same = c.in_ok-clone.ensures.cases ∙ ap (λ layer. layer.blocks.value.blocks) c.layer-item.is;
     } in
     stacked_next number put (c.loop-layer.invariant number)
 
