@@ -4,8 +4,8 @@ use Rattle.csv_line.specs.declared.line_reader.LineRead.{LineRead}
 use Rattle.csv_line.specs.Next.{ReadsNext}
 use Rattle.csv_line.specs.Fields.{fields_of_line, has_return_in}
 use Rattle.rvfi_rows.specs.Columns.{ColumnList}
-use Rattle.rvfi_rows.specs.Rows.{RowReading, row_of_fields, row_of_line, rows_of}
-use Rattle.rvfi_rows.proofs.Steps.{of_line}
+use Rattle.rvfi_rows.specs.Rows.{RowReading, rows_of, rows_of_fields, rows_of_line}
+use Rattle.rvfi_rows.proofs.Steps.{rows-of_line}
 
 -- the first of the lines was read
 pub record ReadsFirst (lines : List (List ℕ)) (read : LineRead) (left fields : List (List ℕ)) : Type 0 where
@@ -28,13 +28,14 @@ reads_first (line ∷ lines) before read left fields reads =
 
 pub lines-next : (columns : ColumnList) {lines left fields : List (List ℕ)} {read : LineRead}
     (done : List RowReading) {now whole : List RowReading} → ReadsFirst lines read left fields
-    → now ≡ done ++ row_of_fields columns read.has_return fields ∷ [] → done ++ rows_of columns lines ≡ whole
+    → now ≡ done ++ rows_of_fields columns read.has_return fields → done ++ rows_of columns lines ≡ whole
     → now ++ rows_of columns left ≡ whole
+unfolding rows_of
 lines-next columns {left} {fields} {read} done first is so_far =
-    let row : row_of_fields columns read.has_return fields ≡ row_of_line columns first.line =
-    of_line columns first.line read.has_return fields first.has_return first.fields_are in
+    let rows : rows_of_fields columns read.has_return fields ≡ rows_of_line columns first.line =
+    rows-of_line columns first.line read.has_return fields first.has_return first.fields_are in
     ap (λ front. front ++ rows_of columns left) is
-    ∙ append_assoc done (row_of_fields columns read.has_return fields ∷ []) (rows_of columns left)
-    ∙ ap (λ reading. done ++ reading ∷ rows_of columns left) row
+    ∙ append_assoc done (rows_of_fields columns read.has_return fields) (rows_of columns left)
+    ∙ ap (λ readings. done ++ (readings ++ rows_of columns left)) rows
     ∙ ap (λ list. done ++ rows_of columns list) (sym first.parts)
     ∙ so_far

@@ -5,6 +5,7 @@ use Rattle.std.proofs.lemmas.List.Elements.{All-head, All-same, All-tail}
 use Rattle.std.proofs.lemmas.Option.{slice_get-map, slice_get-get_or}
 use Rattle.rvfi_rows.specs.declared.segment.Segment.{Segment}
 use Rattle.rvfi_rows.specs.declared.unread.PlaceRead.{PlaceRead}
+use Rattle.rvfi_rows.specs.Columns.{ColumnList}
 use Rattle.rvfi_rows.specs.Readings.{readings_in}
 use Rattle.rvfi_rows.specs.Rows.{rows_of}
 use Rattle.rvfi_rows.specs.Segments.{ReadsPlace, segment_lines}
@@ -30,3 +31,16 @@ pub reads_place : (now before : List Segment) (one : PlaceRead) (d : Segment) �
     → readings_in one.read.rows ≡ rows_of one.read.columns (slice_index_or now one.place d).lines
 reads_place now before one d within same reads =
     reads.reads _ (ap (λ segments. slice_get segments one.place) (sym same) ∙ lines_at now one.place d within)
+
+-- a segment was read at its place
+pub reads_at : (segments : List Segment) (one : PlaceRead) (d : Segment) {columns : ColumnList}
+    → one.place < length segments → one.read.columns ≡ columns
+    → readings_in one.read.rows ≡ rows_of columns (slice_index_or segments one.place d).lines
+    → ReadsPlace (map segment_lines segments) one
+reads_at segments one d {columns = columns} within under rows = record {
+  reads = λ lines at.
+      let here : Some (segment_lines (slice_index_or segments one.place d)) ≡ Some lines =
+      sym (lines_at segments one.place d within) ∙ at in
+      let same : segment_lines (slice_index_or segments one.place d) ≡ lines = cc in
+      rows ∙ ap (rows_of columns) same ∙ ap (λ columns. rows_of columns lines) (sym under);
+}

@@ -1,24 +1,25 @@
 -- Going over the columns and the fields of a line, one after the other.
 use Rattle.std.proofs.Common.{◌≡◌, ◌∙◌, sym, ap, refl, ℕ, zero, suc, ◌+◌, ◌<◌, ◌≤◌, Bool, List, [], ◌∷◌, ◌++◌, ◌==◌}
 use Rattle.std.proofs.Common.{true, false, length, take, drop, map, get_or, slice_get, cond, Option, Some, None, Result}
-use Rattle.std.proofs.Common.{Ok, Err, add-one, arith}
+use Rattle.std.proofs.Common.{Ok, Err, add-one, arith, length-take}
 use Rattle.std.specs.Prelude.{if◌then◌else◌}
-use Rattle.std.specs.List.{position, position_from}
 use Rattle.std.proofs.Math.Path.{fun_ext}
-use Rattle.std.proofs.lemmas.List.{map-append, take_more}
-use Rattle.std.proofs.lemmas.Iterator.Adapters.{position_from-zero}
+use Rattle.std.proofs.lemmas.List.{length-map, map-append, take_more}
 use Rattle.std.proofs.lemmas.Option.{get_or_from_slice_get}
 use Rattle.std.proofs.Math.Seq.{drop-cons, take-suc}
 use Rattle.std.proofs.Math.ListN.{drop_of_length-le}
 use Rattle.hart_words.specs.declared.signal.Signal.{Signal}
-use Rattle.hart_words.specs.declared.signal.Signal.TheVariants.{Valid}
 use Rattle.hart_words.specs.Results.{◌>>=◌}
 use Rattle.hart_words.specs.Signals.{Shown, index_of}
 use Rattle.std.specs.Option.{option_or}
 use Rattle.csv_line.specs.Fields.{fields_of_line, has_return_in}
-use Rattle.rvfi_rows.specs.Columns.{ColumnList, stands_in, first_repeated, is_column_of}
-use Rattle.rvfi_rows.specs.Rows.{alone, cell_of, cells_of, field_shown, nothing, row_of_fields, row_of_line, shown_then}
-use Rattle.rvfi_rows.specs.Rows.{valid_of, with_shown}
+use Rattle.rvfi_rows.specs.declared.column.Column.{Column}
+use Rattle.rvfi_rows.specs.declared.column.PlacedColumn.{PlacedColumn}
+use Rattle.rvfi_rows.specs.Columns.{ColumnList, column_if_of, first_repeated, port_columns, port_numbers, stands_in}
+use Rattle.rvfi_rows.specs.Placed.{cell_at, cells_at, field_shown_at, placed_from, row_at, valid_among, valid_at}
+use Rattle.rvfi_rows.specs.Rows.{RowReading, alone, cell_of, cells_of, field_shown, is_valid_column, nothing}
+use Rattle.rvfi_rows.specs.Rows.{row_of_fields, row_of_line, rows_of_fields, rows_of_line, shown_then, valid_of}
+use Rattle.rvfi_rows.specs.Rows.{row_from, with_shown}
 use Rattle.rvfi_rows.specs.declared.fault.RowFault.{RowFault}
 
 -- what was shown before, and what the rest shows
@@ -62,35 +63,25 @@ found_within [] i lt is = omega arith
 found_within (x ∷ xs) zero lt is = cc
 found_within (x ∷ xs) (suc i) lt is = found_within xs i (omega arith) is
 
--- ---- the first signal that stands twice
+-- ---- the first column that stands twice
 
-pub repeated_signal-next : (columns : ColumnList) (i : ℕ) (stands : Bool) (wanted : Option Signal) → i < length columns
+pub repeated_column-next : (columns : ColumnList) (i : ℕ) (stands : Bool) (wanted : Option Column) → i < length columns
     → stands ≡ stands_in (take i columns) (get_or columns i None)
     → first_repeated (take i columns) (drop i columns) ≡ wanted
     → (if stands then get_or columns i None else first_repeated (take (i + 1) columns) (drop (i + 1) columns)) ≡ wanted
 unfolding first_repeated
-repeated_signal-next columns i stands wanted lt is so_far =
+repeated_column-next columns i stands wanted lt is so_far =
     let here : (if stands then get_or columns i None else first_repeated
     (take i columns ++ get_or columns i None ∷ []) (drop (i + 1) columns)) ≡ wanted =
     rw is (rw (drop_at columns i None lt) at so_far) in
     rw (add-one, take-suc columns i None lt, ← add-one) here
 
-pub repeated_signal-end : (columns : ColumnList) (i : ℕ) (wanted : Option Signal) → length columns ≤ i
+pub repeated_column-end : (columns : ColumnList) (i : ℕ) (wanted : Option Column) → length columns ≤ i
     → first_repeated (take i columns) (drop i columns) ≡ wanted → None ≡ wanted
 unfolding first_repeated
-repeated_signal-end columns i wanted le so_far = rw (drop_past columns i le) at so_far
+repeated_column-end columns i wanted le so_far = rw (drop_past columns i le) at so_far
 
 -- ---- the column `valid`
-
--- what a field gives it, where there is one
-abbrev pub by_field : Option (List ℕ) → Result (Option ℕ) RowFault
-by_field None = Ok None
-by_field (Some field) = cell_of Valid field
-
--- what the field at a place gives it
-abbrev pub by_place : Option ℕ → List (List ℕ) → Result (Option ℕ) RowFault
-by_place None fields = Ok None
-by_place (Some place) fields = by_field (slice_get fields place)
 
 no_fields : (columns : ColumnList) → valid_of columns [] ≡ Ok None
 unfolding valid_of
@@ -98,11 +89,12 @@ no_fields [] = refl
 no_fields (column ∷ columns) = refl
 
 -- at one column: it is the one, or the rest tells
-choose : (test : Bool) (all : List (List ℕ)) (i : ℕ) (place : Option ℕ) (here rest : Result (Option ℕ) RowFault)
-    → by_field (slice_get all i) ≡ here → by_place place all ≡ rest
-    → by_place (cond test (Some i) place) all ≡ (if test then here else rest)
-choose true all i place here rest is more = is
-choose false all i place here rest is more = more
+choose : (test : Bool) (all : List (List ℕ)) (one : PlacedColumn) (others : Option PlacedColumn)
+    (here rest : Result (Option ℕ) RowFault)
+    → cell_at one (slice_get all one.place) ≡ here → valid_at others all ≡ rest
+    → valid_at (cond test (Some one) others) all ≡ (if test then here else rest)
+choose true all one others here rest is more = is
+choose false all one others here rest is more = more
 
 same : (test : Bool) (value : Result (Option ℕ) RowFault) → (if test then value else value) ≡ value
 same true value = refl
@@ -110,29 +102,28 @@ same false value = refl
 
 -- from a place on
 valid_from : (columns : ColumnList) (all : List (List ℕ)) (i : ℕ)
-    → by_place (position_from (is_column_of Valid) i columns) all ≡ valid_of columns (drop i all)
-unfolding valid_of
+    → valid_at (valid_among (placed_from i columns)) all ≡ valid_of columns (drop i all)
+unfolding valid_of placed_from
 valid_from [] all i = refl
-valid_from (column ∷ columns) all i = by (slice_get all i) refl (valid_from columns all (i + 1))
+valid_from (column ∷ columns) all i = by column (slice_get all i) refl (valid_from columns all (i + 1))
   where
-    by : (found : Option (List ℕ)) → found ≡ slice_get all i
-        → by_place (position_from (is_column_of Valid) (i + 1) columns) all ≡ valid_of columns (drop (i + 1) all)
-        → by_place (cond (is_column_of Valid column) (Some i) (position_from (is_column_of Valid) (i + 1) columns))
-        all ≡ valid_of (column ∷ columns) (drop i all)
-    by (Some field) at rest =
+    by : (column : Option Column) (found : Option (List ℕ)) → found ≡ slice_get all i
+        → valid_at (valid_among (placed_from (i + 1) columns)) all ≡ valid_of columns (drop (i + 1) all)
+        → valid_at (valid_among (placed_from i (column ∷ columns))) all ≡ valid_of (column ∷ columns) (drop i all)
+    by None (Some field) at rest = rw (drop_found all i field at) rest
+    by (Some column) (Some field) at rest =
         rw (drop_found all i field at)
-        (choose (is_column_of Valid column) all i _ (cell_of Valid field) _ (ap by_field (sym at)) rest)
-    by None at rest =
+        (choose (is_valid_column column) all (record { place = i; column = column }) _ (cell_of column field) _
+        (ap (cell_at (record { place = i; column = column })) (sym at)) rest)
+    by None None at rest =
+        let none : drop (i + 1) all ≡ [] = drop_past all (i + 1) (omega (arith, past all i at)) in
+        rw (drop_gone all i at) (rest ∙ ap (valid_of columns) none ∙ no_fields columns)
+    by (Some column) None at rest =
         let none : drop (i + 1) all ≡ [] = drop_past all (i + 1) (omega (arith, past all i at)) in
         rw (drop_gone all i at)
-        (choose (is_column_of Valid column) all i _ (Ok None) (Ok None) (ap by_field (sym at))
-        (rest ∙ ap (valid_of columns) none ∙ no_fields columns) ∙ same (is_column_of Valid column) (Ok None))
-
--- it is the field at the first place of the column
-pub valid-at : (columns : ColumnList) (fields : List (List ℕ))
-    → by_place (position (is_column_of Valid) columns) fields ≡ valid_of columns fields
-valid-at columns fields =
-    ap (λ place. by_place place fields) (position_from-zero (is_column_of Valid) columns) ∙ valid_from columns fields 0
+        (choose (is_valid_column column) all (record { place = i; column = column }) _ (Ok None) (Ok None)
+        (ap (cell_at (record { place = i; column = column })) (sym at)) (rest ∙ ap (valid_of columns) none ∙ no_fields columns)
+        ∙ same (is_valid_column column) (Ok None))
 
 -- ---- all cells
 
@@ -177,16 +168,16 @@ regroup front first (Err fault) = refl
 after : Shown → Result Shown RowFault → Result Shown RowFault → Result Shown RowFault
 after front first rest = first >>= λ cells. with_front (shown_then front cells) rest
 
-cells-step : (columns : ColumnList) (fields : List (List ℕ)) (i : ℕ) {field : List ℕ} (front : Shown)
-    {wanted : Result Shown RowFault} → i < length columns → Some field ≡ slice_get fields i
-    → with_front front (cells_of (drop i columns) (drop i fields)) ≡ wanted
-    → after front (field_shown (get_or columns i None) field) (cells_of (drop (i + 1) columns) (drop (i + 1) fields))
-    ≡ wanted
-unfolding cells_of after
-cells-step columns fields i {field} front lt is so_far =
-    let here = rw (drop_at columns i None lt, drop_found fields i field is) at so_far in
-    step front (field_shown (get_or columns i None) field) (cells_of (drop (i + 1) columns) (drop (i + 1) fields))
-    ∙ here
+cells-step : (placed : List PlacedColumn) (fields : List (List ℕ)) (i : ℕ) (d : PlacedColumn) (front : Shown)
+    {wanted : Result Shown RowFault} → i < length placed
+    → with_front front (cells_at (drop i placed) fields) ≡ wanted
+    → after front (field_shown_at (get_or placed i d) (slice_get fields (get_or placed i d).place))
+    (cells_at (drop (i + 1) placed) fields) ≡ wanted
+unfolding cells_at after
+cells-step placed fields i d front lt so_far =
+    let one = get_or placed i d in
+    let here = rw (drop_at placed i d lt) at so_far in
+    step front (field_shown_at one (slice_get fields one.place)) (cells_at (drop (i + 1) placed) fields) ∙ here
   where
     step : (front : Shown) (first rest : Result Shown RowFault)
         → after front first rest
@@ -207,55 +198,139 @@ failed fault front (Ok cells) rest wanted is so_far = absurd cc
 failed fault front (Err other) rest wanted is so_far =
     let same : other ≡ fault = cc in ap (λ (f : RowFault). Err f) (sym same) ∙ so_far
 
-pub cells-next : (columns : ColumnList) (fields : List (List ℕ)) (i : ℕ) {field : List ℕ} (front : Shown)
-    {now : Shown} {wanted : Result Shown RowFault} → i < length columns → Some field ≡ slice_get fields i
-    → with_front front (field_shown (get_or columns i None) field) ≡ Ok now
-    → with_front front (cells_of (drop i columns) (drop i fields)) ≡ wanted
-    → with_front now (cells_of (drop (i + 1) columns) (drop (i + 1) fields)) ≡ wanted
-cells-next columns fields i front {now} {wanted} lt is shown so_far =
-    added front now _ _ wanted shown (cells-step columns fields i front lt is so_far)
+pub cells-next : (placed : List PlacedColumn) (fields : List (List ℕ)) (i : ℕ) (d : PlacedColumn) (front : Shown)
+    {field : List ℕ} {now : Shown} {wanted : Result Shown RowFault} → i < length placed
+    → Some field ≡ slice_get fields (get_or placed i d).place
+    → with_front front (field_shown (Some (get_or placed i d).column) field) ≡ Ok now
+    → with_front front (cells_at (drop i placed) fields) ≡ wanted
+    → with_front now (cells_at (drop (i + 1) placed) fields) ≡ wanted
+cells-next placed fields i d front {now = now} {wanted = wanted} lt is shown so_far =
+    added front now _ _ wanted
+    (ap (λ found. with_front front (field_shown_at (get_or placed i d) found)) (sym is) ∙ shown)
+    (cells-step placed fields i d front lt so_far)
 
-pub cells-fail : (columns : ColumnList) (fields : List (List ℕ)) (i : ℕ) {field : List ℕ} (front : Shown)
-    {fault : RowFault} {wanted : Result Shown RowFault} → i < length columns → Some field ≡ slice_get fields i
-    → field_shown (get_or columns i None) field ≡ Err fault
-    → with_front front (cells_of (drop i columns) (drop i fields)) ≡ wanted
-    → Err fault ≡ wanted
-cells-fail columns fields i front {fault} {wanted} lt is shown so_far =
-    failed fault front _ _ wanted shown (cells-step columns fields i front lt is so_far)
+pub cells-fail : (placed : List PlacedColumn) (fields : List (List ℕ)) (i : ℕ) (d : PlacedColumn) (front : Shown)
+    {field : List ℕ} {fault : RowFault} {wanted : Result Shown RowFault} → i < length placed
+    → Some field ≡ slice_get fields (get_or placed i d).place
+    → field_shown (Some (get_or placed i d).column) field ≡ Err fault
+    → with_front front (cells_at (drop i placed) fields) ≡ wanted → Err fault ≡ wanted
+cells-fail placed fields i d front {fault = fault} {wanted = wanted} lt is shown so_far =
+    failed fault front _ _ wanted (ap (field_shown_at (get_or placed i d)) (sym is) ∙ shown)
+    (cells-step placed fields i d front lt so_far)
 
-no_cells : (front : Shown) (columns : ColumnList) → with_front front (cells_of columns []) ≡ Ok front
-unfolding cells_of
-no_cells front [] = refl
-no_cells front (column ∷ columns) = refl
+-- no field stands at the place
+pub cells-skip : (placed : List PlacedColumn) (fields : List (List ℕ)) (i : ℕ) (d : PlacedColumn) (front : Shown)
+    {wanted : Result Shown RowFault} → i < length placed → None ≡ slice_get fields (get_or placed i d).place
+    → with_front front (cells_at (drop i placed) fields) ≡ wanted
+    → with_front front (cells_at (drop (i + 1) placed) fields) ≡ wanted
+cells-skip placed fields i d front {wanted = wanted} lt is so_far =
+    added front front _ _ wanted
+    (ap (λ found. with_front front (field_shown_at (get_or placed i d) found)) (sym is))
+    (cells-step placed fields i d front lt so_far)
 
-pub cells-gone : (columns : ColumnList) (fields : List (List ℕ)) (i : ℕ) (front : Shown)
-    (wanted : Result Shown RowFault) → None ≡ slice_get fields i
-    → with_front front (cells_of (drop i columns) (drop i fields)) ≡ wanted → Ok front ≡ wanted
-cells-gone columns fields i front wanted is so_far =
-    sym (no_cells front (drop i columns)) ∙ (rw (drop_gone fields i is) at so_far)
+pub cells-end : (placed : List PlacedColumn) (fields : List (List ℕ)) (i : ℕ) (front : Shown)
+    (wanted : Result Shown RowFault) → length placed ≤ i
+    → with_front front (cells_at (drop i placed) fields) ≡ wanted → Ok front ≡ wanted
+unfolding cells_at
+cells-end placed fields i front wanted le so_far = rw (drop_past placed i le) at so_far
 
-pub cells-end : (columns : ColumnList) (fields : List (List ℕ)) (i : ℕ) (front : Shown)
-    (wanted : Result Shown RowFault) → length columns ≤ i
-    → with_front front (cells_of (drop i columns) (drop i fields)) ≡ wanted → Ok front ≡ wanted
-unfolding cells_of
-cells-end columns fields i front wanted le so_far = rw (drop_past columns i le) at so_far
+alone_cell : (x : Option ℕ) → option_or x None ≡ x
+alone_cell None = refl
+alone_cell (Some value) = refl
+
+alone_front : (rest : Result Shown RowFault) → with_front nothing rest ≡ rest
+alone_front (Ok row) = ap (λ (cells : Shown). Ok cells) (fun_ext (λ signal. alone_cell (row signal)))
+alone_front (Err fault) = refl
 
 -- before the first cell
-pub cells-start : (columns : ColumnList) (fields : List (List ℕ)) (shown : Shown) → shown ≡ nothing
-    → with_front shown (cells_of columns fields) ≡ cells_of columns fields
-cells-start columns fields shown is = rw is (alone_front (cells_of columns fields))
+pub cells-start : (placed : List PlacedColumn) (fields : List (List ℕ)) (shown : Shown) → shown ≡ nothing
+    → with_front shown (cells_at placed fields) ≡ cells_at placed fields
+cells-start placed fields shown is = rw is (alone_front (cells_at placed fields))
+
+-- ---- the known columns at their places have the cells of all columns
+
+no_cells : (columns : ColumnList) → cells_of columns [] ≡ Ok nothing
+unfolding cells_of
+no_cells [] = refl
+no_cells (column ∷ columns) = refl
+
+cells_from : (columns : ColumnList) (all : List (List ℕ)) (i : ℕ)
+    → cells_at (placed_from i columns) all ≡ cells_of columns (drop i all)
+unfolding cells_of cells_at placed_from field_shown
+cells_from [] all i = refl
+cells_from (column ∷ columns) all i = by column (slice_get all i) refl (cells_from columns all (i + 1))
   where
-    alone_cell : (x : Option ℕ) → option_or x None ≡ x
-    alone_cell None = refl
-    alone_cell (Some value) = refl
+    by : (column : Option Column) (found : Option (List ℕ)) → found ≡ slice_get all i
+        → cells_at (placed_from (i + 1) columns) all ≡ cells_of columns (drop (i + 1) all)
+        → cells_at (placed_from i (column ∷ columns)) all ≡ cells_of (column ∷ columns) (drop i all)
+    by None (Some field) at rest =
+        rw (drop_found all i field at) (rest ∙ sym (alone_front (cells_of columns (drop (i + 1) all))))
+    by (Some column) (Some field) at rest =
+        rw (drop_found all i field at)
+        (ap (λ found. field_shown_at (record { place = i; column = column }) found >>= λ first.
+        (cells_at (placed_from (i + 1) columns) all >>= λ others. Ok (shown_then first others))) (sym at)
+        ∙ ap (λ (cells : Result Shown RowFault). field_shown (Some column) field >>= λ first.
+        (cells >>= λ others. Ok (shown_then first others))) rest)
+    by None None at rest =
+        let none : drop (i + 1) all ≡ [] = drop_past all (i + 1) (omega (arith, past all i at)) in
+        rw (drop_gone all i at) (rest ∙ ap (cells_of columns) none ∙ no_cells columns)
+    by (Some column) None at rest =
+        let none : drop (i + 1) all ≡ [] = drop_past all (i + 1) (omega (arith, past all i at)) in
+        rw (drop_gone all i at)
+        (ap (λ found. field_shown_at (record { place = i; column = column }) found >>= λ first.
+        (cells_at (placed_from (i + 1) columns) all >>= λ others. Ok (shown_then first others))) (sym at)
+        ∙ alone_front (cells_at (placed_from (i + 1) columns) all)
+        ∙ rest ∙ ap (cells_of columns) none ∙ no_cells columns)
 
-    alone_front : (rest : Result Shown RowFault) → with_front nothing rest ≡ rest
-    alone_front (Ok row) = ap (λ (cells : Shown). Ok cells) (fun_ext (λ signal. alone_cell (row signal)))
-    alone_front (Err fault) = refl
+-- so they have its row
+pub row_placed : (columns : ColumnList) (placed : List PlacedColumn) (fields : List (List ℕ))
+    → placed ≡ placed_from 0 columns → row_at placed fields ≡ row_from columns fields
+unfolding row_at row_from
+row_placed columns placed fields is =
+    rw (is, valid_from columns fields 0, cells_from columns fields 0) refl
 
--- ---- the row of a line
+-- ---- the known columns of a port, one after the other
 
-pub of_line : (columns : ColumnList) (line : List ℕ) (has : Bool) (fields : List (List ℕ)) → has ≡ has_return_in line
-    → fields ≡ fields_of_line line → row_of_fields columns has fields ≡ row_of_line columns line
+placed-append : (place : ℕ) (columns more : ColumnList)
+    → placed_from place (columns ++ more) ≡ placed_from place columns ++ placed_from (place + length columns) more
+unfolding placed_from
+placed-append place [] more = ap (λ n. placed_from n more) (omega arith)
+placed-append place (None ∷ columns) more =
+    placed-append (place + 1) columns more
+    ∙ ap (λ n. placed_from (place + 1) columns ++ placed_from n more) (omega arith)
+placed-append place (Some column ∷ columns) more =
+    ap (λ rest. record { place = place; column = column } ∷ rest)
+    (placed-append (place + 1) columns more
+    ∙ ap (λ n. placed_from (place + 1) columns ++ placed_from n more) (omega arith))
+
+pub placed-next : (columns : ColumnList) (port i : ℕ) (d : Option Column) (before : List PlacedColumn)
+    {now : List PlacedColumn} → i < length columns
+    → now ≡ before ++ placed_from i (column_if_of port (get_or columns i d) ∷ [])
+    → before ≡ placed_from 0 (port_columns port (take i columns))
+    → now ≡ placed_from 0 (port_columns port (take (i + 1) columns))
+placed-next columns port i d before lt is so_far =
+    let mine = port_columns port (take i columns) in
+    let one = column_if_of port (get_or columns i d) ∷ [] in
+    let many : 0 + length mine ≡ i =
+    omega (arith, length-map (take i columns) (column_if_of port), length-take i columns, lt) in
+    let split : port_columns port (take (i + 1) columns) ≡ mine ++ one =
+    ap (port_columns port) (take_more columns i d lt)
+    ∙ map-append (column_if_of port) (take i columns) (get_or columns i d ∷ []) in
+    is ∙ ap (λ placed. placed ++ placed_from i one) so_far
+    ∙ ap (λ n. placed_from 0 mine ++ placed_from n one) (sym many)
+    ∙ sym (placed-append 0 mine one) ∙ ap (placed_from 0) (sym split)
+
+-- ---- the rows of a line
+
+pub of_line : (columns : ColumnList) (line : List ℕ) (has : Bool) (fields : List (List ℕ)) (port : ℕ)
+    → has ≡ has_return_in line → fields ≡ fields_of_line line
+    → row_of_fields columns has fields port ≡ row_of_line columns line port
 unfolding row_of_line
-of_line columns line has fields is are = rw (is, are) refl
+of_line columns line has fields port is are = rw (is, are) refl
+
+pub rows-of_line : (columns : ColumnList) (line : List ℕ) (has : Bool) (fields : List (List ℕ))
+    → has ≡ has_return_in line → fields ≡ fields_of_line line
+    → rows_of_fields columns has fields ≡ rows_of_line columns line
+rows-of_line columns line has fields is are =
+    ap (λ (row : ℕ → RowReading). map row (port_numbers columns))
+    (fun_ext (λ port. of_line columns line has fields port is are))

@@ -1,10 +1,11 @@
 -- How rows are kept that were read.
-use Rattle.std.specs.Prelude.{ℕ, List, [], ◌∷◌, length, take, drop, Some, None, Ok, Err}
+use Rattle.std.specs.Prelude.{◌≡◌, ℕ, true, List, [], ◌∷◌, length, take, drop, Some, None, Ok, Err}
 use Rattle.hart_words.specs.declared.signal.Signal.{Signal}
 use Rattle.rvfi_rows.specs.declared.reading.Kept.{Kept}
 use Rattle.rvfi_rows.specs.declared.reading.Kept.TheVariants as kept
-use Rattle.rvfi_rows.specs.Cells.{AreOf, values_of, with_bits}
-use Rattle.rvfi_rows.specs.Rows.{RowReading}
+use Rattle.rvfi_rows.specs.Cells.{AreOf, is_among, values_of, with_bits}
+use Rattle.rvfi_rows.specs.Columns.{ColumnList}
+use Rattle.rvfi_rows.specs.Rows.{RowReading, signals_of}
 
 -- what a row reads as, by what is kept of it and its values
 abbrev pub kept_reading : List Signal → Kept → List ℕ → RowReading
@@ -17,6 +18,11 @@ unfoldable pub kept_readings : List Signal → List Kept → List ℕ → List R
 kept_readings signals [] values = []
 kept_readings signals (row ∷ rows) values =
     kept_reading signals row (take (length signals) values) ∷ kept_readings signals rows (drop (length signals) values)
+
+-- the signals of the known columns are among these
+abbrev pub HasSignalsOf : ColumnList → List Signal → Type 0
+HasSignalsOf columns signals =
+    (signal : Signal) → is_among (signals_of columns) signal ≡ true → is_among signals signal ≡ true
 
 -- the bits of the signals that a row shows
 abbrev pub shown_bits : Kept → ℕ

@@ -1,5 +1,7 @@
+pub mod Ports
 pub mod Columns
 pub mod Cells
+pub mod Placed
 pub mod Rows
 pub mod Kept
 pub mod Readings

@@ -1,5 +1,5 @@
 -- The rows of a trace, as its lines show them.
-use Rattle.std.specs.Prelude.{◌≡◌, ℕ, Bool, true, false, ◌==◌, ◌&&◌, not, List, [], ◌∷◌, length, map, Option, Some}
+use Rattle.std.specs.Prelude.{◌≡◌, ℕ, Bool, true, false, ◌==◌, ◌&&◌, not, List, [], ◌∷◌, ◌++◌, length, map, Option, Some}
 use Rattle.std.specs.Prelude.{None, Result, Ok, Err, if◌then◌else◌}
 use Rattle.std.specs.List.{list_any}
 use Rattle.std.specs.Option.{is_some, option_or}
@@ -12,7 +12,8 @@ use Rattle.hart_words.specs.declared.signal.Signal.TheVariants.{Valid, Insn, PcR
 use Rattle.hart_words.specs.declared.signal.TheConstants.{SIGNALS}
 use Rattle.csv_line.specs.Fields.{fields_of_line, has_return_in}
 use Rattle.hart_words.specs.Results.{◌>>=◌, ◌>>◌, refuse_if}
-use Rattle.rvfi_rows.specs.Columns.{ColumnList, is_column_of}
+use Rattle.rvfi_rows.specs.declared.column.Column.{Column}
+use Rattle.rvfi_rows.specs.Columns.{ColumnList, port_columns, port_numbers}
 use Rattle.rvfi_rows.specs.declared.fault.RowFault.{RowFault}
 use Rattle.rvfi_rows.specs.declared.fault.RowFault.TheVariants.{StrayReturn, FieldCount, Empty, NotNumber, TooWide}
 use Rattle.rvfi_rows.specs.declared.fault.RowError.{RowError}
@@ -24,16 +25,16 @@ is_needed Insn = true
 is_needed PcRdata = true
 is_needed _ = false
 
--- a number of the signal's width, or why it is none
-abbrev pub value_or_fault : Signal → Result ℕ NumberFault → Result (Option ℕ) RowFault
-value_or_fault signal (Ok value) = Ok (Some value)
-value_or_fault signal (Err number.NotNumber) = Err (NotNumber signal)
-value_or_fault signal (Err number.TooWide) = Err (TooWide signal)
+-- a number of the column's width, or why it is none
+abbrev pub value_or_fault : Column → Result ℕ NumberFault → Result (Option ℕ) RowFault
+value_or_fault column (Ok value) = Ok (Some value)
+value_or_fault column (Err number.NotNumber) = Err (NotNumber column)
+value_or_fault column (Err number.TooWide) = Err (TooWide column)
 
--- the value that a field gives the signal: an empty one none
-unfoldable pub cell_of : Signal → List ℕ → Result (Option ℕ) RowFault
-cell_of signal [] = if is_needed signal then Err (Empty signal) else Ok None
-cell_of signal (byte ∷ field) = value_or_fault signal (number_within (width_of signal) (byte ∷ field))
+-- the value that a field gives the column's signal: an empty one none
+unfoldable pub cell_of : Column → List ℕ → Result (Option ℕ) RowFault
+cell_of column [] = if is_needed column.signal then Err (Empty column) else Ok None
+cell_of column (byte ∷ field) = value_or_fault column (number_within (width_of column.signal) (byte ∷ field))
 
 -- nothing is shown
 abbrev pub nothing : Shown
@@ -61,11 +62,11 @@ unfoldable pub shows_csr : Shown → Bool
 shows_csr shown = list_any (λ entry. is_csr entry.signal && is_some (shown entry.signal)) SIGNALS
 
 -- what a field shows: nothing under an unknown name, else its column's signal, where it has a value
-unfoldable pub field_shown : Option Signal → List ℕ → Result Shown RowFault
+unfoldable pub field_shown : Option Column → List ℕ → Result Shown RowFault
 field_shown None field = Ok nothing
-field_shown (Some signal) field = do
-  value ← cell_of signal field
-  Ok (alone signal value)
+field_shown (Some column) field = do
+  value ← cell_of column field
+  Ok (alone column.signal value)
 
 -- what all the fields show, or the first fault from the left
 unfoldable pub cells_of : ColumnList → List (List ℕ) → Result Shown RowFault
@@ -76,12 +77,17 @@ cells_of (column ∷ columns) (field ∷ fields) = do
   others ← cells_of columns fields
   Ok (shown_then first others)
 
+-- the column is one of `valid`
+abbrev pub is_valid_column : Column → Bool
+is_valid_column column = index_of column.signal == index_of Valid
+
 -- what the column `valid` shows, where there is one
 unfoldable pub valid_of : ColumnList → List (List ℕ) → Result (Option ℕ) RowFault
 valid_of [] fields = Ok None
 valid_of (column ∷ columns) [] = Ok None
-valid_of (column ∷ columns) (field ∷ fields) =
-    if is_column_of Valid column then cell_of Valid field else valid_of columns fields
+valid_of (None ∷ columns) (field ∷ fields) = valid_of columns fields
+valid_of (Some column ∷ columns) (field ∷ fields) =
+    if is_valid_column column then cell_of column field else valid_of columns fields
 
 -- `valid` shows 0
 abbrev pub is_invalid : Option ℕ → Bool
@@ -95,16 +101,17 @@ row_from columns fields = do
   valid ← valid_of columns fields
   if is_invalid valid then Ok None else (cells_of columns fields >>= λ row. Ok (Some row))
 
--- the row of a line's fields, or its first fault, where a carriage return stands in the line or not
-unfoldable pub row_of_fields : ColumnList → Bool → List (List ℕ) → Result (Option Shown) RowFault
-row_of_fields columns has_return fields = do
+-- the row of a port from a line's fields, or its first fault, where a carriage return stands in the line or not: the
+-- faults of the whole line are of each port, and all else is of the port's own columns
+unfoldable pub row_of_fields : ColumnList → Bool → List (List ℕ) → ℕ → Result (Option Shown) RowFault
+row_of_fields columns has_return fields port = do
   refuse_if has_return StrayReturn
   refuse_if (not (length fields == length columns)) FieldCount
-  row_from columns fields
+  row_from (port_columns port columns) fields
 
--- the row of a line
-unfoldable pub row_of_line : ColumnList → List ℕ → Result (Option Shown) RowFault
-row_of_line columns line = row_of_fields columns (has_return_in line) (fields_of_line line)
+-- the row of a port on a line
+unfoldable pub row_of_line : ColumnList → List ℕ → ℕ → Result (Option Shown) RowFault
+row_of_line columns line port = row_of_fields columns (has_return_in line) (fields_of_line line) port
 
 -- the fault that an error stands for
 abbrev pub row_fault : RowError → Option RowFault
@@ -125,12 +132,21 @@ shown_if shown false = None
 abbrev pub RowReading : Type 0
 RowReading = Result (Option Shown) RowFault
 
--- what lines read as under these columns
-abbrev pub rows_of : ColumnList → List (List ℕ) → List RowReading
-rows_of columns lines = map (row_of_line columns) lines
+-- the rows of a line's fields, one for each port, in the order of the ports
+abbrev pub rows_of_fields : ColumnList → Bool → List (List ℕ) → List RowReading
+rows_of_fields columns has_return fields = map (row_of_fields columns has_return fields) (port_numbers columns)
+
+-- the rows of a line
+abbrev pub rows_of_line : ColumnList → List ℕ → List RowReading
+rows_of_line columns line = map (row_of_line columns line) (port_numbers columns)
+
+-- the rows of lines under these columns, line after line. Whatever is said of the rows of a trace is said of this list
+unfoldable pub rows_of : ColumnList → List (List ℕ) → List RowReading
+rows_of columns [] = []
+rows_of columns (line ∷ lines) = rows_of_line columns line ++ rows_of columns lines
 
 -- the signals of the known columns
 unfoldable pub signals_of : ColumnList → List Signal
 signals_of [] = []
 signals_of (None ∷ columns) = signals_of columns
-signals_of (Some signal ∷ columns) = signal ∷ signals_of columns
+signals_of (Some column ∷ columns) = column.signal ∷ signals_of columns

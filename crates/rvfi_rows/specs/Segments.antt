@@ -1,11 +1,11 @@
 -- Lines of a trace that are judged together.
-use Rattle.std.specs.Prelude.{◌≡◌, ℕ, List, length, Option, Some, None, slice_get}
+use Rattle.std.specs.Prelude.{◌≡◌, ℕ, ◌*◌, List, length, Option, Some, None, slice_get}
 use Rattle.std.specs.List.{flat_map}
 use Rattle.std.specs.Borrow.{Bor}
 use Rattle.rvfi_rows.specs.declared.rows.Rows.{Rows}
 use Rattle.rvfi_rows.specs.declared.segment.Segment.{Segment}
 use Rattle.rvfi_rows.specs.declared.unread.PlaceRead.{PlaceRead}
-use Rattle.rvfi_rows.specs.Columns.{ColumnList}
+use Rattle.rvfi_rows.specs.Columns.{ColumnList, ports_of}
 use Rattle.rvfi_rows.specs.RowsRead.{WasReadUnder}
 use Rattle.rvfi_rows.specs.Readings.{readings_in}
 use Rattle.rvfi_rows.specs.Rows.{rows_of}
@@ -17,9 +17,9 @@ segment_lines segment = segment.lines
 abbrev pub line_count_of : List Segment → ℕ
 line_count_of segments = length (flat_map segment_lines segments)
 
--- how many rows segments have under these columns: one a line
-abbrev pub row_count_of : ColumnList → List Segment → ℕ
-row_count_of columns segments = length (flat_map segment_lines segments)
+-- how many rows segments have under these columns: each line has one for each port
+unfoldable pub row_count_of : ColumnList → List Segment → ℕ
+row_count_of columns segments = ports_of columns * line_count_of segments
 
 -- the lines were read under these columns
 abbrev pub IsRead : ColumnList → Segment → Type 0

@@ -1,58 +1,74 @@
 //! The rows of a trace, from its lines.
 
-ghost use Rattle.std.specs.Prelude.{◌≡◌, ℕ, List, option_map};
+ghost use Rattle.std.specs.Prelude.{◌≡◌, ◌<◌, ℕ, List, option_map};
 ghost use Rattle.hart_words.specs.Results.{Gives, result_view};
 ghost use Rattle.rvfi_rows.specs.Cells.{shown_in};
-ghost use Rattle.rvfi_rows.specs.Rows.{cell_of, cells_of, is_needed, row_fault, row_from, row_of_fields, row_of_line, shown_if, valid_of, value_or_fault};
+ghost use Rattle.rvfi_rows.specs.Columns.{ports_of};
+ghost use Rattle.rvfi_rows.specs.Placed.{cells_at, row_at, valid_among, valid_at};
+ghost use Rattle.rvfi_rows.specs.Rows.{cell_of, is_needed, row_fault, row_of_fields, row_of_line, shown_if, value_or_fault};
 
-use crate::columns::{Columns, has_carriage_return};
+use crate::column::{Column, PlacedColumn};
+use crate::columns::Columns;
 use crate::fault::{RowError, RowFault};
+use crate::header::has_carriage_return;
+use crate::port_columns::PortColumns;
 use crate::row::Row;
 use csv_line::{Fields, line_fields};
 use hart_words::{NumberFault, Signal, read_number};
 use std::alloc::Global;
 
-/// The row of `line` under these columns. It is `None` where the column `valid` shows 0, and then
-/// no other field is looked at. A field is a number below 2 to the power of its column's width, in
-/// decimal or after `0x`; an empty one shows nothing.
+/// The row of a port on `line` under these columns. It is `None` where the port's column `valid`
+/// shows 0, and then no other field is looked at. A field is a number below 2 to the power of its
+/// column's width, in decimal or after `0x`; an empty one shows nothing.
 ///
 /// The faults, the first that holds: a carriage return stands in the line; the fields are not as
-/// many as the columns; `valid` is no number or too wide; and for the known columns from the left,
-/// `insn` or `pc_rdata` is empty, or the field is no number or too wide.
-pub fn read_row(alloc: Global, columns: &Columns, line: &[u8]) -> Result<Option<Row>, RowError>
-    ensures { Gives row_fault (option_map shown_in) result (row_of_line columns.now line.now) }
+/// many as the columns; the port's `valid` is no number or too wide; and for the port's known
+/// columns from the left, `insn` or `pc_rdata` is empty, or the field is no number or too wide.
+pub fn read_row(
+    alloc: Global,
+    columns: &Columns,
+    line: &[u8],
+    port: u32,
+) -> Result<Option<Row>, RowError>
+    requires { port < ports_of columns.now }
+    ensures { Gives row_fault (option_map shown_in) result (row_of_line columns.now line.now port) }
 {
     let fields = line_fields(alloc, line)?;
-    Ok(row_of_fields(columns, has_carriage_return(line), &fields)?)
+    let has_return = has_carriage_return(line);
+    Ok(row_of_fields(columns, has_return, &fields, port)?)
 }
 
-/// The row of a line's fields.
+/// The row of a port from a line's fields.
 fn row_of_fields(
     columns: &Columns,
     has_return: bool,
     fields: &Fields,
+    port: u32,
 ) -> Result<Option<Row>, RowFault>
+    requires { port < ports_of columns.now }
     ensures { result_view (option_map shown_in) result
-        ≡ row_of_fields columns.now has_return fields.now }
+        ≡ row_of_fields columns.now has_return fields.now port }
 {
     let mut row = Row::empty();
-    if fill_row(columns, has_return, fields, &mut row)? {
+    if fill_row(columns, has_return, fields, port, &mut row)? {
         Ok(Some(row))
     } else {
         Ok(None)
     }
 }
 
-/// Has `row` show what a line shows by its fields, and says whether the line is valid.
-#[tactic(auto, unfolding(crate::specs::Rows::row_of_fields))]
+/// Has `row` show what the fields of a line show of a port's row, and says whether that is valid.
+#[tactic(auto, using(crate::proofs::Steps::row_placed), unfolding(crate::specs::Rows::row_of_fields))]
 pub(crate) fn fill_row(
     columns: &Columns,
     has_return: bool,
     fields: &Fields,
+    port: u32,
     row: &mut Row,
 ) -> Result<bool, RowFault>
+    requires { port < ports_of columns.now }
     ensures { result_view (shown_if (shown_in row.new)) result
-        ≡ row_of_fields columns.now has_return fields.now }
+        ≡ row_of_fields columns.now has_return fields.now port }
 {
     if has_return {
         return Err(RowFault::StrayReturn);
@@ -60,43 +76,44 @@ pub(crate) fn fill_row(
     if fields.len() != columns.as_slice().len() {
         return Err(RowFault::FieldCount);
     }
-    fill_valid(columns, fields, row)
+    fill_valid(columns.port(port), fields, row)
 }
 
 /// The same of fields that are as many as the columns, in a line with no carriage return.
-#[tactic(auto, unfolding(crate::specs::Rows::row_from))]
-fn fill_valid(columns: &Columns, fields: &Fields, row: &mut Row) -> Result<bool, RowFault>
-    ensures { result_view (shown_if (shown_in row.new)) result ≡ row_from columns.now fields.now }
+#[tactic(auto, unfolding(crate::specs::Placed::row_at))]
+fn fill_valid(known: &PortColumns, fields: &Fields, row: &mut Row) -> Result<bool, RowFault>
+    ensures { result_view (shown_if (shown_in row.new)) result
+        ≡ row_at known.now.placed.items fields.now }
 {
-    if valid_shown(columns, fields)? == Some(0) {
+    if valid_shown(known, fields)? == Some(0) {
         return Ok(false);
     }
-    fill_cells(columns.as_slice(), fields, row)?;
+    fill_cells(&known.placed, fields, row)?;
     Ok(true)
 }
 
 /// What the column `valid` shows, where there is one.
-fn valid_shown(columns: &Columns, fields: &Fields) -> Result<Option<u64>, RowFault>
-    ensures { result ≡ valid_of columns.now fields.now }
+fn valid_shown(known: &PortColumns, fields: &Fields) -> Result<Option<u64>, RowFault>
+    ensures { result ≡ valid_at (valid_among known.now.placed.items) fields.now }
 {
-    match columns.valid() {
+    match known.valid {
         None => Ok(None),
-        Some(place) => match fields.get(place) {
+        Some(one) => match fields.get(one.place) {
             None => Ok(None),
-            Some(field) => cell(Signal::Valid, field),
+            Some(field) => cell(one.column, field),
         },
     }
 }
 
-/// Has `row` show all the known columns' cells.
-fn fill_cells(columns: &[Option<Signal>], fields: &Fields, row: &mut Row) -> Result<(), RowFault>
-    ensures { result_view (λ done. shown_in row.new) result ≡ cells_of columns.now fields.now }
+/// Has `row` show the cells of all these columns.
+fn fill_cells(placed: &[PlacedColumn], fields: &Fields, row: &mut Row) -> Result<(), RowFault>
+    ensures { result_view (λ done. shown_in row.new) result ≡ cells_at placed.now fields.now }
 {
     row.clear();
-    for index in 0..columns.len() {
-        match fields.get(index) {
-            None => return Ok(()),
-            Some(field) => row.add(columns[index], field)?,
+    for index in 0..placed.len() {
+        let one = placed[index];
+        if let Some(field) = fields.get(one.place) {
+            row.add(one.column, field)?;
         }
     }
     Ok(())
@@ -104,18 +121,18 @@ fn fill_cells(columns: &[Option<Signal>], fields: &Fields, row: &mut Row) -> Res
 
 /// What a field shows of its column's signal.
 #[tactic(auto, unfolding(crate::specs::Rows::cell_of))]
-pub(crate) fn cell(signal: Signal, field: &[u8]) -> Result<Option<u64>, RowFault>
-    ensures { result ≡ cell_of signal field.now }
+pub(crate) fn cell(column: Column, field: &[u8]) -> Result<Option<u64>, RowFault>
+    ensures { result ≡ cell_of column field.now }
 {
     if field.is_empty() {
-        return match signal {
-            Signal::Insn | Signal::PcRdata => Err(RowFault::Empty(signal)),
+        return match column.signal {
+            Signal::Insn | Signal::PcRdata => Err(RowFault::Empty(column)),
             _ => Ok(None),
         };
     }
-    match read_number(field, signal.width()) {
+    match read_number(field, column.signal.width()) {
         Ok(value) => Ok(Some(value)),
-        Err(NumberFault::NotNumber) => Err(RowFault::NotNumber(signal)),
-        Err(NumberFault::TooWide) => Err(RowFault::TooWide(signal)),
+        Err(NumberFault::NotNumber) => Err(RowFault::NotNumber(column)),
+        Err(NumberFault::TooWide) => Err(RowFault::TooWide(column)),
     }
 }

@@ -1,59 +1,78 @@
 //! The columns of a trace.
 
-ghost use Rattle.std.specs.Prelude.{◌≡◌, ℕ, List, [], Decides, IfOk, find, length, map, option_map};
-ghost use Rattle.std.specs.Str.{bytes_eq};
-ghost use Rattle.hart_words.specs.SignalNames.{name_of};
-ghost use Rattle.std.specs.List.{position};
-ghost use Rattle.hart_words.specs.declared.signal.Signal.{Signal};
-ghost use Rattle.hart_words.specs.declared.signal.Signal.TheVariants.{Valid};
-ghost use Rattle.hart_words.specs.Results.{Gives};
-ghost use Rattle.csv_line.specs.Fields.{has_return_in};
-ghost use Rattle.rvfi_rows.specs.Columns.{header_columns, header_fault, column_of, signal_of_name, less_prefix, is_column_of, has_column, stands_in, first_repeated};
+ghost use Rattle.std.specs.Prelude.{◌≡◌, ◌≤◌, ◌<◌, ◌+◌, Decides, IfOk, length, max};
+ghost use Rattle.rvfi_rows.specs.Columns.{port_columns, port_or_zero, ports_of};
+ghost use Rattle.rvfi_rows.specs.Placed.{placed_from};
 
-use crate::fault::{HeaderError, HeaderFault};
-use csv_line::{Fields, line_fields};
-use hart_words::{SIGNALS, Signal, SignalEntry};
+use crate::column::Column;
+use crate::port_columns::PortColumns;
 use std::alloc::{AllocError, Global};
 use std::marker::Model;
 
-/// For each field of a header the signal that it names, or none for an unknown name.
+/// For each field of a header the column that it names, or none for an unknown name.
 #[derive(Debug, Drop)]
 pub struct Columns {
-    signals: Vec<Option<Signal>>,
-    /// The place of the first column that shows `valid`.
-    valid: Option<usize>,
+    columns: Vec<Option<Column>>,
+    /// The known ones of each port.
+    ports: Vec<PortColumns>,
 }
 
 impl Model for Columns {
-    ghost use Rattle.std.specs.Prelude.{◌≡◌, List, Option};
-    ghost use Rattle.std.specs.List.{position};
-    ghost use Rattle.hart_words.specs.declared.signal.Signal.{Signal};
-    ghost use Rattle.hart_words.specs.declared.signal.Signal.TheVariants.{Valid};
-    ghost use Rattle.rvfi_rows.specs.Columns.{is_column_of};
+    ghost use Rattle.std.specs.Prelude.{◌≡◌, List, Option, map};
+    ghost use Rattle.rvfi_rows.specs.declared.column.Column.{Column};
+    ghost use Rattle.rvfi_rows.specs.Columns.{port_columns, port_numbers};
+    ghost use Rattle.rvfi_rows.specs.Placed.{placed_from};
 
-    ghost Value = { List (Option Signal) };
+    ghost Value = { List (Option Column) };
 
-    ghost view = { λ columns. columns.signals.items };
+    ghost view = { λ columns. columns.columns.items };
 
-    ghost invariant = { λ columns.
-        columns.valid ≡ position (is_column_of Valid) columns.signals.items };
+    ghost invariant = { λ columns. map (λ known. known.placed.items) columns.ports.items
+        ≡ map (λ port. placed_from 0 (port_columns port columns.columns.items))
+        (port_numbers columns.columns.items) };
 }
 
 impl Columns {
-    pub(crate) fn as_slice(&self) -> &[Option<Signal>]
+    /// Columns, each at its place.
+    pub(crate) fn of(alloc: Global, columns: Vec<Option<Column>>) -> Result<Columns, AllocError>
+        ensures { IfOk result (λ made. made ≡ columns.items) }
+    {
+        let mut ports = Vec::new(alloc);
+        for port in 0..port_count(&columns) {
+            ports.push(PortColumns::of_port(alloc, &columns, port)?)?;
+        }
+        Ok(Columns { columns, ports })
+    }
+
+    /// How many ports there are: one more than the highest of a known column, from 1 to 4. Each line
+    /// after the header has a row for each.
+    pub fn ports(&self) -> u32
+        ensures number { result ≡ ports_of self.now }
+        ensures at_least_1 { 1 ≤ result }
+        ensures at_most_4 { result ≤ 4 }
+    {
+        self.ports.len() as u32
+    }
+
+    /// The known columns of a port.
+    pub(crate) fn port(&self, port: u32) -> &PortColumns
+        requires { port < ports_of self.now }
+        ensures { result.now.placed.items ≡ placed_from 0 (port_columns port self.now) }
+    {
+        &self.ports[port as usize]
+    }
+
+    pub(crate) fn as_slice(&self) -> &[Option<Column>]
         ensures { result.now ≡ self.now }
     {
-        self.signals.as_slice()
+        self.columns.as_slice()
     }
 
     /// The same columns again.
-    pub(crate) fn copy(&self) -> Result<Columns, AllocError>
+    pub(crate) fn copy(&self, alloc: Global) -> Result<Columns, AllocError>
         ensures { IfOk result (λ columns. columns ≡ self.now) }
     {
-        Ok(Columns {
-            signals: self.signals.clone()?,
-            valid: self.valid,
-        })
+        Columns::of(alloc, self.columns.clone()?)
     }
 
     /// Whether the other columns are the same.
@@ -63,71 +82,51 @@ impl Columns {
         let (one, other) = (self.as_slice(), other.as_slice());
         one.len() == other.len() && are_same(one, other)
     }
-
-    /// The place of the first column that shows `valid`.
-    pub(crate) fn valid(&self) -> Option<usize>
-        ensures { result ≡ position (is_column_of Valid) self.now }
-    {
-        self.valid
-    }
 }
 
-/// The columns that the fields of `line` name, as RVFI's description names its signals. A name may
-/// begin with `rvfi_`, which is dropped once; a name that is not known is passed over.
-///
-/// The faults, the first that holds: a carriage return stands in the line; a known name stands
-/// twice; `insn` is missing; `pc_rdata` is missing.
-#[tactic(auto, unfolding(crate::specs::Columns::header_columns))]
-pub fn read_header(alloc: Global, line: &[u8]) -> Result<Columns, HeaderError>
-    ensures { Gives header_fault (λ columns. columns) result (header_columns line.now) }
+/// How many ports columns have.
+pub(crate) fn port_count(columns: &[Option<Column>]) -> u32
+    ensures number { result ≡ ports_of columns.now }
+    ensures at_most_4 { result ≤ 4 }
 {
-    if has_carriage_return(line) {
-        return Err(HeaderError::Fault(HeaderFault::StrayReturn));
+    let mut highest = 0;
+    for index in 0..columns.len() {
+        highest = greater(highest, port_or_zero(columns[index]));
     }
-    let fields = line_fields(alloc, line)?;
-    let columns = columns_named(alloc, &fields)?;
-    if let Some(signal) = repeated_signal(columns.as_slice()) {
-        return Err(HeaderError::Fault(HeaderFault::Twice(signal)));
-    }
-    if !shows(columns.as_slice(), Signal::Insn) {
-        return Err(HeaderError::Fault(HeaderFault::NoColumn(Signal::Insn)));
-    }
-    if !shows(columns.as_slice(), Signal::PcRdata) {
-        return Err(HeaderError::Fault(HeaderFault::NoColumn(Signal::PcRdata)));
-    }
-    Ok(columns)
+    highest + 1
 }
 
-/// Whether a carriage return stands in the line.
-pub(crate) fn has_carriage_return(line: &[u8]) -> bool
-    ensures { result ≡ has_return_in line.now }
+/// The greater of two numbers.
+fn greater(one: u32, other: u32) -> u32
+    ensures { result ≡ max one other }
 {
-    line.iter().any(|byte| *byte == b'\r')
+    if one < other { other } else { one }
 }
 
-/// Whether the column shows the signal.
-pub(crate) fn is_column_of(signal: Signal, column: Option<Signal>) -> bool
-    ensures { result ≡ is_column_of signal column }
+/// The port of a known column, 0 of another.
+fn port_or_zero(column: Option<Column>) -> u32
+    ensures number { result ≡ port_or_zero column }
+    ensures below_4 { result < 4 }
 {
     match column {
-        None => false,
-        Some(shown) => shown.index() == signal.index(),
+        None => 0,
+        Some(column) => column.port.number(),
     }
 }
 
-/// Whether two columns show the same signal, or both none.
-#[tactic(auto, using(crate::proofs::SameColumns::is_of_decides))]
-fn is_same_column(one: Option<Signal>, other: Option<Signal>) -> bool
+/// Whether two columns are the same, or both none.
+#[tactic(auto, using(crate::proofs::SameColumns::is_column_decides))]
+fn is_same_column(one: Option<Column>, other: Option<Column>) -> bool
     ensures { Decides result (one ≡ other) }
 {
     match one {
         None => other.is_none(),
-        Some(signal) => is_column_of(signal, other),
+        Some(column) => column.is(other),
     }
 }
 
 /// Whether as many columns are the same.
-fn are_same(one: &[Option<Signal>], other: &[Option<Signal>]) -> bool
+fn are_same(one: &[Option<Column>], other: &[Option<Column>]) -> bool
     requires { length one.now ≡ length other.now }
     ensures { Decides result (one.now ≡ other.now) }
 {
@@ -137,95 +136,4 @@ fn are_same(one: &[Option<Signal>], other: &[Option<Signal>]) -> bool
         }
     }
     true
-}
-
-/// Whether some column shows the signal.
-fn shows(columns: &[Option<Signal>], signal: Signal) -> bool
-    ensures { result ≡ has_column signal columns.now }
-{
-    columns.iter().any(|column| is_column_of(signal, *column))
-}
-
-/// Whether a known column's signal stands in these columns too.
-fn stands(columns: &[Option<Signal>], column: Option<Signal>) -> bool
-    ensures { result ≡ stands_in columns.now column }
-{
-    match column {
-        None => false,
-        Some(signal) => shows(columns, signal),
-    }
-}
-
-/// The first signal from the left that stood before.
-fn repeated_signal(columns: &[Option<Signal>]) -> Option<Signal>
-    ensures { result ≡ first_repeated [] columns.now }
-{
-    for index in 0..columns.len() {
-        let column = columns[index];
-        if stands(&columns[..index], column) {
-            return column;
-        }
-    }
-    None
-}
-
-/// What each field names.
-fn columns_named(alloc: Global, fields: &Fields) -> Result<Columns, HeaderError>
-    ensures { Gives header_fault (λ columns. columns) result (Ok (map column_of fields.now)) }
-{
-    let mut signals = Vec::new(alloc);
-    for index in 0..fields.len() {
-        if let Some(field) = fields.get(index) {
-            signals.push(column_named(field))?;
-        }
-    }
-    let valid = place_of(Signal::Valid, &signals);
-    Ok(Columns { signals, valid })
-}
-
-/// The place of the first column that shows the signal.
-fn place_of(signal: Signal, columns: &[Option<Signal>]) -> Option<usize>
-    ensures { result ≡ position (is_column_of signal) columns.now }
-{
-    columns
-        .iter()
-        .position(|column| is_column_of(signal, *column))
-}
-
-/// The signal that a header's field names.
-fn column_named(field: &[u8]) -> Option<Signal>
-    ensures { result ≡ column_of field.now }
-{
-    signal_of_name(without_prefix(field))
-}
-
-#[tactic(auto, unfolding(crate::specs::Columns::less_prefix))]
-fn without_prefix(name: &[u8]) -> &[u8]
-    ensures { result.now ≡ less_prefix name.now }
-{
-    if name.starts_with(b"rvfi_") {
-        &name[5..]
-    } else {
-        name
-    }
-}
-
-/// The signal of a name.
-#[tactic(auto, unfolding(crate::specs::Columns::signal_of_name))]
-fn signal_of_name(name: &[u8]) -> Option<Signal>
-    ensures { result ≡ signal_of_name name.now }
-{
-    signal_among(&SIGNALS, name)
-}
-
-/// The signal of a name among those of entries.
-fn signal_among(entries: &[SignalEntry], name: &[u8]) -> Option<Signal>
-    ensures { result ≡ option_map (λ entry. entry.signal)
-        (find (λ entry. bytes_eq name.now (name_of entry.signal))
-        entries.now) }
-{
-    entries
-        .iter()
-        .find(|entry| entry.signal.is_named(name))
-        .map(|entry| entry.signal)
 }

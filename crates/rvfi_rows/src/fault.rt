@@ -4,7 +4,7 @@ ghost use Rattle.std.specs.Prelude.{◌≡◌};
 ghost use Rattle.rvfi_rows.specs.declared.fault.HeaderError.TheVariants as header;
 ghost use Rattle.rvfi_rows.specs.declared.fault.RowError.TheVariants as row;
 
-use hart_words::Signal;
+use crate::column::Column;
 use std::alloc::{AllocError, AllocFailed};
 use thiserror::Error;
 
@@ -15,10 +15,10 @@ pub enum HeaderFault {
     StrayReturn,
     /// The first known column from the left that stood before.
     #[error("a column stands twice")]
-    Twice(Signal),
-    /// `insn` or `pc_rdata` is missing.
+    Twice(Column),
+    /// The first `insn` or `pc_rdata` that a port lacks.
     #[error("a column is missing")]
-    NoColumn(Signal),
+    NoColumn(Column),
 }
 
 #[derive(Debug, Drop, Error)]
@@ -29,23 +29,23 @@ pub enum HeaderError {
     NoMemory,
 }
 
-/// What is wrong with a row: of the whole line first, then of the column `valid`, then of the known
-/// columns from the left.
+/// What is wrong with a row: of the whole line first, then of its port's column `valid`, then of its
+/// port's known columns from the left.
 #[derive(Clone, Copy, Debug, PartialEq, Eq, Error)]
 pub enum RowFault {
     #[error("a carriage return stands inside the row")]
     StrayReturn,
-    /// The row has not as many fields as the header.
+    /// The line has not as many fields as the header.
     #[error("the row has a wrong number of fields")]
     FieldCount,
     /// `insn` or `pc_rdata` is not shown.
     #[error("a column is empty")]
-    Empty(Signal),
+    Empty(Column),
     #[error("a column has no number")]
-    NotNumber(Signal),
+    NotNumber(Column),
     /// The number needs more bits than the column has.
     #[error("a column has too wide a number")]
-    TooWide(Signal),
+    TooWide(Column),
 }
 
 #[derive(Debug, Drop, Error)]

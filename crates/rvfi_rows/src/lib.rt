@@ -1,16 +1,19 @@
 //! The header and the rows of a trace, after riscv-formal's description of RVFI.
 //!
-//! In comes a line of bytes. Out goes what the header names (`specs/Columns.antt`) or what the row
-//! shows (`specs/Rows.antt`), or the first fault; and for the crates above what the reference hart
-//! did at a row (`Expected`, `Stepped`), how many rows there are (`RowCounts`), and the verdict on
-//! them (`Verdict`).
+//! In comes a line of bytes. Out goes what the header names (`specs/Columns.antt`) or what the rows
+//! of the line show, one for each port (`specs/Rows.antt`), or the first fault; and for the crates
+//! above what the reference hart did at a row (`Expected`, `Stepped`), how many rows there are
+//! (`RowCounts`), and the verdict on them (`Verdict`).
 #![tactic(auto)]
 
 mod cells;
+mod column;
 mod columns;
 mod expected;
 mod fault;
+mod header;
 mod lines;
+mod port_columns;
 mod reading;
 mod row;
 mod row_counts;
@@ -23,9 +26,11 @@ mod verdict;
 mod window;
 
 pub use cells::read_row;
-pub use columns::{Columns, read_header};
+pub use column::{Column, Port};
+pub use columns::Columns;
 pub use expected::{Accessed, Effects, Expected, Retired, Stepped};
 pub use fault::{HeaderError, HeaderFault, RowError, RowFault};
+pub use header::read_header;
 pub use lines::read_rows;
 pub use reading::Reading;
 pub use row::{FIRST_CSR, Row};

@@ -12,8 +12,8 @@ use hart_words::NoMemory;
 use line_text::Lines;
 use std::alloc::Global;
 
-/// What lines read as under these columns: each as `read_row` reads it, after one that is refused
-/// too.
+/// What lines read as under these columns: the row of each port as `read_row` reads it, after one
+/// that is refused too. Each line is split into fields once.
 pub fn read_rows(alloc: Global, columns: &Columns, lines: &Lines) -> Result<Rows, NoMemory>
     ensures { IfOk result (λ rows. readings_in rows ≡ rows_of columns.now lines.now) }
 {
@@ -21,6 +21,7 @@ pub fn read_rows(alloc: Global, columns: &Columns, lines: &Lines) -> Result<Rows
 }
 
 /// The same in the memory of rows that are wanted no more.
+#[tactic(auto, unfolding(crate::specs::Rows::rows_of))]
 pub(crate) fn read_rows_in(
     alloc: Global,
     columns: &Columns,
@@ -29,12 +30,12 @@ pub(crate) fn read_rows_in(
 ) -> Result<Rows, NoMemory>
     ensures { IfOk result (λ rows. readings_in rows ≡ rows_of columns.now lines.now) }
 {
-    let mut rows = spare.with_columns(alloc, columns.as_slice(), lines.len())?;
+    let mut rows = spare.with_columns(alloc, columns, lines.len())?;
     let mut reader = LineReader::new(alloc, lines.text());
     let mut fields = Fields::new(alloc);
     let mut row = Row::empty();
     'lines: while let Some(read) = reader.next(&mut fields)? {
-        rows.push(columns, read.has_return, &fields, &mut row)?;
+        rows.push_line(columns, read.has_return, &fields, &mut row)?;
     }
     Ok(rows)
 }

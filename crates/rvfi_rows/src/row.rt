@@ -1,8 +1,9 @@
 //! What a row of a trace shows.
 
-ghost use Rattle.std.specs.Prelude.{◌≡◌, ◌≤◌, ◌<◌, ◌+◌, ◌++◌, ◌^◌, length, map, slice_index, vec_capacity, vec_len};
+ghost use Rattle.std.specs.Prelude.{◌≡◌, ◌≤◌, ◌<◌, ◌+◌, ◌++◌, ◌^◌, Some, length, map, slice_index, vec_capacity, vec_len};
 
 use crate::cells::cell;
+use crate::column::Column;
 use crate::fault::RowFault;
 use hart_words::Signal;
 
@@ -72,14 +73,12 @@ impl Row {
 
     /// Adds what a field shows under its column.
     #[tactic(auto, unfolding(crate::specs::Rows::field_shown))]
-    pub(crate) fn add(&mut self, column: Option<Signal>, field: &[u8]) -> Result<(), RowFault>
+    pub(crate) fn add(&mut self, column: Column, field: &[u8]) -> Result<(), RowFault>
         ensures { Adds (shown_in self.old) (shown_in self.new) result
-            (field_shown column field.now) }
+            (field_shown (Some column) field.now) }
     {
-        if let Some(signal) = column {
-            if let Some(value) = cell(signal, field)? {
-                self.show(signal, value);
-            }
+        if let Some(value) = cell(column, field)? {
+            self.show(column.signal, value);
         }
         Ok(())
     }

@@ -1,12 +1,15 @@
 //! Rows that were read once, to be looked at many times.
 
-ghost use Rattle.std.specs.Prelude.{◌≡◌, ◌≤◌, ◌<◌, ◌+◌, ◌*◌, ◌^◌, ◌++◌, ◌∷◌, [], IfOk, OnOk, OnErr, drop, length, option_map, slice_get, take};
+ghost use Rattle.std.specs.Prelude.{◌≡◌, ◌≤◌, ◌<◌, ◌+◌, ◌*◌, ◌^◌, ◌++◌, ◌∷◌, [], List, IfOk, OnOk, OnErr, drop, length, option_map, slice_get, take, true};
 ghost use Rattle.std.specs.List.{All};
-ghost use Rattle.rvfi_rows.specs.Cells.{shown_in, values_at};
-ghost use Rattle.rvfi_rows.specs.Rows.{row_of_fields, signals_of};
-ghost use Rattle.rvfi_rows.specs.Kept.{ShowsOnly, kept_reading};
+ghost use Rattle.hart_words.specs.declared.signal.Signal.{Signal};
+ghost use Rattle.rvfi_rows.specs.Cells.{is_among, shown_in, values_at};
+ghost use Rattle.rvfi_rows.specs.Columns.{ports_of};
+ghost use Rattle.rvfi_rows.specs.Rows.{row_of_fields, rows_of_fields};
+ghost use Rattle.rvfi_rows.specs.Kept.{HasSignalsOf, ShowsOnly, kept_reading};
 
 use crate::cells::fill_row;
+use crate::column::Column;
 use crate::columns::Columns;
 use crate::reading::{Kept, Reading};
 use crate::row::Row;
@@ -14,10 +17,10 @@ use csv_line::Fields;
 use hart_words::{NoMemory, Signal};
 use std::alloc::Global;
 
-/// What lines read as under the columns of a trace.
+/// What lines read as under the columns of a trace: the rows of each line, one for each port.
 #[derive(Drop)]
 pub struct Rows {
-    /// The signals of the known columns, in the order of the columns.
+    /// The signals of the known columns, each once: a row of any port has its values under them.
     signals: Vec<Signal>,
     rows: Vec<Kept>,
     /// For each row as many values as there are signals; those that are not shown mean nothing.
@@ -38,24 +41,26 @@ impl Rows {
         }
     }
 
-    /// No rows, under these columns, with room for so many, in the memory of those that were.
+    /// No rows, under these columns, with room for those of so many lines, in the memory of those
+    /// that were.
     pub(crate) fn with_columns(
         self,
         alloc: Global,
-        columns: &[Option<Signal>],
-        count: usize,
+        columns: &Columns,
+        lines: usize,
     ) -> Result<Rows, NoMemory>
         ensures none { IfOk result (λ rows. readings_in rows ≡ []) }
-        ensures signals { IfOk result (λ rows. rows.signals.items ≡ signals_of columns.now) }
+        ensures signals { IfOk result (λ rows. HasSignalsOf columns.now rows.signals.items) }
     {
         let Rows { rows, values, .. } = self;
         let mut rows = rows;
         let mut values = values;
-        let signals = known_signals(alloc, columns)?;
+        let signals = known_signals(alloc, columns.as_slice())?;
+        // A product past 64 bits is more than the allocator gives.
+        let count = lines.saturating_mul(columns.ports() as usize);
         rows.clear();
         rows.reserve(count)?;
         values.clear();
-        // A product past 64 bits is more than the allocator gives.
         values.reserve(count.saturating_mul(signals.len()))?;
         Ok(Rows {
             signals,
@@ -64,20 +69,35 @@ impl Rows {
         })
     }
 
-    /// Puts the row of a line's fields after the others; `row` is used for that.
-    pub(crate) fn push(
+    /// Puts the rows of a line's fields after the others, one for each port in order; `row` is used
+    /// for that.
+    pub(crate) fn push_line(
         &mut self,
         columns: &Columns,
         has_return: bool,
         fields: &Fields,
         row: &mut Row,
     ) -> Result<(), NoMemory>
-        requires { self.old.signals.items ≡ signals_of columns.now }
+        requires { HasSignalsOf columns.now self.old.signals.items }
         ensures pushed { OnOk result (readings_in self.new
-            ≡ readings_in self.old ++ row_of_fields columns.now has_return fields.now ∷ []) }
+            ≡ readings_in self.old ++ rows_of_fields columns.now has_return fields.now) }
         ensures signals { self.new.signals.items ≡ self.old.signals.items }
     {
-        let kept = kept_of(columns, has_return, fields, row);
+        for port in 0..columns.ports() {
+            let kept = kept_of(columns, has_return, fields, port, row);
+            self.push(kept, row)?;
+        }
+        Ok(())
+    }
+
+    /// Puts a row after the others, of which this is kept and whose values stand in `row`.
+    fn push(&mut self, kept: Kept, row: &Row) -> Result<(), NoMemory>
+        requires { ShowsOnly self.old.signals.items kept }
+        ensures pushed { OnOk result (readings_in self.new ≡ readings_in self.old
+            ++ kept_reading self.old.signals.items kept
+            (values_at row.now.values self.old.signals.items) ∷ []) }
+        ensures signals { self.new.signals.items ≡ self.old.signals.items }
+    {
         self.values.reserve(self.signals.len())?;
         self.rows.reserve(1)?;
         row.put_values(&self.signals, &mut self.values);
@@ -137,29 +157,54 @@ fn part(values: &[u64], start: usize, count: usize) -> &[u64]
     &values[start..start + count]
 }
 
-/// What is kept of the row of a line's fields; its values stand in `row`.
-fn kept_of(columns: &Columns, has_return: bool, fields: &Fields, row: &mut Row) -> Kept
-    ensures reading { kept_reading (signals_of columns.now) result
-        (values_at row.new.values (signals_of columns.now))
-        ≡ row_of_fields columns.now has_return fields.now }
-    ensures theirs { ShowsOnly (signals_of columns.now) result }
+/// What is kept of the row of a port from a line's fields; its values stand in `row`.
+fn kept_of(columns: &Columns, has_return: bool, fields: &Fields, port: u32, row: &mut Row) -> Kept
+    requires { port < ports_of columns.now }
+    ensures reading { (signals : List Signal) → HasSignalsOf columns.now signals
+        → kept_reading signals result (values_at row.new.values signals)
+        ≡ row_of_fields columns.now has_return fields.now port }
+    ensures theirs { (signals : List Signal) → HasSignalsOf columns.now signals
+        → ShowsOnly signals result }
 {
-    match fill_row(columns, has_return, fields, row) {
+    match fill_row(columns, has_return, fields, port, row) {
         Ok(true) => Kept::Shown(row.bits()),
         Ok(false) => Kept::Invalid,
         Err(fault) => Kept::Refused(fault),
     }
 }
 
-/// The signals of the known columns.
-fn known_signals(alloc: Global, columns: &[Option<Signal>]) -> Result<Vec<Signal>, NoMemory>
-    ensures { IfOk result (λ signals. signals.items ≡ signals_of columns.now) }
+/// The signals of the known columns, each once.
+fn known_signals(alloc: Global, columns: &[Option<Column>]) -> Result<Vec<Signal>, NoMemory>
+    ensures { IfOk result (λ signals. HasSignalsOf columns.now signals.items) }
 {
     let mut signals = Vec::new(alloc);
-    for column in columns {
-        if let Some(signal) = column {
-            signals.push(*signal)?;
-        }
+    for index in 0..columns.len() {
+        put_signal(columns[index], &mut signals)?;
     }
     Ok(signals)
+}
+
+/// Puts the signal of a known column after the others, unless it is one of them.
+fn put_signal(column: Option<Column>, signals: &mut Vec<Signal>) -> Result<(), NoMemory>
+    ensures kept { OnOk result ((signal : Signal) → is_among signals.old.items signal ≡ true
+        → is_among signals.new.items signal ≡ true) }
+    ensures has { OnOk result (HasSignalsOf (column ∷ []) signals.new.items) }
+{
+    match column {
+        None => Ok(()),
+        Some(column) => {
+            if is_among(signals, column.signal) {
+                return Ok(());
+            }
+            signals.push(column.signal)?;
+            Ok(())
+        }
+    }
+}
+
+/// Whether the signal is one of these.
+fn is_among(signals: &[Signal], signal: Signal) -> bool
+    ensures { result ≡ is_among signals.now signal }
+{
+    signals.iter().any(|other| signal.index() == other.index())
 }

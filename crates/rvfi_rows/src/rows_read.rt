@@ -30,7 +30,7 @@ impl RowsRead {
         ensures rows { IfOk result (λ read. readings_in read.rows ≡ rows_of columns.now lines.now) }
     {
         let rows = read_rows_in(alloc, columns, lines, spare)?;
-        let columns = columns.copy()?;
+        let columns = columns.copy(alloc)?;
         Ok(RowsRead { columns, rows })
     }
 }

@@ -15,13 +15,25 @@ fn header_fault(alloc: Global, line: &[u8]) -> Option<HeaderFault> {
 }
 
 fn row_fault(alloc: Global, columns: &Columns, line: &[u8]) -> Option<RowFault> {
-    match read_row(alloc, columns, line) {
+    match read_row(alloc, columns, line, 0) {
         Err(RowError::Fault(fault)) => Some(fault),
         _ => None,
     }
 }
 
 fn may_be_shared<T: Send + Sync>(_value: &T) {}
+
+/// The column of the signal at port 0.
+fn first(signal: Signal) -> Column {
+    let port = Port::Zero;
+    Column { signal, port }
+}
+
+/// The column of the signal at port 1.
+fn second(signal: Signal) -> Column {
+    let port = Port::One;
+    Column { signal, port }
+}
 
 #[test]
 fn reads_rows(rt: HostRuntime) -> Result<(), Fail> {
@@ -32,6 +44,7 @@ fn reads_rows(rt: HostRuntime) -> Result<(), Fail> {
         alloc,
         &columns,
         b"1,,0X00000093,0x80000000,x y z,3 ,18446744073709551615,",
+        0,
     )?
     .ok_or("the row is valid")?;
     may_be_shared(&row);
@@ -44,7 +57,7 @@ fn reads_rows(rt: HostRuntime) -> Result<(), Fail> {
     assert_eq!(rt; row.shown(Signal::Halt), None);
     assert_eq!(rt; row.shown(Signal::Trap), None);
     // Nothing but the number of fields counts in a row that is not valid.
-    assert!(rt; read_row(alloc, &columns, b"0x0,,,one,,9,-,2")?.is_none());
+    assert!(rt; read_row(alloc, &columns, b"0x0,,,one,,9,-,2", 0)?.is_none());
     Ok(())
 }
 
@@ -81,7 +94,7 @@ fn keeps_rows(rt: HostRuntime) -> Result<(), Fail> {
         assert_eq!(rt; row.shown(Signal::Order), None);
     }
     for (place, fault) in [
-        (3, RowFault::Empty(Signal::PcRdata)),
+        (3, RowFault::Empty(first(Signal::PcRdata))),
         (4, RowFault::FieldCount),
         (5, RowFault::StrayReturn),
         (7, RowFault::FieldCount),
@@ -90,6 +103,79 @@ fn keeps_rows(rt: HostRuntime) -> Result<(), Fail> {
     }
     assert_eq!(rt; rows.get(2, &mut row), Some(Reading::Invalid));
     assert_eq!(rt; rows.get(8, &mut row), None);
+    Ok(())
+}
+
+/// How the row of a port on a line reads: what it shows of `insn`, where it is valid.
+fn insn_at(
+    alloc: Global,
+    columns: &Columns,
+    line: &[u8],
+    port: u32,
+) -> Result<Option<u64>, RowFault> {
+    if columns.ports() <= port {
+        return Ok(None);
+    }
+    match read_row(alloc, columns, line, port) {
+        Err(RowError::Fault(fault)) => Err(fault),
+        Ok(Some(row)) => Ok(row.shown(Signal::Insn)),
+        Ok(None) | Err(RowError::NoMemory) => Ok(None),
+    }
+}
+
+/// A line has a row for each port, each valid or not and refused or not by its own columns, and all
+/// refused where the line is.
+#[test]
+fn reads_ports(rt: HostRuntime) -> Result<(), Fail> {
+    let alloc = rt.alloc();
+    let columns = read_header(
+        alloc,
+        b"insn,valid_1, rvfi_pc_rdata_1,pc_rdata_0,insn_4,insn_1,valid",
+    )?;
+    assert_eq!(rt; columns.ports(), 2);
+    let wide = RowFault::TooWide(second(Signal::Insn));
+    let empty = RowFault::Empty(first(Signal::PcRdata));
+    let cases: [(
+        &[u8],
+        Result<Option<u64>, RowFault>,
+        Result<Option<u64>, RowFault>,
+    ); 6] = [
+        (b"1,1,2,3,x,4,1", Ok(Some(1)), Ok(Some(4))),
+        (b"1,0,,3,,,", Ok(Some(1)), Ok(None)),
+        (b",,2,,,4,0", Ok(None), Ok(Some(4))),
+        (b"1,,2,,,0x100000000,", Err(empty), Err(wide)),
+        (
+            b"1,1,2,3,,4",
+            Err(RowFault::FieldCount),
+            Err(RowFault::FieldCount),
+        ),
+        (
+            b"1,1,2,3,,4\r,0",
+            Err(RowFault::StrayReturn),
+            Err(RowFault::StrayReturn),
+        ),
+    ];
+    for (line, one, other) in cases {
+        assert_eq!(rt; insn_at(alloc, &columns, line, 0), one);
+        assert_eq!(rt; insn_at(alloc, &columns, line, 1), other);
+    }
+    let mut lines = Lines::new(alloc);
+    lines.push(b"1,1,2,3,x,4,1")?;
+    lines.push(b"1,0,,3,,,")?;
+    lines.push(b"1,,2,,,0x100000000,")?;
+    lines.push(b"1,1,2,3,,4\r,0")?;
+    let rows = read_rows(alloc, &columns, &lines)?;
+    assert_eq!(rt; rows.len(), 8);
+    let mut row = Row::empty();
+    for (place, insn) in [(0, 1), (1, 4), (2, 1)] {
+        assert_eq!(rt; rows.get(place, &mut row), Some(Reading::Valid));
+        assert_eq!(rt; row.shown(Signal::Insn), Some(insn));
+    }
+    assert_eq!(rt; rows.get(3, &mut row), Some(Reading::Invalid));
+    let stray = RowFault::StrayReturn;
+    for (place, fault) in [(4, empty), (5, wide), (6, stray), (7, stray)] {
+        assert_eq!(rt; rows.get(place, &mut row), Some(Reading::Refused(fault)));
+    }
     Ok(())
 }
 
@@ -142,7 +228,7 @@ fn reads_segments(rt: HostRuntime) -> Result<(), Fail> {
     segments.push(last)?;
     let short = Reading::Refused(RowFault::FieldCount);
     read_segments(&rt, alloc, 1, &plain, &mut segments)?;
-    let bad = Reading::Refused(RowFault::NotNumber(Signal::Insn));
+    let bad = Reading::Refused(RowFault::NotNumber(first(Signal::Insn)));
     let wanted = [
         [Reading::Valid; 2],
         [Reading::Valid, bad],
@@ -150,7 +236,7 @@ fn reads_segments(rt: HostRuntime) -> Result<(), Fail> {
     ];
     check_segments(&rt, &segments, (&plain, &turned), &wanted, 9)?;
     read_segments(&rt, alloc, 7, &turned, &mut segments)?;
-    let bad = Reading::Refused(RowFault::NotNumber(Signal::PcRdata));
+    let bad = Reading::Refused(RowFault::NotNumber(first(Signal::PcRdata)));
     let wanted = [
         [Reading::Valid; 2],
         [Reading::Valid, bad],
@@ -197,7 +283,7 @@ fn reads_in_the_memory_of_others(rt: HostRuntime) -> Result<(), Fail> {
     }
     reuse_rows(&mut others, segments);
     read_segments(&rt, alloc, 2, &wider, &mut others)?;
-    let empty = Reading::Refused(RowFault::Empty(Signal::Insn));
+    let empty = Reading::Refused(RowFault::Empty(first(Signal::Insn)));
     check_segments(
         &rt,
         &others,
@@ -212,7 +298,7 @@ fn reads_in_the_memory_of_others(rt: HostRuntime) -> Result<(), Fail> {
 fn reads_registers_and_masks(rt: HostRuntime) -> Result<(), Fail> {
     let alloc = rt.alloc();
     let columns = read_header(alloc, b"mem_wmask,pc_rdata,rvfi_rs1_addr,insn")?;
-    let row = read_row(alloc, &columns, b"255,0,0x1f,0")?.ok_or("the row is valid")?;
+    let row = read_row(alloc, &columns, b"255,0,0x1f,0", 0)?.ok_or("the row is valid")?;
     assert_eq!(rt; row.shown(Signal::Rs1Addr), Some(31));
     assert_eq!(rt; row.shown(Signal::MemWmask), Some(0xff));
     assert_eq!(rt; row.shown(Signal::MemRmask), None);
@@ -222,10 +308,10 @@ fn reads_registers_and_masks(rt: HostRuntime) -> Result<(), Fail> {
     ] {
         assert_eq!(rt;
             row_fault(alloc, &columns, line),
-            Some(RowFault::TooWide(signal))
+            Some(RowFault::TooWide(first(signal)))
         );
     }
-    let again = HeaderFault::Twice(Signal::Rs1Addr);
+    let again = HeaderFault::Twice(first(Signal::Rs1Addr));
     assert_eq!(rt; header_fault(alloc, b"rs1_addr,rvfi_rs1_addr"), Some(again));
     Ok(())
 }
@@ -241,24 +327,24 @@ fn reads_registers_of_control(rt: HostRuntime) -> Result<(), Fail> {
     )?;
     let mepc = Signal::Csr(CsrName::Mepc, CsrSide::Rdata);
     let satp = Signal::Csr(CsrName::Satp, CsrSide::Wdata);
-    let row = read_row(alloc, &columns, b"1,0xffffffffffffffff,1,2,,x")?.ok_or("it is valid")?;
+    let row = read_row(alloc, &columns, b"1,0xffffffffffffffff,1,2,,x", 0)?.ok_or("it is valid")?;
     assert_eq!(rt; row.shown(mepc), Some(u64::MAX));
     assert_eq!(rt; row.shown(satp), Some(1));
     assert!(rt; row.shows_csr());
     assert_eq!(rt; row.shown(Signal::Csr(CsrName::Sip, CsrSide::Wmask)), None);
-    let row = read_row(alloc, &columns, b"1,,,2,0,x")?.ok_or("it is valid")?;
+    let row = read_row(alloc, &columns, b"1,,,2,0,x", 0)?.ok_or("it is valid")?;
     assert_eq!(rt;
         row.shown(Signal::Csr(CsrName::Sip, CsrSide::Wmask)),
         Some(0)
     );
-    let row = read_row(alloc, &columns, b"1,,,2,,0")?.ok_or("it is valid")?;
+    let row = read_row(alloc, &columns, b"1,,,2,,0", 0)?.ok_or("it is valid")?;
     assert!(rt; !row.shows_csr());
     assert_eq!(rt; row.shown(satp), None);
     assert_eq!(rt;
         row_fault(alloc, &columns, b"1,,x,2,,"),
-        Some(RowFault::NotNumber(satp))
+        Some(RowFault::NotNumber(first(satp)))
     );
-    let again = HeaderFault::Twice(mepc);
+    let again = HeaderFault::Twice(first(mepc));
     assert_eq!(rt;
         header_fault(alloc, b"csr_mepc_rdata,rvfi_csr_mepc_rdata"),
         Some(again)
@@ -274,12 +360,15 @@ fn refuses_rows(rt: HostRuntime) -> Result<(), Fail> {
         (b"0,,,\r", RowFault::StrayReturn),
         (b"0,,,,,,", RowFault::FieldCount),
         (b"", RowFault::FieldCount),
-        (b"no,x,,,,,,", RowFault::NotNumber(Signal::Valid)),
-        (b"2,x,,,,,,", RowFault::TooWide(Signal::Valid)),
-        (b",-1,,,,,,", RowFault::NotNumber(Signal::Order)),
-        (b"1,, ,,,,,", RowFault::Empty(Signal::Insn)),
-        (b"1,,0x100000000,,,,,", RowFault::TooWide(Signal::Insn)),
-        (b",,1,,,9,,", RowFault::Empty(Signal::PcRdata)),
+        (b"no,x,,,,,,", RowFault::NotNumber(first(Signal::Valid))),
+        (b"2,x,,,,,,", RowFault::TooWide(first(Signal::Valid))),
+        (b",-1,,,,,,", RowFault::NotNumber(first(Signal::Order))),
+        (b"1,, ,,,,,", RowFault::Empty(first(Signal::Insn))),
+        (
+            b"1,,0x100000000,,,,,",
+            RowFault::TooWide(first(Signal::Insn)),
+        ),
+        (b",,1,,,9,,", RowFault::Empty(first(Signal::PcRdata))),
     ];
     for (line, fault) in rows {
         assert_eq!(rt; row_fault(alloc, &columns, line), Some(fault));
@@ -305,19 +394,43 @@ fn accesses_lie_in_windows(rt: HostRuntime) {
 #[test]
 fn refuses_headers(rt: HostRuntime) {
     let alloc = rt.alloc();
-    let headers: [(&[u8], HeaderFault); 6] = [
+    let headers: [(&[u8], HeaderFault); 12] = [
         (b"insn,insn,pc_rdata\r", HeaderFault::StrayReturn),
         (
             b"mode,order,rvfi_mode,order",
-            HeaderFault::Twice(Signal::Mode),
+            HeaderFault::Twice(first(Signal::Mode)),
         ),
-        (b"order,note,note", HeaderFault::NoColumn(Signal::Insn)),
-        (b"INSN,pc_rdata", HeaderFault::NoColumn(Signal::Insn)),
+        (
+            b"order,note,note",
+            HeaderFault::NoColumn(first(Signal::Insn)),
+        ),
+        (b"INSN,pc_rdata", HeaderFault::NoColumn(first(Signal::Insn))),
         (
             b"rvfi_rvfi_insn,pc_rdata",
-            HeaderFault::NoColumn(Signal::Insn),
+            HeaderFault::NoColumn(first(Signal::Insn)),
         ),
-        (b"insn", HeaderFault::NoColumn(Signal::PcRdata)),
+        (b"insn", HeaderFault::NoColumn(first(Signal::PcRdata))),
+        (b"insn,insn_0", HeaderFault::Twice(first(Signal::Insn))),
+        (
+            b"mode_1,insn,rvfi_mode_1,pc_rdata",
+            HeaderFault::Twice(second(Signal::Mode)),
+        ),
+        (
+            b"insn,pc_rdata,insn_1",
+            HeaderFault::NoColumn(second(Signal::PcRdata)),
+        ),
+        (
+            b"insn,pc_rdata,mode_3,insn_4",
+            HeaderFault::NoColumn(second(Signal::Insn)),
+        ),
+        (
+            b"insn_1,pc_rdata_1",
+            HeaderFault::NoColumn(first(Signal::Insn)),
+        ),
+        (
+            b"insn_0_1,pc_rdata",
+            HeaderFault::NoColumn(first(Signal::Insn)),
+        ),
     ];
     for (line, fault) in headers {
         assert_eq!(rt; header_fault(alloc, line), Some(fault));

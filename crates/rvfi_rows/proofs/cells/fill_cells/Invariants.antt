@@ -1,10 +1,9 @@
 use Rattle.std.proofs.Common.{◌≡◌, drop}
 use Rattle.rvfi_rows.specs.Cells.{shown_in}
-use Rattle.rvfi_rows.specs.Rows.{cells_of}
+use Rattle.rvfi_rows.specs.Placed.{cells_at}
 use Rattle.rvfi_rows.proofs.Steps.{with_front}
 use Rattle.rvfi_rows.proofs.cells.fill_cells.Given as goal
 
 abbrev pub invariant-loop-index : goal.invariant-loop-index
 invariant-loop-index l =
-    with_front (shown_in l.row) (cells_of (drop l.index l.columns) (drop l.index l.fields))
-    ≡ cells_of l.columns l.fields
+    with_front (shown_in l.row) (cells_at (drop l.index l.placed) l.fields) ≡ cells_at l.placed l.fields

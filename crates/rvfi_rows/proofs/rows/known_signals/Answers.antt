@@ -1,25 +1,12 @@
-use Rattle.std.proofs.Common.{None, append-nil, sym}
-use Rattle.rvfi_rows.specs.Rows.{signals_of}
 use Rattle.rvfi_rows.proofs.Among.{signals-next}
+use Rattle.rvfi_rows.specs.Rows.{signals_of}
 use Rattle.rvfi_rows.proofs.rows.known_signals.Goals as goal
-use Rattle.rvfi_rows.proofs.rows.known_signals.Goals.{in-Some+in_ok-push, in_default}
 
-pub loop-column-init : goal.loop-column-init
+pub loop-index-init : goal.loop-index-init
 unfolding signals_of
-loop-column-init c = c.new-signals.ensures.items
+loop-index-init c = λ signal among. absurd cc
 
-pub loop-column-preserved : goal.loop-column-preserved
-unfolding signals_of
-loop-column-preserved c =
-    elim c.match-column.branch [
-      | in-Some+in_ok-push w ↦
-          rw w.signals-is
-          (signals-next c.args.columns.now c.loop-column.column-index None w.push.new.self.items
-          c.loop-column.signals.items c.loop-column-test.true c.loop-column.invariant
-          (rw w.in-Some.is w.in_ok-push.ensures.items))
-      | in_default w ↦
-          rw w.signals-is
-          (signals-next c.args.columns.now c.loop-column.column-index None c.loop-column.signals.items
-          c.loop-column.signals.items c.loop-column-test.true c.loop-column.invariant
-          (rw w.in_default.is (sym (append-nil c.loop-column.signals.items))))
-    ]
+pub loop-index-preserved : goal.loop-index-preserved
+loop-index-preserved c =
+    signals-next c.args.columns.now c.loop-index.index _ c.loop-index.signals.items c.put_signal.new.signals.items
+    c.loop-index-test.true c.in_ok-put_signal.ensures.kept c.in_ok-put_signal.ensures.has c.loop-index.invariant
