@@ -9,7 +9,7 @@ use hart_step::{Core, Hart};
 use hart_words::{Choices, Difference, Map, Mode, NoMemory, PhysMem, Signal, Span};
 use line_text::Lines;
 use page_layers::MapMem;
-use rvfi_rows::{Columns, RowFault, Segment, Verdict, read_header};
+use rvfi_rows::{Column, Columns, Port, RowFault, Segment, Verdict, read_header};
 use std::alloc::Global;
 use std::process::Abort;
 use std::test::Fail;
@@ -246,9 +246,15 @@ fn refusal(row: u64, fault: RowFault) -> Verdict {
     Verdict::Refused { row, fault }
 }
 
+/// The column `insn` of the only port.
+const INSN: Column = Column {
+    signal: Signal::Insn,
+    port: Port::Zero,
+};
+
 /// The row has no number where the instruction should be.
 fn no_insn(row: u64) -> Verdict {
-    refusal(row, RowFault::NotNumber(Signal::Insn))
+    refusal(row, RowFault::NotNumber(INSN))
 }
 
 #[test]
@@ -282,11 +288,7 @@ fn judges_segments(rt: HostRuntime) -> Result<(), Fail> {
             refusal(3, RowFault::FieldCount),
             None,
         ),
-        (
-            &[ADD, b"1,,0,,,"],
-            refusal(2, RowFault::Empty(Signal::Insn)),
-            None,
-        ),
+        (&[ADD, b"1,,0,,,"], refusal(2, RowFault::Empty(INSN)), None),
     ];
     'cases: for case in cases.iter() {
         hold_case(&rt, rt.alloc(), case)?;
@@ -443,7 +445,7 @@ fn stops_without_memory(rt: HostRuntime) -> Result<(), Fail> {
             &[ADD, REFUSED],
             Some(Verdict::Refused {
                 row: 2,
-                fault: RowFault::NotNumber(Signal::Insn),
+                fault: RowFault::NotNumber(INSN),
             }),
         ),
         (&[ADD, STORE], None),
