@@ -1,5 +1,6 @@
 -- What the rows of a trace show are words.
-use Rattle.std.proofs.Common.{◌≡◌, ◌≤◌, ℕ, ◌^◌, ◌<◌, ◌==◌, Bool, true, false, not, List, [], ◌∷◌, length, nat_lt}
+use Rattle.std.proofs.Common.{◌≡◌, ◌≤◌, ℕ, ◌^◌, ◌<◌, ◌==◌, Bool, true, false, not, List, [], ◌∷◌, ◌++◌, length, map}
+use Rattle.std.proofs.Common.{nat_lt}
 use Rattle.std.proofs.Common.{Option, Some, None, Ok, Err, Result, if◌then◌else◌, refl, ap, arith}
 use Rattle.std.specs.Prelude.{IfOk, IfSome}
 use Rattle.std.specs.Option.{option_map_or, option_or}
@@ -13,10 +14,12 @@ use Rattle.hart_words.specs.Results.{◌>>=◌, ◌>>◌, refuse_if}
 use Rattle.hart_words.specs.Signals.{Shown, index_of, signal_entry_of, width_of}
 use Rattle.hart_words.proofs.SignalTable.{width_in}
 use Rattle.csv_line.specs.Fields.{fields_of_line, has_return_in}
-use Rattle.rvfi_rows.specs.Columns.{ColumnList}
+use Rattle.rvfi_rows.specs.declared.column.Column.{Column}
+use Rattle.rvfi_rows.specs.Columns.{ColumnList, port_columns, port_numbers}
 use Rattle.rvfi_rows.specs.declared.fault.RowFault.{RowFault}
 use Rattle.rvfi_rows.specs.Rows.{RowReading, alone, cell_of, cells_of, field_shown, is_invalid, is_needed, row_from}
-use Rattle.rvfi_rows.specs.Rows.{row_of_fields, row_of_line, rows_of, shown_then, valid_of, value_or_fault}
+use Rattle.rvfi_rows.specs.Rows.{row_of_fields, row_of_line, rows_of, rows_of_line, shown_then, valid_of}
+use Rattle.rvfi_rows.specs.Rows.{value_or_fault}
 use Rattle.boundary_guess.proofs.Compared.{ShowsWords}
 
 -- a value, where there is one, is a word
@@ -40,27 +43,28 @@ power_by width false fits is =
     let whole : 2 ^ width ≡ 2 ^ 64 = ap (λ w. 2 ^ w) same in
     omega (arith, whole)
 
-value_by : (signal : Signal) (value width : ℕ) (test : Bool) → width ≤ 64 → nat_lt value (2 ^ width) ≡ test
-    → IfOk (value_or_fault signal (if test then Ok value else Err number.TooWide)) IsWord
-value_by signal value width true fits is =
+value_by : (column : Column) (value width : ℕ) (test : Bool) → width ≤ 64 → nat_lt value (2 ^ width) ≡ test
+    → IfOk (value_or_fault column (if test then Ok value else Err number.TooWide)) IsWord
+value_by column value width true fits is =
     let less : value < 2 ^ width = grind (arith, nat_tests, is) in
     let most = power_by width (nat_lt width 64) fits refl in
     omega (arith, less, most)
-value_by signal value width false fits is = tt
+value_by column value width false fits is = tt
 
-number_by : (signal : Signal) (width : ℕ) (value : Option ℕ) → width ≤ 64
-    → IfOk (value_or_fault signal (result_within width value)) IsWord
-number_by signal width None fits = tt
-number_by signal width (Some value) fits = value_by signal value width (nat_lt value (2 ^ width)) fits refl
+number_by : (column : Column) (width : ℕ) (value : Option ℕ) → width ≤ 64
+    → IfOk (value_or_fault column (result_within width value)) IsWord
+number_by column width None fits = tt
+number_by column width (Some value) fits = value_by column value width (nat_lt value (2 ^ width)) fits refl
 
-empty_by : (signal : Signal) (needed : Bool) (fault : RowFault) → IfOk (if needed then Err fault else Ok None) IsWord
-empty_by signal true fault = tt
-empty_by signal false fault = tt
+empty_by : (needed : Bool) (fault : RowFault) → IfOk (if needed then Err fault else Ok None) IsWord
+empty_by true fault = tt
+empty_by false fault = tt
 
-cell_words : (signal : Signal) (field : List ℕ) → IfOk (cell_of signal field) IsWord
+cell_words : (column : Column) (field : List ℕ) → IfOk (cell_of column field) IsWord
 unfolding cell_of number_within
-cell_words signal [] = empty_by signal (is_needed signal) _
-cell_words signal (byte ∷ field) = number_by signal (width_of signal) (number_of (byte ∷ field)) (width_fits signal)
+cell_words column [] = empty_by (is_needed column.signal) _
+cell_words column (byte ∷ field) =
+    number_by column (width_of column.signal) (number_of (byte ∷ field)) (width_fits column.signal)
 
 alone_by : (test : Bool) (value : Option ℕ) → IsWord value → IsWord (if test then value else None)
 alone_by true value word = word
@@ -71,10 +75,10 @@ field_by : (signal : Signal) (cell : Result (Option ℕ) RowFault) → IfOk cell
 field_by signal (Err fault) words = tt
 field_by signal (Ok value) words = λ other. alone_by (index_of other == index_of signal) value words
 
-field_words : (column : Option Signal) (field : List ℕ) → IfOk (field_shown column field) ShowsWords
+field_words : (column : Option Column) (field : List ℕ) → IfOk (field_shown column field) ShowsWords
 unfolding field_shown
 field_words None field = λ signal. tt
-field_words (Some signal) field = field_by signal (cell_of signal field) (cell_words signal field)
+field_words (Some column) field = field_by column.signal (cell_of column field) (cell_words column field)
 
 or_words : (later first : Option ℕ) → IsWord later → IsWord first → IsWord (option_or later first)
 or_words None first l f = f
@@ -122,10 +126,10 @@ fields_by true many columns fields one other = tt
 fields_by false true columns fields one other = tt
 fields_by false false columns fields one other = from_words columns fields
 
-line_words : (columns : ColumnList) (line : List ℕ) → ReadsWords (row_of_line columns line)
+row_words : (columns : ColumnList) (line : List ℕ) (port : ℕ) → ReadsWords (row_of_line columns line port)
 unfolding row_of_line row_of_fields
-line_words columns line =
-    fields_by (has_return_in line) (not (length (fields_of_line line) == length columns)) columns
+row_words columns line port =
+    fields_by (has_return_in line) (not (length (fields_of_line line) == length columns)) (port_columns port columns)
     (fields_of_line line) _ _
 
 -- so do all rows
@@ -133,7 +137,21 @@ unfoldable pub AllReadWords : List RowReading → Type 0
 AllReadWords [] = Unit {0}
 AllReadWords (reading ∷ rows) = ReadsWords reading × AllReadWords rows
 
-pub rows_words : (columns : ColumnList) (lines : List (List ℕ)) → AllReadWords (rows_of columns lines)
+all_append : (rows more : List RowReading) → AllReadWords rows → AllReadWords more → AllReadWords (rows ++ more)
 unfolding AllReadWords
+all_append [] more words others = others
+all_append (reading ∷ rows) more words others = (words.0, all_append rows more words.1 others)
+
+-- those of a line's ports
+line_words : (columns : ColumnList) (line : List ℕ) (ports : List ℕ)
+    → AllReadWords (map (row_of_line columns line) ports)
+unfolding AllReadWords
+line_words columns line [] = tt
+line_words columns line (port ∷ ports) = (row_words columns line port, line_words columns line ports)
+
+pub rows_words : (columns : ColumnList) (lines : List (List ℕ)) → AllReadWords (rows_of columns lines)
+unfolding AllReadWords rows_of
 rows_words columns [] = tt
-rows_words columns (line ∷ lines) = (line_words columns line, rows_words columns lines)
+rows_words columns (line ∷ lines) =
+    all_append (rows_of_line columns line) (rows_of columns lines) (line_words columns line (port_numbers columns))
+    (rows_words columns lines)

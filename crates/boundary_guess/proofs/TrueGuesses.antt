@@ -17,7 +17,8 @@ use Rattle.csr_file.specs.declared.stored_csr.StoredCsr.TheVariants.{Mtval, Mip,
 use Rattle.csr_file.specs.declared.stored_csr.StoredCsr.TheVariants.{Sepc, Scause, Stval, Satp}
 use Rattle.csr_file.specs.Registers.{at, csrs_at_reset, no_entry}
 use Rattle.rvfi_rows.specs.Columns.{ColumnList}
-use Rattle.rvfi_rows.specs.Rows.{RowReading, row_of_line, rows_of}
+use Rattle.rvfi_rows.specs.Rows.{RowReading, rows_of}
+use Rattle.rvfi_rows.proofs.PortRows.{rows_append}
 use Rattle.hart_step.specs.Cores.{IsSound, core_at_reset}
 use Rattle.hart_step.specs.Rows.{HartState, after_row}
 use Rattle.hart_step.specs.Steps.{step_of}
@@ -110,7 +111,7 @@ rows_split : (columns : ColumnList) (lines : List (List ℕ)) (segments : List (
     ++ rows_of columns (lines_of_pieces segments)
 rows_split columns lines segments =
     ap (rows_of columns) (flat_map-cons (λ (piece : List (List ℕ)). piece) lines segments)
-    ∙ map-append (row_of_line columns) lines (lines_of_pieces segments)
+    ∙ rows_append columns lines (lines_of_pieces segments)
 
 segments_true : (segments : List (List (List ℕ))) (last : List (List ℕ)) (columns : ColumnList) (state : HartState)
     → IsSaneState state → SetsNone state.core.choices

@@ -173,7 +173,7 @@ fn image(alloc: Global, ram: Span) -> Result<PageImage, Fail>
 /// A row by which a hart does what it does by itself.
 fn blank_row(alloc: Global) -> Result<Row, Fail> {
     let columns = read_header(alloc, b"insn,pc_rdata")?;
-    let row = read_row(alloc, &columns, b"0,0")?.ok_or("the row is valid")?;
+    let row = read_row(alloc, &columns, b"0,0", 0)?.ok_or("the row is valid")?;
     Ok(row)
 }
 

@@ -165,7 +165,7 @@ fn follow(
     ensures ram { hart.new.mem.ram ≡ hart.new.core.map.ram }
 {
     'rows: for line in lines {
-        let row = read_row(alloc, columns, *line)?.ok_or("the row is valid")?;
+        let row = read_row(alloc, columns, *line, 0)?.ok_or("the row is valid")?;
         hart.step(&row)?;
     }
     Ok(())
