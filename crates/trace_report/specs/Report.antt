@@ -1,6 +1,5 @@
 -- The text and the status that a run ends with.
 use Rattle.std.specs.Prelude.{ℕ, List, [], ◌++◌, Option, Some, None, codes, decimal}
-use Rattle.hart_words.specs.declared.signal.Signal.{Signal}
 use Rattle.hart_words.specs.declared.signal.Difference.{Difference}
 use Rattle.hart_words.specs.SignalNames.{name_of}
 use Rattle.elf_image.specs.declared.fault.ElfFault.{ElfFault}
@@ -8,6 +7,9 @@ use Rattle.elf_image.specs.declared.fault.ElfFault.TheVariants as elf
 use Rattle.image_text.specs.declared.fault.FaultKind.{FaultKind}
 use Rattle.image_text.specs.declared.fault.FaultKind.TheVariants.{BadByte, BadAddress, OutsideRam, Overlap, OpenComment}
 use Rattle.image_text.specs.declared.fault.ImageFault.{ImageFault}
+use Rattle.rvfi_rows.specs.declared.column.Column.{Column}
+use Rattle.rvfi_rows.specs.declared.column.Port.{Port}
+use Rattle.rvfi_rows.specs.declared.column.Port.TheVariants.{Zero, One, Two, Three}
 use Rattle.rvfi_rows.specs.declared.fault.HeaderFault.{HeaderFault}
 use Rattle.rvfi_rows.specs.declared.fault.HeaderFault.TheVariants as header
 use Rattle.rvfi_rows.specs.declared.fault.RowFault.{RowFault}
@@ -47,27 +49,38 @@ elf_fault_text (elf.BadSegment index) = segment_text index (codes ": bad size\n"
 elf_fault_text (elf.OutsideRam index) = segment_text index (codes ": outside RAM\n")
 elf_fault_text (elf.Overlap index) = segment_text index (codes ": overlap\n")
 
+-- what a refusal puts after a column's name: the suffix of its port, and nothing for port 0
+abbrev pub port_text : Port → List ℕ
+port_text Zero = []
+port_text One = codes "_1"
+port_text Two = codes "_2"
+port_text Three = codes "_3"
+
+-- the name of a column in a refusal
+abbrev pub column_name : Column → List ℕ
+column_name column = name_of column.signal ++ port_text column.port
+
 -- the line for a fault of the header
 unfoldable pub header_fault_text : HeaderFault → List ℕ
 header_fault_text header.StrayReturn = codes "refused trace: stray return in header\n"
-header_fault_text (header.Twice signal) =
-    codes "refused trace: column " ++ name_of signal ++ codes " twice\n"
-header_fault_text (header.NoColumn signal) =
-    codes "refused trace: no column " ++ name_of signal ++ codes "\n"
+header_fault_text (header.Twice column) =
+    codes "refused trace: column " ++ column_name column ++ codes " twice\n"
+header_fault_text (header.NoColumn column) =
+    codes "refused trace: no column " ++ column_name column ++ codes "\n"
 
 -- a column, and what is wrong with it
-abbrev pub column_text : Signal → List ℕ → List ℕ
-column_text signal end = codes ": " ++ name_of signal ++ end
+abbrev pub column_text : Column → List ℕ → List ℕ
+column_text column end = codes ": " ++ column_name column ++ end
 
 -- what is wrong with a row, after its number
 unfoldable pub row_fault_text : RowFault → List ℕ
 row_fault_text row.StrayReturn = codes ": stray return\n"
 row_fault_text row.FieldCount = codes ": wrong number of fields\n"
-row_fault_text (row.Empty signal) = column_text signal (codes " empty\n")
-row_fault_text (row.NotNumber signal) = column_text signal (codes " not a number\n")
-row_fault_text (row.TooWide signal) = column_text signal (codes " too wide\n")
+row_fault_text (row.Empty column) = column_text column (codes " empty\n")
+row_fault_text (row.NotNumber column) = column_text column (codes " not a number\n")
+row_fault_text (row.TooWide column) = column_text column (codes " too wide\n")
 
--- the signal in which a row differs, after its number, and both values
+-- the signal in which a row differs, after its number, and both values. It is the signal of the row, whatever its port
 unfoldable pub difference_text : Difference → List ℕ
 difference_text difference =
     codes ": " ++ name_of difference.signal

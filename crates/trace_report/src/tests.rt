@@ -2,13 +2,24 @@ use super::*;
 use elf_image::ElfFault;
 use hart_words::{CsrName, CsrSide, Difference, Signal};
 use image_text::{FaultKind, ImageFault};
-use rvfi_rows::{HeaderFault, RowFault, Verdict};
+use rvfi_rows::{Column, HeaderFault, Port, RowFault, Verdict};
 use std::test::Fail;
 
 #[test]
 fn reports_outcomes(rt: HostRuntime) -> Result<(), Fail> {
     let kind = FaultKind::OutsideRam;
-    let wide = RowFault::TooWide(Signal::Csr(CsrName::Mscratch, CsrSide::Wdata));
+    let wide = RowFault::TooWide(Column {
+        signal: Signal::Csr(CsrName::Mscratch, CsrSide::Wdata),
+        port: Port::Zero,
+    });
+    let second = Column {
+        signal: Signal::PcRdata,
+        port: Port::One,
+    };
+    let insn = Column {
+        signal: Signal::Insn,
+        port: Port::Zero,
+    };
     let difference = Difference {
         signal: Signal::RdWdata,
         expected: 5,
@@ -38,9 +49,22 @@ fn reports_outcomes(rt: HostRuntime) -> Result<(), Fail> {
         ),
         (Ruling::NoHeader, 4, b"refused trace: no header\n"),
         (
-            Ruling::HeaderFault(HeaderFault::Twice(Signal::Insn)),
+            Ruling::HeaderFault(HeaderFault::Twice(insn)),
             4,
             b"refused trace: column insn twice\n",
+        ),
+        (
+            Ruling::HeaderFault(HeaderFault::NoColumn(second)),
+            4,
+            b"refused trace: no column pc_rdata_1\n",
+        ),
+        (
+            Ruling::Verdict(Verdict::Refused {
+                row: 2,
+                fault: RowFault::TooWide(second),
+            }),
+            4,
+            b"refused trace: row 2: pc_rdata_1 too wide\n",
         ),
         (
             Ruling::TooLong { line: 2 },

@@ -3,14 +3,14 @@
 ghost use Rattle.std.specs.Prelude.{◌≡◌, ◌≤◌, ◌+◌, ◌++◌, length};
 ghost use Rattle.hart_words.specs.SignalNames.{name_of};
 ghost use Rattle.trace_report.specs.declared.wording.TheConstants.{MOST_LINE};
-ghost use Rattle.trace_report.specs.Report.{report_of, made_text, ruling_text, kind_text, image_fault_text, elf_fault_text, segment_text, header_fault_text, row_fault_text, column_text, difference_text, verdict_text};
+ghost use Rattle.trace_report.specs.Report.{report_of, made_text, ruling_text, kind_text, image_fault_text, elf_fault_text, segment_text, port_text, column_name, header_fault_text, row_fault_text, column_text, difference_text, verdict_text};
 
 use crate::outcome::{Made, Outcome, Ruling};
 use crate::text::Text;
 use elf_image::ElfFault;
 use hart_words::{Difference, Signal};
 use image_text::{FaultKind, ImageFault};
-use rvfi_rows::{HeaderFault, RowFault, Verdict};
+use rvfi_rows::{Column, HeaderFault, Port, RowFault, Verdict};
 
 /// The most bytes of the line for a ruling; what goes before it has at most 50.
 const MOST_LINE: usize = 140;
@@ -131,7 +131,7 @@ fn put_segment(text: &mut Text, index: u16, end: &[u8])
     text.put(end);
 }
 
-/// Appends the name of a column.
+/// Appends the name of a signal.
 fn put_name(text: &mut Text, signal: Signal)
     requires { length text.old ≤ 150 }
     ensures bytes { text.new ≡ text.old ++ name_of signal }
@@ -142,6 +142,29 @@ fn put_name(text: &mut Text, signal: Signal)
     text.put(signal.suffix().as_bytes());
 }
 
+/// What a refusal puts after a column's name: the suffix of its port, and nothing for port 0.
+fn port_text(port: Port) -> &'static [u8]
+    ensures bytes { result.now ≡ port_text port }
+    ensures short { length result.now ≤ 2 }
+{
+    match port {
+        Port::Zero => b"",
+        Port::One => b"_1",
+        Port::Two => b"_2",
+        Port::Three => b"_3",
+    }
+}
+
+/// Appends the name of a column as refusals have it.
+fn put_column_name(text: &mut Text, column: Column)
+    requires { length text.old ≤ 150 }
+    ensures bytes { text.new ≡ text.old ++ column_name column }
+    ensures len { length text.new ≤ length text.old + 21 }
+{
+    put_name(text, column.signal);
+    text.put(port_text(column.port));
+}
+
 #[tactic(auto, unfolding(crate::specs::Report::header_fault_text))]
 fn put_header_fault(text: &mut Text, fault: HeaderFault)
     requires { length text.old ≤ 0 }
@@ -150,14 +173,14 @@ fn put_header_fault(text: &mut Text, fault: HeaderFault)
 {
     match fault {
         HeaderFault::StrayReturn => text.put(b"refused trace: stray return in header\n"),
-        HeaderFault::Twice(signal) => {
+        HeaderFault::Twice(column) => {
             text.put(b"refused trace: column ");
-            put_name(text, signal);
+            put_column_name(text, column);
             text.put(b" twice\n");
         }
-        HeaderFault::NoColumn(signal) => {
+        HeaderFault::NoColumn(column) => {
             text.put(b"refused trace: no column ");
-            put_name(text, signal);
+            put_column_name(text, column);
             text.put(b"\n");
         }
     }
@@ -172,20 +195,20 @@ fn put_row_fault(text: &mut Text, fault: RowFault)
     match fault {
         RowFault::StrayReturn => text.put(b": stray return\n"),
         RowFault::FieldCount => text.put(b": wrong number of fields\n"),
-        RowFault::Empty(signal) => put_column(text, signal, b" empty\n"),
-        RowFault::NotNumber(signal) => put_column(text, signal, b" not a number\n"),
-        RowFault::TooWide(signal) => put_column(text, signal, b" too wide\n"),
+        RowFault::Empty(column) => put_column(text, column, b" empty\n"),
+        RowFault::NotNumber(column) => put_column(text, column, b" not a number\n"),
+        RowFault::TooWide(column) => put_column(text, column, b" too wide\n"),
     }
 }
 
-fn put_column(text: &mut Text, signal: Signal, end: &[u8])
+fn put_column(text: &mut Text, column: Column, end: &[u8])
     requires short { length text.old ≤ 60 }
     requires end { length end.now ≤ 20 }
-    ensures text { text.new ≡ text.old ++ column_text signal end.now }
+    ensures text { text.new ≡ text.old ++ column_text column end.now }
     ensures short { length text.new ≤ MOST_LINE }
 {
     text.put(b": ");
-    put_name(text, signal);
+    put_column_name(text, column);
     text.put(end);
 }
 
