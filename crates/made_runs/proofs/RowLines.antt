@@ -1,6 +1,6 @@
 -- What the lines of made rows read as.
 use Rattle.std.proofs.Common.{◌≡◌, ℕ, zero, suc, ◌+◌, ◌%◌, ◌^◌, ◌<◌, ◌≤◌, ◌==◌, Bool, true, false, if◌then◌else◌, List}
-use Rattle.std.proofs.Common.{[], ◌∷◌, map, Some, Ok, refl, ap, ◌∙◌, arith, ne_eqb}
+use Rattle.std.proofs.Common.{[], ◌∷◌, ◌++◌, map, Some, Ok, refl, ap, ◌∙◌, arith, ne_eqb}
 use Rattle.std.specs.Prelude.{decimal, nat_lt}
 use Rattle.std.specs.Int.{w8, w32, w64}
 use Rattle.std.specs.List.{range_with_len}
@@ -12,14 +12,14 @@ use Rattle.hart_words.specs.declared.signal.Signal.TheVariants.{Order, PcRdata, 
 use Rattle.hart_words.specs.declared.signal.Signal.TheVariants.{MemAddr, MemRmask, MemRdata, MemWmask, MemWdata}
 use Rattle.hart_words.specs.declared.signal.Signal.TheVariants.{MemPaddr, Csr}
 use Rattle.csv_line.specs.Fields.{fields_of_line}
-use Rattle.rvfi_rows.specs.Columns.{ColumnList}
+use Rattle.rvfi_rows.specs.Columns.{ColumnList, highest_port, port_numbers}
 use Rattle.rvfi_rows.specs.Rows.{RowReading, alone, cell_of, cells_of, field_shown, nothing, row_from, row_of_fields}
 use Rattle.rvfi_rows.specs.Rows.{row_of_line, rows_of, shown_then, valid_of}
 use Rattle.trace_maker.specs.declared.made_row.MadeRow.{MadeRow}
 use Rattle.trace_maker.specs.Rows.{first_row, made_row, turn_place, turn_of, turn_row, x1_after, x3_after}
 use Rattle.trace_maker.specs.Texts.{fields_of, hexadecimal}
 use Rattle.made_runs.specs.Lines.{made_lines, row_line}
-use Rattle.made_runs.specs.Shows.{made_columns, made_readings, shown_of}
+use Rattle.made_runs.specs.Shows.{made_columns, made_readings, only_column, shown_of}
 use Rattle.made_runs.proofs.Judged.{x1_small, x3_small}
 use Rattle.made_runs.proofs.Numerals.{IsNumeralOf, decimal_is, hexadecimal_is}
 use Rattle.made_runs.proofs.PlainLines.{AreFields, fields_back, line_bytes, no_return}
@@ -98,7 +98,7 @@ row_fits number order small =
 
 -- what one field shows
 cell_shown : (signal : Signal) (field : List ℕ) (value most : ℕ) → IsNumeralOf field value most
-    → value < 2 ^ width_of signal → field_shown (Some signal) field ≡ Ok (alone signal (Some value))
+    → value < 2 ^ width_of signal → field_shown (only_column signal) field ≡ Ok (alone signal (Some value))
 unfolding field_shown cell_of number_within
 cell_shown signal [] value most is small = absurd (omega (arith, is.is_field.nonempty))
 cell_shown signal (byte ∷ field) value most is small =
@@ -106,9 +106,9 @@ cell_shown signal (byte ∷ field) value most is small =
     rw (is.reads, low) refl
 
 cells_more : (signal : Signal) (columns : ColumnList) (field : List ℕ) (fields : List (List ℕ)) (value : ℕ)
-    (shown : Shown) → field_shown (Some signal) field ≡ Ok (alone signal (Some value))
+    (shown : Shown) → field_shown (only_column signal) field ≡ Ok (alone signal (Some value))
     → cells_of columns fields ≡ Ok shown
-    → cells_of (Some signal ∷ columns) (field ∷ fields) ≡ Ok (shown_then (alone signal (Some value)) shown)
+    → cells_of (only_column signal ∷ columns) (field ∷ fields) ≡ Ok (shown_then (alone signal (Some value)) shown)
 unfolding cells_of
 cells_more signal columns field fields value shown here more = rw (here, more) refl
 
@@ -261,28 +261,36 @@ row_cells row is are =
 
 -- the row that the fields show
 row_shown : (row : MadeRow) → cells_of made_columns (fields_of row) ≡ Ok (shown_of row)
-    → row_of_fields made_columns false (fields_of row) ≡ Ok (Some (shown_of row))
+    → row_of_fields made_columns false (fields_of row) 0 ≡ Ok (Some (shown_of row))
 unfolding row_of_fields row_from valid_of
 row_shown row cells = rw cells refl
 
-row_back : (row : MadeRow) → RowFits row → row_of_line made_columns (row_line row) ≡ Ok (Some (shown_of row))
+row_back : (row : MadeRow) → RowFits row → row_of_line made_columns (row_line row) 0 ≡ Ok (Some (shown_of row))
 unfolding row_of_line
 row_back row is =
     let are = row_fields row is in
     let others = others_are row are in
-    ap (λ (return : Bool). row_of_fields made_columns return (fields_of_line (row_line row)))
+    ap (λ (return : Bool). row_of_fields made_columns return (fields_of_line (row_line row)) 0)
     (no_return (row_line row) (line_bytes (decimal row.order) (others_of row) are.order.is_field others))
-    ∙ ap (λ (fields : List (List ℕ)). row_of_fields made_columns false fields)
+    ∙ ap (λ (fields : List (List ℕ)). row_of_fields made_columns false fields 0)
     (fields_back (decimal row.order) (others_of row) are.order.is_field others)
     ∙ row_shown row (row_cells row is are ∙ ap (λ (shown : Shown). Ok shown) (shown_is row))
 
+-- the only row of a line is that of port 0
+only_port : port_numbers made_columns ≡ 0 ∷ []
+unfolding highest_port
+only_port = refl
+
 rows_from : (number order rows : ℕ) → order + rows ≤ 2 ^ 64
-    → map (row_of_line made_columns) (map row_line (map (made_row number) (range_with_len order rows)))
+    → rows_of made_columns (map row_line (map (made_row number) (range_with_len order rows)))
     ≡ map (λ row. Ok (Some (shown_of row))) (map (made_row number) (range_with_len order rows))
+unfolding rows_of
 rows_from number order zero small = refl
 rows_from number order (suc rows) small =
-    ap (λ (reading : RowReading). reading
-    ∷ map (row_of_line made_columns) (map row_line (map (made_row number) (range_with_len (order + 1) rows))))
+    let line = row_line (made_row number order) in
+    let rest = rows_of made_columns (map row_line (map (made_row number) (range_with_len (order + 1) rows))) in
+    ap (λ ports. map (row_of_line made_columns line) ports ++ rest) only_port
+    ∙ ap (λ (reading : RowReading). reading ∷ rest)
     (row_back (made_row number order) (row_fits number order (omega arith)))
     ∙ ap (λ (readings : List RowReading). Ok (Some (shown_of (made_row number order))) ∷ readings)
     (rows_from number (order + 1) rows (omega arith))

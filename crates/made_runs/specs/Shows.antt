@@ -1,9 +1,12 @@
 -- What the lines of made rows read as.
-use Rattle.std.specs.Prelude.{ℕ, List, [], ◌∷◌, ◌++◌, codes, map, Some, None, Ok}
+use Rattle.std.specs.Prelude.{ℕ, List, [], ◌∷◌, ◌++◌, codes, map, Option, Some, None, Ok}
+use Rattle.hart_words.specs.declared.signal.Signal.{Signal}
 use Rattle.hart_words.specs.declared.signal.Signal.TheVariants.{Order, PcRdata, Trap, Insn, RdAddr, RdWdata, PcWdata}
 use Rattle.hart_words.specs.declared.signal.Signal.TheVariants.{MemAddr, MemRmask, MemRdata, MemWmask, MemWdata}
 use Rattle.hart_words.specs.declared.signal.Signal.TheVariants.{MemPaddr}
 use Rattle.hart_words.specs.Signals.{Shown}
+use Rattle.rvfi_rows.specs.declared.column.Column.{Column}
+use Rattle.rvfi_rows.specs.declared.column.Port.TheVariants.{Zero}
 use Rattle.rvfi_rows.specs.Columns.{ColumnList}
 use Rattle.rvfi_rows.specs.Rows.{RowReading}
 use Rattle.trace_maker.specs.declared.made_row.MadeRow.{MadeRow}
@@ -36,7 +39,12 @@ header_line =
     codes "order,insn,trap,pc_rdata,pc_wdata,rd_addr,rd_wdata,"
     ++ codes "mem_addr,mem_rmask,mem_wmask,mem_rdata,mem_wdata,mem_paddr"
 
+-- a column of port 0, the only one
+abbrev pub only_column : Signal → Option Column
+only_column signal = Some (record { signal = signal; port = Zero })
+
 abbrev pub made_columns : ColumnList
 made_columns =
-    Some Order ∷ Some Insn ∷ Some Trap ∷ Some PcRdata ∷ Some PcWdata ∷ Some RdAddr ∷ Some RdWdata
-    ∷ Some MemAddr ∷ Some MemRmask ∷ Some MemWmask ∷ Some MemRdata ∷ Some MemWdata ∷ Some MemPaddr ∷ []
+    map only_column
+    (Order ∷ Insn ∷ Trap ∷ PcRdata ∷ PcWdata ∷ RdAddr ∷ RdWdata
+    ∷ MemAddr ∷ MemRmask ∷ MemWmask ∷ MemRdata ∷ MemWdata ∷ MemPaddr ∷ [])
