@@ -10,7 +10,8 @@ use Rattle.hart_words.specs.Memory.{after_writes}
 use Rattle.hart_words.specs.Signals.{Shown}
 use Rattle.hart_words.specs.States.{State}
 use Rattle.rvfi_rows.specs.Columns.{ColumnList}
-use Rattle.rvfi_rows.specs.Rows.{RowReading, row_of_line, rows_of}
+use Rattle.rvfi_rows.specs.Rows.{RowReading, rows_of}
+use Rattle.rvfi_rows.proofs.PortRows.{rows_append}
 use Rattle.hart_step.specs.declared.state.Core.{Core}
 use Rattle.hart_step.specs.Cores.{IsSound}
 use Rattle.hart_step.specs.Rows.{HartState, after_row}
@@ -87,7 +88,7 @@ pub rows_split : (columns : ColumnList) (lines : List (List ℕ)) (pieces : List
     ++ rows_of columns (lines_of_pieces pieces)
 rows_split columns lines pieces =
     ap (rows_of columns) (flat_map-cons (λ (piece : List (List ℕ)). piece) lines pieces)
-    ∙ map-append (row_of_line columns) lines (lines_of_pieces pieces)
+    ∙ rows_append columns lines (lines_of_pieces pieces)
 
 -- ---- segments
 

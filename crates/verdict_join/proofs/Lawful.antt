@@ -9,7 +9,8 @@ use Rattle.std.proofs.lemmas.List.Elements.{All-cons, All-head, All-nil, All-tai
 use Rattle.board_core.specs.declared.event.Event.{Event}
 use Rattle.hart_words.specs.States.{State}
 use Rattle.rvfi_rows.specs.Columns.{ColumnList}
-use Rattle.rvfi_rows.specs.Rows.{RowReading, row_of_line, rows_of}
+use Rattle.rvfi_rows.specs.Rows.{RowReading, rows_of}
+use Rattle.rvfi_rows.proofs.PortRows.{rows_append}
 use Rattle.segment_judge.specs.declared.found.Found.{Found}
 use Rattle.segment_judge.specs.declared.found.What.{What}
 use Rattle.segment_judge.specs.declared.found.What.TheVariants.{Judged, Skipped}
@@ -130,11 +131,12 @@ candidates_rows {C = C} from (rows ∷ segments) (guess ∷ guesses) founds one_
 -- pieces read as their lines do
 pub pieces_read : (columns : ColumnList) (pieces : List (List (List ℕ)))
     → all_rows (map (rows_of columns) pieces) ≡ rows_of columns (lines_of_pieces pieces)
+unfolding rows_of
 pieces_read columns [] = refl
 pieces_read columns (piece ∷ pieces) =
     flat_map-cons (λ rows. rows) (rows_of columns piece) (map (rows_of columns) pieces)
     ∙ ap (λ rest. rows_of columns piece ++ rest) (pieces_read columns pieces)
-    ∙ sym (map-append (row_of_line columns) piece (lines_of_pieces pieces))
+    ∙ sym (rows_append columns piece (lines_of_pieces pieces))
     ∙ ap (rows_of columns) (sym (flat_map-cons (λ piece. piece) piece pieces))
 
 -- there is a guess for each segment

@@ -15,7 +15,8 @@ use Rattle.rvfi_rows.specs.declared.segment.Segment.{Segment}
 use Rattle.rvfi_rows.specs.declared.verdict.Verdict.{Verdict}
 use Rattle.rvfi_rows.specs.Columns.{ColumnList}
 use Rattle.rvfi_rows.specs.Segments.{row_count_of, segment_lines}
-use Rattle.rvfi_rows.specs.Rows.{RowReading, row_of_line}
+use Rattle.rvfi_rows.specs.Rows.{RowReading}
+use Rattle.rvfi_rows.proofs.PortRows.{count-cons}
 use Rattle.hart_step.specs.declared.hart.Hart.{Hart}
 use Rattle.hart_step.specs.declared.state.Core.{Core}
 use Rattle.hart_step.specs.Harts.{state_of}
@@ -223,10 +224,7 @@ pub rows_left : {segment : Segment} (columns : ColumnList) (segments : List Segm
     + row_count_of columns (drop (number + 1) segments)
 rows_left {segment = segment} columns segments number here =
     ap (row_count_of columns) (drop_at segments number segment here)
-    ∙ ap length (flat_map-cons segment_lines segment (drop (suc number) segments))
-    ∙ length-append segment.lines (flat_map segment_lines (drop (suc number) segments))
-    ∙ ap (λ n. n + row_count_of columns (drop (suc number) segments))
-    (sym (length-map segment.lines (row_of_line columns)))
+    ∙ count-cons columns segment (drop (suc number) segments)
     ∙ ap (λ n. length (rows_of_segment columns segment) + row_count_of columns (drop n segments)) (sym (add-one number))
 
 pub some_at : {A : Type 0} (xs : List A) (i : ℕ) → i < length xs → (x : A) × (slice_get xs i ≡ Some x)

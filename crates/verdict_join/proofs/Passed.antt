@@ -8,7 +8,11 @@ use Rattle.rvfi_rows.specs.declared.verdict.Verdict.{Verdict}
 use Rattle.rvfi_rows.specs.declared.verdict.Verdict.TheVariants.{Agrees, Differs, Refused}
 use Rattle.std.proofs.lemmas.List.{length-map}
 use Rattle.rvfi_rows.specs.Columns.{ColumnList}
-use Rattle.rvfi_rows.specs.Rows.{RowReading, row_of_line, rows_of}
+use Rattle.rvfi_rows.specs.declared.segment.Segment.{Segment}
+use Rattle.rvfi_rows.specs.Rows.{RowReading, rows_of}
+use Rattle.rvfi_rows.specs.Segments.{row_count_of, segment_lines}
+use Rattle.rvfi_rows.proofs.PortRows.{rows_counted}
+use Rattle.std.specs.List.{flat_map}
 use Rattle.hart_step.specs.declared.state.Core.{Core}
 use Rattle.hart_step.specs.Harts.{state_of}
 use Rattle.hart_step.specs.Rows.{HartState}
@@ -207,12 +211,14 @@ pub rows_within : {verdict : Verdict} (now : HartState) (rows : List RowReading)
     → verdict ≡ (conclusion_from by_hart now rows).verdict → IsWithinRows (length rows) verdict
 rows_within now rows is = subst (IsWithinRows (length rows)) (sym is) (conclusion_within now rows)
 
--- the verdict on lines counts no more rows than there are lines
-pub lines_within : (now : HartState) (columns : ColumnList) (lines : List (List ℕ)) (verdict : Verdict)
-    → verdict ≡ (conclusion_from by_hart now (rows_of columns lines)).verdict → IsWithinRows (length lines) verdict
-lines_within now columns lines verdict is =
-    subst (λ n. IsWithinRows n verdict) (length-map lines (row_of_line columns))
-    (subst (IsWithinRows (length (rows_of columns lines))) (sym is) (conclusion_within now (rows_of columns lines)))
+-- the verdict on the lines of segments counts no more rows than these have
+pub lines_within : (now : HartState) (columns : ColumnList) (segments : List Segment) (verdict : Verdict)
+    → verdict ≡ (conclusion_from by_hart now (rows_of columns (flat_map segment_lines segments))).verdict
+    → IsWithinRows (row_count_of columns segments) verdict
+lines_within now columns segments verdict is =
+    let rows = rows_of columns (flat_map segment_lines segments) in
+    subst (λ n. IsWithinRows n verdict) (rows_counted columns segments)
+    (subst (IsWithinRows (length rows)) (sym is) (conclusion_within now rows))
 
 pub few_within : (count more : ℕ) (verdict : Verdict) → IsWithinRows count verdict → count ≤ more
     → IsWithinRows more verdict

@@ -9,7 +9,8 @@ use Rattle.hart_words.specs.Memory.{after_writes}
 use Rattle.hart_words.specs.States.{State}
 use Rattle.rvfi_rows.specs.declared.verdict.Verdict.{Verdict}
 use Rattle.rvfi_rows.specs.Columns.{ColumnList}
-use Rattle.rvfi_rows.specs.Rows.{RowReading, row_of_line, rows_of}
+use Rattle.rvfi_rows.specs.Rows.{RowReading, rows_of}
+use Rattle.rvfi_rows.proofs.PortRows.{rows_append}
 use Rattle.hart_step.specs.declared.state.Core.{Core}
 use Rattle.hart_step.specs.Rows.{HartState}
 use Rattle.boundary_guess.specs.Cuts.{lines_of_pieces}
@@ -322,7 +323,7 @@ pieces_in_parts start columns count pieces =
     ∙ ap (λ lines. conclusion_from by_hart start (rows_of columns lines))
     (flat_map-append (λ (piece : List (List ℕ)). piece) (take count pieces) (drop count pieces))
     ∙ ap (conclusion_from by_hart start)
-    (map-append (row_of_line columns) (lines_of_pieces (take count pieces)) (lines_of_pieces (drop count pieces)))
+    (rows_append columns (lines_of_pieces (take count pieces)) (lines_of_pieces (drop count pieces)))
     ∙ in_parts by_hart start (rows_of columns (lines_of_pieces (take count pieces)))
     (rows_of columns (lines_of_pieces (drop count pieces)))
 
@@ -354,7 +355,7 @@ no_more columns pieces round rounds on is =
 
 conclude : (rounds : List (Joined Core)) (start : HartState) (columns : ColumnList) (pieces : List (List (List ℕ)))
     → AreRounds start columns pieces rounds → rounds_conclude start rounds ≡ lines_conclude start columns pieces
-unfolding AreRounds rounds_conclude conclusion_from judgement_of after_writes
+unfolding AreRounds rounds_conclude conclusion_from judgement_of after_writes rows_of
 conclude [] start columns pieces none = rw none refl
 conclude (round ∷ rounds) start columns pieces are =
     let settled = round_settles start columns pieces round are.1.0 in

@@ -23,7 +23,8 @@ pub(crate) struct GuessedSegments<'a, M: PhysMem> {
     pub guesses: &'a [Hart<M>],
     ghost one_each: { length guesses.now ≡ length segments.now },
     ghost below_2_to_32: { length segments.now < 2 ^ 32 },
-    ghost rows: { row_count_of columns.now segments.now < 2 ^ 60 },
+    // Each line has four rows at most.
+    ghost rows: { row_count_of columns.now segments.now < 2 ^ 62 },
 }
 
 impl<'a, M: PhysMem + Drop> GuessedSegments<'a, M> {

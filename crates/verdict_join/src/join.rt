@@ -4,7 +4,7 @@ ghost use Rattle.std.specs.Prelude.{◌≡◌, ◌≤◌, ◌<◌, ◌^◌, IfOk
 ghost use Rattle.std.specs.List.{All, flat_map};
 ghost use Rattle.hart_step.specs.Harts.{CanStep, state_of};
 ghost use Rattle.rvfi_rows.specs.Rows.{rows_of};
-ghost use Rattle.rvfi_rows.specs.Segments.{row_count_of, segment_lines};
+ghost use Rattle.rvfi_rows.specs.Segments.{line_count_of, segment_lines};
 ghost use Rattle.segment_judge.specs.Founds.{IsLawfulFound};
 ghost use Rattle.segment_judge.specs.Judgements.{by_hart};
 ghost use Rattle.segment_judge.specs.Laws.{conclusion_from};
@@ -21,6 +21,7 @@ use std::alloc::Global;
 /// Joins the verdicts of segments, from the hart before the first. What was found of them may stand
 /// in any order, with any segment missing, and any found twice. Where memory is refused nothing is
 /// handed back.
+#[tactic(auto, using(rvfi_rows::proofs::PortRows::rows_few))]
 pub fn join_all<M: PhysMem + Drop>(
     alloc: Global,
     start: Hart<M>,
@@ -35,7 +36,7 @@ pub fn join_all<M: PhysMem + Drop>(
     requires lawful { All
         (IsLawfulFound M.bytes M.ram columns.now segments.now guesses.now) founds.items }
     requires segments { length segments.now < 2 ^ 32 }
-    requires rows { row_count_of columns.now segments.now < 2 ^ 60 }
+    requires lines { line_count_of segments.now < 2 ^ 60 }
     ensures joined { IfOk result (λ joined. JoinsThem M.bytes
         (candidates_of M.bytes columns.now segments.now guesses.now founds.items)
         (state_of M.bytes start) joined) }
@@ -64,6 +65,7 @@ pub fn join_all<M: PhysMem + Drop>(
 /// The same of a round: the walk ends after the first segment that has to be judged again, so that
 /// the guesses after it can be made anew from the true state there. The verdict and the hart
 /// after it are those of the segments that were settled, which are one at least where there is any.
+#[tactic(auto, using(rvfi_rows::proofs::PortRows::rows_few))]
 pub fn join_round<M: PhysMem + Drop>(
     alloc: Global,
     start: Hart<M>,
@@ -78,7 +80,7 @@ pub fn join_round<M: PhysMem + Drop>(
     requires lawful { All
         (IsLawfulFound M.bytes M.ram columns.now segments.now guesses.now) founds.items }
     requires segments { length segments.now < 2 ^ 32 }
-    requires rows { row_count_of columns.now segments.now < 2 ^ 60 }
+    requires lines { line_count_of segments.now < 2 ^ 60 }
     ensures round { IfOk result (λ round. WalksThem M.bytes true
         (candidates_of M.bytes columns.now segments.now guesses.now founds.items)
         (state_of M.bytes start) round) }

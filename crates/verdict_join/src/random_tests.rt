@@ -149,7 +149,7 @@ fn run_rows(
     requires { CanStep (λ mem. mem.ram) hart }
 {
     let columns = read_header(alloc, b"insn,pc_rdata")?;
-    let row = read_row(alloc, &columns, b"0,0")?.ok_or("the row is valid")?;
+    let row = read_row(alloc, &columns, b"0,0", 0)?.ok_or("the row is valid")?;
     let mut lines = Lines::new(alloc);
     'rows: for _ in 0..count {
         let stepped = hart.step(&row)?;
@@ -331,7 +331,7 @@ impl Walker {
             }
             self.left -= 1;
             let line = segment.lines.get(number).ok_or("a line")?;
-            let row = read_row(alloc, columns, line)?.ok_or("the row is valid")?;
+            let row = read_row(alloc, columns, line, 0)?.ok_or("the row is valid")?;
             let stepped = self.hart.step(&row)?;
             let (retired, insn) = retirement_of(&stepped)?;
             for read in reads_of(&retired, insn) {

@@ -6,7 +6,7 @@ ghost use Rattle.hart_step.specs.Cores.{IsSound};
 ghost use Rattle.hart_step.specs.Harts.{CanStep};
 ghost use Rattle.line_text.specs.Lines.{IsLine};
 ghost use Rattle.page_layers.specs.Memories.{map_bytes};
-ghost use Rattle.rvfi_rows.specs.Segments.{line_count_of, row_count_of};
+ghost use Rattle.rvfi_rows.specs.Segments.{line_count_of};
 ghost use Rattle.segment_judge.specs.Founds.{IsLawfulFound};
 
 use super::*;
@@ -15,7 +15,7 @@ use hart_step::{Core, Hart};
 use hart_words::{Choices, Difference, Map, Mode, PhysMem, Signal, Span};
 use line_text::Lines;
 use page_layers::MapMem;
-use rvfi_rows::{Columns, RowFault, Segment, Verdict, read_header};
+use rvfi_rows::{Column, Columns, Port, RowFault, Segment, Verdict, read_header};
 use segment_judge::{Found, Judged, What, judge};
 use std::alloc::Global;
 use std::process::Abort;
@@ -216,7 +216,7 @@ pub(crate) struct Trial {
     pub guesses: Vec<Hart<MapMem>>,
     ghost one_each: { length guesses.items ≡ length segments.items },
     ghost below_2_to_32: { length segments.items < 2 ^ 32 },
-    ghost rows: { row_count_of columns segments.items < 2 ^ 60 },
+    ghost lines: { line_count_of segments.items < 2 ^ 60 },
 }
 
 /// A header and lines, and how many of these make a segment.
@@ -575,9 +575,13 @@ const NOT_HALTED: Damages = &[(1, Damage::Halted)];
 fn joins_verdicts(rt: HostRuntime) -> Result<(), Fail> {
     let nine = differs(4, Signal::RdWdata, 4, 9);
     let halts = differs(2, Signal::Valid, 0, 1);
+    let insn = Column {
+        signal: Signal::Insn,
+        port: Port::Zero,
+    };
     let refused = Verdict::Refused {
         row: 3,
-        fault: RowFault::NotNumber(Signal::Insn),
+        fault: RowFault::NotNumber(insn),
     };
     let invalid = Verdict::Agrees { rows: 4, valid: 3 };
     let cases: [Case; 10] = [

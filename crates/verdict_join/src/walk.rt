@@ -74,8 +74,8 @@ impl<M: PhysMem + Drop> Walk<M> {
         adopted: Option<&Judged<M>>,
     ) -> Result<Option<Verdict>, NoMemory>
         requires can_step { CanStep M.ram self.old.hart }
-        requires below_2_to_60 { self.old.counts.rows
-            + length (rows_of columns.now segment.now.lines) < 2 ^ 60 }
+        requires below_2_to_62 { self.old.counts.rows
+            + length (rows_of columns.now segment.now.lines) < 2 ^ 62 }
         requires again { self.old.rejudged + 1 < 2 ^ 32 }
         requires adopted { IfSome adopted (λ judged. Concludes M.bytes
             (state_of M.bytes self.old.hart) (rows_of columns.now segment.now.lines) judged.now) }

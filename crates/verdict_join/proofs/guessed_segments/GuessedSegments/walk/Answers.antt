@@ -54,6 +54,15 @@ pass-requires-clause-adopted g c =
     c.adopted_judgement-judged.ensures.concludes (rows_of_segment self.columns.now segment)
     (placed_judgement c.index.result.now stand)
 
+pub pass-requires-clause-below_2_to_62 : goal.pass-requires-clause-below_2_to_62
+pass-requires-clause-below_2_to_62 g c =
+    let self = c.args.self.now in
+    let segment_is =
+    slice_get_read self.segments.now (length self.segments.now) c.loop-number.number c.index-segments-number.result refl
+    c.loop-number-test.true c.index-segments-number.is in
+    let left = rows_left self.columns.now self.segments.now c.loop-number.number segment_is in
+    omega (arith, left, c.loop-number.invariant.rows, self.rows)
+
 pub loop-number-preserved : goal.loop-number-preserved
 loop-number-preserved g c =
     let self = c.args.self.now in

@@ -12,14 +12,14 @@ count-requires-clause-within g c =
     let rows = rows_of c.args.columns.now c.args.segment.now.lines in
     let concludes = rw c.in-Some.is at c.requires.adopted in
     few_within (length rows) _ c.in-Some.judged.now.verdict (rows_within now rows (sym concludes.verdict))
-    (omega (arith, c.requires.below_2_to_60))
+    (omega (arith, c.requires.below_2_to_62))
 
 pub count-requires-in-None-clause-within : goal.count-requires-in-None-clause-within
 count-requires-in-None-clause-within g c =
     let now : HartState = state_of g.M.PhysMem.bytes c.args.self.now.hart in
     let rows = rows_of c.args.columns.now c.args.segment.now.lines in
     few_within (length rows) _ c.in_ok-verdict-in-None.verdict
-    (rows_within now rows c.in_ok-verdict-in-None.ensures.verdict) (omega (arith, c.requires.below_2_to_60))
+    (rows_within now rows c.in_ok-verdict-in-None.ensures.verdict) (omega (arith, c.requires.below_2_to_62))
 
 pub returns-in_ok-adopt-in-Some-clause-passes : goal.returns-in_ok-adopt-in-Some-clause-passes
 returns-in_ok-adopt-in-Some-clause-passes g c =
