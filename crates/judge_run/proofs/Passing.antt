@@ -20,8 +20,9 @@ use Rattle.rvfi_rows.specs.declared.segment.Segment.{Segment}
 use Rattle.rvfi_rows.specs.declared.verdict.Verdict.{Verdict}
 use Rattle.rvfi_rows.specs.declared.verdict.Verdict.TheVariants.{Agrees, Differs, Refused}
 use Rattle.rvfi_rows.specs.Columns.{ColumnList}
-use Rattle.rvfi_rows.specs.Rows.{row_of_line, rows_of}
-use Rattle.rvfi_rows.specs.Segments.{line_count_of, segment_lines}
+use Rattle.rvfi_rows.specs.Rows.{rows_of}
+use Rattle.rvfi_rows.proofs.PortRows.{rows_append, rows_few}
+use Rattle.rvfi_rows.specs.Segments.{row_count_of, segment_lines}
 use Rattle.hart_step.specs.declared.hart.Hart.{Hart}
 use Rattle.hart_step.specs.declared.state.Core.{Core}
 use Rattle.hart_step.specs.Harts.{CanStep, state_of}
@@ -73,7 +74,7 @@ parts_come_to : (state : HartState) (columns : ColumnList) (first rest : List (L
     → concluded columns state (first ++ rest)
     ≡ conclusion_then (concluded columns state first) (λ now. concluded columns now rest)
 parts_come_to state columns first rest =
-    ap (conclusion_from by_hart state) (map-append (row_of_line columns) first rest)
+    ap (conclusion_from by_hart state) (rows_append columns first rest)
     ∙ in_parts by_hart state (rows_of columns first) (rows_of columns rest)
 
 -- a part whose rows agree: all rows come to what those after it do
@@ -155,7 +156,7 @@ ends_here job columns reached lines left none =
 -- no row comes to nothing
 nothing_comes : (columns : ColumnList) (state : HartState)
     → concluded columns state [] ≡ record { verdict = Agrees 0 0; end = Some state }
-unfolding conclusion_from judgement_of after_writes
+unfolding conclusion_from judgement_of after_writes rows_of
 nothing_comes columns state = refl
 
 -- where no row is left, what was reached is all
@@ -331,14 +332,14 @@ part_passes {M} {bytes_of} {ram_of} {columns} (Some file) job remaining done pas
 
 -- ---- how far it is to the end
 
--- a part has no more lines than bytes are left
-pub part_lines : {M : Type 0} (window : ℕ) (ram_of : M → Span) (remaining : Remaining M)
+-- a part has no more rows than four times the bytes that are left
+pub part_rows : {M : Type 0} (window : ℕ) (ram_of : M → Span) (columns : ColumnList) (remaining : Remaining M)
     → CanContinueWith window ram_of remaining
-    → line_count_of remaining.lookahead.part.items ≤ 4611686018427387904
-part_lines window ram_of remaining going =
+    → row_count_of columns remaining.lookahead.part.items ≤ 4611686018427387904
+part_rows window ram_of columns remaining going =
     let ahead = remaining.lookahead in
     let lines = length-append (flat_map segment_lines ahead.part.items) (flat_map segment_lines ahead.next.items) in
-    omega (arith, lines, going.room)
+    omega (arith, lines, rows_few columns ahead.part.items, going.room)
 
 -- what was taken after a part and a next one
 pub holds_after : {window : ℕ} {taker after : LineTaker} {asked : Asked} (ahead now : Lookahead)
@@ -377,7 +378,8 @@ pub part_nears : {M : Type 0} {bytes_of : M → Bytes} {ram_of : M → Span} {co
     → FollowsPart remaining.progress.counts done passed → IsNearerEnd window ram_of remaining passed
 part_nears {M} {bytes_of} {ram_of} {columns} {window} remaining done passed going left is follows =
     by done.joined.verdict done.joined.end passed
-    (lines_within (state_of bytes_of remaining.progress.hart) columns first done.joined.verdict is.settled.verdict)
+    (lines_within (state_of bytes_of remaining.progress.hart) columns ahead.part.items done.joined.verdict
+    is.settled.verdict)
     is.settled.can_step follows
   where
     ahead : Lookahead
@@ -422,7 +424,8 @@ part_nears {M} {bytes_of} {ram_of} {columns} {window} remaining done passed goin
               ending = omega (arith, is);
             }))
 
-    by : (verdict : Verdict) (end : Option (Hart M)) (passed : Passed M) → IsWithinRows (length first) verdict
+    by : (verdict : Verdict) (end : Option (Hart M)) (passed : Passed M)
+        → IsWithinRows (row_count_of columns ahead.part.items) verdict
         → IfSome end (CanStep ram_of) → FollowsPartBy remaining.progress.counts done verdict end passed
         → IsNearerEnd window ram_of remaining passed
     by (Agrees rows valid) (Some hart) (Continue next) within can_step counted =
@@ -430,11 +433,23 @@ part_nears {M} {bytes_of} {ram_of} {columns} {window} remaining done passed goin
         let more_ahead = ap (λ (lookahead : Lookahead). length lookahead.next.items) counted.lookahead in
         let lines = ap (λ lookahead. length (lookahead_lines lookahead)) counted.lookahead in
         let turns = ap (λ (lookahead : Lookahead). more_turns lookahead.ending) counted.lookahead in
-        let room = ap room_of counted.taker in (
+        let room = ap room_of counted.taker in
+        let few = rows_few columns ahead.part.items in (
           record {
             can_step = subst (CanStep ram_of) (sym counted.hart_is) can_step;
             room =
-                omega (arith, going.room, within.0, before, following, is.holds.room, counted.rows_are, lines, room);
+                omega (
+                  arith,
+                  going.room,
+                  within.0,
+                  few,
+                  before,
+                  following,
+                  is.holds.room,
+                  counted.rows_are,
+                  lines,
+                  room,
+                );
             within_window = omega (arith, many, is.holds.within_window, part, more_ahead);
           },
           omega (

@@ -1,5 +1,6 @@
 -- Segments are settled in rounds.
-use Rattle.std.proofs.Common.{◌≡◌, ℕ, zero, suc, ◌+◌, ◌-◌, ◌<◌, ◌≤◌, ◌⊎◌, inl, inr, true, List, [], ◌∷◌, drop, length}
+use Rattle.std.proofs.Common.{◌≡◌, ℕ, zero, suc, ◌+◌, ◌-◌, ◌^◌, ◌<◌, ◌≤◌, ◌⊎◌, inl, inr, true, List, [], ◌∷◌, drop}
+use Rattle.std.proofs.Common.{length}
 use Rattle.std.proofs.Common.{map, take, Option, Some, None, option_map, Result, Ok, Err, IfOk, IfSome, refl, sym, ap}
 use Rattle.std.proofs.Common.{ap₂, ◌∙◌, subst, arith}
 use Rattle.std.specs.List.{flat_map}
@@ -13,7 +14,8 @@ use Rattle.rvfi_rows.specs.declared.verdict.Verdict.{Verdict}
 use Rattle.rvfi_rows.specs.declared.verdict.Verdict.TheVariants.{Agrees, Differs, Refused}
 use Rattle.rvfi_rows.specs.Columns.{ColumnList}
 use Rattle.rvfi_rows.specs.Rows.{RowReading, rows_of}
-use Rattle.rvfi_rows.specs.Segments.{row_count_of, segment_lines}
+use Rattle.rvfi_rows.specs.Segments.{line_count_of, row_count_of, segment_lines}
+use Rattle.rvfi_rows.proofs.PortRows.{count-append}
 use Rattle.hart_step.specs.declared.hart.Hart.{Hart}
 use Rattle.hart_step.specs.declared.state.Core.{Core}
 use Rattle.hart_step.specs.Harts.{CanStep, state_of}
@@ -106,6 +108,16 @@ left_after segments settled more =
 pub sliced : (segments : List Segment) (count : ℕ)
     → take (length segments - count) (drop count segments) ≡ drop count segments
 sliced segments count = let left = length-drop count segments in take_all _ _ (omega (arith, left))
+
+-- what is left has no more lines than all
+pub lines_left : (count : ℕ) (segments : List Segment) → line_count_of segments < 2 ^ 60
+    → line_count_of (take (length segments - count) (drop count segments)) < 2 ^ 60
+lines_left count segments few =
+    let parts : line_count_of segments ≡ line_count_of (take count segments) + line_count_of (drop count segments) =
+    ap line_count_of (sym (take-append-drop count segments))
+    ∙ ap length (flat_map-append segment_lines (take count segments) (drop count segments))
+    ∙ length-append (flat_map segment_lines (take count segments)) (flat_map segment_lines (drop count segments)) in
+    rw (sliced segments count) (omega (arith, parts, few))
 
 -- ---- rounds so far
 
@@ -402,8 +414,7 @@ pub rows_split : (columns : ColumnList) (count : ℕ) (segments : List Segment)
     ≡ row_count_of columns (take count segments) + row_count_of columns (drop count segments)
 rows_split columns count segments =
     ap (row_count_of columns) (sym (take-append-drop count segments))
-    ∙ ap length (flat_map-append segment_lines (take count segments) (drop count segments))
-    ∙ length-append (flat_map segment_lines (take count segments)) (flat_map segment_lines (drop count segments))
+    ∙ count-append columns (take count segments) (drop count segments)
 
 -- a round is a part
 part_of_round : {M : Type 0} (bytes_of : M → Bytes) (ram_of : M → Span) (columns : ColumnList)
@@ -436,7 +447,7 @@ part_within : {M : Type 0} {bytes_of : M → Bytes} {ram_of : M → Span} {colum
     {start : HartState} (round : Round M) → IsPartOver bytes_of ram_of columns segments start round
     → IsWithinRows (row_count_of columns (take round.settled segments)) round.verdict
 part_within {M} {bytes_of} {ram_of} {columns} {segments} {start} round over =
-    lines_within start columns (flat_map segment_lines (take round.settled segments)) round.verdict over.verdict
+    lines_within start columns (take round.settled segments) round.verdict over.verdict
 
 -- nor does the next round
 pub next_within : {M : Type 0} {bytes_of : M → Bytes} {ram_of : M → Span} {columns : ColumnList}

@@ -119,10 +119,11 @@ IsEndTold job columns bytes_of None progress end = Unit {0}
 IsEndTold job columns bytes_of (Some file) progress end =
     end_of job bytes_of end ≡ end_in job columns bytes_of file progress
 
--- the hart can be stepped on, and counts stay in 64 bits, for no more rows are left than bytes
+-- the hart can be stepped on, and counts stay in 64 bits, for no more lines are left than bytes, each of four rows at
+-- most
 pub record CanContinue {M : Type 0} (ram_of : M → Span) (progress : Progress M) : Type 0 where
   pub can_step : CanStep ram_of progress.hart
-  pub room : progress.counts.rows + room_of progress.taker < 2 ^ 60
+  pub room : progress.counts.rows + 4 * room_of progress.taker < 2 ^ 62
 
 -- no row was taken ahead, and more may follow
 pub record HoldsNone (lookahead : Lookahead) : Type 0 where
@@ -143,8 +144,8 @@ segments_ahead lookahead = length lookahead.part.items + length lookahead.next.i
 -- the same of all that remains, of which no more segments than a window were taken ahead
 pub record CanContinueWith {M : Type 0} (window : ℕ) (ram_of : M → Span) (remaining : Remaining M) : Type 0 where
   pub can_step : CanStep ram_of remaining.progress.hart
-  pub room : remaining.progress.counts.rows + length (lookahead_lines remaining.lookahead)
-      + room_of remaining.progress.taker < 2 ^ 60
+  pub room : remaining.progress.counts.rows
+      + 4 * (length (lookahead_lines remaining.lookahead) + room_of remaining.progress.taker) < 2 ^ 62
   pub within_window : segments_ahead remaining.lookahead ≤ window
 
 -- what a taker leaves to be held after segments that are: with them no more than a window, each with a line, and some

@@ -6,7 +6,7 @@ ghost use Rattle.hart_step.specs.Harts.{CanStep, state_of};
 ghost use Rattle.judge_words.specs.Job.{IsLawful, job_view};
 ghost use Rattle.outside_ports.specs.Faults.{CountsFault, CountsMiss};
 ghost use Rattle.outside_ports.specs.Ports.{IsThere, file_of};
-ghost use Rattle.rvfi_rows.specs.Segments.{row_count_of, segment_lines};
+ghost use Rattle.rvfi_rows.specs.Segments.{line_count_of, segment_lines};
 ghost use Rattle.trace_lines.specs.Errors.{is_read_fault};
 ghost use Rattle.judge_run.specs.Settling.{IsReadPart, IsSettled};
 ghost use Rattle.judge_run.specs.Taking.{TakesSegments, TakesAfterWhereKnown, taken_lines};
@@ -89,7 +89,7 @@ where
     { read_from(workers, columns, &mut unread) };
     let mut settle = || -> Result<Joined<M>, NoMemory>
         requires { IsSome start × (IfSome start (CanStep M.ram) × ((length current.now < 2 ^ 32)
-            × (row_count_of columns.now current.now < 2 ^ 60))) }
+            × (line_count_of current.now < 2 ^ 60))) }
     { settle_from(workers, columns, current, &mut start) };
     let mut take = || take_from(workers.alloc, job, asked, &mut from, shelf);
     let (read, settled, taken) = all_at_once(workers, &mut read, &mut settle, &mut take);
@@ -188,7 +188,7 @@ where
     requires is_some { IsSome start.old }
     requires can_step { IfSome start.old (CanStep M.ram) }
     requires below_2_to_32 { length part.now < 2 ^ 32 }
-    requires rows { row_count_of columns.now part.now < 2 ^ 60 }
+    requires lines { line_count_of part.now < 2 ^ 60 }
     ensures { IfSome start.old (λ hart. IfOk result
         (IsSettled M.bytes M.ram columns.now part.now (state_of M.bytes hart))) }
 {
@@ -269,7 +269,7 @@ where
     R: Threads + Sync,
     requires can_step { CanStep M.ram start }
     requires below_2_to_32 { length part.now < 2 ^ 32 }
-    requires rows { row_count_of columns.now part.now < 2 ^ 60 }
+    requires lines { line_count_of part.now < 2 ^ 60 }
     ensures { IfOk result
         (IsSettled M.bytes M.ram columns.now part.now (state_of M.bytes start)) }
 {
@@ -288,7 +288,7 @@ where
     R: Threads + Sync,
     requires can_step { CanStep M.ram start }
     requires below_2_to_32 { length part.now < 2 ^ 32 }
-    requires rows { row_count_of columns.now part.now < 2 ^ 60 }
+    requires lines { line_count_of part.now < 2 ^ 60 }
     requires name { blank.name ≡ L.name }
     requires parts { blank.parts ≡ L.parts }
     requires nonempty { 0 < blank.parts }

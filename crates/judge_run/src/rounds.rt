@@ -5,7 +5,7 @@ ghost use Rattle.std.specs.List.{flat_map};
 ghost use Rattle.hart_words.specs.declared.options.Marks.TheVariants.{Fault};
 ghost use Rattle.hart_step.specs.Harts.{CanStep, state_of};
 ghost use Rattle.rvfi_rows.specs.Rows.{rows_of};
-ghost use Rattle.rvfi_rows.specs.Segments.{row_count_of, segment_lines};
+ghost use Rattle.rvfi_rows.specs.Segments.{line_count_of, segment_lines};
 ghost use Rattle.boundary_guess.specs.Truth.{HoldsWords, ShowChanges};
 ghost use Rattle.segment_judge.specs.Judgements.{by_hart};
 ghost use Rattle.segment_judge.specs.Laws.{conclusion_from};
@@ -25,7 +25,7 @@ use std::sync::ledger::Ledger;
 use std::thread::Threads;
 use verdict_join::Joined;
 
-/// The verdict on the lines of segments, each a row under these columns, and the hart after them
+/// The verdict on the rows of the lines of segments under these columns, and the hart after them
 /// where they agree. The hart before each segment is guessed, workers judge them side by side, and
 /// the verdicts are joined from the true state up to the first segment that has to be judged again;
 /// what is left is guessed anew from there, in a further round. There are as many rounds as there
@@ -45,7 +45,7 @@ where
     requires can_step { CanStep M.ram start }
     requires workers { (1 ≤ workers) × (workers ≤ 64) }
     requires below_2_to_32 { length segments.now < 2 ^ 32 }
-    requires rows { row_count_of columns.now segments.now < 2 ^ 60 }
+    requires lines { line_count_of segments.now < 2 ^ 60 }
     ensures verdict { IfOk result (λ joined. joined.verdict
         ≡ (conclusion_from by_hart (state_of M.bytes start)
         (rows_of columns.now (flat_map segment_lines segments.now))).verdict) }
@@ -87,7 +87,7 @@ where
     R: Threads + Sync,
     requires can_step { CanStep M.ram start }
     requires below_2_to_32 { length segments.now < 2 ^ 32 }
-    requires rows { row_count_of columns.now segments.now < 2 ^ 60 }
+    requires lines { line_count_of segments.now < 2 ^ 60 }
     ensures rounds { IfOk result (SettlesInRounds M.bytes columns.now segments.now
         (state_of M.bytes start) steps.old steps.new) }
     ensures can_step { IfOk result (λ joined. IfSome joined.end (CanStep M.ram)) }
@@ -122,7 +122,7 @@ where
     requires can_step { CanStep M.ram settling.hart }
     requires left { settling.tally.settled < length segments.now }
     requires below_2_to_32 { length segments.now < 2 ^ 32 }
-    requires rows { row_count_of columns.now segments.now < 2 ^ 60 }
+    requires lines { line_count_of segments.now < 2 ^ 60 }
     requires tallied { IsTallied columns.now segments.now settling.tally }
     ensures leads { IfOk result (LeadsBy M.bytes M.ram columns.now segments.now settling) }
     ensures steps { IfOk result (λ following. steps.new ≡ steps.old + 1) }

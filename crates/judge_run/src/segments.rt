@@ -4,7 +4,7 @@ ghost use Rattle.std.specs.Prelude.{◌≡◌, ◌+◌, ◌<◌, ◌≤◌, ◌^
 ghost use Rattle.std.specs.List.{All};
 ghost use Rattle.hart_step.specs.Harts.{CanStep, state_of};
 ghost use Rattle.rvfi_rows.specs.Rows.{rows_of};
-ghost use Rattle.rvfi_rows.specs.Segments.{row_count_of};
+ghost use Rattle.rvfi_rows.specs.Segments.{line_count_of};
 ghost use Rattle.segment_judge.specs.Founds.{IsLawfulFound};
 ghost use Rattle.segment_judge.specs.Judgements.{by_hart};
 ghost use Rattle.segment_judge.specs.Laws.{conclusion_from};
@@ -39,7 +39,7 @@ where
     R: Threads + Sync,
     requires can_step { CanStep M.ram start }
     requires below_2_to_32 { length segments.now < 2 ^ 32 }
-    requires rows { row_count_of columns.now segments.now < 2 ^ 60 }
+    requires lines { line_count_of segments.now < 2 ^ 60 }
     ensures over { IfOk result
         (IsRoundOver M.bytes M.ram columns.now segments.now (state_of M.bytes start)) }
     ensures steps { IfOk result (λ round. steps.new ≡ steps.old + 1) }

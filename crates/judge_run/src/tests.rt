@@ -475,6 +475,70 @@ fn judges_odd_lines(rt: HostRuntime) -> Result<(), Fail> {
     Ok(())
 }
 
+/// A line has a row for each port, of its own columns; rows are counted, and not lines. The second
+/// instruction adds 1 to 5.
+#[test]
+fn judges_ports(rt: HostRuntime) -> Result<(), Fail> {
+    let image = b"@80000000 93 00 50 00 93 80 10 00";
+    let two = b"insn,pc_rdata,insn_1,pc_rdata_1,valid_1\n".as_slice();
+    let none: &[u8] = b"";
+    let cases = [
+        (
+            two,
+            b"0x00500093,0x80000000,0x00108093,0x80000004,1\n".as_slice(),
+            b"agrees 2\n".as_slice(),
+        ),
+        (
+            two,
+            b"0x00500093,0x80000000,0x00108093,0x80000004,0\n",
+            b"agrees 1\n",
+        ),
+        (
+            two,
+            b"0x00500093,0x80000000,0x00108093,0x80000008,1\n",
+            b"differs row 2: pc_rdata expected 0x0000000080000004 found 0x0000000080000008\n",
+        ),
+        (
+            two,
+            b"0x00500093,0x80000000,0x00108093,0x10000000000000000,1\n",
+            b"refused trace: row 2: pc_rdata_1 too wide\n",
+        ),
+        (
+            two,
+            b"0x00500093,0x80000002,0x00108093,0x10000000000000000,1\n",
+            b"differs row 1: pc_rdata expected 0x0000000080000000 found 0x0000000080000002\n",
+        ),
+        (
+            two,
+            b"0x00500093,0x80000000,,,0\n0x00108093,0x80000004,,,0\nzz\n",
+            b"refused trace: row 5: wrong number of fields\n",
+        ),
+        (
+            b"valid_2,insn_2,pc_rdata_2,insn_1,pc_rdata_1,valid_0,rvfi_insn_0,pc_rdata\n",
+            b",0x00108093,0x80000004,0x00500093,0x80000000,0,,\n",
+            b"agrees 2\n",
+        ),
+        (
+            b"insn,pc_rdata,insn_1\n",
+            none,
+            b"refused trace: no column pc_rdata_1\n",
+        ),
+        (
+            b"insn,insn_0,pc_rdata\n",
+            none,
+            b"refused trace: column insn twice\n",
+        ),
+    ];
+    for (header, line, text) in cases {
+        let mut trace = Vec::from_slice(rt.alloc(), header)?;
+        trace.extend_from_slice(line)?;
+        let words = ["rvjudge", "judge", "i", "t"];
+        let (_, sink) = output_of(&rt, rt.alloc(), &words, image, &trace)?;
+        assert_eq!(rt; sink.held.as_slice(), text);
+    }
+    Ok(())
+}
+
 /// Two workers judge six segments side by side: the one that claims segment 1 is held until segment
 /// 2 was found, by the other. Each segment passes the gate once.
 #[test]

@@ -1,10 +1,9 @@
 use Rattle.std.proofs.Common.{◌≡◌, true, false, ◌∙◌, string_bytes, sym}
-use Rattle.std.specs.List.{flat_map}
 use Rattle.judge_words.specs.Job.{job_view}
 use Rattle.outside_ports.specs.Ports.{file_of}
 use Rattle.hart_step.specs.Harts.{state_of}
-use Rattle.rvfi_rows.specs.Segments.{line_count_of, segment_lines}
-use Rattle.judge_run.proofs.Passing.{PartIsDone, over_passes, part_lines, part_nears, part_passes}
+use Rattle.rvfi_rows.specs.Segments.{row_count_of}
+use Rattle.judge_run.proofs.Passing.{PartIsDone, over_passes, part_rows, part_nears, part_passes}
 use Rattle.verdict_join.proofs.Passed.{few_within, lines_within}
 use Rattle.judge_run.proofs.remaining.judge_part.Goals as goal
 
@@ -13,10 +12,10 @@ passed_with-requires-clause-within g c =
     let remaining = c.args.remaining in
     let part = remaining.lookahead.part.items in
     let verdict = c.in-Ok.settled.joined.verdict in
-    few_within (line_count_of part) 4611686018427387904 verdict
-    (lines_within (state_of g.M.PhysMem.bytes remaining.progress.hart) c.args.columns.now (flat_map segment_lines part)
-    verdict c.in-Ok.ensures.settled.verdict)
-    (part_lines c.args.job.now.sharing.window g.M.PhysMem.ram remaining c.requires.going)
+    few_within (row_count_of c.args.columns.now part) 4611686018427387904 verdict
+    (lines_within (state_of g.M.PhysMem.bytes remaining.progress.hart) c.args.columns.now part verdict
+    c.in-Ok.ensures.settled.verdict)
+    (part_rows c.args.job.now.sharing.window g.M.PhysMem.ram c.args.columns.now remaining c.requires.going)
 
 pub returns-clause-meant : goal.returns-clause-meant
 returns-clause-meant g c =

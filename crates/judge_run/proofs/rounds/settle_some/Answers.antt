@@ -1,8 +1,13 @@
 use Rattle.std.proofs.Common.{◌^◌, arith, subst}
 use Rattle.hart_step.specs.Harts.{state_of}
+use Rattle.rvfi_rows.proofs.PortRows.{rows_few}
 use Rattle.judge_run.specs.Settling.{IsRoundOver}
-use Rattle.judge_run.proofs.Settled.{IsNextRound, next_within, sliced}
+use Rattle.judge_run.proofs.Settled.{IsNextRound, lines_left, next_within, sliced}
 use Rattle.judge_run.proofs.rounds.settle_some.Goals as goal
+
+pub judge_round-requires-clause-lines : goal.judge_round-requires-clause-lines
+judge_round-requires-clause-lines g c κs within =
+    lines_left c.args.settling.tally.settled c.args.segments.now c.requires.lines
 
 pub following-requires-clause-within : goal.following-requires-clause-within
 following-requires-clause-within g c =
@@ -16,7 +21,12 @@ following-requires-clause-within g c =
           (state_of g.M.PhysMem.bytes c.args.settling.hart) c.in_ok-round.round)
           (sliced c.args.segments.now c.args.settling.tally.settled) c.in_ok-round.ensures.over;
     } in
-    next_within c.in_ok-round.round (2 ^ 62) (omega (arith, c.requires.rows)) next
+    next_within c.in_ok-round.round (2 ^ 62)
+    (omega (arith, c.requires.lines, rows_few c.args.columns.now c.args.segments.now)) next
+
+pub following-requires-clause-below_2_to_62 : goal.following-requires-clause-below_2_to_62
+following-requires-clause-below_2_to_62 g c =
+    omega (arith, c.requires.tallied.rows, c.requires.lines, rows_few c.args.columns.now c.args.segments.now)
 
 pub returns-clause-leads : goal.returns-clause-leads
 returns-clause-leads g c = record {
