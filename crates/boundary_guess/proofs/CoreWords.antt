@@ -313,7 +313,7 @@ entered_sane core interrupt code value sane cause small =
     enter_sane core.csrs core.mode interrupt code tval core.pc (sane.sound.legal, sane.csrs) enters in
     let pc = entry_even core.csrs core.mode interrupt code sane.csrs in
     record {
-      sound = record { even = pc.1; legal = csrs.0 };
+      sound = record { even = pc.1; legal = csrs.0; reserved = sane.sound.reserved };
       pc = pc.0;
       registers = sane.registers;
       csrs = csrs.1;
@@ -344,7 +344,11 @@ sret_words csrs legal words =
 pub mret_sane : (core : Core) → IsSane core → IsSane (core_after_mret core)
 unfolding core_after_mret
 mret_sane core sane = record {
-  sound = record { even = sane.sound.legal.values Mepc; legal = mret_legal core.csrs sane.sound.legal };
+  sound = record {
+    even = sane.sound.legal.values Mepc;
+    legal = mret_legal core.csrs sane.sound.legal;
+    reserved = sane.sound.reserved;
+  };
   pc = sane.csrs.values Mepc;
   registers = sane.registers;
   csrs = mret_words core.csrs sane.sound.legal sane.csrs;
@@ -353,7 +357,11 @@ mret_sane core sane = record {
 pub sret_sane : (core : Core) → IsSane core → IsSane (core_after_sret core)
 unfolding core_after_sret
 sret_sane core sane = record {
-  sound = record { even = sane.sound.legal.values Sepc; legal = sret_legal core.csrs sane.sound.legal };
+  sound = record {
+    even = sane.sound.legal.values Sepc;
+    legal = sret_legal core.csrs sane.sound.legal;
+    reserved = sane.sound.reserved;
+  };
   pc = sane.csrs.values Sepc;
   registers = sane.registers;
   csrs = sret_words core.csrs sane.sound.legal sane.csrs;

@@ -21,4 +21,3 @@ pub mod ResultWords
 pub mod StepWords
 pub mod SaneSteps
 pub mod TrueGuesses
-pub mod WordLists

@@ -41,6 +41,8 @@ use Rattle.rv_integer.specs.declared.int_result.SystemRequest.TheVariants as sys
 use Rattle.rv_integer.specs.declared.int_result.MemoryRequest.{MemoryRequest}
 use Rattle.rv_integer.specs.Results.{result_of}
 use Rattle.mem_access.specs.Accesses.{Exception, LocatedValue}
+use Rattle.hart_step.specs.Cores.{IsSoundReservation}
+use Rattle.hart_step.proofs.ReservedBlocks.{access_reserves}
 use Rattle.hart_step.specs.declared.state.Core.{Core}
 use Rattle.hart_step.specs.declared.choices.RowChoices.{RowChoices}
 use Rattle.hart_step.specs.declared.instruction.Instruction.{Instruction}
@@ -114,7 +116,7 @@ retired_sane : (core : Core) (i : Instruction) (value next : ℕ) → IsSane cor
     → next % 2 ≡ 0 → IsSane (core_after_retirement core i value next)
 unfolding core_after_retirement
 retired_sane core i value next sane small fits even = record {
-  sound = record { even = even; legal = sane.sound.legal };
+  sound = record { even = even; legal = sane.sound.legal; reserved = sane.sound.reserved };
   pc = fits;
   registers = with_register_words core.registers (operands_of i.op).rd value sane.registers small;
   csrs = sane.csrs;
@@ -129,24 +131,28 @@ goes_on_sane core i value sane is small =
     retired_sane core i value ((core.pc + i.len) % 2 ^ 64) sane small (mod_below (core.pc + i.len) (2 ^ 64) (lit< tt))
     (after_even core.pc i.len sane.sound.even is.even)
 
--- the same state with other fields is as sound
-reserved_sane : (core : Core) (answer : AccessResult) → IsSane core
+-- what an access leaves reserved is a block in RAM
+abbrev LeavesSound : Core → AccessResult → Type 0
+LeavesSound core answer = IsSoundReservation core.map.ram core.choices.block_size answer.reservation
+
+-- the same state with another reservation is as sound
+reserved_sane : (core : Core) (answer : AccessResult) → IsSane core → LeavesSound core answer
     → IsSane (record core { reservation = answer.reservation })
-reserved_sane core answer sane = record {
-  sound = record { even = sane.sound.even; legal = sane.sound.legal };
+reserved_sane core answer sane reserved = record {
+  sound = record { even = sane.sound.even; legal = sane.sound.legal; reserved = reserved };
   pc = sane.pc;
   registers = sane.registers;
   csrs = sane.csrs;
 }
 
 after_access_sane : (core : Core) (i : Instruction) (answer : Result AccessResult Exception) → IsSane core
-    → IsInstruction i → RaisesWords answer → IfOk answer (λ a. a.value < 2 ^ 64)
+    → IsInstruction i → RaisesWords answer → IfOk answer (λ a. a.value < 2 ^ 64) → IfOk answer (LeavesSound core)
     → IsSaneResult (after_access core i answer)
 unfolding after_access
-after_access_sane core i (Err exception) sane is raises words = raises
-after_access_sane core i (Ok answer) sane is raises words =
-    goes_on_sane (record core { reservation = answer.reservation }) i answer.value (reserved_sane core answer sane) is
-    words
+after_access_sane core i (Err exception) sane is raises words reserved = raises
+after_access_sane core i (Ok answer) sane is raises words reserved =
+    goes_on_sane (record core { reservation = answer.reservation }) i answer.value
+    (reserved_sane core answer sane reserved) is words
 
 answer_raises : (core : Core) (choices : RowChoices) (request : MemoryRequest) (found : Result LocatedValue Exception)
     → RaisesWords found → RaisesWords (answer_from core choices request found)
@@ -178,7 +184,9 @@ access_sane {core} {choices} {i} {bytes} request start small =
     (after_access_sane core i (answer_from core choices request found) start.state start.instruction
     (answer_raises core choices request found
     (located_raises (λ exception. exception.1 < 2 ^ 64) core request bytes (all_words request.address small)))
-    (answer_fits core choices request found (found_fits core request bytes start.memory)))
+    (answer_fits core choices request found (found_fits core request bytes start.memory))
+    (subst (λ answer. IfOk answer (LeavesSound core)) (accessed_value core choices request bytes)
+    (access_reserves core choices request bytes start.state.sound.reserved)))
 
 after_csr_sane : (core : Core) (i : Instruction) (answer : Result (ℕ × Csrs) Illegal) → IsSane core → IsInstruction i
     → IfOk answer IsSaneAnswer → IsSaneResult (after_csr core i answer)
@@ -190,7 +198,7 @@ after_csr_sane core i (Ok answer) sane is words =
     changed : (core : Core) (answer : ℕ × Csrs) → IsSane core → IsSaneAnswer answer
         → IsSane (record core { csrs = answer.1 })
     changed core answer sane words = record {
-      sound = record { even = sane.sound.even; legal = words.1.0 };
+      sound = record { even = sane.sound.even; legal = words.1.0; reserved = sane.sound.reserved };
       pc = sane.pc;
       registers = sane.registers;
       csrs = words.1.1;
@@ -344,7 +352,7 @@ code_word StorePageFault = lit< tt
 flagged_sane : (core : Core) (trapped halted : Bool) → IsSane core
     → IsSane (record core { trapped_last = trapped; halted = halted })
 flagged_sane core trapped halted sane = record {
-  sound = record { even = sane.sound.even; legal = sane.sound.legal };
+  sound = record { even = sane.sound.even; legal = sane.sound.legal; reserved = sane.sound.reserved };
   pc = sane.pc;
   registers = sane.registers;
   csrs = sane.csrs;
@@ -367,7 +375,7 @@ finished_sane done shown is =
 counted_sane : (core : Core) (shown : Shown) → IsSane core → IsSane (core_after_count core shown)
 unfolding core_after_count
 counted_sane core shown sane = record {
-  sound = record { even = sane.sound.even; legal = sane.sound.legal };
+  sound = record { even = sane.sound.even; legal = sane.sound.legal; reserved = sane.sound.reserved };
   pc = sane.pc;
   registers = sane.registers;
   csrs = sane.csrs;

@@ -24,7 +24,8 @@ use Rattle.hart_step.specs.Rows.{HartState, after_row}
 use Rattle.hart_step.specs.Steps.{step_of}
 use Rattle.boundary_guess.specs.Cuts.{lines_of_pieces}
 use Rattle.boundary_guess.specs.Guesses.{guess_after, guesses_of}
-use Rattle.boundary_guess.specs.Truth.{Agree, HoldsWords, ShowChanges, StaysSound, true_state_after, state_at_reset}
+use Rattle.boundary_guess.specs.Truth.{Agree, ShowChanges, StaysSound, true_state_after, state_at_reset}
+use Rattle.hart_step.specs.Harts.{HoldsWords}
 use Rattle.boundary_guess.specs.Truth.{true_starts}
 use Rattle.boundary_guess.proofs.Compared.{ShowsWords}
 use Rattle.boundary_guess.proofs.CoreWords.{IsSane}

@@ -14,16 +14,9 @@ use Rattle.rvfi_rows.specs.Columns.{ColumnList}
 use Rattle.rvfi_rows.specs.Rows.{RowReading, rows_of}
 use Rattle.row_compare.specs.Difference.{difference_of}
 use Rattle.hart_step.specs.Cores.{IsSound, core_at_reset}
+use Rattle.hart_step.specs.Harts.{HoldsWords}
 use Rattle.hart_step.specs.Rows.{HartState, after_row}
 use Rattle.hart_step.specs.Steps.{step_of}
-
--- the registers of a state hold words, and its memory bytes: so it is with every hart
-pub record HoldsWords (state : HartState) : Type 0 where
-  pub pc : state.core.pc < 2 ^ 64
-  pub registers : (number : ℕ) → register_of state.core.registers number < 2 ^ 64
-  pub csrs : (stored : StoredCsr) → at state.core.csrs stored < 2 ^ 64
-  pub configurations : All (λ entry. entry.cfg < 2 ^ 8) state.core.csrs.entries
-  pub bytes : (address : ℕ) → state.bytes address < 2 ^ 8
 
 -- a hart at reset, over a memory
 abbrev pub state_at_reset : ℕ → Map → Choices → Bytes → HartState

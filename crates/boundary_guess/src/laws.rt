@@ -11,7 +11,8 @@ ghost use Rattle.hart_step.specs.Cores.{IsSound};
 ghost use Rattle.hart_step.specs.Rows.{HartState};
 ghost use Rattle.boundary_guess.specs.Cuts.{AreOfLength, cut_of, lines_of_pieces};
 ghost use Rattle.boundary_guess.specs.Guesses.{guess_after, guesses_of};
-ghost use Rattle.boundary_guess.specs.Truth.{Agree, HoldsWords, ShowChanges, StaysSound, true_state_after, state_at_reset, true_starts};
+ghost use Rattle.boundary_guess.specs.Truth.{Agree, ShowChanges, StaysSound, true_state_after, state_at_reset, true_starts};
+ghost use Rattle.hart_step.specs.Harts.{HoldsWords};
 
 /// The pieces, in order, are the lines. Each has k lines but the last, which has one at least and
 /// k at most.

@@ -11,11 +11,9 @@
 mod cuts;
 mod guessing;
 pub mod laws;
-mod words;
 
 pub use cuts::cut;
 pub use guessing::guesses;
-pub use words::hold_words;
 
 #[cfg(test)]
 mod compiled;

@@ -23,3 +23,5 @@ pub mod WholeStores
 pub mod WordOpcodes
 pub mod StoreWords
 pub mod PageEnds
+pub mod ReservedBlocks
+pub mod WordLists

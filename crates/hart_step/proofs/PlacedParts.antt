@@ -120,10 +120,10 @@ both_placed {choices} {request} {atomic} {va} first second is = by is.placed is.
     by (one ∷ two ∷ three ∷ more) parts order = absurd (let none : ⊥ = cc in none)
 
 -- where devices answer no access, no part is a device's
-abbrev IsMemoryPart : PlacedPart → Type 0
+abbrev pub IsMemoryPart : PlacedPart → Type 0
 IsMemoryPart placed = IsMemory placed.place
 
-parts_memory : (csrs : Csrs) (map : Map) (choices : Choices) (request : AccessRequest) (parts : List Part)
+pub parts_memory : (csrs : Csrs) (map : Map) (choices : Choices) (request : AccessRequest) (parts : List Part)
     (bytes : Bytes) → request.devices ≡ false
     → IfOk (parts_found csrs map choices request parts bytes) (All IsMemoryPart)
 parts_memory csrs map choices request parts bytes none =

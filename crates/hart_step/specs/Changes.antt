@@ -18,6 +18,7 @@ use Rattle.hart_step.specs.declared.changes.Retirement.{Retirement}
 use Rattle.hart_step.specs.declared.changes.Change.{Change}
 use Rattle.hart_step.specs.declared.changes.Change.TheVariants as changes
 use Rattle.hart_step.specs.declared.changes.InstructionNotes.{InstructionNotes}
+use Rattle.hart_step.specs.Cores.{IsSoundReservation}
 use Rattle.hart_step.specs.Returns.{core_after_mret, core_after_sret}
 use Rattle.hart_step.specs.Instructions.{Completion, completion_of, InstructionRun}
 
@@ -51,14 +52,15 @@ core_after_change core (changes.Csr done write) =
 core_after_change core changes.MachineReturn = core_after_mret core
 core_after_change core changes.SupervisorReturn = core_after_sret core
 
--- an address at which it goes on is even
-abbrev pub HasEvenAddress : Change → Type 0
-HasEvenAddress changes.Nothing = Unit {0}
-HasEvenAddress (changes.Registers done) = done.next_pc % 2 ≡ 0
-HasEvenAddress (changes.Access done reservation) = done.next_pc % 2 ≡ 0
-HasEvenAddress (changes.Csr done write) = done.next_pc % 2 ≡ 0
-HasEvenAddress changes.MachineReturn = Unit {0}
-HasEvenAddress changes.SupervisorReturn = Unit {0}
+-- it leaves the hart sound: an address at which it goes on is even, and what is reserved is a block in RAM
+abbrev pub KeepsSound : Core → Change → Type 0
+KeepsSound core changes.Nothing = Unit {0}
+KeepsSound core (changes.Registers done) = done.next_pc % 2 ≡ 0
+KeepsSound core (changes.Access done reservation) =
+    (done.next_pc % 2 ≡ 0) × IsSoundReservation core.map.ram core.choices.block_size reservation
+KeepsSound core (changes.Csr done write) = done.next_pc % 2 ≡ 0
+KeepsSound core changes.MachineReturn = Unit {0}
+KeepsSound core changes.SupervisorReturn = Unit {0}
 
 -- what an access to a control and status register gives, by the write that it notes
 abbrev pub csr_access_by : Core → Result (ℕ × Option CsrWrite) Illegal → Result (ℕ × Csrs) Illegal

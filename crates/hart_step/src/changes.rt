@@ -3,7 +3,7 @@
 
 ghost use Rattle.std.specs.Prelude.{◌≡◌, ◌%◌};
 ghost use Rattle.hart_step.specs.Cores.{IsSound};
-ghost use Rattle.hart_step.specs.Changes.{core_after_noted_retirement, csrs_after_write, core_after_change, HasEvenAddress, retirement_of};
+ghost use Rattle.hart_step.specs.Changes.{core_after_noted_retirement, csrs_after_write, core_after_change, KeepsSound, retirement_of};
 
 use crate::instruction::{Instruction, InstructionOutcome};
 use crate::state::Core;
@@ -66,7 +66,7 @@ impl Core {
     /// Puts in place what an instruction changes.
     pub(crate) fn apply(&mut self, change: &Change)
         ensures state { self.new ≡ core_after_change self.old change.now }
-        ensures sound { IsSound self.old → HasEvenAddress change.now → IsSound self.new }
+        ensures sound { IsSound self.old → KeepsSound self.old change.now → IsSound self.new }
         ensures map { self.new.map ≡ self.old.map }
     {
         match change {

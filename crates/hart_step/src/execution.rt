@@ -9,7 +9,7 @@ ghost use Rattle.hart_step.specs.CsrAccess.{csr_access_result};
 ghost use Rattle.hart_step.specs.Instructions.{next_address, call_from, after_csr, system_execution, execution_of, op_for, op_of, instruction_run};
 ghost use Rattle.hart_step.specs.declared.changes.Change.{Change};
 ghost use Rattle.hart_step.specs.declared.instruction.InstructionOutcome.TheVariants.{Trapped};
-ghost use Rattle.hart_step.specs.Changes.{retirement_of, completion_by, completion_by_change, HasEvenAddress, run_by, AreInRam, AreStores};
+ghost use Rattle.hart_step.specs.Changes.{retirement_of, completion_by, completion_by_change, KeepsSound, run_by, AreInRam, AreStores};
 
 use crate::accesses::Accesses;
 use crate::changes::{Change, InstructionNotes, Retirement};
@@ -41,7 +41,7 @@ impl Core {
         ensures ran { Notes (instruction_run self.now (shown_in row.now)) (run_by self.now result)
             accesses.old.seen accesses.new.seen accesses.old.sets
             (accesses.new.sets ++ accesses.new.stores) (M.bytes mem.now) }
-        ensures even { HasEvenAddress result.change }
+        ensures keeps { KeepsSound self.now result.change }
         ensures set { length accesses.new.sets ≤ MOST_SETS }
         ensures set_in_ram { AreInRam self.now.map.ram accesses.new.sets }
         ensures stored { AreStores self.now.map.ram accesses.new.stores }
@@ -118,7 +118,7 @@ impl Core {
             (completion_by self.now result)
             accesses.old.seen accesses.new.seen accesses.old.sets
             (accesses.new.sets ++ accesses.new.stores) (M.bytes mem.now) }
-        ensures even { IfOk result (λ noted. HasEvenAddress noted.0) }
+        ensures keeps { IfOk result (λ noted. KeepsSound self.now noted.0) }
         ensures set { length accesses.new.sets ≤ FETCH_SETS + ACCESS_SETS }
         ensures set_in_ram { AreInRam self.now.map.ram accesses.new.sets }
         ensures stored { AreStores self.now.map.ram accesses.new.stores }
@@ -166,7 +166,7 @@ impl Core {
         requires even { instruction.now.len % 2 ≡ 0 }
         ensures executed { completion_by_change self.now result
             ≡ system_execution self.now choices.now instruction.now request }
-        ensures even { IfOk result HasEvenAddress }
+        ensures keeps { IfOk result (KeepsSound self.now) }
     {
         match request {
             SystemRequest::Csr(request) => self.execute_csr(instruction, &request, choices),
@@ -211,7 +211,7 @@ impl Core {
         requires even { instruction.now.len % 2 ≡ 0 }
         ensures executed { completion_by_change self.now result ≡ after_csr self.now instruction.now
             (csr_access_result self.now choices.now request.now) }
-        ensures even { IfOk result HasEvenAddress }
+        ensures keeps { IfOk result (KeepsSound self.now) }
     {
         match self.access_csr(request, choices) {
             Ok((value, write)) => Ok(Change::Csr(self.to_next(instruction, value), write)),

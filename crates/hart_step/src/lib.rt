@@ -20,6 +20,7 @@ mod hart;
 mod instruction;
 pub mod laws;
 mod memory;
+mod parts;
 pub mod plain_laws;
 mod plain_rows;
 pub mod protection_laws;
@@ -30,6 +31,9 @@ mod state;
 mod step;
 mod taken_rows;
 pub mod translation_laws;
+mod words;
 
 pub use hart::Hart;
+pub use parts::CoreParts;
 pub use state::Core;
+pub use words::hold_words;

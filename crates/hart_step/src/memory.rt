@@ -9,6 +9,7 @@ ghost use Rattle.hart_words.specs.Actions.{Notes};
 ghost use Rattle.hart_words.specs.AccessSizes.{bytes_of};
 ghost use Rattle.hart_step.specs.MemoryAccess.{located_access, load_at, store_places, exchange_at, found_without_value, expected_access, value_found, loaded_value, is_stored, access_result_by, number_written, put_at, memory_access};
 ghost use Rattle.mem_access.specs.Accesses.{LieInRam, first_len};
+ghost use Rattle.hart_step.specs.Cores.{IsSound, IsSoundReservation};
 ghost use Rattle.hart_step.specs.Changes.{AreInRam, AreStores};
 
 use crate::accesses::Accesses;
@@ -52,6 +53,8 @@ impl Core {
         ensures accessed { Notes (memory_access self.now choices.now request.now) result
             accesses.old.seen accesses.new.seen accesses.old.sets
             (accesses.new.sets ++ accesses.new.stores) (M.bytes mem.now) }
+        ensures reserved { IsSound self.now → IfOk result (λ answer. IsSoundReservation
+            self.now.map.ram self.now.choices.block_size answer.reservation) }
         ensures set { length accesses.new.sets ≤ FETCH_SETS + ACCESS_SETS }
         ensures set_in_ram { AreInRam self.now.map.ram accesses.new.sets }
         ensures stored { AreStores self.now.map.ram accesses.new.stores }

@@ -10,7 +10,7 @@ ghost use Rattle.hart_step.specs.Cores.{IsSound};
 ghost use Rattle.hart_step.specs.Choices.{asks_interrupt};
 ghost use Rattle.hart_step.specs.Steps.{before_instruction, core_after_count, core_after_entry, core_after_interrupt, lacks_interrupt, core_after_run, effects_of, step_of};
 ghost use Rattle.hart_step.specs.Instructions.{instruction_run};
-ghost use Rattle.hart_step.specs.Changes.{run_by, HasEvenAddress, AreInRam, AreReady};
+ghost use Rattle.hart_step.specs.Changes.{run_by, KeepsSound, AreInRam, AreReady};
 
 use crate::accesses::Accesses;
 use crate::changes::InstructionNotes;
@@ -113,7 +113,7 @@ impl Core {
         ensures state { OnOk result (self.new ≡ before_instruction self.old (shown_in row.now)) }
         ensures lacks { IfOk result (λ begun. begun.1
             ≡ lacks_interrupt (core_after_count self.old (shown_in row.now)) (shown_in row.now)) }
-        ensures even { IfOk result (λ begun. HasEvenAddress begun.0.change) }
+        ensures keeps { IfOk result (λ begun. KeepsSound self.new begun.0.change) }
         ensures err { OnErr result ((self.new ≡ self.old) × (M.bytes mem.new ≡ M.bytes mem.old)) }
         ensures sound { IsSound self.new }
         ensures map { self.new.map ≡ self.old.map }
@@ -149,7 +149,7 @@ impl Core {
         ensures state { OnOk result (self.new ≡ before_instruction self.old (shown_in row.now)) }
         ensures lacks { IfOk result (λ begun. begun.1
             ≡ lacks_interrupt (core_after_count self.old (shown_in row.now)) (shown_in row.now)) }
-        ensures even { IfOk result (λ begun. HasEvenAddress begun.0.change) }
+        ensures keeps { IfOk result (λ begun. KeepsSound self.new begun.0.change) }
         ensures err { OnErr result ((self.new ≡ self.old) × (M.bytes mem.new ≡ M.bytes mem.old)) }
         ensures sound { IsSound self.new }
         ensures map { self.new.map ≡ self.old.map }
@@ -183,7 +183,7 @@ impl Core {
             (run_by self.new notes) [] accesses.new.seen [] accesses.new.stores (M.bytes mem.old)
             (M.bytes mem.new)) }
         ensures state { OnOk result (self.new ≡ core_after_count self.old (shown_in row.now)) }
-        ensures even { IfOk result (λ notes. HasEvenAddress notes.change) }
+        ensures keeps { IfOk result (λ notes. KeepsSound self.new notes.change) }
         ensures err { OnErr result ((self.new ≡ self.old) × (M.bytes mem.new ≡ M.bytes mem.old)) }
         ensures sound { IsSound self.new }
         ensures map { self.new.map ≡ self.old.map }

@@ -22,7 +22,8 @@ use Rattle.hart_step.specs.Harts.{CanStep, state_of}
 use Rattle.hart_step.specs.Rows.{HartState}
 use Rattle.hart_step.specs.Cores.{IsSound}
 use Rattle.boundary_guess.specs.Guesses.{guesses_of}
-use Rattle.boundary_guess.specs.Truth.{HoldsWords, ShowChanges}
+use Rattle.boundary_guess.specs.Truth.{ShowChanges}
+use Rattle.hart_step.specs.Harts.{HoldsWords}
 use Rattle.segment_judge.specs.declared.found.Found.{Found}
 use Rattle.segment_judge.specs.declared.judged.Judged.{Judged as JudgedSegment}
 use Rattle.segment_judge.specs.Judgements.{by_hart, verdict_after_rows}

@@ -17,7 +17,8 @@ use Rattle.hart_step.specs.Cores.{IsSound}
 use Rattle.hart_step.specs.Rows.{HartState, after_row}
 use Rattle.boundary_guess.specs.Cuts.{lines_of_pieces}
 use Rattle.boundary_guess.specs.Guesses.{guess_after, guesses_of}
-use Rattle.boundary_guess.specs.Truth.{Agree, HoldsWords, ShowChanges, true_state_after}
+use Rattle.boundary_guess.specs.Truth.{Agree, ShowChanges, true_state_after}
+use Rattle.hart_step.specs.Harts.{HoldsWords}
 use Rattle.boundary_guess.proofs.TrueGuesses.{rows_guessed, rows_keep, rows_stay}
 use Rattle.segment_judge.specs.declared.found.Found.{Found}
 use Rattle.segment_judge.specs.Judgements.{Judgement, Judging, by_hart, judgement_of}

@@ -6,7 +6,7 @@ use Rattle.rvfi_rows.specs.Columns.{ColumnList}
 use Rattle.rvfi_rows.specs.Rows.{rows_of}
 use Rattle.hart_step.specs.Cores.{IsSound}
 use Rattle.hart_step.specs.Rows.{HartState}
-use Rattle.boundary_guess.specs.Truth.{HoldsWords}
+use Rattle.hart_step.specs.Harts.{HoldsWords}
 use Rattle.segment_judge.specs.declared.judged.Judged.{Judged}
 use Rattle.segment_judge.specs.Judged.{IsJudgement, IsUsable}
 

@@ -8,7 +8,8 @@ use Rattle.hart_step.specs.Cores.{IsSound}
 use Rattle.hart_step.specs.Rows.{HartState}
 use Rattle.boundary_guess.specs.Cuts.{lines_of_pieces}
 use Rattle.boundary_guess.specs.Guesses.{guesses_of}
-use Rattle.boundary_guess.specs.Truth.{Agree, HoldsWords, ShowChanges}
+use Rattle.boundary_guess.specs.Truth.{Agree, ShowChanges}
+use Rattle.hart_step.specs.Harts.{HoldsWords}
 use Rattle.segment_judge.specs.declared.found.Found.{Found}
 use Rattle.segment_judge.specs.Judgements.{Judgement}
 use Rattle.verdict_join.specs.Founds.{candidates}

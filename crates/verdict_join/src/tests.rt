@@ -114,6 +114,19 @@ pub(crate) fn write(core: &mut Core, address: u16, value: u64) -> Result<(), Fai
         .map_err(|_| Fail::from("no register"))
 }
 
+/// Reserves the block of a byte of RAM.
+fn reserve(core: &mut Core, pa: u64) -> Result<(), Fail>
+    requires sound { IsSound core.old }
+    ensures sound { IsSound core.new }
+    ensures map { core.new.map ≡ core.old.map }
+{
+    if !core.map.ram.contains(pa) {
+        return Err(Fail::from("no RAM"));
+    }
+    core.reservation.set(pa, core.choices.block_size);
+    Ok(())
+}
+
 /// What is made another in a guess.
 #[derive(Clone, Copy, Debug)]
 pub(crate) enum Damage {
@@ -142,10 +155,7 @@ fn damage_hart(hart: &mut Hart<MapMem>, damage: Damage) -> Result<(), Fail>
             Ok(())
         }
         Damage::Mscratch => write(&mut hart.core, 0x340, 77),
-        Damage::Reservation => {
-            hart.core.reservation.set(DATA, 64);
-            Ok(())
-        }
+        Damage::Reservation => reserve(&mut hart.core, DATA),
         Damage::Order => {
             hart.core.next_order = Some(77);
             Ok(())

@@ -1,5 +1,6 @@
 use Rattle.std.proofs.Common.{◌≡◌, ◌∙◌, sym, None}
 use Rattle.hart_step.specs.MemoryAccess.{memory_access, number_written}
+use Rattle.hart_step.proofs.ReservedBlocks.{answer_sound}
 use Rattle.hart_step.proofs.Ways.{nothing_stored, access_refused, access_made, puts_nothing, puts_value}
 use Rattle.hart_step.proofs.state.Core.access.Goals as goal
 
@@ -35,3 +36,13 @@ returns-in_default-clause-accessed g c =
     (access_made core c.args.choices.now request c.in-Ok.ensures.located c.answer-answer.ensures
     (puts_nothing (found.0, found.1) request c.locate.new.accesses.seen c.locate.new.accesses.sets
     (g.M.PhysMem.bytes c.args.mem.now) nothing))
+
+pub returns-in-Some-clause-reserved : goal.returns-in-Some-clause-reserved
+returns-in-Some-clause-reserved g c = λ sound.
+    answer_sound c.args.self.now c.args.choices.now c.args.request.now c.in-Ok.found c.answer-answer.result _
+    sound.reserved c.in-Ok.ensures.located.value_is c.answer-answer.ensures
+
+pub returns-in_default-clause-reserved : goal.returns-in_default-clause-reserved
+returns-in_default-clause-reserved g c = λ sound.
+    answer_sound c.args.self.now c.args.choices.now c.args.request.now c.in-Ok.found c.answer-answer.result _
+    sound.reserved c.in-Ok.ensures.located.value_is c.answer-answer.ensures

@@ -3,7 +3,7 @@ use Rattle.std.proofs.Math.Seq.{take-suc}
 use Rattle.std.proofs.lemmas.List.{take_all}
 use Rattle.std.proofs.lemmas.List.Elements.{All-push}
 use Rattle.hart_words.specs.declared.privilege.PmpEntry.{PmpEntry}
-use Rattle.boundary_guess.proofs.words.are_bytes.Goals as goal
+use Rattle.hart_step.proofs.words.are_bytes.Goals as goal
 
 pub loop-entry-preserved : goal.loop-entry-preserved
 loop-entry-preserved c =

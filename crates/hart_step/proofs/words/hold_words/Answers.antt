@@ -1,6 +1,6 @@
 use Rattle.csr_file.specs.Registers.{at, stored_index_of}
-use Rattle.boundary_guess.proofs.WordLists.{register_is_word, value_is_word}
-use Rattle.boundary_guess.proofs.words.hold_words.Goals as goal
+use Rattle.hart_step.proofs.WordLists.{register_is_word, value_is_word}
+use Rattle.hart_step.proofs.words.hold_words.Goals as goal
 
 pub returns : goal.returns
 unfolding at

@@ -1,5 +1,5 @@
 use Rattle.std.proofs.Common.{◌<◌, ◌^◌, All, take}
-use Rattle.boundary_guess.proofs.words.are_words.Given as goal
+use Rattle.hart_step.proofs.words.are_words.Given as goal
 
 -- the values so far are words
 abbrev pub invariant-loop-value : goal.invariant-loop-value

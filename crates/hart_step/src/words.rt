@@ -2,10 +2,9 @@
 
 ghost use Rattle.std.specs.Prelude.{◌<◌, ◌^◌};
 ghost use Rattle.std.specs.List.{All};
-ghost use Rattle.hart_step.specs.Harts.{state_of};
-ghost use Rattle.boundary_guess.specs.Truth.{HoldsWords};
+ghost use Rattle.hart_step.specs.Harts.{HoldsWords, state_of};
 
-use hart_step::Hart;
+use crate::hart::Hart;
 use hart_words::{PhysMem, PmpEntry};
 
 /// Tells a proof that a hart's values are words, and its memory's bytes. Their types say so, but a

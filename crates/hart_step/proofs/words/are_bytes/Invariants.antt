@@ -1,5 +1,5 @@
 use Rattle.std.proofs.Common.{◌<◌, ◌^◌, All, take}
-use Rattle.boundary_guess.proofs.words.are_bytes.Given as goal
+use Rattle.hart_step.proofs.words.are_bytes.Given as goal
 
 -- the configurations so far are bytes
 abbrev pub invariant-loop-entry : goal.invariant-loop-entry
