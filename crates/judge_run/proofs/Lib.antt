@@ -3,7 +3,6 @@ pub mod Taking
 pub mod Passing
 pub mod Endings
 pub mod Steps
-pub mod Written
 pub mod Runs
 pub mod AnyEvents
 pub mod Settled

@@ -8,9 +8,8 @@ ghost use Rattle.judge_run.specs.Answer.{answer, is_made};
 ghost use Rattle.judge_run.specs.Ends.{Ends, IsAnswer, Writes, moment_of};
 
 use crate::jobs::find_outcome;
-use crate::output::write_all;
 use crate::stop::Stop;
-use outside_ports::{Gate, Shelf, Sink};
+use outside_ports::{Gate, Shelf, Sink, write_all};
 use std::alloc::Global;
 use std::thread::Threads;
 use trace_report::{Outcome, report, status};

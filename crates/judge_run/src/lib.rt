@@ -10,7 +10,6 @@ mod jobs;
 mod judgement;
 pub mod laws;
 mod outcomes;
-mod output;
 mod parts;
 mod progress;
 mod remaining;

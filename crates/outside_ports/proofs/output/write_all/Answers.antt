@@ -1,6 +1,6 @@
 use Rattle.std.proofs.Common.{◌∙◌, arith}
-use Rattle.judge_run.proofs.Written.{wrote_more}
-use Rattle.judge_run.proofs.output.write_all.Goals as goal
+use Rattle.outside_ports.proofs.Written.{wrote_more}
+use Rattle.outside_ports.proofs.output.write_all.Goals as goal
 
 pub writing-preserved : goal.writing-preserved
 writing-preserved g c = (

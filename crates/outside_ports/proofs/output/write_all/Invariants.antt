@@ -1,5 +1,5 @@
 use Rattle.std.proofs.Common.{◌≡◌, ◌-◌, ◌≤◌, ◌++◌, length, take, option_map}
-use Rattle.judge_run.proofs.output.write_all.Given as goal
+use Rattle.outside_ports.proofs.output.write_all.Given as goal
 
 -- the front of the text was written
 abbrev pub invariant-writing : goal.invariant-writing

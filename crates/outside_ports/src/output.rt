@@ -1,9 +1,9 @@
-//! Writing the text of a run.
+//! Writing a text whole.
 
 ghost use Rattle.std.specs.Prelude.{◌≡◌, ◌≤◌, ◌<◌, ◌+◌, ◌++◌, drop, length, take, option_map};
 ghost use Rattle.outside_ports.specs.Counts.{Rose};
 
-use outside_ports::Sink;
+use crate::sink::Sink;
 
 /// Writes `text` to the sink, piece by piece, and says how many bytes it took: all of them, or
 /// fewer where a write failed.
