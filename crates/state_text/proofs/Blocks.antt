@@ -14,14 +14,14 @@ use Rattle.hart_words.specs.Results.{◌>>=◌}
 use Rattle.state_text.specs.declared.fault.FaultKind.TheVariants.{BadLine, OutsideRam}
 use Rattle.state_text.specs.declared.memory.MemoryBlock.{MemoryBlock}
 use Rattle.state_text.specs.Lines.{block_line, end_line}
-use Rattle.state_text.specs.Reading.{Left, fault_at, is_next, after, choice_in, is_zero, is_no_block, block_guessed}
+use Rattle.state_text.specs.Reading.{Remaining, fault_at, is_next, after, choice_in, is_zero, is_no_block, guess_of_block}
 use Rattle.state_text.specs.Reading.{block_in}
 use Rattle.state_text.specs.Memory.{bytes_from, memory_lines, with_block, memory_end_in, memory_in}
 use Rattle.state_text.proofs.Fronts.{next_stands, choice_stands, one_choice, then_read, not_refused, same_read}
 use Rattle.state_text.proofs.Guesses.{guessed_fit}
 
 -- what is known of a block that was read
-pub record HasBlock (ram : Span) (least : ℕ) (left : Left) (block : MemoryBlock) (next : Left) : Type 0 where
+pub record HasBlock (ram : Span) (least : ℕ) (left : Remaining) (block : MemoryBlock) (next : Remaining) : Type 0 where
   pub stands : left.text ≡ block_line block.address block.bytes ++ next.text
   pub len : length block.bytes ≡ 16
   pub some : is_zero block.bytes ≡ false
@@ -41,18 +41,18 @@ not_not false h = absurd cc
 abbrev line_of_block : MemoryBlock → List ℕ
 line_of_block block = block_line block.address block.bytes
 
-pub has_block : (ram : Span) (least : ℕ) (left : Left) (block : MemoryBlock) (next : Left)
+pub has_block : (ram : Span) (least : ℕ) (left : Remaining) (block : MemoryBlock) (next : Remaining)
     → block_in ram least left ≡ Ok (block, next) → HasBlock ram least left block next
 unfolding block_in
 has_block ram least left block next h =
-    let read = then_read (choice_in line_of_block (block_guessed left.text ∷ []) left) _ (block, next) h in
+    let read = then_read (choice_in line_of_block (guess_of_block left.text ∷ []) left) _ (block, next) h in
     let placed = not_refused (is_no_block least read.0.0) (fault_at left BadLine) _ (block, next) read.2 in
     let inside =
     not_refused (not (holds_all ram read.0.0.address 16)) (fault_at left OutsideRam) (Ok read.0)
     (block, next) placed.1 in
     let same = same_read read.0.0 block read.0.1 next inside.1 in
-    let guess : block_guessed left.text ≡ read.0.0 =
-    one_choice line_of_block (block_guessed left.text) read.0.0 left read.0.1 read.1 in
+    let guess : guess_of_block left.text ≡ read.0.0 =
+    one_choice line_of_block (guess_of_block left.text) read.0.0 left read.0.1 read.1 in
     let one = no_or (is_zero read.0.0.bytes || not (read.0.0.address % 16 == 0)) _ placed.0 in
     let two = no_or (is_zero read.0.0.bytes) _ one.0 in
     let aligned = not_not (read.0.0.address % 16 == 0) two.1 in
@@ -67,7 +67,7 @@ has_block ram least left block next h =
       high = grind (arith, nat_tests, held);
     } in
     subst (λ (x : MemoryBlock). HasBlock ram least left x next) same.0
-    (subst (λ (x : Left). HasBlock ram least left read.0.0 x) same.1 known)
+    (subst (λ (x : Remaining). HasBlock ram least left read.0.0 x) same.1 known)
 
 -- blocks of zeros have no lines
 all_zero : (bytes : Bytes) (address count : ℕ) → ((a : ℕ) → address ≤ a → a < address + count → bytes a ≡ 0)
@@ -129,7 +129,7 @@ block_away block bytes a len apart = by (is_within block.address (length block.b
     by false test = refl
 
 -- what is known of memory that was read from an address on
-pub record HasMemory (bytes final : Bytes) (address count : ℕ) (left : Left) : Type 0 where
+pub record HasMemory (bytes final : Bytes) (address count : ℕ) (left : Remaining) : Type 0 where
   pub stands : left.text ≡ concat (memory_lines final address count ++ end_line ∷ [])
   pub before : (a : ℕ) → a < address → final a ≡ bytes a
 
@@ -144,7 +144,7 @@ line_there final block count there some =
     rw test
     (ap (λ (bytes : List ℕ). block_line block.address bytes ∷ memory_lines final (block.address + 16) count) there)
 
-ended : (bytes final : Bytes) (left : Left) → memory_end_in bytes left ≡ Ok final → (left.text ≡ []) × (bytes ≡ final)
+ended : (bytes final : Bytes) (left : Remaining) → memory_end_in bytes left ≡ Ok final → (left.text ≡ []) × (bytes ≡ final)
 ended bytes final left h = by left.text left.line h
   where
     by : (text : List ℕ) (line : ℕ) → memory_end_in bytes (record { line = line; text = text }) ≡ Ok final
@@ -155,12 +155,12 @@ ended bytes final left h = by left.text left.line h
 -- what reading so many lines at most tells
 Remembers : Span → ℕ → Bytes → Type 0
 Remembers ram most final =
-    (least : ℕ) (bytes : Bytes) (left : Left) (address count : ℕ) → memory_in ram most least bytes left ≡ Ok final
+    (least : ℕ) (bytes : Bytes) (left : Remaining) (address count : ℕ) → memory_in ram most least bytes left ≡ Ok final
     → address + 16 * count ≡ ram.base + ram.size → address % 16 ≡ 0
     → ((a : ℕ) → least ≤ a → ram.base ≤ a → address ≤ a) → ((a : ℕ) → address ≤ a → bytes a ≡ 0)
     → HasMemory bytes final address count left
 
-last_line : (bytes final : Bytes) (left : Left) (address count : ℕ) → is_next end_line left ≡ true
+last_line : (bytes final : Bytes) (left : Remaining) (address count : ℕ) → is_next end_line left ≡ true
     → memory_end_in bytes (after end_line left) ≡ Ok final → ((a : ℕ) → address ≤ a → bytes a ≡ 0)
     → HasMemory bytes final address count left
 unfolding memory_lines
@@ -176,8 +176,8 @@ last_line bytes final left address count next h zeros =
       before = λ a below. ap (λ (b : Bytes). b a) (sym end.1);
     }
 
-one_more : (ram : Span) (least : ℕ) (bytes final : Bytes) (left : Left) (address count : ℕ) (block : MemoryBlock)
-    (next : Left) → HasBlock ram least left block next → address ≤ block.address
+one_more : (ram : Span) (least : ℕ) (bytes final : Bytes) (left : Remaining) (address count : ℕ) (block : MemoryBlock)
+    (next : Remaining) → HasBlock ram least left block next → address ≤ block.address
     → address + 16 * count ≡ ram.base + ram.size → address % 16 ≡ 0 → ((a : ℕ) → address ≤ a → bytes a ≡ 0)
     → HasMemory (with_block block bytes) final (block.address + 16) (count - (block.address - address) / 16 - 1) next
     → HasMemory bytes final address count left
@@ -201,7 +201,7 @@ one_more ram least bytes final left address count block next has above fits whol
     }
 
 one_turn : (ram : Span) (most : ℕ) (final : Bytes) → Remembers ram most final → (least : ℕ) (bytes : Bytes)
-    (left : Left) (address count : ℕ) (test : Bool) → is_next end_line left ≡ test
+    (left : Remaining) (address count : ℕ) (test : Bool) → is_next end_line left ≡ test
     → (if test then memory_end_in bytes (after end_line left)
     else (block_in ram least left
     >>= λ read. memory_in ram most (read.0.address + 16) (with_block read.0 bytes) read.1)) ≡ Ok final
@@ -214,7 +214,7 @@ one_turn ram most final rest least bytes left address count true next h fits who
 one_turn ram most final rest least bytes left address count false next h fits whole low zeros =
     let read =
     then_read (block_in ram least left)
-    (λ (read : MemoryBlock × Left). memory_in ram most (read.0.address + 16)
+    (λ (read : MemoryBlock × Remaining). memory_in ram most (read.0.address + 16)
     (with_block read.0 bytes) read.1) final h in
     let block = read.0.0 in
     let has = has_block ram least left block read.0.1 read.1 in
@@ -237,7 +237,7 @@ remembers ram (suc most) final =
     one_turn ram most final (remembers ram most final) least bytes left address count (is_next end_line left) refl h
     fits whole low zeros
 
-pub has_memory : (ram : Span) (most least : ℕ) (bytes : Bytes) (left : Left) (final : Bytes) (address count : ℕ)
+pub has_memory : (ram : Span) (most least : ℕ) (bytes : Bytes) (left : Remaining) (final : Bytes) (address count : ℕ)
     → memory_in ram most least bytes left ≡ Ok final
     → address + 16 * count ≡ ram.base + ram.size → address % 16 ≡ 0
     → ((a : ℕ) → least ≤ a → ram.base ≤ a → address ≤ a) → ((a : ℕ) → address ≤ a → bytes a ≡ 0)

@@ -19,8 +19,8 @@ use Rattle.hart_words.specs.Spans.{holds_all}
 use Rattle.state_text.specs.declared.fault.StateFault.{StateFault}
 use Rattle.state_text.specs.declared.memory.MemoryBlock.{MemoryBlock}
 use Rattle.state_text.specs.Lines.{digits_of, block_line, end_line}
-use Rattle.state_text.specs.Reading.{Left, is_next, after, choice_in, bytes_guessed, number_guessed, is_zero}
-use Rattle.state_text.specs.Reading.{block_guessed, block_in}
+use Rattle.state_text.specs.Reading.{Remaining, is_next, after, choice_in, guess_of_bytes, guess_of_number, is_zero}
+use Rattle.state_text.specs.Reading.{guess_of_block, block_in}
 use Rattle.state_text.specs.Memory.{bytes_from, memory_lines, with_block, memory_end_in, memory_in}
 use Rattle.state_text.proofs.Fronts.{stands_next}
 use Rattle.state_text.proofs.Guesses.{small_bytes, bytes_again}
@@ -38,8 +38,8 @@ front_long address =
 
 -- what is guessed of a block that was written
 block_again : (address : ℕ) (bytes rest : List ℕ) → address < 2 ^ 64 → length bytes ≡ 16 → IsBytes bytes
-    → block_guessed (block_line address bytes ++ rest) ≡ record { address = address; bytes = bytes }
-unfolding block_line number_guessed
+    → guess_of_block (block_line address bytes ++ rest) ≡ record { address = address; bytes = bytes }
+unfolding block_line guess_of_number
 block_again address bytes rest fits len small =
     let split : block_line address bytes ++ rest
     ≡ codes "@" ++ (digits_of address ++ (codes " " ++ (encode_lower bytes ++ (codes "\n" ++ rest)))) =
@@ -51,10 +51,10 @@ block_again address bytes rest fits len small =
     bytes_again (codes "@") (to_be_bytes w64 address) (codes " " ++ (encode_lower bytes ++
     (codes "\n" ++ rest))) 1 8 refl refl
     (small_bytes address) in
-    let number : number_guessed 1 (block_line address bytes ++ rest) ≡ address =
-    ap (number_guessed 1) split ∙ ap (from_be_bytes w64) first ∙ from_be_bytes-to_be_bytes_8 address fits in
-    let second : bytes_guessed 18 16 (block_line address bytes ++ rest) ≡ bytes =
-    ap (bytes_guessed 18 16) beyond
+    let number : guess_of_number 1 (block_line address bytes ++ rest) ≡ address =
+    ap (guess_of_number 1) split ∙ ap (from_be_bytes w64) first ∙ from_be_bytes-to_be_bytes_8 address fits in
+    let second : guess_of_bytes 18 16 (block_line address bytes ++ rest) ≡ bytes =
+    ap (guess_of_bytes 18 16) beyond
     ∙ bytes_again (codes "@" ++ (digits_of address ++ codes " ")) bytes (codes "\n" ++ rest) 18 16
     (front_long address) len small in
     pair number second
@@ -76,17 +76,17 @@ pub record IsBlock (ram : Span) (least : ℕ) (block : MemoryBlock) : Type 0 whe
   pub low : ram.base ≤ block.address
   pub high : block.address + 16 ≤ ram.base + ram.size
 
-pub block_back : (ram : Span) (least : ℕ) (block : MemoryBlock) (left : Left) (rest : List ℕ) → IsBlock ram least block
+pub block_back : (ram : Span) (least : ℕ) (block : MemoryBlock) (left : Remaining) (rest : List ℕ) → IsBlock ram least block
     → left.text ≡ line_of_block block ++ rest → block_in ram least left ≡ read_with block left rest
 unfolding block_in
 block_back ram least block left rest is stands =
-    let guess : block_guessed left.text ≡ block =
-    ap block_guessed stands
+    let guess : guess_of_block left.text ≡ block =
+    ap guess_of_block stands
     ∙ block_again block.address block.bytes rest (omega (arith, is.high, ram.below)) is.len is.small in
     let aligned : (block.address % 16 == 0) ≡ true = (Decides-eqb (block.address % 16) 0).1 is.whole in
     let rises : nat_lt block.address least ≡ false = grind (arith, nat_tests, is.rises) in
     let held : holds_all ram block.address 16 ≡ true = grind (arith, nat_tests, is.low, is.high) in
-    let read : choice_in line_of_block (block_guessed left.text ∷ []) left ≡ read_with block left rest =
+    let read : choice_in line_of_block (guess_of_block left.text ∷ []) left ≡ read_with block left rest =
     rw guess (choice_first line_of_block block [] left rest stands) in
     rw (read, is.some, aligned, rises, held) refl
 
@@ -156,7 +156,7 @@ grown bytes final address same a below = by (cases_lt a address)
         rw (within_block address (length (bytes_from final address)) a at_least (omega (arith, len, below)))
         (get_or-map-range_with_len final address 16 (a - address) a 0 (omega arith) (omega arith))
 
-no_end : (address : ℕ) (bytes rest : List ℕ) (left : Left) → left.text ≡ block_line address bytes ++ rest
+no_end : (address : ℕ) (bytes rest : List ℕ) (left : Remaining) → left.text ≡ block_line address bytes ++ rest
     → is_next end_line left ≡ false
 unfolding block_line
 no_end address bytes rest left stands = rw stands refl
@@ -168,7 +168,7 @@ line_long address bytes = omega arith
 -- so many blocks from an address on are read again
 Recalls : Span → Bytes → ℕ → Type 0
 Recalls ram final count =
-    (most least : ℕ) (bytes : Bytes) (left : Left) (address : ℕ)
+    (most least : ℕ) (bytes : Bytes) (left : Remaining) (address : ℕ)
     → left.text ≡ concat (memory_lines final address count ++ end_line ∷ []) → length left.text < most
     → least ≤ address → address % 16 ≡ 0 → ram.base ≤ address → address + 16 * count ≡ ram.base + ram.size
     → ((a : ℕ) → a < address → bytes a ≡ final a) → ((a : ℕ) → address ≤ a → bytes a ≡ 0)
@@ -177,7 +177,7 @@ Recalls ram final count =
 abbrev done : Bytes → Result Bytes StateFault
 done bytes = Ok bytes
 
-ended : (bytes : Bytes) (left : Left) → left.text ≡ [] → memory_end_in bytes left ≡ done bytes
+ended : (bytes : Bytes) (left : Remaining) → left.text ≡ [] → memory_end_in bytes left ≡ done bytes
 ended bytes left nothing = rw nothing refl
 
 -- after the last block
@@ -200,7 +200,7 @@ last_back ram final outside (suc most) least bytes left address stands room rise
 
 -- one block more, which is all zeros or has a line
 block_more : (ram : Span) (final : Bytes) (count : ℕ) → ((a : ℕ) → final a < 256) → Recalls ram final count
-    → (most least : ℕ) (bytes : Bytes) (left : Left) (address : ℕ) (test : Bool)
+    → (most least : ℕ) (bytes : Bytes) (left : Remaining) (address : ℕ) (test : Bool)
     → is_zero (bytes_from final address) ≡ test
     → left.text ≡ concat ((if test then memory_lines final (address + 16) count
     else block_line address (bytes_from final address) ∷ memory_lines final (address + 16) count) ++ end_line ∷ [])
@@ -250,7 +250,7 @@ recalls ram final (suc count) small outside =
     some_room (recalls ram final count small outside) most least bytes left address stands room rises whole low fits
     same zeros
   where
-    some_room : Recalls ram final count → (most least : ℕ) (bytes : Bytes) (left : Left) (address : ℕ)
+    some_room : Recalls ram final count → (most least : ℕ) (bytes : Bytes) (left : Remaining) (address : ℕ)
         → left.text ≡ concat (memory_lines final address (suc count) ++ end_line ∷ []) → length left.text < most
         → least ≤ address → address % 16 ≡ 0 → ram.base ≤ address → address + 16 * suc count ≡ ram.base + ram.size
         → ((a : ℕ) → a < address → bytes a ≡ final a) → ((a : ℕ) → address ≤ a → bytes a ≡ 0)
@@ -260,7 +260,7 @@ recalls ram final (suc count) small outside =
         block_more ram final count small rest most least bytes left address (is_zero (bytes_from final address)) refl
         stands room rises whole low fits same zeros
 
-pub memory_back : (ram : Span) (most least : ℕ) (bytes final : Bytes) (left : Left) (address count : ℕ)
+pub memory_back : (ram : Span) (most least : ℕ) (bytes final : Bytes) (left : Remaining) (address count : ℕ)
     → ((a : ℕ) → final a < 256) → left.text ≡ concat (memory_lines final address count ++ end_line ∷ [])
     → length left.text < most → least ≤ address → address % 16 ≡ 0 → ram.base ≤ address
     → address + 16 * count ≡ ram.base + ram.size → ((a : ℕ) → a < address → bytes a ≡ final a)

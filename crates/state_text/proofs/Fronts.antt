@@ -14,26 +14,26 @@ use Rattle.state_text.specs.declared.fault.FaultKind.TheVariants.{BadLine, BadVa
 use Rattle.state_text.specs.declared.fault.StateFault.{StateFault}
 use Rattle.state_text.specs.declared.head.Head.{Head}
 use Rattle.state_text.specs.Lines.{number_line, option_line, version_line, mode_line, flags_line}
-use Rattle.state_text.specs.Reading.{Left, fault_at, is_next, after, choice_in, number_in, option_in, version_in}
+use Rattle.state_text.specs.Reading.{Remaining, fault_at, is_next, after, choice_in, number_in, option_in, version_in}
 use Rattle.state_text.proofs.Guesses.{guessed_small}
 use Rattle.state_text.specs.Reading.{pc_in, mode_in, flags_in, reserved_in, head_in, is_misplaced, is_outside}
 
 -- a line that is the next one stands at the front
-pub next_stands : (line : List ℕ) (left : Left) → is_next line left ≡ true
+pub next_stands : (line : List ℕ) (left : Remaining) → is_next line left ≡ true
     → left.text ≡ line ++ (after line left).text
 next_stands line left next = (starts_is Decides-eqb left.text line (is_next line left) refl).0 next
 
 -- and a line at the front is the next one
-pub stands_next : (line rest : List ℕ) (left : Left) → left.text ≡ line ++ rest → is_next line left ≡ true
+pub stands_next : (line rest : List ℕ) (left : Remaining) → left.text ≡ line ++ rest → is_next line left ≡ true
 stands_next line rest left stands = (starts_is Decides-eqb left.text line (is_next line left) refl).1 rest stands
 
-abbrev read_as : {A : Type 0} → A → Left → Result (A × Left) StateFault
+abbrev read_as : {A : Type 0} → A → Remaining → Result (A × Remaining) StateFault
 read_as value left = Ok (value, left)
 
 -- the parts of a pair that was read
-pub same_read : {A : Type 0} (x y : A) (one other : Left) → read_as x one ≡ read_as y other → (x ≡ y) × (one ≡ other)
+pub same_read : {A : Type 0} (x y : A) (one other : Remaining) → read_as x one ≡ read_as y other → (x ≡ y) × (one ≡ other)
 same_read {A} x y one other h =
-    let p : (x, one) ≡ (y, other) = cc in (ap (λ (q : A × Left). q.0) p, ap (λ (q : A × Left). q.1) p)
+    let p : (x, one) ≡ (y, other) = cc in (ap (λ (q : A × Remaining). q.0) p, ap (λ (q : A × Remaining). q.1) p)
 
 -- what came after a step that gave a value
 pub then_read : {A B : Type 0} (r : Result A StateFault) (f : A → Result B StateFault) (y : B)
@@ -48,7 +48,7 @@ not_refused true fault more y h = absurd cc
 not_refused false fault more y h = (refl, h)
 
 -- the line of the value that was chosen stands at the front
-pub choice_stands : {A : Type 0} (line : A → List ℕ) (values : List A) (left : Left) (value : A) (next : Left)
+pub choice_stands : {A : Type 0} (line : A → List ℕ) (values : List A) (left : Remaining) (value : A) (next : Remaining)
     → choice_in line values left ≡ Ok (value, next) → left.text ≡ line value ++ next.text
 unfolding choice_in
 choice_stands line [] left value next h = absurd cc
@@ -63,11 +63,11 @@ choice_stands {A} line (first ∷ others) left value next h =
         let same = same_read first value (after (line first) left) next h in
         next_stands (line first) left holds
         ∙ ap (λ (x : A). line x ++ (after (line first) left).text) same.0
-        ∙ ap (λ (x : Left). line value ++ x.text) same.1
+        ∙ ap (λ (x : Remaining). line value ++ x.text) same.1
     by rest false fails h = rest h
 
 -- the one value that may be chosen is the one that was
-pub one_choice : {A : Type 0} (line : A → List ℕ) (guess value : A) (left next : Left)
+pub one_choice : {A : Type 0} (line : A → List ℕ) (guess value : A) (left next : Remaining)
     → choice_in line (guess ∷ []) left ≡ Ok (value, next) → guess ≡ value
 unfolding choice_in
 one_choice {A} line guess value left next h = by (is_next (line guess) left) h
@@ -77,40 +77,40 @@ one_choice {A} line guess value left next h = by (is_next (line guess) left) h
     by true h = (same_read guess value (after (line guess) left) next h).0
     by false h = absurd cc
 
-pub number_small : (name : List ℕ) (left : Left) (number : ℕ) (next : Left)
+pub number_small : (name : List ℕ) (left : Remaining) (number : ℕ) (next : Remaining)
     → number_in name left ≡ Ok (number, next) → number < 2 ^ 64
 unfolding number_in
 number_small name left number next h =
     subst (λ (n : ℕ). n < 2 ^ 64) (one_choice (number_line name) _ number left next h)
     (guessed_small (length name) left.text)
 
-pub number_stands : (name : List ℕ) (left : Left) (number : ℕ) (next : Left)
+pub number_stands : (name : List ℕ) (left : Remaining) (number : ℕ) (next : Remaining)
     → number_in name left ≡ Ok (number, next) → left.text ≡ number_line name number ++ next.text
 unfolding number_in
 number_stands name left number next h = choice_stands (number_line name) _ left number next h
 
-pub option_stands : (name : List ℕ) (left : Left) (number : Option ℕ) (next : Left)
+pub option_stands : (name : List ℕ) (left : Remaining) (number : Option ℕ) (next : Remaining)
     → option_in name left ≡ Ok (number, next) → left.text ≡ option_line name number ++ next.text
 unfolding option_in
 option_stands name left number next h = choice_stands (option_line name) _ left number next h
 
-version_stands : (left : Left) (version : Unit {0}) (next : Left)
+version_stands : (left : Remaining) (version : Unit {0}) (next : Remaining)
     → version_in left ≡ Ok (version, next) → left.text ≡ version_line ++ next.text
 unfolding version_in
 version_stands left version next h = choice_stands (λ _. version_line) _ left version next h
 
-mode_stands : (left : Left) (mode : Mode) (next : Left)
+mode_stands : (left : Remaining) (mode : Mode) (next : Remaining)
     → mode_in left ≡ Ok (mode, next) → left.text ≡ mode_line mode ++ next.text
 unfolding mode_in
 mode_stands left mode next h = choice_stands mode_line _ left mode next h
 
-flags_stand : (left : Left) (flags : Bool × Bool) (next : Left)
+flags_stand : (left : Remaining) (flags : Bool × Bool) (next : Remaining)
     → flags_in left ≡ Ok (flags, next) → left.text ≡ flags_line flags.0 flags.1 ++ next.text
 unfolding flags_in
 flags_stand left flags next h = choice_stands (λ flags. flags_line flags.0 flags.1) _ left flags next h
 
 -- pc and what is known of it
-pub pc_stands : (left : Left) (pc : ℕ) (next : Left) → pc_in left ≡ Ok (pc, next)
+pub pc_stands : (left : Remaining) (pc : ℕ) (next : Remaining) → pc_in left ≡ Ok (pc, next)
     → (left.text ≡ number_line (codes "pc ") pc ++ next.text) × ((pc % 2 == 1) ≡ false)
 unfolding pc_in
 pc_stands left pc next h =
@@ -118,13 +118,13 @@ pc_stands left pc next h =
     let passed = not_refused (read.0.0 % 2 == 1) (fault_at left BadValue) (Ok read.0) (pc, next) read.2 in
     let same = same_read read.0.0 pc read.0.1 next passed.1 in (
       subst (λ (x : ℕ). left.text ≡ number_line (codes "pc ") x ++ next.text) same.0
-          (subst (λ (x : Left). left.text ≡ number_line (codes "pc ") read.0.0 ++ x.text) same.1
+          (subst (λ (x : Remaining). left.text ≡ number_line (codes "pc ") read.0.0 ++ x.text) same.1
           (number_stands (codes "pc ") left read.0.0 read.0.1 read.1)),
       subst (λ (x : ℕ). (x % 2 == 1) ≡ false) same.0 passed.0,
     )
 
 -- the reserved block and what is known of it
-pub reserved_stands : (ram : Span) (size : ℕ) (left : Left) (reserved : Option ℕ) (next : Left)
+pub reserved_stands : (ram : Span) (size : ℕ) (left : Remaining) (reserved : Option ℕ) (next : Remaining)
     → reserved_in ram size left ≡ Ok (reserved, next)
     → (left.text ≡ option_line (codes "reserved ") reserved ++ next.text)
     × (is_misplaced size reserved ≡ false) × (is_outside ram size reserved ≡ false)
@@ -137,7 +137,7 @@ reserved_stands ram size left reserved next h =
     not_refused (is_outside ram size read.0.0) (fault_at left OutsideRam) (Ok read.0) (reserved, next) placed.1 in
     let same = same_read read.0.0 reserved read.0.1 next inside.1 in (
       subst (λ (x : Option ℕ). left.text ≡ option_line name x ++ next.text) same.0
-          (subst (λ (x : Left). left.text ≡ option_line name read.0.0 ++ x.text) same.1
+          (subst (λ (x : Remaining). left.text ≡ option_line name read.0.0 ++ x.text) same.1
           (option_stands name left read.0.0 read.0.1 read.1)),
       subst (λ (x : Option ℕ). is_misplaced size x ≡ false) same.0 placed.0,
       subst (λ (x : Option ℕ). is_outside ram size x ≡ false) same.0 inside.0,
@@ -159,13 +159,13 @@ pub joined : (text one more two rest : List ℕ) → text ≡ one ++ more → mo
 joined text one more two rest p q = p ∙ ap (λ (t : List ℕ). one ++ t) q ∙ sym (append_assoc one two rest)
 
 -- what is known of the first six lines that were read
-pub record HasHead (ram : Span) (size : ℕ) (left : Left) (head : Head) (next : Left) : Type 0 where
+pub record HasHead (ram : Span) (size : ℕ) (left : Remaining) (head : Head) (next : Remaining) : Type 0 where
   pub stands : left.text ≡ concat (head_lines head) ++ next.text
   pub even : (head.pc % 2 == 1) ≡ false
   pub placed : is_misplaced size head.reserved ≡ false
   pub inside : is_outside ram size head.reserved ≡ false
 
-pub has_head : (ram : Span) (size : ℕ) (left : Left) (head : Head) (next : Left)
+pub has_head : (ram : Span) (size : ℕ) (left : Remaining) (head : Head) (next : Remaining)
     → head_in ram size left ≡ Ok (head, next) → HasHead ram size left head next
 unfolding head_in
 has_head ram size left head next h =
@@ -200,7 +200,7 @@ has_head ram size left head next h =
     } in
     let same = same_read read head reserved.0.1 next reserved.2 in
     subst (λ (x : Head). HasHead ram size left x next) same.0
-    (subst (λ (x : Left). HasHead ram size left read x) same.1 known)
+    (subst (λ (x : Remaining). HasHead ram size left read x) same.1 known)
   where
     six_lines : (a b c d e f : List ℕ) (t u v w x y z : List ℕ)
         → t ≡ a ++ u → u ≡ b ++ v → v ≡ c ++ w → w ≡ d ++ x → x ≡ e ++ y → y ≡ f ++ z

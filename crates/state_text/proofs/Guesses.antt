@@ -11,7 +11,7 @@ use Rattle.hex.specs.Hex.{encode_lower, decode_sized, lower_digits, IsBytes}
 use Rattle.hex.proofs.HexLemmas.{length-encode_with, decode_sized-encode_lower, decode_sized-ok, decode_sized-twice}
 use Rattle.hex.proofs.HexLemmas.{decode_of-ok}
 use Rattle.state_text.specs.Lines.{digits_of, number_line}
-use Rattle.state_text.specs.Reading.{bytes_or_zeros, bytes_guessed, number_guessed}
+use Rattle.state_text.specs.Reading.{bytes_or_zeros, guess_of_bytes, guess_of_number}
 
 pub small_bytes : (n : ℕ) → IsBytes (to_be_bytes w64 n)
 small_bytes n zero = omega arith
@@ -26,8 +26,8 @@ small_bytes n (suc (suc (suc (suc (suc (suc (suc (suc i)))))))) = omega arith
 
 -- bytes that stand in digits after so many others
 pub bytes_again : (front bytes rest : List ℕ) (place count : ℕ) → length front ≡ place → length bytes ≡ count
-    → IsBytes bytes → bytes_guessed place count (front ++ (encode_lower bytes ++ rest)) ≡ bytes
-unfolding bytes_guessed
+    → IsBytes bytes → guess_of_bytes place count (front ++ (encode_lower bytes ++ rest)) ≡ bytes
+unfolding guess_of_bytes
 bytes_again front bytes rest place count long len small =
     let dropped = drop_at front (encode_lower bytes ++ rest) place long in
     let digits : length (encode_lower bytes) ≡ 2 * count = rw (← len) (length-encode_with lower_digits bytes) in
@@ -35,8 +35,8 @@ bytes_again front bytes rest place count long len small =
     rw (dropped, taken, decode_sized-encode_lower bytes count len small) refl
 
 pub number_again : (name rest : List ℕ) (number : ℕ) → number < 2 ^ 64
-    → number_guessed (length name) (number_line name number ++ rest) ≡ number
-unfolding number_guessed number_line
+    → guess_of_number (length name) (number_line name number ++ rest) ≡ number
+unfolding guess_of_number number_line
 number_again name rest number small =
     let split : (name ++ (digits_of number ++ codes "\n")) ++ rest
     ≡ name ++ (digits_of number ++ (codes "\n" ++ rest)) =
@@ -44,7 +44,7 @@ number_again name rest number small =
     ∙ ap (λ (t : List ℕ). name ++ t) (append_assoc (digits_of number) (codes "\n") rest) in
     let bytes = bytes_again name (to_be_bytes w64 number) (codes "\n" ++ rest) (length name) 8 refl refl
     (small_bytes number) in
-    ap (λ (t : List ℕ). from_be_bytes w64 (bytes_guessed (length name) 8 t)) split
+    ap (λ (t : List ℕ). from_be_bytes w64 (guess_of_bytes (length name) 8 t)) split
     ∙ ap (from_be_bytes w64) bytes ∙ from_be_bytes-to_be_bytes_8 number small
 
 zeros : (count i : ℕ) → get_or (replicate count 0) i 0 < 256
@@ -54,8 +54,8 @@ zeros (suc count) (suc i) = zeros count i
 
 -- bytes that are guessed are bytes, as many as are asked for
 pub guessed_fit : (place count : ℕ) (text : List ℕ)
-    → (length (bytes_guessed place count text) ≡ count) × IsBytes (bytes_guessed place count text)
-unfolding bytes_guessed
+    → (length (guess_of_bytes place count text) ≡ count) × IsBytes (guess_of_bytes place count text)
+unfolding guess_of_bytes
 guessed_fit place count text = by (decode_sized digits count) refl
   where
     digits : List ℕ
@@ -69,8 +69,8 @@ guessed_fit place count text = by (decode_sized digits count) refl
         (omega (arith, len, facts.2), facts.3)
     by (Err e) is = (length-replicate count 0, zeros count)
 
-pub guessed_small : (place : ℕ) (text : List ℕ) → number_guessed place text < 2 ^ 64
-unfolding number_guessed
+pub guessed_small : (place : ℕ) (text : List ℕ) → guess_of_number place text < 2 ^ 64
+unfolding guess_of_number
 guessed_small place text =
     let fits = (guessed_fit place 8 text).1 in
     omega (arith, fits 0, fits 1, fits 2, fits 3, fits 4, fits 5, fits 6, fits 7)

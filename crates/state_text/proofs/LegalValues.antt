@@ -1,59 +1,26 @@
 -- What the tests say of values: each register is legal.
-use Rattle.std.proofs.Common.{◌≡◌, ◌≢◌, ℕ, zero, suc, ◌+◌, ◌<◌, Bool, true, false, List, [], ◌∷◌, ◌++◌}
+use Rattle.std.proofs.Common.{◌≡◌, ℕ, zero, suc, ◌+◌, ◌<◌, Bool, true, false, List, [], ◌∷◌, ◌++◌}
 use Rattle.std.proofs.Common.{length, get_or, refl}
 use Rattle.std.proofs.Common.{arith}
-use Rattle.std.specs.Prelude.{◌&&◌, ◌==◌, not, ◌^◌, ◌%◌}
+use Rattle.std.specs.Prelude.{◌&&◌, ◌^◌}
 use Rattle.std.specs.Int.{w64, to_le_bytes}
 use Rattle.std.specs.List.{list_all}
-use Rattle.std.proofs.lemmas.Bool.Decides.{Decides-eqb, nat_tests}
+use Rattle.std.proofs.lemmas.Bool.Decides.{nat_tests}
 use Rattle.std.proofs.lemmas.List.Elements.{All-from_recursion}
+use Rattle.csr_file.specs.Legal.{is_legal_configuration}
+use Rattle.csr_file.proofs.LegalTests.{both, legal_configuration, legal_value}
 use Rattle.csr_file.specs.declared.stored_csr.StoredCsr.{StoredCsr}
 use Rattle.csr_file.specs.declared.stored_csr.StoredCsr.TheVariants.{Mstatus, Medeleg, Mideleg, Mie, Mtvec, Mcounteren}
 use Rattle.csr_file.specs.declared.stored_csr.StoredCsr.TheVariants.{Menvcfg, Mcountinhibit, Mscratch, Mepc, Mcause}
 use Rattle.csr_file.specs.declared.stored_csr.StoredCsr.TheVariants.{Mtval, Mip, Stvec, Scounteren, Senvcfg, Sscratch}
 use Rattle.csr_file.specs.declared.stored_csr.StoredCsr.TheVariants.{Sepc, Scause, Stval, Satp}
-use Rattle.csr_file.specs.Legal.{IsLegalValue, IsLegalConfiguration, IsLegalEntry, IsLegal}
+use Rattle.csr_file.specs.Legal.{IsLegalValue, IsLegalEntry, IsLegal}
 use Rattle.csr_file.specs.Registers.{at}
-use Rattle.csr_file.specs.Fields.{mpp_of}
 use Rattle.state_text.specs.declared.numbers.NumberKind.TheVariants.{Register, Stored, Configurations, EntryAddress}
 use Rattle.state_text.specs.declared.numbers.TheConstants.{KINDS}
 use Rattle.state_text.specs.Numbers.{configurations_in, pmp_entry_in, csrs_with}
-use Rattle.state_text.specs.Values.{is_legal, is_legal_stored, is_legal_configuration}
+use Rattle.state_text.specs.Values.{is_legal}
 use Rattle.state_text.proofs.NumberLines.{AreLegal, legal_at}
-
-both : (a b : Bool) → (a && b) ≡ true → (a ≡ true) × (b ≡ true)
-both true b h = (refl, h)
-both false b h = absurd cc
-
-not_two : (n : ℕ) → not (n == 2) ≡ true → n ≢ 2
-not_two n h = λ is. grind (arith, nat_tests)
-
-pub legal_value : (stored : StoredCsr) (value : ℕ) → is_legal_stored stored value ≡ true → IsLegalValue stored value
-unfolding is_legal_stored
-legal_value Mstatus value h = record {
-  constant = (Decides-eqb _ _).0 (both _ _ h).0;
-  previous = not_two (mpp_of value) (both _ _ h).1;
-}
-legal_value Medeleg value h = (Decides-eqb _ _).0 h
-legal_value Mideleg value h = (Decides-eqb _ _).0 h
-legal_value Mie value h = (Decides-eqb _ _).0 h
-legal_value Mtvec value h = (Decides-eqb _ _).0 h
-legal_value Mcounteren value h = (Decides-eqb _ _).0 h
-legal_value Menvcfg value h = (Decides-eqb _ _).0 h
-legal_value Mcountinhibit value h = (Decides-eqb _ _).0 h
-legal_value Mscratch value h = tt
-legal_value Mepc value h = (Decides-eqb _ _).0 h
-legal_value Mcause value h = tt
-legal_value Mtval value h = tt
-legal_value Mip value h = (Decides-eqb _ _).0 h
-legal_value Stvec value h = (Decides-eqb _ _).0 h
-legal_value Scounteren value h = (Decides-eqb _ _).0 h
-legal_value Senvcfg value h = (Decides-eqb _ _).0 h
-legal_value Sscratch value h = tt
-legal_value Sepc value h = (Decides-eqb _ _).0 h
-legal_value Scause value h = tt
-legal_value Stval value h = tt
-legal_value Satp value h = grind (arith, nat_tests, h)
 
 pub all_at : (test : ℕ → Bool) (xs : List ℕ) (k : ℕ) → list_all test xs ≡ true → k < length xs
     → test (get_or xs k 0) ≡ true
@@ -70,12 +37,6 @@ both_all test (x ∷ xs) ys p q = by (test x) (both_all test xs ys) p
         → (first && list_all test xs) ≡ true → (first && list_all test (xs ++ ys)) ≡ true
     by true rest p = rest p q
     by false rest p = absurd cc
-
-legal_configuration : (byte : ℕ) → is_legal_configuration byte ≡ true → IsLegalConfiguration byte
-legal_configuration byte h = record {
-  reserved = (Decides-eqb _ _).0 (both _ _ h).0;
-  rights = not_two (byte % 4) (both _ _ h).1;
-}
 
 -- the registers that have the numbers of a text are legal
 pub legal_csrs : (numbers : List ℕ) → length numbers ≡ 70 → AreLegal KINDS numbers → IsLegal (csrs_with numbers)

@@ -12,3 +12,5 @@ pub mod BlocksBack
 pub mod ReadBack
 pub mod States
 pub mod TextBack
+pub mod SavedWords
+pub mod Underway

@@ -18,7 +18,7 @@ use Rattle.state_text.specs.declared.head.Head.{Head}
 use Rattle.state_text.specs.declared.numbers.NumberKind.{NumberKind}
 use Rattle.state_text.specs.Lines.{digits_of, number_line, option_line, version_line, mode_line, flags_line}
 use Rattle.state_text.specs.Texts.{number_lines}
-use Rattle.state_text.specs.Reading.{Left, is_next, after, choice_in, number_guessed, number_in, option_in}
+use Rattle.state_text.specs.Reading.{Remaining, is_next, after, choice_in, guess_of_number, number_in, option_in}
 use Rattle.state_text.specs.Reading.{version_in, pc_in, mode_in, flags_in, reserved_in, head_in, is_misplaced}
 use Rattle.state_text.specs.Reading.{is_outside}
 use Rattle.state_text.specs.Reading.{numbers_in}
@@ -28,14 +28,14 @@ use Rattle.state_text.proofs.NumberLines.{AreLegal}
 use Rattle.state_text.proofs.LegalValues.{all_at}
 
 -- what is left after some lines
-abbrev pub left_after : Left → ℕ → List ℕ → Left
+abbrev pub left_after : Remaining → ℕ → List ℕ → Remaining
 left_after left lines rest = record { line = left.line + lines; text = rest }
 
-abbrev pub read_with : {A : Type 0} → A → Left → List ℕ → Result (A × Left) StateFault
+abbrev pub read_with : {A : Type 0} → A → Remaining → List ℕ → Result (A × Remaining) StateFault
 read_with value left rest = Ok (value, left_after left 1 rest)
 
 -- the first value that may be chosen is, where its line stands
-pub choice_first : {A : Type 0} (line : A → List ℕ) (value : A) (others : List A) (left : Left) (rest : List ℕ)
+pub choice_first : {A : Type 0} (line : A → List ℕ) (value : A) (others : List A) (left : Remaining) (rest : List ℕ)
     → left.text ≡ line value ++ rest → choice_in line (value ∷ others) left ≡ read_with value left rest
 unfolding choice_in
 choice_first {A} line value others left rest stands =
@@ -44,17 +44,17 @@ choice_first {A} line value others left rest stands =
     (ap (drop (length (line value))) stands ∙ drop_at (line value) rest (length (line value)) refl))
 
 -- a value whose line does not stand there is passed over
-pub choice_later : {A : Type 0} (line : A → List ℕ) (value : A) (others : List A) (left : Left)
+pub choice_later : {A : Type 0} (line : A → List ℕ) (value : A) (others : List A) (left : Remaining)
     → is_next (line value) left ≡ false → choice_in line (value ∷ others) left ≡ choice_in line others left
 unfolding choice_in
 choice_later line value others left other = rw other refl
 
-pub number_back : (name : List ℕ) (number : ℕ) (left : Left) (rest : List ℕ) → number < 2 ^ 64
+pub number_back : (name : List ℕ) (number : ℕ) (left : Remaining) (rest : List ℕ) → number < 2 ^ 64
     → left.text ≡ number_line name number ++ rest → number_in name left ≡ read_with number left rest
 unfolding number_in
 number_back name number left rest small stands =
-    let guess : number_guessed (length name) left.text ≡ number =
-    ap (number_guessed (length name)) stands ∙ number_again name rest number small in
+    let guess : guess_of_number (length name) left.text ≡ number =
+    ap (guess_of_number (length name)) stands ∙ number_again name rest number small in
     rw guess (choice_first (number_line name) number [] left rest stands)
 
 -- no digit is the first letter of none
@@ -74,7 +74,7 @@ not_true : (test : Bool) → (test ≡ true → ⊥) → test ≡ false
 not_true true h = absurd (h refl)
 not_true false h = refl
 
-pub no_number : (name : List ℕ) (number : ℕ) (left : Left) (rest : List ℕ)
+pub no_number : (name : List ℕ) (number : ℕ) (left : Remaining) (rest : List ℕ)
     → left.text ≡ option_line name None ++ rest → is_next (number_line name number) left ≡ false
 unfolding number_line encode_with
 no_number name number left rest stands = not_true (is_next (number_line name number) left) (λ next. by next)
@@ -91,32 +91,32 @@ no_number name number left rest stands = not_true (is_next (number_line name num
         let first = ap (λ (l : List ℕ). get_or l 0 0) beyond in
         no_digit (number / 256 ^ 7 % 256 / 16) first
 
-pub option_back : (name : List ℕ) (number : Option ℕ) (left : Left) (rest : List ℕ)
+pub option_back : (name : List ℕ) (number : Option ℕ) (left : Remaining) (rest : List ℕ)
     → ForSome number (λ number. number < 2 ^ 64)
     → left.text ≡ option_line name number ++ rest → option_in name left ≡ read_with number left rest
 unfolding option_in
 option_back name None left rest small stands =
-    choice_later (option_line name) (Some (number_guessed (length name) left.text)) (None ∷ []) left
-    (no_number name (number_guessed (length name) left.text) left rest stands)
+    choice_later (option_line name) (Some (guess_of_number (length name) left.text)) (None ∷ []) left
+    (no_number name (guess_of_number (length name) left.text) left rest stands)
     ∙ choice_first (option_line name) None [] left rest stands
 option_back name (Some number) left rest small stands =
-    let guess : number_guessed (length name) left.text ≡ number =
-    ap (number_guessed (length name)) stands ∙ number_again name rest number (small number refl) in
+    let guess : guess_of_number (length name) left.text ≡ number =
+    ap (guess_of_number (length name)) stands ∙ number_again name rest number (small number refl) in
     rw guess (choice_first (option_line name) (Some number) (None ∷ []) left rest stands)
 
-version_back : (left : Left) (rest : List ℕ) → left.text ≡ version_line ++ rest
+version_back : (left : Remaining) (rest : List ℕ) → left.text ≡ version_line ++ rest
     → version_in left ≡ read_with tt left rest
 unfolding version_in
 version_back left rest stands = choice_first (λ _. version_line) tt [] left rest stands
 
-pc_back : (pc : ℕ) (left : Left) (rest : List ℕ) → pc < 2 ^ 64 → pc % 2 ≡ 0
+pc_back : (pc : ℕ) (left : Remaining) (rest : List ℕ) → pc < 2 ^ 64 → pc % 2 ≡ 0
     → left.text ≡ number_line (codes "pc ") pc ++ rest → pc_in left ≡ read_with pc left rest
 unfolding pc_in
 pc_back pc left rest small even stands =
     let passes : (pc % 2 == 1) ≡ false = rw even refl in
     rw (number_back (codes "pc ") pc left rest small stands, passes) refl
 
-mode_back : (mode : Mode) (left : Left) (rest : List ℕ) → left.text ≡ mode_line mode ++ rest
+mode_back : (mode : Mode) (left : Remaining) (rest : List ℕ) → left.text ≡ mode_line mode ++ rest
     → mode_in left ≡ read_with mode left rest
 unfolding mode_in
 mode_back User left rest stands = choice_first mode_line User _ left rest stands
@@ -132,7 +132,7 @@ mode_back Machine left rest stands =
 abbrev line_of_flags : Bool × Bool → List ℕ
 line_of_flags flags = flags_line flags.0 flags.1
 
-flags_back : (trapped_last halted : Bool) (left : Left) (rest : List ℕ)
+flags_back : (trapped_last halted : Bool) (left : Remaining) (rest : List ℕ)
     → left.text ≡ flags_line trapped_last halted ++ rest
     → flags_in left ≡ read_with (trapped_last, halted) left rest
 unfolding flags_in
@@ -153,7 +153,7 @@ flags_back true true left rest stands =
     ∙ choice_later line_of_flags (true, false) _ left three
     ∙ choice_first line_of_flags (true, true) _ left rest stands
 
-reserved_back : (ram : Span) (size : ℕ) (reserved : Option ℕ) (left : Left) (rest : List ℕ)
+reserved_back : (ram : Span) (size : ℕ) (reserved : Option ℕ) (left : Remaining) (rest : List ℕ)
     → ForSome reserved (λ address. address < 2 ^ 64) → is_misplaced size reserved ≡ false
     → is_outside ram size reserved ≡ false → left.text ≡ option_line (codes "reserved ") reserved ++ rest
     → reserved_in ram size left ≡ read_with reserved left rest
@@ -198,14 +198,14 @@ head_back ram size head text rest is stands =
         → concat (a ∷ b ∷ c ∷ d ∷ e ∷ f ∷ []) ++ rest ≡ a ++ (b ++ (c ++ (d ++ (e ++ (f ++ rest)))))
     six_lines a b c d e f rest = simp append_assoc
 
-abbrev numbers_read : List ℕ → ℕ → List ℕ → Result (List ℕ × Left) StateFault
+abbrev numbers_read : List ℕ → ℕ → List ℕ → Result (List ℕ × Remaining) StateFault
 numbers_read numbers line text = Ok (numbers, record { line = line; text = text })
 
 same_done : (x y : List ℕ) (l m : ℕ) (t u : List ℕ) → x ≡ y → l ≡ m → t ≡ u → numbers_read x l t ≡ numbers_read y m u
 same_done x y l m t u p q r = cc
 
 -- the numbers that are written are read again
-pub numbers_back : (names : List (List ℕ)) (kinds : List NumberKind) (numbers before : List ℕ) (left : Left)
+pub numbers_back : (names : List (List ℕ)) (kinds : List NumberKind) (numbers before : List ℕ) (left : Remaining)
     (rest : List ℕ) → length names ≡ length kinds → length numbers ≡ length names → AreLegal kinds numbers
     → ((k : ℕ) → get_or numbers k 0 < 2 ^ 64) → left.text ≡ concat (number_lines names numbers) ++ rest
     → numbers_in names kinds before left ≡ Ok (before ++ numbers, left_after left (length names) rest)

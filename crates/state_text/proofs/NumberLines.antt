@@ -12,13 +12,13 @@ use Rattle.state_text.specs.declared.numbers.NumberKind.TheVariants.{Register}
 use Rattle.state_text.specs.Lines.{number_line}
 use Rattle.state_text.specs.Values.{is_legal}
 use Rattle.state_text.specs.Texts.{number_lines}
-use Rattle.state_text.specs.Reading.{Left, fault_at, number_in, numbers_in}
+use Rattle.state_text.specs.Reading.{Remaining, fault_at, number_in, numbers_in}
 use Rattle.state_text.proofs.Fronts.{then_read, not_refused, same_read, number_stands, number_small, joined}
 
 -- one number more
-pub numbers_on : (names : List (List ℕ)) (kinds : List NumberKind) (numbers : List ℕ) (left : Left) (place : ℕ)
-    (name : List ℕ) (d : NumberKind) (legal : Bool) (number : ℕ) (next : Left)
-    (whole : Result (List ℕ × Left) StateFault) → place < length names → place < length kinds → place < length numbers
+pub numbers_on : (names : List (List ℕ)) (kinds : List NumberKind) (numbers : List ℕ) (left : Remaining) (place : ℕ)
+    (name : List ℕ) (d : NumberKind) (legal : Bool) (number : ℕ) (next : Remaining)
+    (whole : Result (List ℕ × Remaining) StateFault) → place < length names → place < length kinds → place < length numbers
     → numbers_in (drop place names) (drop place kinds) (take place numbers) left ≡ whole
     → name ≡ get_or names place [] → Ok (number, next) ≡ number_in name left
     → legal ≡ is_legal (get_or kinds place d) number → legal ≡ true
@@ -34,8 +34,8 @@ numbers_on names kinds numbers left place name d legal number next whole named k
     (rw (drop_more names place [] named, drop_more kinds place d kinded, reads, passes) at so_far)
 
 -- a line that is not of the form
-pub numbers_unread : (names : List (List ℕ)) (kinds : List NumberKind) (before : List ℕ) (left : Left) (place : ℕ)
-    (name : List ℕ) (fault : StateFault) (whole : Result (List ℕ × Left) StateFault)
+pub numbers_unread : (names : List (List ℕ)) (kinds : List NumberKind) (before : List ℕ) (left : Remaining) (place : ℕ)
+    (name : List ℕ) (fault : StateFault) (whole : Result (List ℕ × Remaining) StateFault)
     → place < length names → place < length kinds
     → numbers_in (drop place names) (drop place kinds) before left ≡ whole → name ≡ get_or names place []
     → Err fault ≡ number_in name left → Err fault ≡ whole
@@ -46,9 +46,9 @@ numbers_unread names kinds before left place name fault whole named kinded so_fa
     rw (drop_more names place [] named, drop_more kinds place Register kinded, fails) at so_far
 
 -- a value that the hart cannot have
-pub numbers_refused : (names : List (List ℕ)) (kinds : List NumberKind) (before : List ℕ) (left : Left) (place : ℕ)
-    (name : List ℕ) (d : NumberKind) (legal : Bool) (number : ℕ) (next : Left)
-    (whole : Result (List ℕ × Left) StateFault) → place < length names → place < length kinds
+pub numbers_refused : (names : List (List ℕ)) (kinds : List NumberKind) (before : List ℕ) (left : Remaining) (place : ℕ)
+    (name : List ℕ) (d : NumberKind) (legal : Bool) (number : ℕ) (next : Remaining)
+    (whole : Result (List ℕ × Remaining) StateFault) → place < length names → place < length kinds
     → numbers_in (drop place names) (drop place kinds) before left ≡ whole → name ≡ get_or names place []
     → Ok (number, next) ≡ number_in name left → legal ≡ is_legal (get_or kinds place d) number → legal ≡ false
     → Err (fault_at left BadValue) ≡ whole
@@ -60,8 +60,8 @@ numbers_refused names kinds before left place name d legal number next whole nam
     rw (drop_more names place [] named, drop_more kinds place d kinded, reads, refuses) at so_far
 
 -- all numbers
-pub numbers_all : (names : List (List ℕ)) (kinds : List NumberKind) (numbers : List ℕ) (left : Left) (place : ℕ)
-    (whole : Result (List ℕ × Left) StateFault) → length names ≤ place → length numbers ≤ place
+pub numbers_all : (names : List (List ℕ)) (kinds : List NumberKind) (numbers : List ℕ) (left : Remaining) (place : ℕ)
+    (whole : Result (List ℕ × Remaining) StateFault) → length names ≤ place → length numbers ≤ place
     → numbers_in (drop place names) (drop place kinds) (take place numbers) left ≡ whole → Ok (numbers, left) ≡ whole
 unfolding numbers_in
 numbers_all names kinds numbers left place whole named held so_far =
@@ -73,7 +73,7 @@ AreLegal (kind ∷ kinds) (number ∷ numbers) = (is_legal kind number ≡ true)
 AreLegal _ _ = Unit {0}
 
 -- what is known of the numbers that were read after some
-pub record HasNumbers (names : List (List ℕ)) (kinds : List NumberKind) (before numbers : List ℕ) (left next : Left) :
+pub record HasNumbers (names : List (List ℕ)) (kinds : List NumberKind) (before numbers : List ℕ) (left next : Remaining) :
     Type 0 where
   pub read : List ℕ
   pub all : numbers ≡ before ++ read
@@ -82,8 +82,8 @@ pub record HasNumbers (names : List (List ℕ)) (kinds : List NumberKind) (befor
   pub legal : AreLegal kinds read
   pub small : (k : ℕ) → get_or read k 0 < 2 ^ 64
 
-pub has_numbers : (names : List (List ℕ)) (kinds : List NumberKind) (before : List ℕ) (left : Left) (numbers : List ℕ)
-    (next : Left) → length names ≡ length kinds → numbers_in names kinds before left ≡ Ok (numbers, next)
+pub has_numbers : (names : List (List ℕ)) (kinds : List NumberKind) (before : List ℕ) (left : Remaining) (numbers : List ℕ)
+    (next : Remaining) → length names ≡ length kinds → numbers_in names kinds before left ≡ Ok (numbers, next)
     → HasNumbers names kinds before numbers left next
 unfolding numbers_in number_lines AreLegal
 has_numbers [] [] before left numbers next same h =
@@ -92,7 +92,7 @@ has_numbers [] [] before left numbers next same h =
       read = [];
       all = sym read.0 ∙ sym (append-nil before);
       len = refl;
-      stand = ap (λ (x : Left). x.text) read.1;
+      stand = ap (λ (x : Remaining). x.text) read.1;
       legal = tt;
       small = λ k. omega arith;
     }

@@ -17,7 +17,7 @@ use Rattle.state_text.specs.declared.head.Head.{Head}
 use Rattle.state_text.specs.declared.numbers.TheConstants.{KINDS}
 use Rattle.state_text.specs.Lines.{number_line, option_line, version_line, mode_line, flags_line, end_line}
 use Rattle.state_text.specs.Numbers.{number_names, saved_csrs, numbers_of, registers_with, csrs_with}
-use Rattle.state_text.specs.Reading.{Left, head_in, numbers_in}
+use Rattle.state_text.specs.Reading.{Remaining, head_in, numbers_in}
 use Rattle.state_text.specs.Memory.{memory_lines, memory_in}
 use Rattle.state_text.specs.Texts.{number_lines, saved_lines, saved_text, block_with, core_with, state_in}
 use Rattle.state_text.proofs.Fronts.{then_read, head_lines, HasHead, has_head}
@@ -62,8 +62,8 @@ same_address size (Some address) = refl
 pub record HasState (map : Map) (choices : Choices) (text : List ℕ) (core : Core) (bytes : Bytes) : Type 0 where
   pub head : Head
   pub numbers : List ℕ
-  pub before_numbers : Left
-  pub before_memory : Left
+  pub before_numbers : Remaining
+  pub before_memory : Remaining
   pub has_head : HasHead map.ram choices.block_size (record { line = 1; text = text }) head before_numbers
   pub has_numbers : HasNumbers number_names KINDS [] numbers before_numbers before_memory
   pub memory : memory_in map.ram (length before_memory.text + 1) 0 (λ _. 0) before_memory ≡ Ok bytes
@@ -73,7 +73,7 @@ pub has_state : (map : Map) (choices : Choices) (text : List ℕ) (core : Core) 
     → state_in map choices text ≡ Ok (core, bytes) → HasState map choices text core bytes
 unfolding state_in
 has_state map choices text core bytes h =
-    let start : Left = record { line = 1; text = text } in
+    let start : Remaining = record { line = 1; text = text } in
     let head = then_read (head_in map.ram choices.block_size start) _ (core, bytes) h in
     let numbers = then_read (numbers_in number_names KINDS [] head.0.1) _ (core, bytes) head.2 in
     let memory =

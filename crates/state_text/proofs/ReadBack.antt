@@ -1,68 +1,28 @@
 -- The text of a state that can be saved is read as that state.
-use Rattle.std.proofs.Common.{◌≡◌, ◌≢◌, ℕ, zero, suc, ◌+◌, ◌<◌, ◌≤◌, Bool, true, List, [], ◌∷◌, ◌++◌}
+use Rattle.std.proofs.Common.{◌≡◌, ℕ, zero, suc, ◌+◌, ◌<◌, ◌≤◌, Bool, true, List, [], ◌∷◌, ◌++◌}
 use Rattle.std.proofs.Common.{length}
 use Rattle.std.proofs.Common.{refl, ap, ◌∙◌, arith, get_or, map}
-use Rattle.std.proofs.Common.{inl, inr}
-use Rattle.std.specs.Prelude.{◌^◌, ◌%◌, ◌==◌, ◌&&◌, not, nat_lt, replicate}
+use Rattle.std.specs.Prelude.{◌^◌, nat_lt, replicate}
 use Rattle.std.specs.List.{range_with_len, list_all}
 use Rattle.std.specs.Int.{w64, to_le_bytes, from_le_bytes}
-use Rattle.std.proofs.lemmas.Bool.Decides.{nat_tests, Decides-eqb}
+use Rattle.std.proofs.lemmas.Bool.Decides.{nat_tests}
 use Rattle.std.proofs.lemmas.Nat.{le_bytes_8}
 use Rattle.hart_words.specs.declared.privilege.PmpEntry.{PmpEntry}
 use Rattle.csr_file.specs.declared.csrs.Csrs.{Csrs}
 use Rattle.csr_file.specs.declared.stored_csr.StoredCsr.{StoredCsr}
-use Rattle.csr_file.specs.declared.stored_csr.StoredCsr.TheVariants.{Mstatus, Medeleg, Mideleg, Mie, Mtvec, Mcounteren}
-use Rattle.csr_file.specs.declared.stored_csr.StoredCsr.TheVariants.{Menvcfg, Mcountinhibit, Mscratch, Mepc, Mcause}
-use Rattle.csr_file.specs.declared.stored_csr.StoredCsr.TheVariants.{Mtval, Mip, Stvec, Scounteren, Senvcfg, Sscratch}
-use Rattle.csr_file.specs.declared.stored_csr.StoredCsr.TheVariants.{Sepc, Scause, Stval, Satp}
-use Rattle.csr_file.specs.Legal.{IsLegalValue, IsLegalConfiguration, IsLegalEntry}
+use Rattle.csr_file.specs.Legal.{IsLegalValue, IsLegalEntry}
 use Rattle.csr_file.specs.Registers.{at}
 use Rattle.csr_file.specs.Values.{packed_pmpcfg_of}
-use Rattle.csr_file.specs.Fields.{mpp_of}
 use Rattle.state_text.specs.declared.numbers.NumberKind.{NumberKind}
 use Rattle.state_text.specs.declared.numbers.NumberKind.TheVariants.{Register, Stored, Configurations, EntryAddress}
 use Rattle.state_text.specs.Numbers.{saved_csrs, numbers_of, registers_with, csrs_with}
-use Rattle.state_text.specs.Values.{is_legal, is_legal_stored, is_legal_configuration}
+use Rattle.csr_file.specs.Legal.{is_legal_configuration}
+use Rattle.csr_file.proofs.LegalTests.{and_both, configuration_legal, value_legal}
+use Rattle.state_text.specs.Values.{is_legal}
 use Rattle.hart_words.specs.declared.registers.Registers.{Registers}
 use Rattle.csr_file.specs.Registers.{stored_index_of}
 use Rattle.state_text.specs.declared.numbers.TheConstants.{KINDS}
 use Rattle.state_text.proofs.NumberLines.{AreLegal}
-
-and_both : (a b : Bool) → a ≡ true → b ≡ true → (a && b) ≡ true
-and_both a b p q = rw (p, q) refl
-
-other_than_two : (n : ℕ) → n ≢ 2 → not (n == 2) ≡ true
-other_than_two n h = grind (arith, nat_tests)
-
--- a value that a register can have passes the test
-pub value_legal : (stored : StoredCsr) (value : ℕ) → IsLegalValue stored value → is_legal_stored stored value ≡ true
-unfolding is_legal_stored
-value_legal Mstatus value h =
-    and_both _ _ ((Decides-eqb _ _).1 h.constant) (other_than_two (mpp_of value) h.previous)
-value_legal Medeleg value h = (Decides-eqb _ _).1 h
-value_legal Mideleg value h = (Decides-eqb _ _).1 h
-value_legal Mie value h = (Decides-eqb _ _).1 h
-value_legal Mtvec value h = (Decides-eqb _ _).1 h
-value_legal Mcounteren value h = (Decides-eqb _ _).1 h
-value_legal Menvcfg value h = (Decides-eqb _ _).1 h
-value_legal Mcountinhibit value h = (Decides-eqb _ _).1 h
-value_legal Mscratch value h = refl
-value_legal Mepc value h = (Decides-eqb _ _).1 h
-value_legal Mcause value h = refl
-value_legal Mtval value h = refl
-value_legal Mip value h = (Decides-eqb _ _).1 h
-value_legal Stvec value h = (Decides-eqb _ _).1 h
-value_legal Scounteren value h = (Decides-eqb _ _).1 h
-value_legal Senvcfg value h = (Decides-eqb _ _).1 h
-value_legal Sscratch value h = refl
-value_legal Sepc value h = (Decides-eqb _ _).1 h
-value_legal Scause value h = refl
-value_legal Stval value h = refl
-value_legal Satp value h =
-    elim h [
-      | inl bare ↦ grind (arith, nat_tests, bare)
-      | inr sv39 ↦ grind (arith, nat_tests, sv39)
-    ]
 
 -- tests of several lists, one after another
 legal_both : (kinds others : List NumberKind) (numbers more : List ℕ) → length kinds ≡ length numbers
@@ -125,10 +85,6 @@ all_range test f a zero each = refl
 all_range test f a (suc n) each =
     and_both _ _ (each a (omega arith) (omega arith))
     (all_range test f (a + 1) n (λ k low high. each k (omega arith) (omega arith)))
-
-configuration_legal : (byte : ℕ) → IsLegalConfiguration byte → is_legal_configuration byte ≡ true
-configuration_legal byte h =
-    and_both _ _ ((Decides-eqb _ _).1 h.reserved) (other_than_two (byte % 4) h.rights)
 
 -- registers of given values
 unfoldable pub registers_from : (ℕ → ℕ) → Registers

@@ -1,24 +1,27 @@
--- A hart that was read is sound, and what it reserves lies in RAM.
+-- A hart that was read is sound.
 use Rattle.std.proofs.Common.{◌≡◌, ℕ, Bool, true, false, List, refl, sym, subst, arith, Option, Some}
 use Rattle.std.proofs.Common.{None}
-use Rattle.std.specs.Prelude.{◌%◌, ◌==◌, not, IsTrue, option_map}
+use Rattle.std.specs.Prelude.{◌%◌, ◌==◌, not, option_map}
 use Rattle.std.proofs.lemmas.Bool.Decides.{nat_tests, Decides-eqb}
-use Rattle.rv_atomic.specs.declared.reservation.Block.{Block}
 use Rattle.hart_words.specs.declared.map.Map.{Map}
 use Rattle.hart_words.specs.declared.choices.Choices.{Choices}
 use Rattle.hart_words.specs.Memory.{Bytes}
 use Rattle.hart_words.specs.Spans.{holds_all}
 use Rattle.csr_file.specs.Legal.{IsLegal}
 use Rattle.hart_step.specs.declared.state.Core.{Core}
-use Rattle.hart_step.specs.Cores.{IsSound}
+use Rattle.hart_step.specs.Cores.{IsSound, IsSoundReservation}
 use Rattle.state_text.specs.Numbers.{csrs_with}
 use Rattle.state_text.specs.Reading.{is_misplaced, is_outside}
-use Rattle.state_text.specs.Texts.{block_with, IsReservationInRam}
+use Rattle.state_text.specs.Texts.{block_with}
 use Rattle.state_text.proofs.LegalValues.{legal_csrs}
 use Rattle.state_text.proofs.OneText.{HasState}
 
 even : (n : ℕ) → (n % 2 == 1) ≡ false → n % 2 ≡ 0
 even n h = grind (arith, nat_tests)
+
+not_not : (test : Bool) → not test ≡ false → test ≡ true
+not_not true h = refl
+not_not false h = absurd cc
 
 pub sound_core : (map : Map) (choices : Choices) (text : List ℕ) (core : Core) (bytes : Bytes)
     → HasState map choices text core bytes → IsSound core
@@ -27,26 +30,20 @@ sound_core map choices text core bytes has =
     let legal : IsLegal (csrs_with has.numbers) =
     subst (λ (n : List ℕ). IsLegal (csrs_with n)) (sym same)
     (legal_csrs has.has_numbers.read has.has_numbers.len has.has_numbers.legal) in
-    subst IsSound has.same (record { even = even has.head.pc has.has_head.even; legal = legal })
-
-not_not : (test : Bool) → not test ≡ false → test ≡ true
-not_not true h = refl
-not_not false h = absurd cc
-
-pub reserved_in_ram : (map : Map) (choices : Choices) (text : List ℕ) (core : Core) (bytes : Bytes)
-    → HasState map choices text core bytes → IsReservationInRam map.ram core.reservation
-reserved_in_ram map choices text core bytes has =
-    subst (λ (core : Core). IsReservationInRam map.ram core.reservation) has.same
-    (by has.head.reserved has.has_head.placed has.has_head.inside)
+    subst IsSound has.same (record {
+      even = even has.head.pc has.has_head.even;
+      legal = legal;
+      reserved = by has.head.reserved has.has_head.placed has.has_head.inside;
+    })
   where
     by : (reserved : Option ℕ) → is_misplaced choices.block_size reserved ≡ false
         → is_outside map.ram choices.block_size reserved ≡ false
-        → IsReservationInRam map.ram (record { block = option_map (block_with choices.block_size) reserved })
-    by None placed inside = λ block is. absurd cc
-    by (Some address) placed inside =
-        λ block is.
-        let same : block_with choices.block_size address ≡ block = cc in
-        subst (λ (b : Block). (b.address % b.size ≡ 0) × IsTrue (holds_all map.ram b.address b.size)) same (
-          (Decides-eqb (address % choices.block_size) 0).0 (not_not (address % choices.block_size == 0) placed),
-          not_not (holds_all map.ram address choices.block_size) inside,
-        )
+        → IsSoundReservation map.ram choices.block_size
+        (record { block = option_map (block_with choices.block_size) reserved })
+    by None placed inside = tt
+    by (Some address) placed inside = record {
+      size = refl;
+      aligned = (Decides-eqb (address % choices.block_size) 0).0
+          (not_not (address % choices.block_size == 0) placed);
+      inside = not_not (holds_all map.ram address choices.block_size) inside;
+    }

@@ -2,7 +2,9 @@
 use Rattle.std.proofs.Common.{◌≡◌, ℕ, ◌+◌, ◌<◌, false, List, [], ◌∷◌, ◌++◌, Ok, Result, length}
 use Rattle.std.proofs.Common.{get_or}
 use Rattle.std.proofs.Common.{refl, sym, ap, subst, ◌∙◌, arith, map, Option, Some, None}
-use Rattle.std.specs.Prelude.{◌^◌, ◌/◌, option_map}
+use Rattle.std.specs.Prelude.{◌^◌, ◌/◌, ◌%◌, ◌==◌, true, option_map}
+use Rattle.std.proofs.lemmas.Bool.Decides.{Decides-eqb}
+use Rattle.hart_words.specs.Spans.{holds_all}
 use Rattle.std.specs.List.{concat, range_with_len}
 use Rattle.std.specs.Option.{ForSome}
 use Rattle.std.proofs.lemmas.Bool.Decides.{nat_tests}
@@ -24,8 +26,9 @@ use Rattle.state_text.specs.Numbers.{number_names, numbers_of, csrs_with}
 use Rattle.state_text.specs.Reading.{is_misplaced, is_outside}
 use Rattle.state_text.specs.Memory.{memory_lines}
 use Rattle.state_text.specs.Texts.{number_lines, saved_lines, saved_text, block_with, core_with, state_in}
-use Rattle.state_text.specs.Texts.{IsReservationInRam}
+use Rattle.hart_step.specs.Cores.{IsSoundReservation}
 use Rattle.state_text.specs.Laws.{IsSaved}
+use Rattle.state_text.proofs.SavedWords.{configuration_at, csr_value, register_value}
 use Rattle.state_text.proofs.Fronts.{head_lines}
 use Rattle.state_text.proofs.OneText.{concat_both}
 use Rattle.state_text.proofs.LinesBack.{IsHead, head_back, numbers_back}
@@ -44,9 +47,9 @@ has_back core bytes saved =
     ∙ ap (λ (entries : List PmpEntry). with_both (map v (range_with_len 0 21)) entries)
     (fill_by_all e core.csrs.entries 16 no_entry saved.entries (λ k h. refl)) in
     let fit : AreFit r v e = record {
-      registers = saved.register_values;
-      csrs = saved.csr_values;
-      configurations = saved.configurations;
+      registers = register_value core.registers saved.words.registers;
+      csrs = csr_value core.csrs saved.words.csrs saved.sound.legal.whole;
+      configurations = configuration_at core.csrs saved.words.configurations;
       stored = λ stored. subst (λ (c : Csrs). IsLegalValue stored (at c stored)) csrs (saved.sound.legal.values stored);
       entries = λ k h. saved.sound.legal.entries k no_entry (omega (arith, h, saved.entries));
     } in
@@ -82,17 +85,19 @@ same_number : (a b : ℕ) → ◌≡◌ {A = Option ℕ} (Some a) (Some b) → a
 same_number a b is = cc
 
 reserved : (ram : Span) (size : ℕ) (block : Option Block)
-    → ForSome block (λ block. (block.size ≡ size) × (block.address < 2 ^ 64))
-    → IsReservationInRam ram (record { block = block }) → IsReserved ram size block
-reserved ram size None sized inside =
+    → IsSoundReservation ram size (record { block = block }) → IsReserved ram size block
+reserved ram size None sound =
     record { placed = refl; inside = refl; small = λ address is. absurd cc; same = refl }
-reserved ram size (Some block) sized inside =
-    subst (λ (size : ℕ). IsReserved ram size (Some block)) (sized block refl).0 (record {
-      placed = rw (inside block refl).0 refl;
-      inside = rw (inside block refl).1 refl;
-      small = λ address is. subst (λ (n : ℕ). n < 2 ^ 64) (same_number block.address address is) (sized block refl).1;
-      same = refl;
-    })
+reserved ram size (Some block) sound =
+    let aligned : (block.address % size == 0) ≡ true = (Decides-eqb (block.address % size) 0).1 sound.aligned in
+    let inside : holds_all ram block.address size ≡ true = sound.inside in
+    let below : block.address < 2 ^ 64 = grind (arith, nat_tests, inside, ram.below) in
+    record {
+      placed = rw aligned refl;
+      inside = rw inside refl;
+      small = λ address is. subst (λ (n : ℕ). n < 2 ^ 64) (same_number block.address address is) below;
+      same = ap (λ (size : ℕ). Some (block_with size block.address)) (sym sound.size);
+    }
 
 unfoldable head_of : Core → Head
 head_of core = record {
@@ -109,8 +114,7 @@ same_core : (core : Core) (bytes : Bytes) → IsSaved core bytes
 unfolding head_of
 same_core core bytes saved =
     let back = has_back core bytes saved in
-    let block = (reserved core.map.ram core.choices.block_size core.reservation.block saved.reserved
-    saved.in_ram).same in
+    let block = (reserved core.map.ram core.choices.block_size core.reservation.block saved.sound.reserved).same in
     let numbers = numbers_of core.registers core.csrs in
     ap (λ (g : Registers). made g (csrs_with numbers) (option_map (block_with core.choices.block_size)
     (address_of core.reservation.block)))
@@ -154,11 +158,11 @@ text_back core bytes saved =
     let size = core.choices.block_size in
     let numbers = numbers_of core.registers core.csrs in
     let back = has_back core bytes saved in
-    let block = reserved ram size core.reservation.block saved.reserved saved.in_ram in
+    let block = reserved ram size core.reservation.block saved.sound.reserved in
     let three = concat (memory_lines bytes ram.base (ram.size / 16) ++ end_line ∷ []) in
     let two = concat (number_lines number_names numbers) ++ three in
     let is : IsHead ram size (head_of core) = record {
-      pc = saved.pc;
+      pc = saved.words.pc;
       even = saved.sound.even;
       order = saved.order;
       reserved = block.small;
@@ -172,7 +176,7 @@ text_back core bytes saved =
     refl in
     let third =
     memory_back ram (length three + 1) 0 (λ _. 0) bytes (record { line = 77; text = three }) ram.base (ram.size / 16)
-    saved.small refl (omega arith) (omega arith) (omega (arith, ram.whole_base)) (omega arith) (omega
+    saved.words.bytes refl (omega arith) (omega arith) (omega (arith, ram.whole_base)) (omega arith) (omega
     (arith, ram.whole_size))
     (λ a below. sym (saved.outside a (grind (arith, nat_tests, below)))) (λ a at_least. refl)
     (λ a beyond. saved.outside a (grind (arith, nat_tests, beyond))) in

@@ -16,28 +16,28 @@ use Rattle.state_text.specs.declared.fault.FaultKind.TheVariants.{BadLine}
 use Rattle.state_text.specs.declared.fault.StateFault.{StateFault}
 use Rattle.state_text.specs.declared.memory.MemoryBlock.{MemoryBlock}
 use Rattle.state_text.specs.Lines.{end_line}
-use Rattle.state_text.specs.Reading.{Left, fault_at, is_next, after, block_in}
+use Rattle.state_text.specs.Reading.{Remaining, fault_at, is_next, after, block_in}
 use Rattle.state_text.specs.Memory.{with_block, memory_end_in, memory_in, memory_of}
 
 -- what the rest of the text gives, after what was found so far, is what all of it gives
 pub record GoesOn (ram : Span) (whole : Result Bytes StateFault) (least : ℕ) (bytes : Bytes)
-    (left : Left) : Type 0 where
+    (left : Remaining) : Type 0 where
   pub most : ℕ
   pub room : length left.text < most
   pub leads : memory_in ram most least bytes left ≡ whole
 
-pub goes_on : (ram : Span) (least : ℕ) (bytes : Bytes) (left : Left)
+pub goes_on : (ram : Span) (least : ℕ) (bytes : Bytes) (left : Remaining)
     → GoesOn ram (memory_in ram (length left.text + 1) least bytes left) least bytes left
 goes_on ram least bytes left = record { most = length left.text + 1; room = omega arith; leads = refl }
 
 -- one turn of it
-unfoldable turn : Span → ℕ → ℕ → Bytes → Left → Bool → Result Bytes StateFault
+unfoldable turn : Span → ℕ → ℕ → Bytes → Remaining → Bool → Result Bytes StateFault
 turn ram most least bytes left ended =
     if ended then memory_end_in bytes (after end_line left)
     else (block_in ram least left
     >>= λ read. memory_in ram most (read.0.address + 16) (with_block read.0 bytes) read.1)
 
-turned : (ram : Span) (whole : Result Bytes StateFault) (least : ℕ) (bytes : Bytes) (left : Left) (ended : Bool)
+turned : (ram : Span) (whole : Result Bytes StateFault) (least : ℕ) (bytes : Bytes) (left : Remaining) (ended : Bool)
     → GoesOn ram whole least bytes left → is_next end_line left ≡ ended
     → (most : ℕ) × (length left.text ≤ most) × (turn ram most least bytes left ended ≡ whole)
 unfolding memory_in turn
@@ -48,10 +48,10 @@ turned ram whole least bytes left ended goes test = by goes.most goes.room goes.
     by zero room leads = absurd (omega arith)
     by (suc most) room leads = (most, omega arith, rw test at leads)
 
-end_with : (bytes : Bytes) (left : Left) → left.text ≡ [] → memory_end_in bytes left ≡ Ok bytes
+end_with : (bytes : Bytes) (left : Remaining) → left.text ≡ [] → memory_end_in bytes left ≡ Ok bytes
 end_with bytes left nothing = rw nothing refl
 
-pub ends : (ram : Span) (whole : Result Bytes StateFault) (least : ℕ) (bytes : Bytes) (left : Left)
+pub ends : (ram : Span) (whole : Result Bytes StateFault) (least : ℕ) (bytes : Bytes) (left : Remaining)
     → GoesOn ram whole least bytes left → is_next end_line left ≡ true → (after end_line left).text ≡ []
     → whole ≡ Ok bytes
 unfolding turn
@@ -59,7 +59,7 @@ ends ram whole least bytes left goes test nothing =
     let last = turned ram whole least bytes left true goes test in
     sym last.2 ∙ end_with bytes (after end_line left) nothing
 
-pub ends_early : (ram : Span) (whole : Result Bytes StateFault) (least : ℕ) (bytes : Bytes) (left : Left)
+pub ends_early : (ram : Span) (whole : Result Bytes StateFault) (least : ℕ) (bytes : Bytes) (left : Remaining)
     → GoesOn ram whole least bytes left → is_next end_line left ≡ true → 0 < length (after end_line left).text
     → whole ≡ Err (fault_at (after end_line left) BadLine)
 unfolding turn
@@ -73,10 +73,10 @@ ends_early ram whole least bytes left goes test more =
     cases [] line more = absurd (omega arith)
     cases (byte ∷ text) line more = refl
 
-    by : (left : Left) → 0 < length left.text → memory_end_in bytes left ≡ Err (fault_at left BadLine)
+    by : (left : Remaining) → 0 < length left.text → memory_end_in bytes left ≡ Err (fault_at left BadLine)
     by left more = cases left.text left.line more
 
-pub no_block : (ram : Span) (whole : Result Bytes StateFault) (least : ℕ) (bytes : Bytes) (left : Left)
+pub no_block : (ram : Span) (whole : Result Bytes StateFault) (least : ℕ) (bytes : Bytes) (left : Remaining)
     (fault : StateFault) → GoesOn ram whole least bytes left → is_next end_line left ≡ false
     → block_in ram least left ≡ Err fault → whole ≡ Err fault
 unfolding turn
@@ -84,8 +84,8 @@ no_block ram whole least bytes left fault goes test fails =
     let last = turned ram whole least bytes left false goes test in
     sym (rw fails at last.2)
 
-pub one_block : (ram : Span) (whole : Result Bytes StateFault) (least : ℕ) (bytes : Bytes) (left : Left)
-    (block : MemoryBlock) (next : Left) → GoesOn ram whole least bytes left → is_next end_line left ≡ false
+pub one_block : (ram : Span) (whole : Result Bytes StateFault) (least : ℕ) (bytes : Bytes) (left : Remaining)
+    (block : MemoryBlock) (next : Remaining) → GoesOn ram whole least bytes left → is_next end_line left ≡ false
     → block_in ram least left ≡ Ok (block, next) → length next.text < length left.text
     → GoesOn ram whole (block.address + 16) (with_block block bytes) next
 unfolding turn
@@ -128,13 +128,13 @@ inside_with ram old new block put len low high inside a some =
     by false test some = inside a some
 
 -- what a test for the last line tells
-is_after : (line : List ℕ) (left next : Left) (test : Bool) → is_next line left ≡ test
+is_after : (line : List ℕ) (left next : Remaining) (test : Bool) → is_next line left ≡ test
     → Some next ≡ (if test then Some (after line left) else None)
     → (is_next line left ≡ true) × (next ≡ after line left)
 is_after line left next true is found = (is, cc)
 is_after line left next false is found = absurd cc
 
-not_after : (line : List ℕ) (left : Left) (test : Bool) → is_next line left ≡ test
+not_after : (line : List ℕ) (left : Remaining) (test : Bool) → is_next line left ≡ test
     → None ≡ (if test then Some (after line left) else None) → is_next line left ≡ false
 not_after line left true is found = absurd cc
 not_after line left false is found = is
@@ -147,29 +147,29 @@ some_bytes : (text : List ℕ) (test : Bool) → test ≡ (length text == 0) →
 some_bytes [] test is fails = absurd cc
 some_bytes (byte ∷ text) test is fails = omega arith
 
-pub ends_here : (ram : Span) (whole : Result Bytes StateFault) (least : ℕ) (bytes : Bytes) (left next : Left)
+pub ends_here : (ram : Span) (whole : Result Bytes StateFault) (least : ℕ) (bytes : Bytes) (left next : Remaining)
     (test : Bool) → GoesOn ram whole least bytes left
     → Some next ≡ (if is_next end_line left then Some (after end_line left) else None)
     → test ≡ (length next.text == 0) → test ≡ true → whole ≡ Ok bytes
 ends_here ram whole least bytes left next test goes found is holds =
     let here = is_after end_line left next (is_next end_line left) refl found in
     ends ram whole least bytes left goes here.0
-    (ap (λ (l : Left). l.text) (sym here.1) ∙ no_bytes next.text test is holds)
+    (ap (λ (l : Remaining). l.text) (sym here.1) ∙ no_bytes next.text test is holds)
 
-pub ends_later : (ram : Span) (whole : Result Bytes StateFault) (least : ℕ) (bytes : Bytes) (left next : Left)
+pub ends_later : (ram : Span) (whole : Result Bytes StateFault) (least : ℕ) (bytes : Bytes) (left next : Remaining)
     (test : Bool) → GoesOn ram whole least bytes left
     → Some next ≡ (if is_next end_line left then Some (after end_line left) else None)
     → test ≡ (length next.text == 0) → test ≡ false → whole ≡ Err (fault_at next BadLine)
 ends_later ram whole least bytes left next test goes found is fails =
     let here = is_after end_line left next (is_next end_line left) refl found in
     let more : 0 < length (after end_line left).text =
-    subst (λ (l : Left). 0 < length l.text) here.1 (some_bytes next.text test is fails) in
-    ends_early ram whole least bytes left goes here.0 more ∙ ap (λ (l : Left). early l) (sym here.1)
+    subst (λ (l : Remaining). 0 < length l.text) here.1 (some_bytes next.text test is fails) in
+    ends_early ram whole least bytes left goes here.0 more ∙ ap (λ (l : Remaining). early l) (sym here.1)
   where
-    early : Left → Result Bytes StateFault
+    early : Remaining → Result Bytes StateFault
     early left = Err (fault_at left BadLine)
 
-pub blocked : (ram : Span) (whole : Result Bytes StateFault) (least : ℕ) (bytes : Bytes) (left : Left)
+pub blocked : (ram : Span) (whole : Result Bytes StateFault) (least : ℕ) (bytes : Bytes) (left : Remaining)
     (fault : StateFault) → GoesOn ram whole least bytes left
     → None ≡ (if is_next end_line left then Some (after end_line left) else None)
     → Err fault ≡ block_in ram least left → whole ≡ Err fault
@@ -177,8 +177,8 @@ blocked ram whole least bytes left fault goes found fails =
     no_block ram whole least bytes left fault goes (not_after end_line left (is_next end_line left) refl found)
     (sym fails)
 
-pub goes_past : (ram : Span) (whole : Result Bytes StateFault) (least : ℕ) (bytes : Bytes) (left : Left)
-    (block : MemoryBlock) (next : Left) (more : Bytes) → GoesOn ram whole least bytes left
+pub goes_past : (ram : Span) (whole : Result Bytes StateFault) (least : ℕ) (bytes : Bytes) (left : Remaining)
+    (block : MemoryBlock) (next : Remaining) (more : Bytes) → GoesOn ram whole least bytes left
     → None ≡ (if is_next end_line left then Some (after end_line left) else None)
     → Ok (block, next) ≡ block_in ram least left → length next.text < length left.text
     → more ≡ with_block block bytes → GoesOn ram whole (block.address + 16) more next

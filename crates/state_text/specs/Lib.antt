@@ -6,3 +6,4 @@ pub mod Memory
 pub mod Texts
 pub mod Views
 pub mod Laws
+pub mod Writes

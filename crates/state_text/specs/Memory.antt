@@ -11,11 +11,15 @@ use Rattle.state_text.specs.declared.fault.FaultKind.TheVariants.{BadLine}
 use Rattle.state_text.specs.declared.fault.StateFault.{StateFault}
 use Rattle.state_text.specs.Lines.{block_line, end_line}
 use Rattle.state_text.specs.declared.memory.MemoryBlock.{MemoryBlock}
-use Rattle.state_text.specs.Reading.{Left, fault_at, is_next, after, is_zero, block_in}
+use Rattle.state_text.specs.Reading.{Remaining, fault_at, is_next, after, is_zero, block_in}
 
 -- the 16 bytes from an address on
 abbrev pub bytes_from : Bytes → ℕ → List ℕ
 bytes_from bytes address = map bytes (range_with_len address 16)
+
+-- the line of a block, with no byte where the block is all 0
+abbrev pub block_text : ℕ → List ℕ → List ℕ
+block_text address bytes = if is_zero bytes then [] else block_line address bytes
 
 -- the lines of so many blocks from an address on, of those alone that are not all 0
 unfoldable pub memory_lines : Bytes → ℕ → ℕ → List (List ℕ)
@@ -32,20 +36,20 @@ with_block block bytes address =
     else bytes address
 
 -- the last line, with nothing after it
-abbrev pub memory_end_in : Bytes → Left → Result Bytes StateFault
-memory_end_in bytes left = nothing_after left.text
+abbrev pub memory_end_in : Bytes → Remaining → Result Bytes StateFault
+memory_end_in bytes remaining = nothing_after remaining.text
   where
     nothing_after : List ℕ → Result Bytes StateFault
     nothing_after [] = Ok bytes
-    nothing_after (_ ∷ _) = Err (fault_at left BadLine)
+    nothing_after (_ ∷ _) = Err (fault_at remaining BadLine)
 
 -- Memory after the blocks of a text, each at or above the least address that it may have, and the end. There are fewer
 -- lines than the first number says: one more than there are bytes will do.
-unfoldable pub memory_in : Span → ℕ → ℕ → Bytes → Left → Result Bytes StateFault
-memory_in ram zero least bytes left = Err (fault_at left BadLine)
-memory_in ram (suc most) least bytes left =
-    if is_next end_line left then memory_end_in bytes (after end_line left)
-    else (block_in ram least left
+unfoldable pub memory_in : Span → ℕ → ℕ → Bytes → Remaining → Result Bytes StateFault
+memory_in ram zero least bytes remaining = Err (fault_at remaining BadLine)
+memory_in ram (suc most) least bytes remaining =
+    if is_next end_line remaining then memory_end_in bytes (after end_line remaining)
+    else (block_in ram least remaining
     >>= λ read. memory_in ram most (read.0.address + 16) (with_block read.0 bytes) read.1)
 
 -- the bytes of pieces, 0 where they have none

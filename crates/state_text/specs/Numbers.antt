@@ -38,11 +38,14 @@ saved_csrs =
     Mstatus ∷ Medeleg ∷ Mideleg ∷ Mie ∷ Mtvec ∷ Stvec ∷ Mcounteren ∷ Scounteren ∷ Menvcfg ∷ Senvcfg ∷
     Mcountinhibit ∷ Mscratch ∷ Sscratch ∷ Mepc ∷ Sepc ∷ Mcause ∷ Scause ∷ Mtval ∷ Stval ∷ Mip ∷ Satp ∷ []
 
+-- those of physical memory protection: the configurations of the first entries and of the others, and the addresses
+abbrev pub protection_numbers_of : Csrs → List ℕ
+protection_numbers_of csrs =
+    packed_pmpcfg_of csrs 0 ∷ packed_pmpcfg_of csrs 8 ∷ map (λ entry. entry.addr) csrs.entries
+
 -- the numbers of a hart
 unfoldable pub numbers_of : Registers → Csrs → List ℕ
-numbers_of registers csrs =
-    registers.values ++ (map (at csrs) saved_csrs
-    ++ (packed_pmpcfg_of csrs 0 ∷ packed_pmpcfg_of csrs 8 ∷ map (λ entry. entry.addr) csrs.entries))
+numbers_of registers csrs = registers.values ++ (map (at csrs) saved_csrs ++ protection_numbers_of csrs)
 
 -- the registers that have the numbers
 abbrev pub registers_with : List ℕ → Registers

@@ -23,65 +23,65 @@ use Rattle.state_text.specs.Lines.{number_line, option_line, version_line, mode_
 use Rattle.state_text.specs.Values.{is_legal}
 
 -- what is left of a text, and the number of the line in which that begins
-pub record Left : Type 0 where
+pub record Remaining : Type 0 where
   pub line : ℕ
   pub text : List ℕ
 
 -- a fault of the line at hand
-abbrev pub fault_at : Left → FaultKind → StateFault
-fault_at left kind = record { kind = kind; line = left.line }
+abbrev pub fault_at : Remaining → FaultKind → StateFault
+fault_at remaining kind = record { kind = kind; line = remaining.line }
 
 -- the line is the next one
-abbrev pub is_next : List ℕ → Left → Bool
-is_next line left = starts_with (λ a b. a == b) left.text line
+abbrev pub is_next : List ℕ → Remaining → Bool
+is_next line remaining = starts_with (λ a b. a == b) remaining.text line
 
 -- what is left after it
-abbrev pub after : List ℕ → Left → Left
-after line left = record { line = left.line + 1; text = drop (length line) left.text }
+abbrev pub after : List ℕ → Remaining → Remaining
+after line remaining = record { line = remaining.line + 1; text = drop (length line) remaining.text }
 
 -- the first of some values whose line is the next one, with what is left after it
-unfoldable pub choice_in : {A : Type 0} → (A → List ℕ) → List A → Left → Result (A × Left) StateFault
-choice_in line [] left = Err (fault_at left BadLine)
-choice_in line (value ∷ others) left =
-    if is_next (line value) left then Ok (value, after (line value) left) else choice_in line others left
+unfoldable pub choice_in : {A : Type 0} → (A → List ℕ) → List A → Remaining → Result (A × Remaining) StateFault
+choice_in line [] remaining = Err (fault_at remaining BadLine)
+choice_in line (value ∷ others) remaining =
+    if is_next (line value) remaining then Ok (value, after (line value) remaining) else choice_in line others remaining
 
 -- so many bytes in hexadecimal digits, from a place of the text on; zeros where there are no such digits
 abbrev pub bytes_or_zeros : ℕ → Result (List ℕ) FromHexError → List ℕ
 bytes_or_zeros count (Ok bytes) = bytes
 bytes_or_zeros count (Err e) = replicate count 0
 
-unfoldable pub bytes_guessed : ℕ → ℕ → List ℕ → List ℕ
-bytes_guessed place count text = bytes_or_zeros count (decode_sized (take (2 * count) (drop place text)) count)
+unfoldable pub guess_of_bytes : ℕ → ℕ → List ℕ → List ℕ
+guess_of_bytes place count text = bytes_or_zeros count (decode_sized (take (2 * count) (drop place text)) count)
 
-unfoldable pub number_guessed : ℕ → List ℕ → ℕ
-number_guessed place text = from_be_bytes w64 (bytes_guessed place 8 text)
+unfoldable pub guess_of_number : ℕ → List ℕ → ℕ
+guess_of_number place text = from_be_bytes w64 (guess_of_bytes place 8 text)
 
 -- the number of the next line, which has this name
-unfoldable pub number_in : List ℕ → Left → Result (ℕ × Left) StateFault
-number_in name left = choice_in (number_line name) (number_guessed (length name) left.text ∷ []) left
+unfoldable pub number_in : List ℕ → Remaining → Result (ℕ × Remaining) StateFault
+number_in name remaining = choice_in (number_line name) (guess_of_number (length name) remaining.text ∷ []) remaining
 
 -- the same where there may be none
-unfoldable pub option_in : List ℕ → Left → Result (Option ℕ × Left) StateFault
-option_in name left =
-    choice_in (option_line name) (Some (number_guessed (length name) left.text) ∷ None ∷ []) left
+unfoldable pub option_in : List ℕ → Remaining → Result (Option ℕ × Remaining) StateFault
+option_in name remaining =
+    choice_in (option_line name) (Some (guess_of_number (length name) remaining.text) ∷ None ∷ []) remaining
 
-unfoldable pub version_in : Left → Result ((Unit {0}) × Left) StateFault
-version_in left = choice_in (λ _. version_line) (tt ∷ []) left
+unfoldable pub version_in : Remaining → Result ((Unit {0}) × Remaining) StateFault
+version_in remaining = choice_in (λ _. version_line) (tt ∷ []) remaining
 
 -- pc is even
-unfoldable pub pc_in : Left → Result (ℕ × Left) StateFault
-pc_in left = do
-  read ← number_in (codes "pc ") left
-  refuse_if (read.0 % 2 == 1) (fault_at left BadValue)
+unfoldable pub pc_in : Remaining → Result (ℕ × Remaining) StateFault
+pc_in remaining = do
+  read ← number_in (codes "pc ") remaining
+  refuse_if (read.0 % 2 == 1) (fault_at remaining BadValue)
   Ok read
 
-unfoldable pub mode_in : Left → Result (Mode × Left) StateFault
-mode_in left = choice_in mode_line (User ∷ Supervisor ∷ Machine ∷ []) left
+unfoldable pub mode_in : Remaining → Result (Mode × Remaining) StateFault
+mode_in remaining = choice_in mode_line (User ∷ Supervisor ∷ Machine ∷ []) remaining
 
-unfoldable pub flags_in : Left → Result ((Bool × Bool) × Left) StateFault
-flags_in left =
+unfoldable pub flags_in : Remaining → Result ((Bool × Bool) × Remaining) StateFault
+flags_in remaining =
     choice_in (λ flags. flags_line flags.0 flags.1)
-    ((false, false) ∷ (false, true) ∷ (true, false) ∷ (true, true) ∷ []) left
+    ((false, false) ∷ (false, true) ∷ (true, false) ∷ (true, true) ∷ []) remaining
 
 -- a reserved block begins at a multiple of its size, and lies in RAM
 abbrev pub is_misplaced : ℕ → Option ℕ → Bool
@@ -92,17 +92,17 @@ abbrev pub is_outside : Span → ℕ → Option ℕ → Bool
 is_outside ram size None = false
 is_outside ram size (Some address) = not (holds_all ram address size)
 
-unfoldable pub reserved_in : Span → ℕ → Left → Result (Option ℕ × Left) StateFault
-reserved_in ram size left = do
-  read ← option_in (codes "reserved ") left
-  refuse_if (is_misplaced size read.0) (fault_at left BadValue)
-  refuse_if (is_outside ram size read.0) (fault_at left OutsideRam)
+unfoldable pub reserved_in : Span → ℕ → Remaining → Result (Option ℕ × Remaining) StateFault
+reserved_in ram size remaining = do
+  read ← option_in (codes "reserved ") remaining
+  refuse_if (is_misplaced size read.0) (fault_at remaining BadValue)
+  refuse_if (is_outside ram size read.0) (fault_at remaining OutsideRam)
   Ok read
 
 -- the first six lines
-unfoldable pub head_in : Span → ℕ → Left → Result (Head × Left) StateFault
-head_in ram size left = do
-  version ← version_in left
+unfoldable pub head_in : Span → ℕ → Remaining → Result (Head × Remaining) StateFault
+head_in ram size remaining = do
+  version ← version_in remaining
   pc ← pc_in version.1
   mode ← mode_in pc.1
   order ← option_in (codes "order ") mode.1
@@ -122,27 +122,27 @@ head_in ram size left = do
 
 -- the numbers of lines with these names, after some numbers; each is one that the hart can have there
 unfoldable pub numbers_in :
-    List (List ℕ) → List NumberKind → List ℕ → Left → Result (List ℕ × Left) StateFault
-numbers_in (name ∷ names) (kind ∷ kinds) before left = do
-  read ← number_in name left
-  refuse_if (not (is_legal kind read.0)) (fault_at left BadValue)
+    List (List ℕ) → List NumberKind → List ℕ → Remaining → Result (List ℕ × Remaining) StateFault
+numbers_in (name ∷ names) (kind ∷ kinds) before remaining = do
+  read ← number_in name remaining
+  refuse_if (not (is_legal kind read.0)) (fault_at remaining BadValue)
   numbers_in names kinds (before ++ read.0 ∷ []) read.1
-numbers_in _ _ before left = Ok (before, left)
+numbers_in _ _ before remaining = Ok (before, remaining)
 
 abbrev pub is_zero : List ℕ → Bool
 is_zero bytes = list_all (λ byte. byte == 0) bytes
 
-abbrev pub block_guessed : List ℕ → MemoryBlock
-block_guessed text = record { address = number_guessed 1 text; bytes = bytes_guessed 18 16 text }
+abbrev pub guess_of_block : List ℕ → MemoryBlock
+guess_of_block text = record { address = guess_of_number 1 text; bytes = guess_of_bytes 18 16 text }
 
 -- a block with zeros alone, at no multiple of 16, or below the least address at which one may stand
 abbrev pub is_no_block : ℕ → MemoryBlock → Bool
 is_no_block least block = is_zero block.bytes || not (block.address % 16 == 0) || nat_lt block.address least
 
 -- the block of the next line
-unfoldable pub block_in : Span → ℕ → Left → Result (MemoryBlock × Left) StateFault
-block_in ram least left = do
-  read ← choice_in (λ block. block_line block.address block.bytes) (block_guessed left.text ∷ []) left
-  refuse_if (is_no_block least read.0) (fault_at left BadLine)
-  refuse_if (not (holds_all ram read.0.address 16)) (fault_at left OutsideRam)
+unfoldable pub block_in : Span → ℕ → Remaining → Result (MemoryBlock × Remaining) StateFault
+block_in ram least remaining = do
+  read ← choice_in (λ block. block_line block.address block.bytes) (guess_of_block remaining.text ∷ []) remaining
+  refuse_if (is_no_block least read.0) (fault_at remaining BadLine)
+  refuse_if (not (holds_all ram read.0.address 16)) (fault_at remaining OutsideRam)
   Ok read

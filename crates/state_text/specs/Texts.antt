@@ -1,16 +1,12 @@
 -- The text of a saved state, and the state that a text says.
-use Rattle.std.specs.Prelude.{◌≡◌, ℕ, ◌+◌, ◌/◌, ◌%◌, List, [], ◌∷◌, ◌++◌, codes, length, Option, Some, None, Result, Ok}
-use Rattle.std.specs.Prelude.{option_map, IsTrue}
-use Rattle.std.specs.Option.{ForSome}
+use Rattle.std.specs.Prelude.{ℕ, ◌+◌, ◌/◌, List, [], ◌∷◌, ◌++◌, codes, length, Option, Some, None, Result, Ok}
+use Rattle.std.specs.Prelude.{option_map}
 use Rattle.std.specs.List.{concat}
-use Rattle.hart_words.specs.declared.span.Span.{Span}
 use Rattle.hart_words.specs.declared.map.Map.{Map}
 use Rattle.hart_words.specs.declared.choices.Choices.{Choices}
 use Rattle.hart_words.specs.Memory.{Bytes}
-use Rattle.hart_words.specs.Spans.{holds_all}
 use Rattle.hart_words.specs.Results.{◌>>=◌}
 use Rattle.rv_atomic.specs.declared.reservation.Block.{Block}
-use Rattle.rv_atomic.specs.declared.reservation.Reservation.{Reservation}
 use Rattle.hart_step.specs.declared.state.Core.{Core}
 use Rattle.state_text.specs.declared.fault.StateFault.{StateFault}
 use Rattle.state_text.specs.declared.fault.StateError.{StateError}
@@ -27,16 +23,21 @@ unfoldable pub number_lines : List (List ℕ) → List ℕ → List (List ℕ)
 number_lines (name ∷ names) (number ∷ numbers) = number_line name number ∷ number_lines names numbers
 number_lines _ _ = []
 
--- the lines of a state: a hart, and memory
-unfoldable pub saved_lines : Core → Bytes → List (List ℕ)
-saved_lines core bytes =
+-- the lines before the numbers
+abbrev pub head_lines_of : Core → List (List ℕ)
+head_lines_of core =
     version_line
     ∷ number_line (codes "pc ") core.pc
     ∷ mode_line core.mode
     ∷ option_line (codes "order ") core.next_order
     ∷ flags_line core.trapped_last core.halted
     ∷ option_line (codes "reserved ") (option_map (λ block. block.address) core.reservation.block)
-    ∷ (number_lines number_names (numbers_of core.registers core.csrs)
+    ∷ []
+
+-- the lines of a state: a hart, and memory
+unfoldable pub saved_lines : Core → Bytes → List (List ℕ)
+saved_lines core bytes =
+    head_lines_of core ++ (number_lines number_names (numbers_of core.registers core.csrs)
     ++ (memory_lines bytes core.map.ram.base (core.map.ram.size / 16) ++ end_line ∷ []))
 
 -- the text of a state
@@ -74,9 +75,3 @@ state_in map choices text = do
 abbrev pub state_fault : StateError → Option StateFault
 state_fault (errors.Fault fault) = Some fault
 state_fault errors.NoMemory = None
-
--- a reserved block begins at a multiple of its size, and lies in RAM
-abbrev pub IsReservationInRam : Span → Reservation → Type 0
-IsReservationInRam ram reservation =
-    ForSome reservation.block (λ block.
-    (block.address % block.size ≡ 0) × IsTrue (holds_all ram block.address block.size))

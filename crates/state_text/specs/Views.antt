@@ -1,11 +1,11 @@
 -- What definitions see of the code's own types.
-use Rattle.state_text.specs.declared.rest.Rest.{Rest}
-use Rattle.state_text.specs.Reading.{Left}
+use Rattle.state_text.specs.declared.remaining.Remaining as code
+use Rattle.state_text.specs.Reading.{Remaining}
 
 -- what is left of a text
-abbrev pub left_of : Rest → Left
-left_of rest = record { line = rest.line; text = rest.text.now }
+abbrev pub remaining_of : code.Remaining → Remaining
+remaining_of remaining = record { line = remaining.line; text = remaining.text.now }
 
 -- a value that was read, and what is left after it
-abbrev pub seen : {A : Type 0} → A × Rest → A × Left
-seen read = (read.0, left_of read.1)
+abbrev pub value_and_remaining : {A : Type 0} → A × code.Remaining → A × Remaining
+value_and_remaining read = (read.0, remaining_of read.1)

@@ -1,20 +1,20 @@
 //! Values that are guessed from the digits of a text; whoever guesses compares lines.
 
 ghost use Rattle.std.specs.Prelude.{◌≡◌, take, drop};
-ghost use Rattle.state_text.specs.Reading.{bytes_guessed, number_guessed};
+ghost use Rattle.state_text.specs.Reading.{guess_of_bytes, guess_of_number};
 
 /// The number of 16 hexadecimal digits from a place of the text on, or 0.
-#[tactic(auto, unfolding(crate::specs::Reading::number_guessed))]
-pub fn number_guessed(place: usize, text: &[u8]) -> u64
-    ensures { result ≡ number_guessed place text.now }
+#[tactic(auto, unfolding(crate::specs::Reading::guess_of_number))]
+pub fn guess_of_number(place: usize, text: &[u8]) -> u64
+    ensures { result ≡ guess_of_number place text.now }
 {
-    u64::from_be_bytes(eight_bytes_guessed(place, text))
+    u64::from_be_bytes(guess_of_eight_bytes(place, text))
 }
 
 /// The bytes of 16 hexadecimal digits from a place of the text on, or zeros.
-#[tactic(auto, unfolding(crate::specs::Reading::bytes_guessed))]
-fn eight_bytes_guessed(place: usize, text: &[u8]) -> [u8; 8]
-    ensures { result ≡ bytes_guessed place 8 text.now }
+#[tactic(auto, unfolding(crate::specs::Reading::guess_of_bytes))]
+fn guess_of_eight_bytes(place: usize, text: &[u8]) -> [u8; 8]
+    ensures { result ≡ guess_of_bytes place 8 text.now }
 {
     let mut bytes = [0; 8];
     match hex::decode_to_slice(digits_at(place, 16, text), &mut bytes) {
@@ -24,9 +24,9 @@ fn eight_bytes_guessed(place: usize, text: &[u8]) -> [u8; 8]
 }
 
 /// The bytes of 32 hexadecimal digits from a place of the text on, or zeros.
-#[tactic(auto, unfolding(crate::specs::Reading::bytes_guessed))]
-pub fn sixteen_bytes_guessed(place: usize, text: &[u8]) -> [u8; 16]
-    ensures { result ≡ bytes_guessed place 16 text.now }
+#[tactic(auto, unfolding(crate::specs::Reading::guess_of_bytes))]
+pub fn guess_of_sixteen_bytes(place: usize, text: &[u8]) -> [u8; 16]
+    ensures { result ≡ guess_of_bytes place 16 text.now }
 {
     let mut bytes = [0; 16];
     match hex::decode_to_slice(digits_at(place, 32, text), &mut bytes) {

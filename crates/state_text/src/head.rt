@@ -4,12 +4,12 @@ ghost use Rattle.std.specs.Prelude.{◌≡◌, ◌≤◌, ℕ, length};
 ghost use Rattle.hart_words.specs.Results.{result_view};
 ghost use Rattle.state_text.specs.declared.line.TheConstants.{LONGEST_NAME};
 ghost use Rattle.state_text.specs.Reading.{number_in, option_in, version_in, pc_in, mode_in, flags_in, reserved_in, head_in, is_misplaced, is_outside};
-ghost use Rattle.state_text.specs.Views.{left_of, seen};
+ghost use Rattle.state_text.specs.Views.{remaining_of, value_and_remaining};
 
 use crate::fault::{FaultKind, StateFault};
-use crate::guess::number_guessed;
+use crate::guess::guess_of_number;
 use crate::line::{flags_line, mode_line, number_line, option_line};
-use crate::rest::Rest;
+use crate::remaining::Remaining;
 use hart_words::{Mode, Span};
 
 /// What the lines before the numbers say.
@@ -27,17 +27,21 @@ pub struct Head {
 /// What the first six lines say, with what is left after them, or their first fault. A reserved
 /// block has `size` bytes.
 #[tactic(auto, unfolding(crate::specs::Reading::head_in))]
-pub fn read_head(rest: Rest<'_>, ram: Span, size: u16) -> Result<(Head, Rest<'_>), StateFault>
+pub fn read_head(
+    remaining: Remaining<'_>,
+    ram: Span,
+    size: u16,
+) -> Result<(Head, Remaining<'_>), StateFault>
     requires some { 1 ≤ size }
     requires size { size ≤ 4096 }
-    ensures { result_view seen result ≡ head_in ram size (left_of rest.entry) }
+    ensures { result_view value_and_remaining result ≡ head_in ram size (remaining_of remaining.entry) }
 {
-    let (_, rest) = read_version(rest)?;
-    let (pc, rest) = read_pc(rest)?;
-    let (mode, rest) = read_mode(rest)?;
-    let (next_order, rest) = read_option(rest, b"order ")?;
-    let ((trapped_last, halted), rest) = read_flags(rest)?;
-    let (reserved, rest) = read_reserved(rest, ram, size)?;
+    let (_, remaining) = read_version(remaining)?;
+    let (pc, remaining) = read_pc(remaining)?;
+    let (mode, remaining) = read_mode(remaining)?;
+    let (next_order, remaining) = read_option(remaining, b"order ")?;
+    let ((trapped_last, halted), remaining) = read_flags(remaining)?;
+    let (reserved, remaining) = read_reserved(remaining, ram, size)?;
     let head = Head {
         pc,
         mode,
@@ -46,112 +50,118 @@ pub fn read_head(rest: Rest<'_>, ram: Span, size: u16) -> Result<(Head, Rest<'_>
         halted,
         reserved,
     };
-    Ok((head, rest))
+    Ok((head, remaining))
 }
 
 /// The number of the next line, which has this name.
 #[tactic(auto, unfolding(crate::specs::Reading::number_in, crate::specs::Reading::choice_in))]
-pub fn read_number<'a>(rest: Rest<'a>, name: &[u8]) -> Result<(u64, Rest<'a>), StateFault>
+pub fn read_number<'a>(
+    remaining: Remaining<'a>,
+    name: &[u8],
+) -> Result<(u64, Remaining<'a>), StateFault>
     requires { length name.now ≤ LONGEST_NAME }
-    ensures { result_view seen result ≡ number_in name.now (left_of rest.entry) }
+    ensures { result_view value_and_remaining result ≡ number_in name.now (remaining_of remaining.entry) }
 {
-    let number = number_guessed(name.len(), rest.text);
-    match rest.after(number_line(name, number).as_slice()) {
+    let number = guess_of_number(name.len(), remaining.text);
+    match remaining.after(number_line(name, number).as_slice()) {
         Some(after) => Ok((number, after)),
-        None => Err(rest.fault(FaultKind::BadLine)),
+        None => Err(remaining.fault(FaultKind::BadLine)),
     }
 }
 
 /// The same where there may be none.
 #[tactic(auto, unfolding(crate::specs::Reading::option_in, crate::specs::Reading::choice_in))]
-fn read_option<'a>(rest: Rest<'a>, name: &[u8]) -> Result<(Option<u64>, Rest<'a>), StateFault>
+fn read_option<'a>(
+    remaining: Remaining<'a>,
+    name: &[u8],
+) -> Result<(Option<u64>, Remaining<'a>), StateFault>
     requires { length name.now ≤ LONGEST_NAME }
-    ensures { result_view seen result ≡ option_in name.now (left_of rest.entry) }
+    ensures { result_view value_and_remaining result ≡ option_in name.now (remaining_of remaining.entry) }
 {
-    let number = Some(number_guessed(name.len(), rest.text));
-    if let Some(after) = rest.after(option_line(name, number).as_slice()) {
+    let number = Some(guess_of_number(name.len(), remaining.text));
+    if let Some(after) = remaining.after(option_line(name, number).as_slice()) {
         return Ok((number, after));
     }
-    match rest.after(option_line(name, None).as_slice()) {
+    match remaining.after(option_line(name, None).as_slice()) {
         Some(after) => Ok((None, after)),
-        None => Err(rest.fault(FaultKind::BadLine)),
+        None => Err(remaining.fault(FaultKind::BadLine)),
     }
 }
 
 #[tactic(auto, unfolding(crate::specs::Reading::version_in, crate::specs::Reading::choice_in))]
-fn read_version(rest: Rest<'_>) -> Result<((), Rest<'_>), StateFault>
-    ensures { result_view seen result ≡ version_in (left_of rest.entry) }
+fn read_version(remaining: Remaining<'_>) -> Result<((), Remaining<'_>), StateFault>
+    ensures { result_view value_and_remaining result ≡ version_in (remaining_of remaining.entry) }
 {
-    match rest.after(b"rvstate 1\n") {
+    match remaining.after(b"rvstate 1\n") {
         Some(after) => Ok(((), after)),
-        None => Err(rest.fault(FaultKind::BadLine)),
+        None => Err(remaining.fault(FaultKind::BadLine)),
     }
 }
 
 #[tactic(auto, unfolding(crate::specs::Reading::pc_in))]
-fn read_pc(rest: Rest<'_>) -> Result<(u64, Rest<'_>), StateFault>
-    ensures { result_view seen result ≡ pc_in (left_of rest.entry) }
+fn read_pc(remaining: Remaining<'_>) -> Result<(u64, Remaining<'_>), StateFault>
+    ensures { result_view value_and_remaining result ≡ pc_in (remaining_of remaining.entry) }
 {
-    let (pc, after) = read_number(rest, b"pc ")?;
+    let (pc, after) = read_number(remaining, b"pc ")?;
     if pc % 2 == 1 {
-        return Err(rest.fault(FaultKind::BadValue));
+        return Err(remaining.fault(FaultKind::BadValue));
     }
     Ok((pc, after))
 }
 
 #[tactic(auto, unfolding(crate::specs::Reading::mode_in, crate::specs::Reading::choice_in))]
-fn read_mode(rest: Rest<'_>) -> Result<(Mode, Rest<'_>), StateFault>
-    ensures { result_view seen result ≡ mode_in (left_of rest.entry) }
+fn read_mode(remaining: Remaining<'_>) -> Result<(Mode, Remaining<'_>), StateFault>
+    ensures { result_view value_and_remaining result ≡ mode_in (remaining_of remaining.entry) }
 {
-    if let Some(after) = rest.after(mode_line(Mode::User)) {
+    if let Some(after) = remaining.after(mode_line(Mode::User)) {
         return Ok((Mode::User, after));
     }
-    if let Some(after) = rest.after(mode_line(Mode::Supervisor)) {
+    if let Some(after) = remaining.after(mode_line(Mode::Supervisor)) {
         return Ok((Mode::Supervisor, after));
     }
-    match rest.after(mode_line(Mode::Machine)) {
+    match remaining.after(mode_line(Mode::Machine)) {
         Some(after) => Ok((Mode::Machine, after)),
-        None => Err(rest.fault(FaultKind::BadLine)),
+        None => Err(remaining.fault(FaultKind::BadLine)),
     }
 }
 
 /// Whether the last row took a synchronous trap, and whether the hart halts.
 #[tactic(auto, unfolding(crate::specs::Reading::flags_in, crate::specs::Reading::choice_in))]
-fn read_flags(rest: Rest<'_>) -> Result<((bool, bool), Rest<'_>), StateFault>
-    ensures { result_view seen result ≡ flags_in (left_of rest.entry) }
+fn read_flags(remaining: Remaining<'_>) -> Result<((bool, bool), Remaining<'_>), StateFault>
+    ensures { result_view value_and_remaining result ≡ flags_in (remaining_of remaining.entry) }
 {
-    if let Some(after) = rest.after(flags_line(false, false)) {
+    if let Some(after) = remaining.after(flags_line(false, false)) {
         return Ok(((false, false), after));
     }
-    if let Some(after) = rest.after(flags_line(false, true)) {
+    if let Some(after) = remaining.after(flags_line(false, true)) {
         return Ok(((false, true), after));
     }
-    if let Some(after) = rest.after(flags_line(true, false)) {
+    if let Some(after) = remaining.after(flags_line(true, false)) {
         return Ok(((true, false), after));
     }
-    match rest.after(flags_line(true, true)) {
+    match remaining.after(flags_line(true, true)) {
         Some(after) => Ok(((true, true), after)),
-        None => Err(rest.fault(FaultKind::BadLine)),
+        None => Err(remaining.fault(FaultKind::BadLine)),
     }
 }
 
 /// The address of the reserved block, if any: a multiple of its size, and all of it in RAM.
 #[tactic(auto, unfolding(crate::specs::Reading::reserved_in))]
 fn read_reserved(
-    rest: Rest<'_>,
+    remaining: Remaining<'_>,
     ram: Span,
     size: u16,
-) -> Result<(Option<u64>, Rest<'_>), StateFault>
+) -> Result<(Option<u64>, Remaining<'_>), StateFault>
     requires some { 1 ≤ size }
     requires size { size ≤ 4096 }
-    ensures { result_view seen result ≡ reserved_in ram size (left_of rest.entry) }
+    ensures { result_view value_and_remaining result ≡ reserved_in ram size (remaining_of remaining.entry) }
 {
-    let (reserved, after) = read_option(rest, b"reserved ")?;
+    let (reserved, after) = read_option(remaining, b"reserved ")?;
     if is_misplaced(size, reserved) {
-        return Err(rest.fault(FaultKind::BadValue));
+        return Err(remaining.fault(FaultKind::BadValue));
     }
     if is_outside(ram, size, reserved) {
-        return Err(rest.fault(FaultKind::OutsideRam));
+        return Err(remaining.fault(FaultKind::OutsideRam));
     }
     Ok((reserved, after))
 }

@@ -14,11 +14,11 @@ use std::marker::Model;
 const MOST_BYTES: usize = 64;
 
 /// The most bytes of the name of a number.
-pub const LONGEST_NAME: usize = 32;
+pub(crate) const LONGEST_NAME: usize = 32;
 
 /// A line, which takes no memory beyond itself.
 #[derive(Drop)]
-pub struct Line {
+pub(crate) struct Line {
     bytes: ArrayVec<u8, MOST_BYTES>,
 }
 
@@ -41,7 +41,7 @@ impl Line {
     }
 
     /// The bytes of the line, in order.
-    pub fn as_slice(&self) -> &[u8]
+    pub(crate) fn as_slice(&self) -> &[u8]
         ensures { result.now ≡ self.now }
     {
         self.bytes.as_slice()
@@ -59,10 +59,11 @@ impl Line {
 
 /// The line of a number with this name.
 #[tactic(auto, unfolding(crate::specs::Lines::number_line))]
-pub fn number_line(name: &[u8], number: u64) -> Line
+pub(crate) fn number_line(name: &[u8], number: u64) -> Line
     requires { length name.now ≤ LONGEST_NAME }
     ensures line { result ≡ number_line name.now number }
     ensures some { 0 < length result }
+    ensures short { length result ≤ MOST_BYTES }
 {
     let digits = digits_of(number);
     let mut line = Line::new();
@@ -73,10 +74,11 @@ pub fn number_line(name: &[u8], number: u64) -> Line
 }
 
 /// The same where there may be no number.
-pub fn option_line(name: &[u8], number: Option<u64>) -> Line
+pub(crate) fn option_line(name: &[u8], number: Option<u64>) -> Line
     requires { length name.now ≤ LONGEST_NAME }
     ensures line { result ≡ option_line name.now number }
     ensures some { 0 < length result }
+    ensures short { length result ≤ MOST_BYTES }
 {
     match number {
         Some(number) => number_line(name, number),
@@ -89,6 +91,7 @@ fn none_line(name: &[u8]) -> Line
     requires { length name.now ≤ LONGEST_NAME }
     ensures line { result ≡ option_line name.now None }
     ensures some { 0 < length result }
+    ensures short { length result ≤ MOST_BYTES }
 {
     let mut line = Line::new();
     line.put(name);
@@ -97,9 +100,10 @@ fn none_line(name: &[u8]) -> Line
 }
 
 /// The line of a mode.
-pub fn mode_line(mode: Mode) -> &'static [u8]
+pub(crate) fn mode_line(mode: Mode) -> &'static [u8]
     ensures line { result.now ≡ mode_line mode }
     ensures some { 0 < length result.now }
+    ensures short { length result.now ≤ MOST_BYTES }
 {
     match mode {
         Mode::User => b"mode 0\n",
@@ -109,9 +113,10 @@ pub fn mode_line(mode: Mode) -> &'static [u8]
 }
 
 /// The line that says whether the last row took a synchronous trap, and whether the hart halts.
-pub fn flags_line(trapped_last: bool, halted: bool) -> &'static [u8]
+pub(crate) fn flags_line(trapped_last: bool, halted: bool) -> &'static [u8]
     ensures line { result.now ≡ flags_line trapped_last halted }
     ensures some { 0 < length result.now }
+    ensures short { length result.now ≤ MOST_BYTES }
 {
     match (trapped_last, halted) {
         (false, false) => b"flags 00\n",
@@ -123,9 +128,10 @@ pub fn flags_line(trapped_last: bool, halted: bool) -> &'static [u8]
 
 /// The line of the 16 bytes from an address on.
 #[tactic(auto, unfolding(crate::specs::Lines::block_line))]
-pub fn block_line(address: u64, bytes: &[u8; 16]) -> Line
+pub(crate) fn block_line(address: u64, bytes: &[u8; 16]) -> Line
     ensures line { result ≡ block_line address bytes.now }
     ensures some { 0 < length result }
+    ensures short { length result ≤ MOST_BYTES }
 {
     let address = digits_of(address);
     let digits = block_digits(bytes);

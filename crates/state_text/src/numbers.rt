@@ -1,20 +1,20 @@
 //! The numbered lines: the integer registers and the control and status registers, in the order of
 //! the text.
 
-ghost use Rattle.std.specs.Prelude.{◌≡◌, [], map, slice_index};
+ghost use Rattle.std.specs.Prelude.{◌≡◌, ◌<◌, [], map, slice_index};
 ghost use Rattle.std.specs.List.{range_with_len};
 ghost use Rattle.hart_words.specs.Results.{result_view};
 ghost use Rattle.state_text.specs.declared.numbers.TheConstants.{KINDS, NUMBERS};
-ghost use Rattle.state_text.specs.Numbers.{number_names, stored_places, pmp_entry_in, registers_with, csrs_with};
+ghost use Rattle.state_text.specs.Numbers.{number_names, numbers_of, protection_numbers_of, saved_csrs, stored_places, pmp_entry_in, registers_with, csrs_with};
 ghost use Rattle.state_text.specs.Reading.{numbers_in};
-ghost use Rattle.state_text.specs.Views.{left_of, seen};
+ghost use Rattle.state_text.specs.Views.{remaining_of, value_and_remaining};
 
 use crate::fault::{FaultKind, StateFault};
 use crate::head::read_number;
-use crate::rest::Rest;
+use crate::remaining::Remaining;
 use crate::values::is_legal;
 use csr_file::{Csrs, STORED_CSRS, StoredCsr};
-use hart_words::{PmpEntry, Registers};
+use hart_words::{CsrName, PmpEntry, Registers};
 
 /// How many there are.
 pub const NUMBERS: usize = 70;
@@ -183,25 +183,25 @@ pub const KINDS: [NumberKind; NUMBERS] = [
 /// The numbers of the lines with these names, or the first fault. Each is one that the hart can
 /// have there.
 pub fn read_numbers<'a>(
-    rest: Rest<'a>,
+    remaining: Remaining<'a>,
     names: &[&[u8]; NUMBERS],
     kinds: &[NumberKind; NUMBERS],
-) -> Result<([u64; NUMBERS], Rest<'a>), StateFault>
+) -> Result<([u64; NUMBERS], Remaining<'a>), StateFault>
     requires { map (λ name. name.now) names.now ≡ number_names }
-    ensures { result_view seen result
-        ≡ numbers_in number_names kinds.now [] (left_of rest.entry) }
+    ensures { result_view value_and_remaining result
+        ≡ numbers_in number_names kinds.now [] (remaining_of remaining.entry) }
 {
     let mut numbers = [0; NUMBERS];
-    let mut rest = rest;
+    let mut remaining = remaining;
     for place in 0..NUMBERS {
-        let (number, after) = read_number(rest, names[place])?;
+        let (number, after) = read_number(remaining, names[place])?;
         if !is_legal(kinds[place], number) {
-            return Err(rest.fault(FaultKind::BadValue));
+            return Err(remaining.fault(FaultKind::BadValue));
         }
         numbers[place] = number;
-        rest = after;
+        remaining = after;
     }
-    Ok((numbers, rest))
+    Ok((numbers, remaining))
 }
 
 /// The integer registers that have the numbers.
@@ -283,4 +283,70 @@ fn entry(cfg: u8, addr: u64) -> PmpEntry
     ensures { result ≡ record { cfg = cfg; addr = addr } }
 {
     PmpEntry { cfg, addr }
+}
+
+/// The stored control and status registers in the order of the text.
+pub const SAVED_CSRS: [StoredCsr; STORED_CSRS] = [
+    StoredCsr::Mstatus,
+    StoredCsr::Medeleg,
+    StoredCsr::Mideleg,
+    StoredCsr::Mie,
+    StoredCsr::Mtvec,
+    StoredCsr::Stvec,
+    StoredCsr::Mcounteren,
+    StoredCsr::Scounteren,
+    StoredCsr::Menvcfg,
+    StoredCsr::Senvcfg,
+    StoredCsr::Mcountinhibit,
+    StoredCsr::Mscratch,
+    StoredCsr::Sscratch,
+    StoredCsr::Mepc,
+    StoredCsr::Sepc,
+    StoredCsr::Mcause,
+    StoredCsr::Scause,
+    StoredCsr::Mtval,
+    StoredCsr::Stval,
+    StoredCsr::Mip,
+    StoredCsr::Satp,
+];
+
+/// The number of a hart at a place of the text.
+#[tactic(auto, unfolding(crate::specs::Numbers::numbers_of))]
+pub fn number_of(
+    integers: &[u64; 31],
+    csrs: &Csrs,
+    stored: &[StoredCsr; STORED_CSRS],
+    place: usize,
+) -> u64
+    requires stored { stored.now ≡ saved_csrs }
+    requires place { place < NUMBERS }
+    ensures { result ≡ slice_index (numbers_of (record { values = integers.now }) csrs.now) place }
+{
+    if place < 31 {
+        integers[place]
+    } else if place < 52 {
+        csrs.get(stored[place - 31])
+    } else {
+        number_of_protection(csrs, place - 52)
+    }
+}
+
+/// The configurations and the addresses of the entries of physical memory protection.
+fn number_of_protection(csrs: &Csrs, place: usize) -> u64
+    requires { place < 18 }
+    ensures { result ≡ slice_index (protection_numbers_of csrs.now) place }
+{
+    match place {
+        0 => csrs.shown(CsrName::Pmpcfg0, 0),
+        1 => csrs.shown(CsrName::Pmpcfg2, 0),
+        _ => address_of(csrs.pmp_entries(), place - 2),
+    }
+}
+
+/// The address of an entry.
+fn address_of(entries: &[PmpEntry; 16], number: usize) -> u64
+    requires { number < 16 }
+    ensures { result ≡ slice_index (map (λ entry. entry.addr) entries.now) number }
+{
+    entries[number].addr
 }

@@ -6,14 +6,14 @@ ghost use Rattle.hart_words.specs.Spans.{LiesIn};
 ghost use Rattle.hart_step.specs.Cores.{IsSound};
 ghost use Rattle.image_text.specs.Bytes.{byte_at};
 ghost use Rattle.state_text.specs.Memory.{memory_of};
-ghost use Rattle.state_text.specs.Texts.{block_with, core_with, state_fault, state_in, IsReservationInRam};
+ghost use Rattle.state_text.specs.Texts.{block_with, core_with, state_fault, state_in};
 
 use crate::fault::StateError;
 use crate::head::{Head, read_head};
 use crate::memory::read_memory;
 use crate::numbers::{KINDS, NAMES, NUMBERS, csrs_with, read_numbers, registers_with};
-use crate::rest::Rest;
-use hart_step::Core;
+use crate::remaining::Remaining;
+use hart_step::{Core, CoreParts};
 use hart_words::{Choices, Map};
 use image_text::Pieces;
 use rv_atomic::{Block, Reservation};
@@ -37,26 +37,27 @@ pub fn read_state(
     ensures exact { Gives state_fault (λ state. (state.core, memory_of state.pieces)) result
         (state_in map choices bytes.now) }
     ensures sound { IfOk result (λ state. IsSound state.core) }
-    ensures reserved { IfOk result (λ state. IsReservationInRam map.ram state.core.reservation) }
     ensures inside { IfOk result (λ state. (a : ℕ) → IsTrue (is_some (byte_at state.pieces a))
         → LiesIn a map.ram) }
 {
-    let rest = Rest {
+    let remaining = Remaining {
         line: 1,
         text: bytes,
     };
-    let (head, rest) = read_head(rest, map.ram, choices.block_size)?;
-    let (numbers, rest) = read_numbers(rest, &NAMES, &KINDS)?;
-    let pieces = read_memory(alloc, rest, map.ram)?;
+    let (head, remaining) = read_head(remaining, map.ram, choices.block_size)?;
+    let (numbers, remaining) = read_numbers(remaining, &NAMES, &KINDS)?;
+    let pieces = read_memory(alloc, remaining, map.ram)?;
     let core = core_with(map, choices, head, &numbers);
     Ok(State { core, pieces })
 }
 
 /// The hart that the lines before memory say.
 fn core_with(map: Map, choices: Choices, head: Head, numbers: &[u64; NUMBERS]) -> Core
-    ensures { result ≡ core_with map choices head numbers.now }
+    requires { IsSound (core_with map choices head numbers.now) }
+    ensures value { result ≡ core_with map choices head numbers.now }
+    ensures sound { IsSound result }
 {
-    Core {
+    let parts = CoreParts {
         registers: registers_with(numbers),
         pc: head.pc,
         mode: head.mode,
@@ -65,9 +66,8 @@ fn core_with(map: Map, choices: Choices, head: Head, numbers: &[u64; NUMBERS]) -
         next_order: head.next_order,
         trapped_last: head.trapped_last,
         halted: head.halted,
-        map,
-        choices,
-    }
+    };
+    Core::of(parts, map, choices)
 }
 
 /// A reserved block of `size` bytes at an address, or none.

@@ -88,17 +88,17 @@ const LINES: [&str; 78] = [
 ];
 
 /// The lines of the first block and of the end.
-const BLOCK: usize = 77;
+pub(crate) const BLOCK: usize = 77;
 
-const END: usize = 78;
+pub(crate) const END: usize = 78;
 
-fn map() -> Result<Map, Fail> {
+pub(crate) fn map() -> Result<Map, Fail> {
     let ram = Span::new(0x8000_0000, 0x1_0000).ok_or("no range")?;
     Ok(Map::new(ram, None).ok_or("no map")?)
 }
 
 /// The text with another text in place of one line and its line feed.
-fn text_with(alloc: Global, line: usize, other: &str) -> Result<Vec<u8>, Fail> {
+pub(crate) fn text_with(alloc: Global, line: usize, other: &str) -> Result<Vec<u8>, Fail> {
     let mut text = Vec::new(alloc);
     let mut number = 0usize;
     for old in &LINES {

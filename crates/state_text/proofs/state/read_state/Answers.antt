@@ -1,10 +1,10 @@
 use Rattle.std.proofs.Common.{◌≡◌, sym, Ok}
 use Rattle.std.proofs.lemmas.Result.{err_from_is_err_and}
 use Rattle.state_text.specs.Memory.{memory_of}
-use Rattle.state_text.specs.Texts.{state_in}
-use Rattle.state_text.specs.Views.{left_of}
+use Rattle.state_text.specs.Texts.{core_with, state_in}
+use Rattle.state_text.specs.Views.{remaining_of}
 use Rattle.state_text.proofs.OneText.{has_state}
-use Rattle.state_text.proofs.Sound.{sound_core, reserved_in_ram}
+use Rattle.state_text.proofs.Sound.{sound_core}
 use Rattle.state_text.proofs.States.{no_head, no_numbers, no_memory, all_read}
 use Rattle.state_text.proofs.state.read_state.Goals as goal
 
@@ -17,7 +17,7 @@ pub returns-in_err-numbers-clause-exact : goal.returns-in_err-numbers-clause-exa
 returns-in_err-numbers-clause-exact c =
     let p = err_from_is_err_and c.from_residual-in_err-numbers.result c.from_residual-in_err-numbers.ensures.1 in
     rw (p.1, p.2)
-    (no_numbers c.args.map c.args.choices c.args.bytes.now c.in_ok-head.head (left_of c.in_ok-head.rest) _
+    (no_numbers c.args.map c.args.choices c.args.bytes.now c.in_ok-head.head (remaining_of c.in_ok-head.remaining) _
     (sym c.in_ok-head.ensures) (sym c.in_err-numbers.ensures))
 
 pub returns-in_err-pieces-clause-exact : goal.returns-in_err-pieces-clause-exact
@@ -25,31 +25,26 @@ returns-in_err-pieces-clause-exact c =
     let p = err_from_is_err_and c.from_residual-in_err-pieces.result c.from_residual-in_err-pieces.ensures.1 in
     rw (p.1, p.2)
     (no_memory c.args.map c.args.choices c.args.bytes.now c.in_ok-head.head c.in_ok-numbers.numbers
-    (left_of c.in_ok-head.rest) (left_of c.in_ok-numbers.rest) _
+    (remaining_of c.in_ok-head.remaining) (remaining_of c.in_ok-numbers.remaining) _
     (record { headed = sym c.in_ok-head.ensures; numbered = sym c.in_ok-numbers.ensures })
     c.in_err-pieces.ensures.exact)
 
+pub core_with-core-requires : goal.core_with-core-requires
+core_with-core-requires c =
+    let core = core_with c.args.map c.args.choices c.in_ok-head.head c.in_ok-numbers.numbers in
+    let bytes = memory_of c.in_ok-pieces.pieces in
+    let whole : state_in c.args.map c.args.choices c.args.bytes.now ≡ Ok (core, bytes) =
+    all_read c.args.map c.args.choices c.args.bytes.now c.in_ok-head.head c.in_ok-numbers.numbers
+    (remaining_of c.in_ok-head.remaining) (remaining_of c.in_ok-numbers.remaining) bytes
+    (record { headed = sym c.in_ok-head.ensures; numbered = sym c.in_ok-numbers.ensures })
+    c.in_ok-pieces.ensures.exact in
+    sound_core c.args.map c.args.choices c.args.bytes.now core bytes
+    (has_state c.args.map c.args.choices c.args.bytes.now core bytes whole)
+
 pub returns-clause-exact : goal.returns-clause-exact
 returns-clause-exact c =
-    rw c.core_with-core.ensures
+    rw c.core_with-core.ensures.value
     (all_read c.args.map c.args.choices c.args.bytes.now c.in_ok-head.head c.in_ok-numbers.numbers
-    (left_of c.in_ok-head.rest) (left_of c.in_ok-numbers.rest) (memory_of c.in_ok-pieces.pieces)
+    (remaining_of c.in_ok-head.remaining) (remaining_of c.in_ok-numbers.remaining) (memory_of c.in_ok-pieces.pieces)
     (record { headed = sym c.in_ok-head.ensures; numbered = sym c.in_ok-numbers.ensures })
     c.in_ok-pieces.ensures.exact)
-
-pub returns-clause-sound : goal.returns-clause-sound
-returns-clause-sound c =
-    let whole : state_in c.args.map c.args.choices c.args.bytes.now
-    ≡ Ok (c.core_with-core.result, memory_of c.in_ok-pieces.pieces) = returns-clause-exact c in
-    sound_core c.args.map c.args.choices c.args.bytes.now c.core_with-core.result (memory_of c.in_ok-pieces.pieces)
-    (has_state c.args.map c.args.choices c.args.bytes.now c.core_with-core.result
-    (memory_of c.in_ok-pieces.pieces) whole)
-
-pub returns-clause-reserved : goal.returns-clause-reserved
-returns-clause-reserved c =
-    let whole : state_in c.args.map c.args.choices c.args.bytes.now
-    ≡ Ok (c.core_with-core.result, memory_of c.in_ok-pieces.pieces) = returns-clause-exact c in
-    reserved_in_ram c.args.map c.args.choices c.args.bytes.now c.core_with-core.result
-    (memory_of c.in_ok-pieces.pieces)
-    (has_state c.args.map c.args.choices c.args.bytes.now c.core_with-core.result
-    (memory_of c.in_ok-pieces.pieces) whole)

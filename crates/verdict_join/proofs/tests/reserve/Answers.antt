@@ -10,8 +10,8 @@ returns-clause-sound c =
     let ram = c.args.core.now.map.ram in
     let size = c.args.core.now.choices.block_size in
     record {
-      even = c.requires.even;
-      legal = c.requires.legal;
+      even = c.requires.sound.even;
+      legal = c.requires.sound.legal;
       reserved = subst (λ (block : Option Block). IfSome block (IsBlockInRam ram size)) (sym c.set.ensures)
           (block_in_ram ram size c.args.pa c.args.core.now.choices.block
           (c.contains.ensures.lies.0 c.if-not-contains.false));

@@ -1,0 +1,114 @@
+use super::*;
+use crate::tests::{BLOCK, END, map, text_with};
+use hart_step::Hart;
+use hart_words::{Choices, PhysMem};
+use outside_ports::{FailSink, MemSink, Sink};
+use page_image::PageImage;
+use page_layers::Layered;
+use std::alloc::Global;
+use std::test::Fail;
+
+/// Writes the state that a text says.
+fn write_again<S: Sink>(alloc: Global, text: &[u8], sink: &mut S) -> Result<bool, Fail> {
+    let state = read_state(alloc, text, map()?, Choices::plain())?;
+    let image = PageImage::build(alloc, &state.pieces, state.core.map.ram)?;
+    let hart = Hart {
+        core: state.core,
+        mem: Layered::over(alloc, &image),
+    };
+    Ok(write_state(&hart, sink).is_ok())
+}
+
+/// The text of memory that has bytes in each block of three pages but one.
+fn long_text(alloc: Global) -> Result<Vec<u8>, Fail> {
+    let mut text = text_with(alloc, BLOCK, "")?;
+    text.truncate(text.len().saturating_sub(4));
+    for k in 0..768u64 {
+        if k != 300 {
+            let address = 0x8000_3000 + 16 * k;
+            let line = format!(in alloc; "@{address:016x} {:032x}\n", 0x1000 + k)?;
+            text.extend_from_slice(line.as_bytes())?;
+        }
+    }
+    text.extend_from_slice(b"end\n")?;
+    Ok(text)
+}
+
+#[test]
+fn texts_are_written_again(rt: HostRuntime) -> Result<(), Fail> {
+    for (line, other) in [
+        (0, ""),
+        (2, "pc 0123456789abcdee\n"),
+        (3, "mode 0\n"),
+        (3, "mode 1\n"),
+        (4, "order none\n"),
+        (5, "flags 01\n"),
+        (5, "flags 10\n"),
+        (6, "reserved 000000008000ffc0\n"),
+        (7, "x1 fedcba9876543210\n"),
+        (37, "x31 fedcba9876543210\n"),
+        (38, "csr_mstatus 0000000a00001800\n"),
+        (43, "csr_stvec 0000000000000101\n"),
+        (58, "csr_satp 8000000000000123\n"),
+        (59, "csr_pmpcfg0 9f00000000000001\n"),
+        (60, "csr_pmpcfg2 000000000000991f\n"),
+        (76, "csr_pmpaddr15 003fffffffffffff\n"),
+        (BLOCK, ""),
+        (
+            END,
+            "@000000008000fff0 00000000000000000000000000000001\nend\n",
+        ),
+    ] {
+        let text = text_with(rt.alloc(), line, other)?;
+        let mut sink = MemSink::new(rt.alloc());
+        assert!(&rt; write_again(rt.alloc(), text.as_slice(), &mut sink)?);
+        assert_eq!(&rt; sink.held.as_slice(), text.as_slice(), "line {line}");
+    }
+    Ok(())
+}
+
+#[test]
+fn long_texts_are_written_in_pieces(rt: HostRuntime) -> Result<(), Fail> {
+    let text = long_text(rt.alloc())?;
+    let mut sink = MemSink::new(rt.alloc());
+    assert!(&rt; write_again(rt.alloc(), text.as_slice(), &mut sink)?);
+    assert_eq!(&rt; sink.held.as_slice(), text.as_slice());
+    Ok(())
+}
+
+/// Where a write fails, the sink has a front of the text.
+#[test]
+fn failing_sinks_have_a_front(rt: HostRuntime) -> Result<(), Fail> {
+    let text = long_text(rt.alloc())?;
+    for room in [0, 1, 2_500, 8_192, 20_000, 40_000] {
+        let mut sink = FailSink::new(rt.alloc(), room)?;
+        assert!(&rt; !write_again(rt.alloc(), text.as_slice(), &mut sink)?);
+        assert_eq!(&rt; Some(sink.held.as_slice()), text.as_slice().get(..room));
+        assert_eq!(&rt; sink.faults, 1);
+    }
+    Ok(())
+}
+
+/// What was written since the image was read is in the text.
+#[test]
+fn stores_are_written(rt: HostRuntime) -> Result<(), Fail> {
+    let text = text_with(rt.alloc(), 0, "")?;
+    let state = read_state(rt.alloc(), text.as_slice(), map()?, Choices::plain())?;
+    let image = PageImage::build(rt.alloc(), &state.pieces, state.core.map.ram)?;
+    let mut mem = Layered::over(rt.alloc(), &image);
+    let ram = state.core.map.ram;
+    assert!(&rt; ram.is_place(0x8000_0000, 8));
+    mem.write(0x8000_0000, 8, 0)?;
+    assert!(&rt; ram.is_place(0x8000_fff8, 8));
+    mem.write(0x8000_fff8, 8, 0x8877_6655_4433_2211)?;
+    let hart = Hart {
+        core: state.core,
+        mem,
+    };
+    let mut sink = MemSink::new(rt.alloc());
+    assert!(&rt; write_state(&hart, &mut sink).is_ok());
+    let line = "@000000008000fff0 00000000000000001122334455667788\n";
+    let wanted = text_with(rt.alloc(), BLOCK, line)?;
+    assert_eq!(&rt; sink.held.as_slice(), wanted.as_slice());
+    Ok(())
+}
