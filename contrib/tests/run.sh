@@ -212,18 +212,41 @@ test_boot() {
     [ "$status $found" = "1 $wanted" ] || fail "firmware without an image: $status '$found'"
 }
 
+# Whether the judge knows the names of ports; says once where it does not.
+knows_ports() {
+    if [ -z "${ports_known:-}" ]; then
+        printf 'insn_0,pc_rdata_0\n' >"$folder/ports.csv"
+        ports_known=$("$program" judge "$tests/rvfi/image.hex" "$folder/ports.csv")
+        [ "$ports_known" = 'agrees 0' ] ||
+            leave_out 'the verdict on traces with one line for all ports: the judge knows no ports'
+    fi
+    [ "$ports_known" = 'agrees 0' ]
+}
+
 # The writer at an RVFI port of so many instructions a cycle.
 judge_bench() {
     expect "$1" 'agrees 10' "$tests/rvfi/image.hex" "$folder/bench.csv"
 }
 
+# The same with one line for all ports: bench.csv has the rows of rows.csv, and valid before each.
+judge_lines() {
+    python3 "$contrib/port_rows.py" "$folder/bench.csv" -o "$folder/apart.csv" 2>/dev/null ||
+        fail "$1: port_rows.py"
+    sed -e '/^0x0,*$/d' -e 's/^valid,//' -e 's/^0x1,//' "$folder/apart.csv" |
+        cmp - "$folder/rows.csv" || fail "$1: other rows than with a line for each"
+    expect "$1, taken apart" 'agrees 10' "$tests/rvfi/image.hex" "$folder/apart.csv"
+    ! knows_ports || judge_bench "$1"
+}
+
 test_iverilog() {
     for ports in 1 2 3; do
-        iverilog -g2012 -Pbench.NRET=$ports -s bench -o "$folder/bench" \
-            "$tests/rvfi/bench.sv" "$contrib/rvfi_csv.sv" 2>"$folder/said" ||
-            fail "iverilog: $(cat "$folder/said")"
-        vvp -n "$folder/bench" "+rvfi_csv=$folder/bench.csv" 2>"$folder/said"
+        play_bench $ports 0
         judge_bench "iverilog, $ports ports"
+        cp "$folder/bench.csv" "$folder/rows.csv"
+        play_bench $ports 1
+        grep -q ": 10 rows in $(((10 + ports - 1) / ports)) lines\$" "$folder/said" ||
+            fail "rvfi_csv.sv, one line for $ports ports: $(cat "$folder/said")"
+        judge_lines "iverilog, one line for $ports ports"
     done
     iverilog -g2012 -s all -o "$folder/all" "$tests/rvfi/all.sv" "$contrib/rvfi_csv.sv" 2>/dev/null
     vvp -n "$folder/all" "+rvfi_csv=$folder/all.csv" 2>/dev/null
@@ -240,6 +263,17 @@ test_iverilog() {
     expect_fault 'rvfi_csv.sv with an XLEN of 32' 'XLEN_must_be_64' \
         iverilog -g2012 -Pall.XLEN=32 -s all -o "$folder/all" "$tests/rvfi/all.sv" \
         "$contrib/rvfi_csv.sv"
+    expect_fault 'rvfi_csv.sv, one line for 5 ports' 'NRET_must_be_at_most_4' \
+        iverilog -g2012 -Pbench.NRET=5 -Pbench.ONE_LINE=1 -s bench -o "$folder/bench" \
+        "$tests/rvfi/bench.sv" "$contrib/rvfi_csv.sv"
+}
+
+# The bench at so many ports, with one line for them or not.
+play_bench() {
+    iverilog -g2012 -Pbench.NRET="$1" -Pbench.ONE_LINE="$2" -s bench -o "$folder/bench" \
+        "$tests/rvfi/bench.sv" "$contrib/rvfi_csv.sv" 2>"$folder/said" ||
+        fail "iverilog: $(cat "$folder/said")"
+    vvp -n "$folder/bench" "+rvfi_csv=$folder/bench.csv" 2>"$folder/said"
 }
 
 # Unknown bits: those that nothing is to be known of are 0, others are refused, or left empty.
@@ -261,19 +295,46 @@ test_unknown() {
     done
 }
 
+# The bench in Verilator, with these words, into bench.csv.
+verilate_bench() {
+    rm -rf "$folder/obj_dir" "$folder/bench.csv"
+    (cd "$folder" &&
+        verilator --binary --top-module bench "$@" -Wno-PINMISSING -Wno-WIDTH \
+            "$tests/rvfi/bench.sv" "$contrib/rvfi_csv.sv" >said 2>&1 &&
+        obj_dir/Vbench >said 2>&1) ||
+        fail "verilator: $(tail -n 20 "$folder/said")"
+}
+
 test_verilator() {
-    for bind in -DINSTANCE -DBIND '-DBIND -DRVFI_CSV_ONLY_STANDARD'; do
-        # shellcheck disable=SC2086  # words
-        (cd "$folder" &&
-            verilator --binary --top-module bench -GNRET=2 $bind -Wno-PINMISSING -Wno-WIDTH \
-                "$tests/rvfi/bench.sv" "$contrib/rvfi_csv.sv" >said 2>&1 &&
-            obj_dir/Vbench >said 2>&1) ||
-            fail "verilator: $(tail -n 20 "$folder/said")"
+    verilate_bench -GNRET=2 -DBIND -DRVFI_CSV_ONLY_STANDARD
+    judge_bench 'verilator, bound by .*'
+    for bind in -DBIND -DINSTANCE; do
+        verilate_bench -GNRET=2 $bind
         judge_bench "verilator $bind"
-        rm -rf "$folder/obj_dir" "$folder/bench.csv"
+    done
+    mv "$folder/bench.csv" "$folder/rows.csv"
+    for ports in 2 3; do
+        verilate_bench -GNRET=$ports -GONE_LINE=1
+        judge_lines "verilator, one line for $ports ports"
     done
     expect_fault 'rvfi_csv.sv with an XLEN of 32' 'XLEN is' verilator --lint-only --top-module all \
         -GXLEN=32 -Wno-PINMISSING -Wno-WIDTH "$tests/rvfi/all.sv" "$contrib/rvfi_csv.sv"
+    expect_fault 'rvfi_csv.sv, one line for 5 ports' 'NRET is' verilator --lint-only \
+        --top-module bench -GNRET=5 -GONE_LINE=1 -Wno-PINMISSING -Wno-WIDTH \
+        "$tests/rvfi/bench.sv" "$contrib/rvfi_csv.sv"
+}
+
+# Lines for all ports that show other columns for each, in any order.
+test_port_rows() {
+    printf '%s\n' 'rvfi_insn_1,"pc_rdata",note_3, insn ,rvfi_pc_rdata_1' '2,1,"a,""b",,3' '' \
+        'z,,,4,' >"$folder/lines.csv"
+    python3 "$contrib/port_rows.py" <"$folder/lines.csv" >"$folder/rows.csv" 2>"$folder/said"
+    printf '%s\n' 'insn,pc_rdata,note_3' ',1,"a,""b"' '2,3,' '4,,' 'z,,' |
+        cmp - "$folder/rows.csv" || fail 'port_rows.py: other rows'
+    grep -q '^port_rows.py: 4 rows$' "$folder/said" || fail "port_rows.py: $(cat "$folder/said")"
+    printf 'insn,insn_1\n1,2\n3\n' >"$folder/lines.csv"
+    expect_fault 'port_rows.py, a line with another number of fields' 'line 3: 1 fields under 2 names' \
+        python3 "$contrib/port_rows.py" "$folder/lines.csv"
 }
 
 # Rows that are shuffled within a window, and put back.
@@ -389,14 +450,15 @@ if can_run 'the start of firmware' python3; then
 fi
 can_run 'firmware in qemu' python3 qemu-system-riscv64 mkfifo timeout &&
     has_version 'firmware in qemu' qemu-system-riscv64 'version 7\.' && test_boot
-can_run 'rvfi_csv.sv in Icarus Verilog' iverilog vvp && test_iverilog
+can_run 'rvfi_csv.sv in Icarus Verilog' iverilog vvp python3 && test_iverilog
 can_run 'a trace that is judged live' iverilog vvp mkfifo && test_live
+can_run 'port_rows.py' python3 && test_port_rows
 can_run 'sort_rows.py' python3 && test_sort
 can_run 'an ELF file' riscv64-unknown-elf-as riscv64-unknown-elf-ld riscv64-unknown-elf-objcopy &&
     test_elf
 can_run 'a program in C' python3 make riscv64-unknown-elf-gcc riscv64-unknown-elf-objcopy \
     qemu-system-riscv64 && has_version 'a program in C' qemu-system-riscv64 'version 7\.' && test_c
-can_run 'rvfi_csv.sv in Verilator' verilator make g++ &&
+can_run 'rvfi_csv.sv in Verilator' verilator make g++ python3 &&
     has_version 'rvfi_csv.sv in Verilator' verilator 'Verilator [5-9]' && test_verilator
 can_run 'regress.py with GNU parallel' parallel
 can_run 'regress.py with .csv.zst' zstd
@@ -406,7 +468,7 @@ fi
 can_run 'the installed files' make python3 git && test_install
 [ "$failed" -eq 0 ] && echo "contrib: ok"
 if [ -n "$left_out" ]; then
-    echo "contrib: left out, sh contrib/tests/setup.sh installs what they need:$left_out"
+    echo "contrib: left out, sh contrib/tests/setup.sh installs the tools that are missing:$left_out"
 else
     echo "contrib: no test was left out"
 fi
