@@ -2,14 +2,15 @@
 """Holds a program to the answers of judge.py on random images and traces.
 
     campaign.py PROGRAM [--first N] [--count M] [--seed S] [--jobs J] [--keep FOLDER] [--part]
-                [--no-choices]
+                [--no-choices] [--ports]
 
 Each case, which its number and the seed decide, is a program that is made up while a hart runs
 through it, a trace of that run with columns drawn by chance, and options. In half of the cases one
 thing is altered in the trace or in the image. The line and the status that are due are those of
 judge.py, which reads the same texts. Each core chooses by chance what hart_choices.py has, and the
 program gets the options for that; with --no-choices the cases are others, all of cores with the
-defaults. What the cases reached is counted and printed. The status is 1 where an answer is not the
+defaults. With --ports a line has one to four ports, drawn by chance, and each trace of one port is judged
+again with two, three and four, where the verdict must be the same. What the cases reached is counted and printed. The status is 1 where an answer is not the
 one due, where a trace in which nothing is altered does not agree, where a core with bit
 manipulation does not differ as it must from a hart without, or the other way round, or, without
 --part, where one of the things that campaign_reach.py lists was not reached. With --keep the files
@@ -31,6 +32,7 @@ from pathlib import Path
 sys.path.insert(0, str(Path(__file__).resolve().parents[1] / "interpreter"))
 
 from campaign_case import make_case
+from campaign_ports import count_answer, ports_to_reach, rewritten
 from campaign_reach import all_to_reach
 from judge import foretell, number
 
@@ -103,26 +105,52 @@ def judge_cases(options, first, last):
     """What the cases from first up to last reached, and the wrong answers among them."""
     reached, wrong = Counter(), []
     with tempfile.TemporaryDirectory(dir=options.folder) as folder:
-        image, trace = f"{folder}/image", f"{folder}/trace"
         for at in range(first, last):
-            case = make_case(options.seed, at, reached, options.choices)
+            case = make_case(options.seed, at, reached, options.choices, options.ports)
             said, status = foretell(case.image, case.trace, case.setting)
-            due = f"{said}\n", status
-            reached[kind_of(said)] += 1
-            reached["altered", case.altered or "nothing"] += 1
-            if case.foreknown:
-                reached["bits", f"{case.altered.removeprefix('bits ')}: known to differ"] += 1
-            Path(image).write_bytes(case.image)
-            Path(trace).write_bytes(case.trace)
-            words = [{"IMAGE": image, "TRACE": trace}.get(word, word) for word in case.words]
-            found = answer_of(options.program, words) if options.program else due
-            why = fault_of(case, found, due)
-            if why is None:
-                continue
-            wrong.append((at, why, found, due))
-            if options.keep:
-                keep(options.keep, at, case, found, due)
+            count_case(reached, case, said)
+            wrong += hold(options, folder, at, case, (f"{said}\n", status))
+            if options.ports:
+                wrong += hold_rewritten(options, folder, at, case, said, reached)
     return reached, wrong
+
+
+def count_case(reached, case, said):
+    """Counts what a case is and what is due."""
+    reached[kind_of(said)] += 1
+    reached["altered", case.altered or "nothing"] += 1
+    if case.foreknown:
+        reached["bits", f"{case.altered.removeprefix('bits ')}: known to differ"] += 1
+    count_answer(reached, case, said)
+
+
+def hold(options, folder, at, case, due):
+    """Holds the program to what is due for a case; the wrong answer, where there is one."""
+    image, trace = f"{folder}/image", f"{folder}/trace"
+    Path(image).write_bytes(case.image)
+    Path(trace).write_bytes(case.trace)
+    words = [{"IMAGE": image, "TRACE": trace}.get(word, word) for word in case.words]
+    found = answer_of(options.program, words) if options.program else due
+    why = fault_of(case, found, due)
+    if why is None:
+        return []
+    if options.keep:
+        keep(options.keep, at, case, found, due)
+    return [(at, why, found, due)]
+
+
+def hold_rewritten(options, folder, at, case, said, reached):
+    """Holds the judges to what is due for a trace of one port that is written with several a line."""
+    wrong = []
+    kind, what = kind_of(said)
+    for ports, trace, line in rewritten(case, said):
+        reached["rewritten", f"{'differs' if kind == 'differs' else what}: {ports} ports"] += 1
+        again = case._replace(trace=trace)
+        told, status = foretell(again.image, again.trace, again.setting)
+        if told != line:
+            wrong.append((at, f"written with {ports} ports, by judge.py", told, line))
+        wrong += hold(options, folder, at, again, (f"{line}\n", status))
+    return wrong
 
 
 def chunk(task):
@@ -172,6 +200,9 @@ def parse():
         "--choices", action=argparse.BooleanOptionalAction, default=True,
         help="whether cores make their choices by chance",
     )
+    parser.add_argument(
+        "--ports", action="store_true", help="one to four ports a line, drawn by chance; also with other ports"
+    )
     parser.add_argument("--folder", help="where the files of the cases are for a while")
     return parser.parse_args()
 
@@ -183,7 +214,8 @@ def main():
     begun = time.monotonic()
     reached, wrong = run_all(options)
     summary(reached)
-    missed = [what for what in all_to_reach(options.choices) if not reached[what]]
+    needed = [*all_to_reach(options.choices), *(ports_to_reach() if options.ports else ())]
+    missed = [what for what in needed if not reached[what]]
     for kind, name in missed:
         print(f"not reached: {kind}: {name}")
     altered = options.count - reached["altered", "nothing"]

@@ -5,6 +5,7 @@ from typing import NamedTuple
 
 from campaign_hart import MODES, MadeCore, MadeHart, count_row, manipulation_of
 from campaign_plan import Chance, Maker
+from campaign_ports import in_ports, pick_ports
 from campaign_rows import Row, alter_field, alter_image, alter_rows, pick_columns
 from campaign_text import Form, alter_lines, break_image, image_text, trace_lines, trace_text
 from hart_choices import VALUES, Choices
@@ -20,7 +21,7 @@ MEGA, GIGA = 1 << 21, 1 << 30
 class Case(NamedTuple):
     """A command's files and words, what they say, and what was altered, None where nothing was.
 
-    foreknown is the line that is due, where it is known without judge.py.
+    foreknown is the line that is due, where it is known without judge.py; ports is how many a line has.
     """
 
     image: bytes
@@ -29,6 +30,7 @@ class Case(NamedTuple):
     setting: Setting
     altered: str | None
     foreknown: str | None
+    ports: int
 
 
 def pick_ram(chance):
@@ -241,9 +243,9 @@ def limited(chance, setting, image, trace):
     return setting._replace(most_image=most) if text is image else setting._replace(most_trace=most)
 
 
-def make_case(seed, number, reached, with_choices):
-    """The case of this number; what it reaches is counted. With choices it is another one."""
-    chance = Chance(f"{seed} {number}{' choices' if with_choices else ''}")
+def make_case(seed, number, reached, with_choices, with_ports=False):
+    """The case of this number; what it reaches is counted. With choices, or ports, it is another one."""
+    chance = Chance(f"{seed} {number}{' choices' if with_choices else ''}{' ports' if with_ports else ''}")
     setting, columns, form = pick_setting(chance), pick_columns(chance), Form(chance)
     if with_choices:
         setting = setting._replace(choices=pick_choices(chance))
@@ -258,7 +260,9 @@ def make_case(seed, number, reached, with_choices):
         altered = alter_rows(chance, run.rows)
     elif kind < 0.46 and image:
         altered = alter_image(chance, image, run.pcs)
-    lines = list(trace_lines(chance, form, columns, run.rows))
+    ports = pick_ports(chance, form, reached) if with_ports else 1
+    shown = in_ports(chance, columns, run.rows, ports) if with_ports else (columns, run.rows)
+    lines = list(trace_lines(chance, form, *shown))
     if 0.46 <= kind < 0.49:
         altered = alter_lines(chance, lines)
     trace, text = trace_text(chance, form, lines), image_text(chance, image)
@@ -274,4 +278,4 @@ def make_case(seed, number, reached, with_choices):
     for column in columns:
         reached["column", column] += 1
     words = pick_words(chance, setting, reached, with_choices)
-    return Case(text, trace, words, setting, altered, foreknown)
+    return Case(text, trace, words, setting, altered, foreknown, ports)

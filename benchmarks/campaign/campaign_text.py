@@ -1,10 +1,11 @@
 """The texts of made images and traces, in many forms; a part of campaign.py."""
-from trace_text import MARK, MOST_LINE
+from trace_text import MARK, MOST_LINE, split_name
 
 UNKNOWN = (
-    "cycle", "rvfi_extra", "INSN", "rvfi_rvfi_insn", "insn_0", "", "valid2", "csr_mie",
+    "cycle", "rvfi_extra", "INSN", "rvfi_rvfi_insn", "insn_4", "", "valid2", "csr_mie",
     "mem_extamo",
 )
+UNKNOWN_AT_PORTS = (*UNKNOWN, "cycle_1", "insn_0_1", "rvfi_rvfi_insn_2", "_3", "trap_01", "valid_1_")
 JUNK = ("", "0", "zz", "0x", "-", "note", "1;2", "0xffffffffffffffffff")
 
 
@@ -21,6 +22,7 @@ class Form:
         self.gaps = chance.pick((0, 0, 0.1))
         self.mark = chance.one_in(12)
         self.unknown = chance.pick((0, 0, 1, 2))
+        self.unknown_names = UNKNOWN
 
     def count(self, reached):
         """Counts what this form has, so that none is missed."""
@@ -78,7 +80,7 @@ def trace_lines(chance, form, columns, rows):
     places = sorted(chance.below(len(columns) + 1) for _ in range(form.unknown))
     names = [form.name(column) for column in columns]
     for place in reversed(places):
-        names.insert(place, chance.pick(UNKNOWN))
+        names.insert(place, chance.pick(form.unknown_names))
     junk = (*JUNK, 'a,"b"', "a,b") if form.quotes == 1 else JUNK
     yield form.line(names)
     for row in rows:
@@ -124,7 +126,10 @@ def alter_header(chance, lines):
             return "doubled name"
         case 1:
             wanted = chance.pick(("insn", "pc_rdata"))
-            names = ["none" if name.removeprefix("rvfi_") == wanted else name for name in names]
+            found = [at for at, name in enumerate(names) if split_name(name)[0] == wanted]
+            if len(found) > 1:  # one of them for each port
+                found = [chance.pick(found)]
+            names = ["none" if at in found else name for at, name in enumerate(names)]
             lines[0] = ",".join(names)
             return "missing name"
         case 2:

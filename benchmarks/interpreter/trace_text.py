@@ -2,6 +2,7 @@
 
 The rules are those of docs/REFERENCE.md, written here a second time; a part of judge.py.
 """
+import itertools
 import re
 import sys
 
@@ -14,6 +15,7 @@ TOKEN = re.compile(rb"//[^\n]*|/\*.*?\*/|/\*|(?:(?!//|/\*)[^ \t\n\r\f])+", re.DO
 ADDRESS = re.compile(rb"@[0-9a-fA-F]{1,16}")
 BYTE = re.compile(rb"[0-9a-fA-F]{2}")
 NUMBER = re.compile(rb"[0-9]+|0[xX][0-9a-fA-F]+")
+SUFFIX = re.compile(r"(.*)_([0-3])", re.DOTALL)  # of a name, for its port
 
 sys.set_int_max_str_digits(0)  # a number of a row has as many digits as its line has room for
 
@@ -114,63 +116,92 @@ def quoted_field(line, at):
         at = close + 1
 
 
+def suffixed(column, port):
+    """A column's name as a refusal has it: that of port 0 stands alone."""
+    return f"{column}_{port}" if port else column
+
+
 class Columns:
-    """The columns of a trace: how many fields a line has, and the places of the known ones."""
+    """The columns of a trace: how many fields a line has, and the places of the known ones port by port."""
 
     def __init__(self, line, widths):
         if b"\r" in line:
             raise Refused("trace: stray return in header")
-        names = [name.removeprefix(b"rvfi_").decode("latin-1") for name in fields_of(line)]
+        names = [name.decode("latin-1") for name in fields_of(line)]
         self.count = len(names)
-        self.known = {}
+        known = {}
         for place, name in enumerate(names):
-            if name in self.known:
-                raise Refused(f"trace: column {name} twice")
-            if name in widths:
-                self.known[name] = place
-        for name in NEEDED:
-            if name not in self.known:
-                raise Refused(f"trace: no column {name}")
-        self.columns = [(name, place, widths[name]) for name, place in self.known.items()]
+            column, port = split_name(name)
+            if column not in widths:
+                continue
+            if (column, port) in known:
+                raise Refused(f"trace: column {suffixed(column, port)} twice")
+            known[column, port] = place
+        ports = 1 + max((port for _, port in known), default=0)
+        for port in range(ports):
+            for name in NEEDED:
+                if (name, port) not in known:
+                    raise Refused(f"trace: no column {suffixed(name, port)}")
+        self.ports = [
+            [(column, place, widths[column]) for (column, of), place in known.items() if of == port]
+            for port in range(ports)
+        ]
 
-    def read(self, line, row):
-        """The signals that the line of this row shows; of a row that is not valid, that alone."""
+    def fields(self, line, row):
+        """The fields of a line, whose first row is this one."""
         if b"\r" in line:
             raise Refused(f"trace: row {row}: stray return")
         fields = fields_of(line)
         if len(fields) != self.count:
             raise Refused(f"trace: row {row}: wrong number of fields")
+        return fields
+
+    def read(self, fields, port, row):
+        """The signals that these fields show of this port, in this row; of one that is not valid, that alone."""
         signals = {}
-        if "valid" in self.known:
-            self.put(signals, fields, row, "valid", self.known["valid"], 1)
-            if signals.get("valid") == 0:
-                return signals
-        for name, place, width in self.columns:
-            self.put(signals, fields, row, name, place, width)
+        for name, place, width in self.ports[port]:
+            if name == "valid":
+                self.put(signals, fields[place], row, name, port, width)
+                if signals.get("valid") == 0:
+                    return signals
+        for name, place, width in self.ports[port]:
+            self.put(signals, fields[place], row, name, port, width)
         return signals
 
     @staticmethod
-    def put(signals, fields, row, name, place, width):
+    def put(signals, field, row, name, port, width):
         """Adds the signal that a field shows."""
-        field = fields[place]
         if not field:
             if name in NEEDED:
-                raise Refused(f"trace: row {row}: {name} empty")
+                raise Refused(f"trace: row {row}: {suffixed(name, port)} empty")
             return
         value = read_number(field)
         if value is None:
-            raise Refused(f"trace: row {row}: {name} not a number")
+            raise Refused(f"trace: row {row}: {suffixed(name, port)} not a number")
         if value >> width:
-            raise Refused(f"trace: row {row}: {name} too wide")
+            raise Refused(f"trace: row {row}: {suffixed(name, port)} too wide")
         signals[name] = value
 
 
+def split_name(name):
+    """The column and the port that a name of the header is of."""
+    name = name.removeprefix("rvfi_")
+    found = SUFFIX.fullmatch(name)
+    return (found[1], int(found[2])) if found else (name, 0)
+
+
 def read_rows(text, most, widths):
-    """The rows of a trace, as they are asked for; a refusal where a line has one."""
+    """The rows of a trace, as they are asked for: those of a line in the order of its ports.
+
+    A refusal where a line has one, at its first row, or a row has one.
+    """
     lines = lines_of(text, most)
     header = next(lines, None)
     if header is None:
         raise Refused("trace: no header")
     columns = Columns(header, widths)
-    for row, line in enumerate(lines, 1):
-        yield columns.read(line, row)
+    ports = len(columns.ports)
+    for first, line in zip(itertools.count(1, ports), lines):
+        fields = columns.fields(line, first)
+        for port in range(ports):
+            yield columns.read(fields, port, first + port)
