@@ -2,15 +2,17 @@
 """Holds a program to the answers of judge.py on random images and traces.
 
     campaign.py PROGRAM [--first N] [--count M] [--seed S] [--jobs J] [--keep FOLDER] [--part]
-                [--no-choices] [--ports]
+                [--no-choices] [--ports] [--states]
 
 Each case, which its number and the seed decide, is a program that is made up while a hart runs
 through it, a trace of that run with columns drawn by chance, and options. In half of the cases one
 thing is altered in the trace or in the image. The line and the status that are due are those of
 judge.py, which reads the same texts. Each core chooses by chance what hart_choices.py has, and the
 program gets the options for that; with --no-choices the cases are others, all of cores with the
-defaults. With --ports a line has one to four ports, drawn by chance, and each trace of one port is judged
-again with two, three and four, where the verdict must be the same. What the cases reached is counted and printed. The status is 1 where an answer is not the
+defaults. With --ports a line has one to four ports, drawn by chance, and each trace of one port is
+judged again with two, three and four, where the verdict must be the same. With --states each trace is
+cut in two besides, before a line that is drawn by chance, and its second part judged from the state
+that the first one ends in. What the cases reached is counted and printed. The status is 1 where an answer is not the
 one due, where a trace in which nothing is altered does not agree, where a core with bit
 manipulation does not differ as it must from a hart without, or the other way round, or, without
 --part, where one of the things that campaign_reach.py lists was not reached. With --keep the files
@@ -32,6 +34,7 @@ from pathlib import Path
 sys.path.insert(0, str(Path(__file__).resolve().parents[1] / "interpreter"))
 
 from campaign_case import make_case
+from campaign_cuts import cut_in_two, cuts_to_reach
 from campaign_ports import count_answer, ports_to_reach, rewritten
 from campaign_reach import all_to_reach
 from judge import foretell, number
@@ -112,6 +115,8 @@ def judge_cases(options, first, last):
             wrong += hold(options, folder, at, case, (f"{said}\n", status))
             if options.ports:
                 wrong += hold_rewritten(options, folder, at, case, said, reached)
+            if options.states:
+                wrong += hold_cut(options, folder, at, case, said, reached)
     return reached, wrong
 
 
@@ -150,6 +155,17 @@ def hold_rewritten(options, folder, at, case, said, reached):
         if told != line:
             wrong.append((at, f"written with {ports} ports, by judge.py", told, line))
         wrong += hold(options, folder, at, again, (f"{line}\n", status))
+    return wrong
+
+
+def hold_cut(options, folder, at, case, said, reached):
+    """Holds the judges to what is due for the parts of a trace, the second from the state of the first."""
+    wrong = []
+    for part, command, text, again in cut_in_two(options.seed, at, case, said, reached):
+        if again is not None and text != again:
+            wrong.append((at, f"{command} of a part, by judge.py", text, again))
+        status = foretell(part.image, part.trace, part.setting, command)[1]
+        wrong += hold(options, folder, at, part, (f"{text}\n", status))
     return wrong
 
 
@@ -203,6 +219,9 @@ def parse():
     parser.add_argument(
         "--ports", action="store_true", help="one to four ports a line, drawn by chance; also with other ports"
     )
+    parser.add_argument(
+        "--states", action="store_true", help="each trace is cut in two, too, and goes on from a saved state"
+    )
     parser.add_argument("--folder", help="where the files of the cases are for a while")
     return parser.parse_args()
 
@@ -214,7 +233,10 @@ def main():
     begun = time.monotonic()
     reached, wrong = run_all(options)
     summary(reached)
-    needed = [*all_to_reach(options.choices), *(ports_to_reach() if options.ports else ())]
+    needed = [
+        *all_to_reach(options.choices), *(ports_to_reach() if options.ports else ()),
+        *(cuts_to_reach() if options.states else ()),
+    ]
     missed = [what for what in needed if not reached[what]]
     for kind, name in missed:
         print(f"not reached: {kind}: {name}")

@@ -1,15 +1,17 @@
 #!/usr/bin/env python3
 """Judges a trace by the hart of reference_hart.py.
 
-    judge.py IMAGE TRACE [--pc A] [--ram B:S] [--io B:S] [--max-image M] [--max-trace M]
+    judge.py [judge|state] IMAGE TRACE [--pc A] [--ram B:S] [--io B:S] [--max-image M] [--max-trace M]
              [--misaligned trap|done] [--mtval value|zero] [--ad fault|set] [--reserve BYTES]
              [--bits off|on]
 
-Prints the line that `rvjudge judge` prints for an image and a trace, and ends with its status. The
-rules of comparison are those that docs/REFERENCE.md describes, written here a second time after
-riscv-formal's description of RVFI; those of the texts stand in trace_text.py. Of the words it knows
-what these options say, and no limits of those in the first line. An option that stands twice, and a
-choice that is not listed here, is refused. BYTES is a power of two from 8 to 4096.
+Prints the line that `rvjudge judge` prints for an image and a trace, and ends with its status; after the
+word state, where they agree, the text of the state that the hart is in at the end. The rules of
+comparison are those that docs/REFERENCE.md describes, written here a second time after riscv-formal's
+description of RVFI; those of the texts stand in trace_text.py, those of images that are no text of bytes
+in elf_file.py and saved_state.py. Of the words it knows what these options say, and no limits of those in
+the first line. An option that stands twice, and a choice that is not listed here, is refused. BYTES is a
+power of two from 8 to 4096.
 
 The last five say what the core chose that made the trace; the first values and 64 are the defaults.
 hart_choices.py says what each means.
@@ -20,6 +22,8 @@ import sys
 from pathlib import Path
 from typing import NamedTuple
 
+import elf_file
+import saved_state
 from hart_choices import VALUES, Choices
 from hart_instructions import MASK
 from hart_memory import RAM, Memory
@@ -245,9 +249,12 @@ def answer(judge, rows, seen=0, valid=0):
 
 
 class Setting(NamedTuple):
-    """What the options of a command say of the hart, and how many bytes its files may have."""
+    """What the options of a command say of the hart, and how many bytes its files may have.
 
-    pc: int = RAM.start
+    Where no pc is given it is that of the image, if it has one, else the first address of the usual RAM.
+    """
+
+    pc: int | None = None
     ram: range = RAM
     devices: range = range(0)
     most_image: int = 1 << 30
@@ -261,15 +268,38 @@ CHOSEN = {
     "--bits": "bits",
 }
 
-STATUS = {"agrees": 0, "differs": 1, "refused image:": 3, "refused trace:": 4}
+STATUS = {"agrees": 0, "rvstate": 0, "differs": 1, "refused image:": 3, "refused trace:": 4}
 
 
-def foretell(image, trace, setting):
-    """The line and the status for the bytes of an image and of a trace."""
+def judge_at_start(image, setting):
+    """A judge that is in the state which an image and the options say."""
+    if len(image) > setting.most_image:
+        raise Refused(f"image: more than {setting.most_image} bytes")
+    judge = Judge(Hart(Memory(ram=setting.ram), devices=setting.devices, choices=setting.choices))
+    if image.startswith(saved_state.FRONT):
+        saved_state.read_into(judge, image, setting)
+    else:
+        found, judge.hart.pc = read_bytes(image, setting.ram)
+        judge.hart.memory = Memory(found.items(), setting.ram)
+    if setting.pc is not None:
+        judge.hart.pc = setting.pc
+    return judge
+
+
+def read_bytes(image, ram):
+    """The bytes of an image by their addresses, and its first pc."""
+    if image.startswith(elf_file.FRONT):
+        return elf_file.read_elf(image, ram)
+    return read_image(image, ram), RAM.start
+
+
+def foretell(image, trace, setting, command="judge"):
+    """The text and the status for the bytes of an image and of a trace."""
     try:
-        memory = Memory(read_image(image, setting.most_image, setting.ram).items(), setting.ram)
-        judge = Judge(Hart(memory, devices=setting.devices, pc=setting.pc, choices=setting.choices))
+        judge = judge_at_start(image, setting)
         said = answer(judge, read_rows(trace, setting.most_trace, WIDTHS))
+        if command == "state" and said.startswith("agrees"):
+            said = saved_state.text_of(judge).removesuffix("\n")
     except Refused as refused:
         said = f"refused {refused}"
     return said, next(status for front, status in STATUS.items() if said.startswith(front))
@@ -325,21 +355,28 @@ def parse():
     )
     parser.add_argument("image", type=Path)
     parser.add_argument("trace", type=Path)
+    words = sys.argv[1:]
+    command = words.pop(0) if words[:1] in (["judge"], ["state"]) else "judge"
     for name, kind, value in (
         ("--pc", number, default.pc), ("--ram", span, default.ram), ("--io", span, default.devices),
         ("--max-image", number, default.most_image), ("--max-trace", number, default.most_trace),
     ):
         parser.add_argument(name, type=kind, default=value, action=Once)
     add_choices(parser)
-    return parser.parse_args()
+    return command, parser.parse_args(words)
 
 
 def main():
-    options = parse()
+    command, options = parse()
     setting = Setting(
         options.pc, options.ram, options.io, options.max_image, options.max_trace, choices_of(options)
     )
-    said, status = foretell(options.image.read_bytes(), options.trace.read_bytes(), setting)
+    try:
+        files = options.image.read_bytes(), options.trace.read_bytes()
+    except OSError as fault:
+        print(fault, file=sys.stderr)
+        return 5
+    said, status = foretell(*files, setting, command)
     print(said)
     return status
 

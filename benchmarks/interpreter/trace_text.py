@@ -31,10 +31,8 @@ def read_number(text):
     return int(text, 16) if text[:2] in (b"0x", b"0X") else int(text)
 
 
-def read_image(text, most, ram):
+def read_image(text, ram):
     """The bytes of an image by their addresses."""
-    if len(text) > most:
-        raise Refused(f"image: more than {most} bytes")
     image, address = {}, 0
     for found in TOKEN.finditer(text):
         token = found.group()
