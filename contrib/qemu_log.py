@@ -24,7 +24,9 @@ qemu carries out loads and stores at any address. One over the end of a page is 
 from its first byte on, as if its bytes lay side by side. qemu sets A and D of page tables. Where a run
 has such accesses, or translates, the last lines on standard error name the option of the judge that
 fits; --choices names both in any case. --bits on is named where instructions of Zba, Zbb or Zbs
-were carried out, as qemu does with zba=on, zbb=on, zbs=on.
+were carried out, as qemu does with zba=on, zbb=on, zbs=on. Where registers are not as at reset
+before the first row, as a boot ROM leaves them, the commands are named by which the judge begins
+with these: make_state.py makes the state.
 """
 import argparse
 import functools
@@ -33,6 +35,7 @@ import sys
 from typing import NamedTuple
 
 import elf_image
+import make_state
 from cover import BIT_MANIPULATION, name_of
 
 CSRS = (
@@ -42,6 +45,7 @@ CSRS = (
 KNOWN = {"pc", "mhartid", *CSRS, *(f"x{number}" for number in range(32))}
 # The judge's options that fit qemu.
 MISALIGNED, MARKS, BITS = "--misaligned done", "--ad set", "--bits on"
+AT_RESET = {"mstatus": make_state.XLENS, "mode": 3}
 SATP = [it for it in CSRS if it != "mip"].index("satp")
 MEMORY = ("mem_addr", "mem_rmask", "mem_rdata", "mem_wmask", "mem_wdata")
 COLUMNS = (
@@ -408,6 +412,7 @@ class Converter:
         self.tells_traps = False
         self.csrs, self.csr_text = None, ("", "")
         self.rows = self.before = self.again = self.misaligned = self.bits = 0
+        self.first = self.first_mode = None  # the state before the first row
         self.translates = False
 
     def take(self, line):
@@ -467,6 +472,8 @@ class Converter:
         row, now = Row(), decoded(code.bits)
         row.pc, row.code, row.state, row.pc_wdata = pc, now, state, None
         row.mode = code.mode if mode is None else mode
+        if self.first is None:
+            self.first, self.first_mode = state, row.mode
         row.intr, row.trap = int(self.interrupt is not None), 0 if self.tells_traps else None
         row.mip, row.mask = self.lines_of(now, state)
         self.held = row
@@ -593,6 +600,18 @@ class Converter:
         if self.bits:
             yield f"{self.bits} instructions of bit manipulation: judge with {BITS}"
 
+    def set_at_start(self):
+        """The registers that are not as at reset before the first row. Of mip it is the bits that no
+        interrupt line has."""
+        if self.first is None:
+            return {}
+        values = {f"x{at}": int(value, 16) for at, value in enumerate(self.first.registers)}
+        shown = zip((it for it in CSRS if it != "mip"), self.first.csrs)
+        values |= {name: int(value, 16) for name, value in shown if value}
+        values["mip"] = int(self.first.mip or "0", 16) & 0x22
+        values["mode"] = 3 if self.first_mode is None else self.first_mode
+        return {name: it for name, it in values.items() if it != AT_RESET.get(name, 0)}
+
     def choices(self):
         """The judge's options that fit qemu, and what it carried out."""
         return f"{MISALIGNED} {MARKS} {BITS}" if self.bits else f"{MISALIGNED} {MARKS}"
@@ -686,6 +705,9 @@ def convert(log, words, out):
         raise Refused(f"{words.log}: line {reader.at}: {fault}") from None
     for text in converter.tell():
         print(f"qemu_log.py: {text}", file=sys.stderr)
+    if found := converter.set_at_start():
+        print("qemu_log.py: registers are set before the first row; to begin with them:",
+              *make_state.command_lines(found, words.pc, words.o), sep="\n", file=sys.stderr)
     if words.choices:
         print(f"qemu_log.py: the judge's options that fit qemu: {converter.choices()}",
               file=sys.stderr)

@@ -11,6 +11,9 @@ on; what the log does not show stays an empty field. Memory use does not grow wi
 
 Judge with --bits on where Spike was run with _zba_zbb_zbs in --isa.
 
+Where the boot code has left registers that are not 0, the last lines on standard error are the commands
+by which the judge begins with these: make_state.py makes the state.
+
 What is not said on a row: the mode of an instruction that traps, what a load found in memory, and
 registers that have no column. The last are counted on standard error.
 """
@@ -18,6 +21,8 @@ import argparse
 import re
 import sys
 from collections import Counter
+
+import make_state
 
 CSRS = (
     "mstatus", "misa", "medeleg", "mideleg", "mie", "mtvec", "mscratch", "mepc", "mcause", "mtval",
@@ -84,6 +89,9 @@ class Converter:
         self.listed = None  # address and bits of the last instruction that -l listed
         self.interrupt = None  # the code of one that was entered, until its handler's first row
         self.rows = self.before = 0
+        self.written = {}  # registers and values of the instruction at hand
+        self.at_start = {}  # those that were written before the first row
+        self.stored = 0  # stores before it
         self.without_column = Counter()
         self.others = Counter()  # lines of other harts
 
@@ -110,6 +118,7 @@ class Converter:
             "pc_rdata": address(pc), "insn": int(insn, 16), "mode": int(mode), "trap": 0,
             "rd_addr": 0, "rd_wdata": 0, "mem_wmask": 0,
         }
+        self.written = {}
         self.add_written(row, iter(written.split()))
         self.hold(row)
 
@@ -141,7 +150,9 @@ class Converter:
             if row["rd_addr"]:
                 raise Refused("more than one of x1 to x31 written by one instruction")
             row["rd_addr"], row["rd_wdata"] = int(name[1:]), int(value, 16)
+            self.written[name] = int(value, 16)
         elif found := re.fullmatch(r"c\d+_(\w+)", name):
+            self.written[found[1]] = int(value, 16)
             if found[1] in CSRS:
                 row[f"csr_{found[1]}_wdata"] = int(value, 16)
             elif self.is_begun():
@@ -191,6 +202,8 @@ class Converter:
     def hold(self, row):
         if not self.is_begun() and row["pc_rdata"] != self.start:
             self.before += 1
+            self.at_start |= self.written
+            self.stored += row.get("mem_wmask", 0) != 0
             self.interrupt = None
             return
         self.go_on(row["pc_rdata"])
@@ -216,10 +229,17 @@ class Converter:
         yield f"{self.rows} rows"
         if self.before:
             yield f"{self.before} rows before 0x{self.start:x} are left out"
+        if self.stored:
+            yield f"{self.stored} stores before 0x{self.start:x}: the image must have their bytes"
         for hart, lines in sorted(self.others.items()):
             yield f"{lines} lines of core {hart} are left out"
         for name, writes in sorted(self.without_column.items()):
             yield f"{writes} writes of {name}, which has no column, are left out"
+
+    def set_at_start(self):
+        """The registers that are not 0 before the first row, as far as the log says."""
+        known = {*make_state.CSRS, *make_state.REGISTERS} - {"x0"}
+        return {name: value for name, value in self.at_start.items() if value and name in known}
 
 
 def arguments():
@@ -296,6 +316,9 @@ def convert(log, words, out):
         raise Refused(f"{words.log}: line {reader.at}: {fault}") from None
     for text in converter.tell():
         print(f"spike_log.py: {text}", file=sys.stderr)
+    if found := converter.set_at_start():
+        print("spike_log.py: registers are set before the first row; to begin with them:",
+              *make_state.command_lines(found, words.pc, words.o), sep="\n", file=sys.stderr)
 
 
 def main():

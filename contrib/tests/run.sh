@@ -88,6 +88,10 @@ test_spike() {
     grep -q '^spike_log.py: 5 rows before 0x80000000 are left out$' "$folder/said" ||
         fail "spike_log.py did not tell what it left out"
     expect spike 'agrees 25' "$image" "$out"
+    begin 'spike, from its start' "$image"
+    grep -q '^    bin/rvjudge judge start.rvstate ' "$folder/said" || fail 'spike_log.py: no command'
+    grep -qx 'x11 0000000000001020' "$folder/start.rvstate" || fail 'spike_log.py: a1 at the start'
+    ! knows_states || expect 'spike, from its start' 'agrees 25' "$folder/start.rvstate" "$out"
     expect_columns spike "$out" 35
     python3 "$contrib/spike_log.py" <"$log" 2>/dev/null | cmp -s - "$out" ||
         fail "spike_log.py differs on standard input"
@@ -176,6 +180,20 @@ test_qemu_choices() {
     [ $? -eq 1 ] || fail "qemu's choices without options: $(cat "$folder/said")"
 }
 
+# A run that begins with what the boot ROM left, in registers and in memory.
+test_qemu_rom() {
+    sh "$tests/qemu/make.sh" "$folder" rom.s off rom || fail "rom.s did not run in qemu"
+    out=$folder/run.csv io=0x100000:0xff01000
+    python3 "$contrib/qemu_log.py" "$folder/run.log" -o "$out" 2>"$folder/said" ||
+        fail 'qemu_log.py: rom.s'
+    begin 'qemu after its boot ROM' "$folder/image.hex" --blob "0x87e00000=$folder/board.dtb"
+    grep -qx 'x11 0000000087e00000' "$folder/start.rvstate" || fail 'qemu_log.py: a1 at the start'
+    "$program" judge "$folder/image.hex" "$out" --io $io >"$folder/said"
+    [ $? -eq 1 ] || fail "qemu after its boot ROM, from reset: $(cat "$folder/said")"
+    ! knows_states || expect 'qemu after its boot ROM' "agrees $(($(wc -l <"$out") - 1))" \
+        "$folder/start.rvstate" "$out" --io $io
+}
+
 # Bit manipulation, under the option that qemu_log.py names where such instructions were carried out.
 test_qemu_bits() {
     sh "$tests/qemu/make.sh" "$folder" bits.s on || fail "bits.s did not run in qemu"
@@ -221,6 +239,36 @@ knows_ports() {
             leave_out 'the verdict on traces with one line for all ports: the judge knows no ports'
     fi
     [ "$ports_known" = 'agrees 0' ]
+}
+
+# Whether the judge knows saved states; says once where it does not.
+knows_states() {
+    if [ -z "${states_known:-}" ]; then
+        printf 'insn,pc_rdata\n' >"$folder/none.csv"
+        "$program" state "$tests/rvfi/image.hex" "$folder/none.csv" >"$folder/none.rvstate"
+        states_known=$(head -n 1 "$folder/none.rvstate")
+        [ "$states_known" != 'refused words' ] ||
+            leave_out 'runs from saved states: the judge does not know the command state'
+    fi
+    [ "$states_known" != 'refused words' ]
+}
+
+# A state that make_state.py makes and the judge begins from: its text is that of the judge.
+expect_state() {
+    ! knows_states || "$program" state "$2" "$folder/none.csv" | cmp - "$2" ||
+        fail "$1: the judge writes the state otherwise"
+}
+
+# The state by which a converter tells to begin, from what it said: begin NAME IMAGE WORD..
+begin() {
+    name=$1 image=$2
+    shift 2
+    options=$(sed -n 's/^    contrib\/make_state.py IMAGE \(.*\) -o start.rvstate$/\1/p' "$folder/said")
+    [ -n "$options" ] || fail "$name: no command for the start: $(cat "$folder/said")"
+    # shellcheck disable=SC2086  # words
+    python3 "$contrib/make_state.py" "$image" $options "$@" -o "$folder/start.rvstate" ||
+        fail "$name: make_state.py"
+    expect_state "$name" "$folder/start.rvstate"
 }
 
 # The writer at an RVFI port of so many instructions a cycle.
@@ -324,6 +372,42 @@ test_verilator() {
         "$tests/rvfi/bench.sv" "$contrib/rvfi_csv.sv"
 }
 
+# The text of a state by its lines, states that cannot be, and a state that is altered.
+test_make_state() {
+    state=$folder/made.rvstate
+    printf '@80000010 0f' >"$folder/made.hex"
+    printf 'device tree' >"$folder/blob"
+    python3 "$contrib/make_state.py" "$folder/made.hex" --set a0=0xa --set sp=-16 --set x31=31 \
+        --set mode=S --set order=7 --set flags=10 --set reserved=0x80000040 --set csr_satp=0 \
+        --set mstatus=0x1800 --set pmpcfg0=0x9f1f --set pmpaddr15=0x3fffffffffffff \
+        --blob "0x80000ffe=$folder/blob" --pc 0x80000004 -o "$state" || fail make_state.py
+    { printf '%s\n' 'rvstate 1' 'pc 0000000080000004' 'mode 1' 'order 0000000000000007' 'flags 10' \
+        'reserved 0000000080000040'; sed -n '7,76p' "$state"; printf '%s\n' \
+        '@0000000080000010 0f000000000000000000000000000000' \
+        '@0000000080000ff0 00000000000000000000000000006465' \
+        '@0000000080001000 76696365207472656500000000000000' 'end'; } | cmp - "$state" ||
+        fail 'make_state.py: other lines'
+    for line in 'x2 fffffffffffffff0' 'x10 000000000000000a' 'x31 000000000000001f' \
+        'csr_mstatus 0000000a00001800' 'csr_pmpcfg0 0000000000009f1f' \
+        'csr_pmpaddr15 003fffffffffffff' 'csr_mtvec 0000000000000000'; do
+        grep -qx "$line" "$state" || fail "make_state.py: no line $line"
+    done
+    expect_state make_state.py "$state"
+    python3 "$contrib/make_state.py" "$state" | cmp - "$state" || fail 'make_state.py: read again'
+    python3 "$contrib/make_state.py" "$state" --set x31=0 --blob "0x80000010=$folder/blob" \
+        2>"$folder/said" | diff "$state" - >"$folder/changed"
+    [ "$(grep -c '^[<>]' "$folder/changed")" -eq 4 ] || fail "make_state.py: $(cat "$folder/changed")"
+    grep -q 'is put over bytes of' "$folder/said" || fail "make_state.py: $(cat "$folder/said")"
+    for case in 'mie=1 bits 0x1 are always 0' 'sstatus=2 set mstatus' 'mode=2 mode cannot be 2' \
+        'pmpcfg2=0x200 W without R' 'satp=0x9000000000000000 its mode is 0 or 8' 'pc=1 pc cannot be' \
+        'mstatus=0x1000 MPP is 0, 1 or 3' 'x0=1 x0 cannot be' 'mtvec=zz is no number'; do
+        expect_fault "make_state.py --set ${case%% *}" "${case#* }" \
+            python3 "$contrib/make_state.py" --set "${case%% *}"
+    done
+    expect_fault 'make_state.py, a blob outside of RAM' 'give --ram' \
+        python3 "$contrib/make_state.py" --blob "0x1000=$folder/blob"
+}
+
 # Lines for all ports that show other columns for each, in any order.
 test_port_rows() {
     printf '%s\n' 'rvfi_insn_1,"pc_rdata",note_3, insn ,rvfi_pc_rdata_1' '2,1,"a,""b",,3' '' \
@@ -368,6 +452,11 @@ judge_elf() {
     expect "an ELF file, ld $*" 'agrees 5' "$folder/elf" "$tests/elf/run.csv" --bits on
     expect "its text, ld $*" 'agrees 5' "$folder/elf.hex" "$tests/elf/run.csv" --bits on \
         --pc 0x80000008
+    python3 "$contrib/make_state.py" "$folder/elf" -o "$folder/elf.rvstate" ||
+        fail "its state, ld $*"
+    expect_state "its state, ld $*" "$folder/elf.rvstate"
+    ! knows_states || expect "its state, ld $*" 'agrees 5' "$folder/elf.rvstate" \
+        "$tests/elf/run.csv" --bits on
 }
 
 test_elf() {
@@ -444,7 +533,7 @@ can_run 'logs of Spike' python3 && test_spike
 can_run 'the stored log of qemu' python3 gzip && test_qemu_log
 can_run 'a run in qemu' python3 riscv64-unknown-elf-gcc riscv64-unknown-elf-objcopy \
     qemu-system-riscv64 && has_version 'a run in qemu' qemu-system-riscv64 'version 7\.' &&
-    test_qemu && test_qemu_choices && test_qemu_bits
+    test_qemu && test_qemu_choices && test_qemu_bits && test_qemu_rom
 if can_run 'the start of firmware' python3; then
     python3 "$tests/boot_test.py" "$program" || fail "the start of firmware"
 fi
@@ -452,9 +541,10 @@ can_run 'firmware in qemu' python3 qemu-system-riscv64 mkfifo timeout &&
     has_version 'firmware in qemu' qemu-system-riscv64 'version 7\.' && test_boot
 can_run 'rvfi_csv.sv in Icarus Verilog' iverilog vvp python3 && test_iverilog
 can_run 'a trace that is judged live' iverilog vvp mkfifo && test_live
+can_run 'make_state.py' python3 && test_make_state
 can_run 'port_rows.py' python3 && test_port_rows
 can_run 'sort_rows.py' python3 && test_sort
-can_run 'an ELF file' riscv64-unknown-elf-as riscv64-unknown-elf-ld riscv64-unknown-elf-objcopy &&
+can_run 'an ELF file' python3 riscv64-unknown-elf-as riscv64-unknown-elf-ld riscv64-unknown-elf-objcopy &&
     test_elf
 can_run 'a program in C' python3 make riscv64-unknown-elf-gcc riscv64-unknown-elf-objcopy \
     qemu-system-riscv64 && has_version 'a program in C' qemu-system-riscv64 'version 7\.' && test_c

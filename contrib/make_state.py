@@ -1,0 +1,322 @@
+#!/usr/bin/env python3
+"""Makes the text of a saved state, from which the judge begins.
+
+    make_state.py [IMAGE] [--set NAME=VALUE].. [--blob ADDRESS=FILE].. [--pc A] [-o FILE]
+    rvjudge judge FILE TRACE
+
+For a run that does not begin at reset: after a boot ROM, at the checkpoint of an emulator, in the
+middle of a test. IMAGE is an ELF file, Verilog text, or a saved state, whose parts are then replaced.
+Without it memory is 0. The first pc is --pc, else that of the saved state or the entry point of the
+ELF file, else 0x80000000.
+
+--set names a register: x1 to x31, ra, sp, a0 and so on, or a control and status register as mtvec or
+csr_mtvec; or one of these:
+
+    pc, mode (M, S, U, or 3, 1, 0), order (the order index of the next row, or none),
+    flags (two digits: whether the last row took a synchronous trap, whether the hart halts),
+    reserved (the address of the block that LR reserved, or none).
+
+What is not set is as at reset, or as in the saved state. Bits 35:32 of mstatus, which are always 2 and
+2, are added where they are 0. --blob puts the bytes of a file into memory, over what is there. Of
+these options each may stand several times, and a later one counts. A value that the judge's hart
+cannot have is refused here, as the judge would refuse it.
+"""
+import argparse
+import re
+import struct
+import sys
+
+import elf_image
+
+FRONT = b"rvstate 1\n"  # by which a saved state is told from other images
+PAGE, BLOCK = 4096, 16  # bytes
+RESET_PC = RAM_BASE = 0x80000000
+RAM_SIZE = 0x8000000
+XLENS = 0xA00000000  # of mstatus
+ALL = (1 << 64) - 1
+NAMES = ("zero ra sp gp tp t0 t1 t2 s0 s1 a0 a1 a2 a3 a4 a5 a6 a7 s2 s3 s4 s5 s6 s7 s8 s9 s10 s11 "
+         "t3 t4 t5 t6").split()
+REGISTERS = {f"x{it}": it for it in range(32)} | {it: at for at, it in enumerate(NAMES)} | {"fp": 8}
+# The control and status registers in the order of the text, each with the bits that it can hold.
+CSRS = {
+    "mstatus": 0x7E19AA | XLENS, "medeleg": 0xB3FF, "mideleg": 0x222, "mie": 0xAAA,
+    "mtvec": ALL - 2, "stvec": ALL - 2, "mcounteren": 7, "scounteren": 7, "menvcfg": 1, "senvcfg": 1,
+    "mcountinhibit": 5, "mscratch": ALL, "sscratch": ALL, "mepc": ALL - 1, "sepc": ALL - 1,
+    "mcause": ALL, "scause": ALL, "mtval": ALL, "stval": ALL, "mip": 0x222, "satp": ALL,
+    "pmpcfg0": 0x9F9F9F9F9F9F9F9F, "pmpcfg2": 0x9F9F9F9F9F9F9F9F,
+    **{f"pmpaddr{it}": (1 << 54) - 1 for it in range(16)},
+}
+MODES, FLAGS = {"M": 3, "S": 1, "U": 0}, ("00", "01", "10", "11")
+
+
+class Refused(Exception):
+    """The state cannot be made."""
+
+
+def number(text):
+    try:
+        return int(text, 0)
+    except ValueError:
+        raise Refused(f"{text!r} is no number") from None
+
+
+def as_line(name, value):
+    return f"{name} none\n" if value is None else f"{name} {value:016x}\n"
+
+
+class Memory:
+    """The pages that have a byte, and for each byte the number of the file that put it there."""
+
+    def __init__(self, base, size):
+        self.base, self.size = base, size
+        self.pages, self.owners = {}, {}
+        self.files = [None]
+        self.told = set()
+
+    def begin(self, name):
+        """The next bytes are those of this file."""
+        self.files.append(name)
+
+    def put(self, address, data):
+        """Puts bytes over those of other files. A file may not have two for one address."""
+        at = 0
+        if data and not self.base <= address <= address + len(data) <= self.base + self.size:
+            raise Refused(f"{self.files[-1]}: 0x{address:x} with {len(data)} bytes is outside of RAM, "
+                          f"0x{self.base:x}:0x{self.size:x}: give --ram as the judge has it")
+        while at < len(data):
+            number_, place = divmod(address + at, PAGE)
+            part = data[at:at + PAGE - place]
+            page = self.pages.setdefault(number_, bytearray(PAGE))
+            owners = self.owners.setdefault(number_, bytearray(PAGE))
+            self.look_over(address + at, owners[place:place + len(part)])
+            page[place:place + len(part)] = part
+            owners[place:place + len(part)] = bytes([len(self.files) - 1]) * len(part)
+            at += len(part)
+
+    def look_over(self, address, owners):
+        """Refuses bytes that the file has put itself, and tells of those that others have."""
+        if not any(owners):
+            return
+        if len(self.files) - 1 in owners:
+            raise Refused(f"{self.files[-1]} has two bytes for one address near 0x{address:x}")
+        for other in {*owners} - {0}:
+            pair = self.files[-1], self.files[other]
+            if pair not in self.told:
+                self.told.add(pair)
+                print(f"make_state.py: {pair[0]} is put over bytes of {pair[1]}", file=sys.stderr)
+
+    def lines(self):
+        """The blocks that are not all 0, addresses rising."""
+        for number_, page in sorted(self.pages.items()):
+            if any(page):
+                for at in range(0, PAGE, BLOCK):
+                    block = page[at:at + BLOCK]
+                    if any(block):
+                        yield f"@{number_ * PAGE + at:016x} {block.hex()}\n"
+
+
+class State:
+    """The parts of a state by the names of its lines."""
+
+    def __init__(self, memory):
+        self.memory = memory
+        self.parts = {"pc": RESET_PC, "mode": 3, "order": None, "flags": "00", "reserved": None}
+        self.parts |= {f"x{it}": 0 for it in range(1, 32)}
+        self.parts |= {f"csr_{it}": 0 for it in CSRS} | {"csr_mstatus": XLENS}
+
+    def lines(self):
+        yield FRONT.decode()
+        for name, value in self.parts.items():
+            is_text = name in ("mode", "flags")
+            yield f"{name} {value}\n" if is_text else as_line(name, value)
+        yield from self.memory.lines()
+        yield "end\n"
+
+    def set(self, name, text):
+        """Sets a part to what a word says."""
+        csr = name.removeprefix("csr_")
+        if name in REGISTERS:
+            self.set_register(name, number(text))
+        elif csr in CSRS:
+            self.set_csr(csr, number(text))
+        elif name in self.parts:
+            self.parts[name] = special_value(name, text)
+        else:
+            raise Refused(f"{name!r} names no part of a state: {hint(csr)}")
+
+    def set_register(self, name, value):
+        if not -(1 << 63) <= value <= ALL or REGISTERS[name] == 0 and value:
+            raise Refused(f"{name} cannot be 0x{value:x}")
+        if REGISTERS[name]:
+            self.parts[f"x{REGISTERS[name]}"] = value & ALL
+
+    def set_csr(self, name, value):
+        if name == "mstatus" and value >> 32 & 0xF == 0:
+            value |= XLENS
+        if fault := fault_of(name, value):
+            raise Refused(f"{name} cannot be 0x{value:x}: {fault}")
+        self.parts[f"csr_{name}"] = value
+
+
+def special_value(name, text):
+    """What a word says for a part that is neither a register nor memory."""
+    if name == "mode":
+        value = MODES[text] if text in MODES else number(text)
+        is_fit = value in MODES.values()
+    elif name == "flags":
+        value, is_fit = text, text in FLAGS
+    else:
+        value = None if text == "none" and name != "pc" else number(text)
+        is_fit = value is None or 0 <= value <= ALL and not (name == "pc" and value % 2)
+    if not is_fit:
+        raise Refused(f"{name} cannot be {text}")
+    return value
+
+
+def hint(name):
+    views = {"sstatus": "mstatus", "sie": "mie and mideleg", "sip": "mip and mideleg"}
+    return f"set {views[name]}" if name in views else "see --help"
+
+
+def fault_of(name, value):
+    """Why the judge's hart cannot have a value in a register, or an empty text."""
+    if not 0 <= value <= ALL:
+        return "it has 64 bits"
+    if over := value & ~CSRS[name]:
+        return f"bits 0x{over:x} are always 0"
+    if name == "mstatus" and (value & XLENS != XLENS or value >> 11 & 3 == 2):
+        return "UXL and SXL are 2, and MPP is 0, 1 or 3"
+    if name == "satp" and value >> 60 not in (0, 8):
+        return "its mode is 0 or 8"
+    if name.startswith("pmpcfg") and any(it & 3 == 2 for it in value.to_bytes(8, "little")):
+        return "an entry has W without R"
+    return ""
+
+
+# ---- images
+
+
+def take_image(state, path):
+    """Takes memory, and what else an image says, into a state."""
+    with open(path, "rb") as file:
+        data = file.read()
+    state.memory.begin(path)
+    if data.startswith(elf_image.MAGIC):
+        take_elf(state, path, data)
+    elif data.startswith(FRONT):
+        take_state(state, path, data.decode("latin-1").split("\n"))
+    else:
+        take_text(state, path, data.decode("latin-1"))
+
+
+def take_elf(state, path, data):
+    if not elf_image.is_executable(data):
+        raise Refused(f"{path}: it is no executable of 64 bits for RISC-V")
+    try:
+        state.parts["pc"] = elf_image.entry_point(data)
+        for address, part in elf_image.segments(data):
+            state.memory.put(address, part)
+    except struct.error:
+        raise Refused(f"{path}: it is cut short") from None
+
+
+def take_state(state, path, lines):
+    """Takes the lines of a saved state."""
+    parts = [*state.parts]
+    for at, line in enumerate(lines[1:]):
+        name, _, value = line.partition(" ")
+        try:
+            if line == "end" and at >= len(parts):
+                return
+            if at < len(parts) and name == parts[at]:
+                is_text = name in ("mode", "flags") or value == "none"
+                state.set(name, value if is_text else f"0x{value}")
+            elif at >= len(parts) and name.startswith("@"):
+                state.memory.put(int(name[1:], 16), bytes.fromhex(value))
+            else:
+                raise Refused("another line stands there in a saved state")
+        except (Refused, ValueError) as fault:
+            raise Refused(f"{path}: line {at + 2}: {fault}") from None
+    raise Refused(f"{path}: it has no end")
+
+
+def take_text(state, path, text):
+    """Takes text as objcopy writes it, which may have comments."""
+    address, data = 0, bytearray()
+    for token in re.sub(r"/\*.*?\*/|//[^\n]*", " ", text, flags=re.DOTALL).split():
+        if re.fullmatch("@[0-9a-fA-F]{1,16}", token):
+            state.memory.put(address, data)
+            address, data = int(token[1:], 16), bytearray()
+        elif re.fullmatch("[0-9a-fA-F]{2}", token):
+            data.append(int(token, 16))
+        else:
+            raise Refused(f"{path}: {token[:20]!r} is neither a byte nor an address")
+    state.memory.put(address, data)
+
+
+# ---- the command
+
+
+def command_lines(values, pc, trace):
+    """The commands by which a trace is judged whose hart began with these values; the image's name is
+    left to the reader, and that of a trace that has none."""
+    words = " ".join(f"--set {name}=0x{value:x}" for name, value in values.items())
+    yield f"    contrib/make_state.py IMAGE --pc 0x{pc:x} {words} -o start.rvstate"
+    yield f"    bin/rvjudge judge start.rvstate {trace or 'TRACE'}"
+
+
+def assignment(text):
+    name, equals, value = text.partition("=")
+    if not equals:
+        raise argparse.ArgumentTypeError(f"{text}: NAME=VALUE is awaited")
+    return name, value
+
+
+def arguments():
+    first, _, rest = __doc__.partition("\n")
+    parser = argparse.ArgumentParser(description=first, epilog=rest, allow_abbrev=False,
+                                     formatter_class=argparse.RawDescriptionHelpFormatter)
+    add = parser.add_argument
+    add("image", nargs="?", metavar="IMAGE", help="an ELF file, Verilog text, or a saved state")
+    add("-o", metavar="FILE", help="where to write (default: standard output)")
+    add("--set", action="append", default=[], type=assignment, metavar="NAME=VALUE",
+        help="a part of the state")
+    add("--blob", action="append", default=[], type=assignment, metavar="ADDRESS=FILE",
+        help="a file whose bytes stand from an address on")
+    add("--pc", metavar="A", help="the address of the next instruction")
+    add("--ram", default=f"0x{RAM_BASE:x}:0x{RAM_SIZE:x}", metavar="B:S",
+        help="base and size of RAM, as the judge's --ram (default 0x80000000:0x8000000)")
+    return parser.parse_args()
+
+
+def make(words):
+    """The state that the words say."""
+    base, _, size = words.ram.partition(":")
+    state = State(Memory(number(base), number(size)))
+    if words.image:
+        take_image(state, words.image)
+    for address, path in words.blob:
+        state.memory.begin(path)
+        with open(path, "rb") as file:
+            state.memory.put(number(address), file.read())
+    for name, value in words.set:
+        state.set(name, value)
+    if words.pc is not None:
+        state.set("pc", words.pc)
+    return state
+
+
+def main():
+    words = arguments()
+    try:
+        state = make(words)
+        with open(1 if words.o is None else words.o, "w", encoding="ascii") as out:
+            out.writelines(state.lines())
+    except (Refused, OSError) as fault:
+        print(f"make_state.py: {fault}", file=sys.stderr)
+        return 1
+    return 0
+
+
+if __name__ == "__main__":
+    sys.exit(main())
