@@ -84,10 +84,10 @@ class Memory:
             raise Refused(f"{self.files[-1]}: 0x{address:x} with {len(data)} bytes is outside of RAM, "
                           f"0x{self.base:x}:0x{self.size:x}: give --ram as the judge has it")
         while at < len(data):
-            number_, place = divmod(address + at, PAGE)
+            page_number, place = divmod(address + at, PAGE)
             part = data[at:at + PAGE - place]
-            page = self.pages.setdefault(number_, bytearray(PAGE))
-            owners = self.owners.setdefault(number_, bytearray(PAGE))
+            page = self.pages.setdefault(page_number, bytearray(PAGE))
+            owners = self.owners.setdefault(page_number, bytearray(PAGE))
             self.look_over(address + at, owners[place:place + len(part)])
             page[place:place + len(part)] = part
             owners[place:place + len(part)] = bytes([len(self.files) - 1]) * len(part)
@@ -107,12 +107,12 @@ class Memory:
 
     def lines(self):
         """The blocks that are not all 0, addresses rising."""
-        for number_, page in sorted(self.pages.items()):
+        for page_number, page in sorted(self.pages.items()):
             if any(page):
                 for at in range(0, PAGE, BLOCK):
                     block = page[at:at + BLOCK]
                     if any(block):
-                        yield f"@{number_ * PAGE + at:016x} {block.hex()}\n"
+                        yield f"@{page_number * PAGE + at:016x} {block.hex()}\n"
 
 
 class State:

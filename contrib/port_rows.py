@@ -1,5 +1,5 @@
 #!/usr/bin/env python3
-"""Takes a trace apart that has one line for all ports of a core: one row a line, for tools that read such.
+"""Takes a trace apart that has one line for all ports of a core, for tools that read one row a line.
 
     port_rows.py [TRACE] [-o FILE]
 
@@ -26,7 +26,8 @@ def fields_of(line):
 
 
 def names_in(line):
-    """The column and the port of each name of the header; one that the judge does not know has no port."""
+    """The column and the port of each name of the header. One that the judge does not know has no
+    port."""
     for name in fields_of(line.removeprefix("\ufeff")):
         name = name.strip(" \t").removeprefix("rvfi_")
         found = SUFFIX.fullmatch(name)

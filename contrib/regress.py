@@ -375,41 +375,46 @@ def run_part(words):
     return 0
 
 
-def part_command(path, part):
-    return f"{shlex.quote(sys.executable)} {shlex.quote(str(HERE / 'regress.py'))} " \
+def part_command(script, path, part):
+    return f"{shlex.quote(sys.executable)} {shlex.quote(str(HERE / script))} " \
            f"--list {shlex.quote(str(path))} --part {part}"
 
 
 def run_parallel(traces, settings, words):
     """Results from GNU parallel, which runs a part for each trace."""
-    if not shutil.which("parallel"):
-        raise Refused("there is no parallel: apt install parallel")
     with tempfile.TemporaryDirectory(prefix="regress-") as folder:
         write_list(Path(folder, "list"), traces, settings)
-        hosts = ["--sshlogin", words.sshlogin] if words.sshlogin else []
-        child = CHILDREN.start(
-            ["parallel", "--will-cite", "--jobs", str(words.jobs), *hosts,
-             part_command(Path(folder, "list"), "{}/" + str(len(traces)))],
-            stdin=subprocess.PIPE, stdout=subprocess.PIPE,
-            # the command is quoted for sh; where no SHELL is set, parallel finds none by itself
-            env={"SHELL": "/bin/sh", **os.environ, "PARALLEL_SHELL": "/bin/sh"})
-        try:
-            child.stdin.write("".join(f"{it}\n" for it in range(len(traces))).encode())
-            child.stdin.close()
-            yield from results_in(child.stdout)
-        finally:
-            if child.poll() is None:
-                child.send_signal(signal.SIGTERM)  # the second, in end, makes it end its jobs
-            CHILDREN.end(child)
+        yield from parallel_results("regress.py", Path(folder, "list"), len(traces), words, Result)
 
 
-def results_in(lines):
-    """The results among lines of JSON; what is none counts for nothing."""
+def parallel_results(script, path, count, words, kind):
+    """Results of a kind from GNU parallel, which runs a script for each of so many parts of a list."""
+    if not shutil.which("parallel"):
+        raise Refused("there is no parallel: apt install parallel")
+    hosts = ["--sshlogin", words.sshlogin] if words.sshlogin else []
+    child = CHILDREN.start(
+        ["parallel", "--will-cite", "--jobs", str(words.jobs), *hosts,
+         part_command(script, path, "{}/" + str(count))],
+        stdin=subprocess.PIPE, stdout=subprocess.PIPE,
+        # the command is quoted for sh; where no SHELL is set, parallel finds none by itself
+        env={"SHELL": "/bin/sh", **os.environ, "PARALLEL_SHELL": "/bin/sh"})
+    try:
+        child.stdin.write("".join(f"{it}\n" for it in range(count)).encode())
+        child.stdin.close()
+        yield from results_in(child.stdout, kind)
+    finally:
+        if child.poll() is None:
+            child.send_signal(signal.SIGTERM)  # the second, in end, makes it end its jobs
+        CHILDREN.end(child)
+
+
+def results_in(lines, kind):
+    """The results of a kind among lines of JSON; what is none counts for nothing."""
     for line in lines:
         try:
-            yield Result(**json.loads(line))
+            yield kind(**json.loads(line))
         except (ValueError, TypeError):
-            print(f"regress.py: no result: {line[:80]!r}", file=sys.stderr)
+            print(f"{Path(sys.argv[0]).name}: no result: {line[:80]!r}", file=sys.stderr)
 
 
 def write_slurm(traces, settings, words):
@@ -417,9 +422,14 @@ def write_slurm(traces, settings, words):
     folder = Path(words.results).resolve()
     folder.mkdir(parents=True)
     write_list(folder / "list", traces, settings)
-    tasks = min(len(traces), MOST_TASKS)
+    return write_job("regress.py", folder, len(traces), words)
+
+
+def write_job(script, folder, count, words):
+    """Writes an array job that runs a script for each of so many parts of the folder's list."""
+    tasks = min(count, MOST_TASKS)
     job = folder / "job.sh"
-    command = part_command(folder / "list", f'"$SLURM_ARRAY_TASK_ID/{tasks}"')
+    command = part_command(script, folder / "list", f'"$SLURM_ARRAY_TASK_ID/{tasks}"')
     job.write_text(f"""#!/bin/sh
 #SBATCH --job-name=rvjudge
 #SBATCH --array=0-{tasks - 1}%{words.jobs}
@@ -428,18 +438,21 @@ def write_slurm(traces, settings, words):
 {command} >"{folder}/part-$SLURM_ARRAY_TASK_ID.json"
 """, encoding="utf-8")
     job.chmod(0o755)
-    print(f"sbatch {job}\nand when it is done: regress.py --collect {folder}")
+    print(f"sbatch {job}\nand when it is done: {script} --collect {folder}")
     return 0
 
 
 def collected(folder):
     """The traces of an array job, and the results that it left."""
     traces, _ = read_list(Path(folder, "list"))
-    found = []
+    return traces, [*results_of(folder, Result)]
+
+
+def results_of(folder, kind):
+    """The results of a kind that an array job left."""
     for part in sorted(Path(folder).glob("part-*.json")):
         with open(part, encoding="utf-8") as lines:
-            found.extend(results_in(lines))
-    return traces, found
+            yield from results_in(lines, kind)
 
 
 # ---- telling
@@ -535,20 +548,29 @@ def arguments(words):
         help="differences that are explained at the end (default 3)")
     add("--junit", metavar="FILE", help="write the results as JUnit XML")
     add("--json", metavar="FILE", help="write the results as lines of JSON")
+    add_ways(add)
+    cut = words.index("--") if "--" in words else len(words)
+    found = parser.parse_args(words[:cut])
+    found.options = words[cut + 1:]
+    if not (found.collect or found.list) and not found.folders:
+        parser.error("which FOLDER?")
+    check_ways(parser, found)
+    return found
+
+
+def add_ways(add):
+    """The options that say how a list is run."""
     add("--with", dest="way", choices=("parallel", "slurm"), help="how the list is run")
     add("--sshlogin", metavar="HOSTS", help="for --with parallel: its hosts, as for parallel")
     add("--results", metavar="NEW", help="for --with slurm: the folder that is made")
     add("--collect", metavar="FOLDER", help="the verdict of an array job that is done")
     add("--list", help=argparse.SUPPRESS)
     add("--part", help=argparse.SUPPRESS)
-    cut = words.index("--") if "--" in words else len(words)
-    found = parser.parse_args(words[:cut])
-    found.options = words[cut + 1:]
-    if not (found.collect or found.list) and not found.folders:
-        parser.error("which FOLDER?")
+
+
+def check_ways(parser, found):
     if (found.way == "slurm") != bool(found.results):
         parser.error("--with slurm and --results go together")
-    return found
 
 
 def run(words):

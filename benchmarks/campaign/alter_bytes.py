@@ -117,13 +117,13 @@ class Holder:
 
     def hold(self, task):
         """One image, with a trace, and alone: what came of it."""
-        number_, kind, image, trace = task
+        at, kind, image, trace = task
         found = []
         alone = (("state", trace.split(b"\n")[0]),) if self.options.states else ()
         for command, shown in (("judge", trace), *alone):
             text, status = foretell(image, shown, Setting(), command)
             due = f"{text}\n", status
-            said = self.said(number_, command, image, shown, due)
+            said = self.said(at, command, image, shown, due)
             found.append((kind, kind_of(text) if command == "judge" else None, due, said))
         return found
 

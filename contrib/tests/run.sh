@@ -542,6 +542,9 @@ can_run 'firmware in qemu' python3 qemu-system-riscv64 mkfifo timeout &&
 can_run 'rvfi_csv.sv in Icarus Verilog' iverilog vvp python3 && test_iverilog
 can_run 'a trace that is judged live' iverilog vvp mkfifo && test_live
 can_run 'make_state.py' python3 && test_make_state
+if can_run 'pieces.py' python3 && knows_states; then
+    python3 "$tests/pieces_test.py" "$program" || fail "pieces.py"
+fi
 can_run 'port_rows.py' python3 && test_port_rows
 can_run 'sort_rows.py' python3 && test_sort
 can_run 'an ELF file' python3 riscv64-unknown-elf-as riscv64-unknown-elf-ld riscv64-unknown-elf-objcopy &&
