@@ -561,7 +561,7 @@ fi
 can_run 'the installed files' make python3 git && test_install
 [ "$failed" -eq 0 ] && echo "contrib: ok"
 if [ -n "$left_out" ]; then
-    echo "contrib: left out, sh contrib/tests/setup.sh installs the tools that are missing:$left_out"
+    echo "contrib: left out (sh contrib/tests/setup.sh installs tools that are missing):$left_out"
 else
     echo "contrib: no test was left out"
 fi
