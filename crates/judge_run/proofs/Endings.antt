@@ -17,17 +17,21 @@ use Rattle.trace_lines.specs.Takers.{Opens, TakesWhereKnown, remaining_lines_of,
 use Rattle.rvfi_rows.specs.Columns.{ColumnList}
 use Rattle.rvfi_rows.specs.Rows.{rows_of}
 use Rattle.trace_report.specs.declared.outcome.Outcome.{Outcome}
+use Rattle.hart_step.specs.Harts.{state_of}
+use Rattle.hart_step.specs.Rows.{HartState}
+use Rattle.hart_step.specs.declared.state.Core.{Core}
+use Rattle.judge_run.specs.declared.answer.Answer.{Answer}
 use Rattle.judge_run.specs.declared.stop.Stop.{Stop}
 use Rattle.judge_run.specs.declared.stop.Stop.TheVariants.{Known, ReadFault, NoMemory}
 use Rattle.hart_words.specs.Memory.{Bytes}
-use Rattle.hart_step.specs.Cores.{core_at_reset}
-use Rattle.segment_judge.specs.Laws.{conclusion_from}
+use Rattle.segment_judge.specs.Judgements.{by_hart}
+use Rattle.segment_judge.specs.Laws.{Conclusion, conclusion_from}
 use Rattle.judge_run.specs.declared.progress.Progress.{Progress}
 use Rattle.judge_run.specs.declared.progress.TraceEnd.{TraceEnd}
-use Rattle.judge_run.specs.Parts.{IsEndTold, RowsEnd, end_after, end_in, end_of, position_of}
+use Rattle.judge_run.specs.Parts.{IsEndTold, end_after, end_in, end_of, position_of}
 use Rattle.judge_run.proofs.Passing.{counted_from_none}
-use Rattle.judge_run.specs.Answer.{Step, columns_in, StartView, ruling_at_end, lines_outcome, outcome_of}
-use Rattle.judge_run.specs.Answer.{trace_outcome, verdict_on}
+use Rattle.judge_run.specs.Answer.{AnswerView, RowsEnd, Step, answer_with, columns_in, lines_answer, ruling_at_end}
+use Rattle.judge_run.specs.Answer.{trace_answer}
 use Rattle.judge_run.specs.Stops.{MeantBy, MeantWhereKnown, MissesStop, LacksFile, line_stop}
 
 -- the first line of the front is that of all lines
@@ -45,40 +49,40 @@ first_columns : (job : JobView) (left first : RemainingLines) → first ≡ fron
 first_columns job left first front =
     sym (columns_of_front job left.lines left.ending) ∙ ap (λ view. columns_in job view) (sym front)
 
--- no row was judged yet, and the hart is at reset where the run starts
-pub record IsAtReset {M : Type 0} (bytes_of : M → Bytes) (job : JobView) (start : StartView) (progress : Progress M)
-    : Type 0 where
-  pub core : progress.hart.core ≡ core_at_reset start.pc job.map job.choices
-  pub bytes : bytes_of progress.hart.mem ≡ start.memory
+-- no row was judged yet, and the hart is where the run starts
+pub record IsAtStart {M : Type 0} (bytes_of : M → Bytes) (start : HartState) (progress : Progress M) : Type 0 where
+  pub state : state_of bytes_of progress.hart ≡ start
   pub rows : progress.counts.rows ≡ 0
   pub valid : progress.counts.valid ≡ 0
 
--- what the first line and then the others come to, from a hart at reset
-lines_give : {M : Type 0} {bytes_of : M → Bytes} {start : StartView} {first : RemainingLines} {columns : ColumnList}
+-- what the first line and then the others come to, from the start
+lines_give : {M : Type 0} {bytes_of : M → Bytes} {start : HartState} {first : RemainingLines} {columns : ColumnList}
     (job : JobView) (left : RemainingLines) (progress : Progress M) → first ≡ front_of 1 left
-    → columns_in job first ≡ Ok columns → IsAtReset bytes_of job start progress
-    → lines_outcome job start left
-    ≡ Ok (end_after job columns (position_of bytes_of progress) (back_of 1 left)).outcome
-unfolding lines_outcome end_after back_of conclusion_from
-lines_give {M} {bytes_of} {start} {first} {columns} job left progress front named reset =
+    → columns_in job first ≡ Ok columns → IsAtStart bytes_of start progress
+    → lines_answer job start left
+    ≡ Ok (answer_with job (end_after job columns (position_of bytes_of progress) (back_of 1 left)))
+unfolding lines_answer end_after back_of
+lines_give {M} {bytes_of} {start} {first} {columns} job left progress front named at_start =
     let here : columns_in job left ≡ Ok columns = first_columns job left first front ∙ named in
-    let verdict = verdict_on job start (rows_of columns (drop 1 left.lines)) in
-    rw (here, reset.core, reset.bytes, reset.rows, reset.valid)
-    (ap (λ whole. Ok (outcome_of job (ruling_at_end job left.ending whole))) (sym (counted_from_none verdict)))
+    let judged : Conclusion Core = conclusion_from by_hart start (rows_of columns (drop 1 left.lines)) in
+    rw (here, at_start.state, at_start.rows, at_start.valid)
+    (ap
+    (λ whole. Ok (answer_with job (record { ruling = ruling_at_end job left.ending whole; state = judged.end })))
+    (sym (counted_from_none judged.verdict)))
 
-lines_stop : (job : JobView) (start : StartView) (left first : RemainingLines) (stop : Option Outcome)
-    → first ≡ front_of 1 left → columns_in job first ≡ Err stop → lines_outcome job start left ≡ Err stop
-unfolding lines_outcome
+lines_stop : (job : JobView) (start : HartState) (left first : RemainingLines) (stop : Option Outcome)
+    → first ≡ front_of 1 left → columns_in job first ≡ Err stop → lines_answer job start left ≡ Err stop
+unfolding lines_answer
 lines_stop job start left first stop front stopped =
     let here : columns_in job left ≡ Err stop = first_columns job left first front ∙ stopped in
     rw here refl
 
 -- where a text is there, the trace is that text
-text_decides : (job : JobView) (start : StartView) (trace : Option (List ℕ)) (text : List ℕ) (outcome : Step Outcome)
-    → trace ≡ Some text → lines_outcome job start (file_lines job.max_trace text) ≡ outcome
-    → trace_outcome job start trace ≡ outcome
-unfolding trace_outcome
-text_decides job start trace text outcome here is = rw here is
+text_decides : (job : JobView) (start : HartState) (trace : Option (List ℕ)) (text : List ℕ) (answer : Step AnswerView)
+    → trace ≡ Some text → lines_answer job start (file_lines job.max_trace text) ≡ answer
+    → trace_answer job start trace ≡ answer
+unfolding trace_answer
+text_decides job start trace text answer here is = rw here is
 
 -- a taker that was opened has all lines left
 all_left : (job : JobView) (name file : List ℕ) (taker : LineTaker) → Opens name job.max_trace taker
@@ -109,20 +113,20 @@ is_there {taker = taker} {first = first} (Some files) after header missing =
         cc
 
 -- what the rest of a told file comes to, after its first line
-pub trace_told : {M : Type 0} {bytes_of : M → Bytes} {name : List ℕ} {job : JobView} {start : StartView}
+pub trace_told : {M : Type 0} {bytes_of : M → Bytes} {name : List ℕ} {job : JobView} {start : HartState}
     {taker : LineTaker} {first : Piece} {columns : ColumnList} (files : Option Files) (progress : Progress M)
     (end : TraceEnd M) → TakesHeader files name job taker first progress.taker
-    → columns_in job (piece_view first) ≡ Ok columns → IsAtReset bytes_of job start progress
+    → columns_in job (piece_view first) ≡ Ok columns → IsAtStart bytes_of start progress
     → IsEndTold job columns bytes_of (file_of files (string_bytes progress.taker.name)) progress end
-    → MeantWhereKnown files (λ outcome. outcome) (Ok (end_of job bytes_of end).outcome)
-    (λ files. trace_outcome job start (files name))
+    → MeantWhereKnown files (λ given. given) (Ok (answer_with job (end_of job bytes_of end)))
+    (λ files. trace_answer job start (files name))
 trace_told None progress end header named reset gives = tt
 trace_told {M} {bytes_of} {name} {job} {start} {taker} {first} {columns} (Some files) progress end header named reset
     gives = of (files (string_bytes taker.name)) refl header.file_exists header.takes
   where
     of : (file : Option (List ℕ)) → files (string_bytes taker.name) ≡ file → IsSome file
         → TakesWhereKnown file 1 taker first progress.taker
-        → trace_outcome job start (files name) ≡ Ok (end_of job bytes_of end).outcome
+        → trace_answer job start (files name) ≡ Ok (answer_with job (end_of job bytes_of end))
     of None e is one = absurd cc
     of (Some file) e is one =
         let here : files name ≡ Some file = ap files (sym header.opens.name) ∙ e in
@@ -135,25 +139,31 @@ trace_told {M} {bytes_of} {name} {job} {start} {taker} {first} {columns} (Some f
         let front : piece_view first ≡ front_of 1 (file_lines job.max_trace file) = one.taken ∙ ap (front_of 1) all in
         let back : remaining_lines_of file progress.taker ≡ back_of 1 (file_lines job.max_trace file) =
         one.left ∙ ap (back_of 1) all in
-        text_decides job start (files name) file (Ok (end_of job bytes_of end).outcome) here
+        text_decides job start (files name) file (Ok (answer_with job (end_of job bytes_of end))) here
         (lines_give job (file_lines job.max_trace file) progress front named reset
-        ∙ ap (λ left. Ok (end_after job columns (position_of bytes_of progress) left).outcome) (sym back)
-        ∙ ap (λ (end : RowsEnd). Ok end.outcome) (sym whole))
+        ∙ ap (λ left. Ok (answer_with job (end_after job columns (position_of bytes_of progress) left))) (sym back)
+        ∙ ap (λ (end : RowsEnd). Ok (answer_with job end)) (sym whole))
+
+-- what is meant by a view is meant by what it shows
+pub seen_as : {X Y : Type 0} (view : X → Y) (x : X) (y : Y) (files : Option Files) (meant : Files → Step Y)
+    → view x ≡ y → MeantWhereKnown files (λ y. y) (Ok y) meant → MeantWhereKnown files view (Ok x) meant
+seen_as view x y None meant same is = tt
+seen_as {X} {Y} view x y (Some files) meant same is = is ∙ ap (λ (y : Y). Ok y) (sym same)
 
 -- a header that stops the run
-pub trace_stops : {name : List ℕ} {job : JobView} {taker after : LineTaker} {first : Piece} (files : Option Files)
-    (start : StartView) (stop : Stop) → TakesHeader files name job taker first after
+pub trace_stops : {X : Type 0} {name : List ℕ} {job : JobView} {taker after : LineTaker} {first : Piece}
+    (view : X → AnswerView) (files : Option Files) (start : HartState) (stop : Stop)
+    → TakesHeader files name job taker first after
     → MeantBy {X = ColumnList} {Y = ColumnList} (λ columns. columns) (Err stop) (columns_in job (piece_view first))
-    → MeantWhereKnown {X = Outcome} files (λ outcome. outcome) (Err stop)
-    (λ files. trace_outcome job start (files name))
-trace_stops None start stop header meant = tt
-trace_stops (Some files) start ReadFault header meant = tt
-trace_stops (Some files) start NoMemory header meant = tt
-trace_stops {name} {job} {taker} {after} {first} (Some files) start (Known outcome) header meant =
+    → MeantWhereKnown files view (Err stop) (λ files. trace_answer job start (files name))
+trace_stops view None start stop header meant = tt
+trace_stops view (Some files) start ReadFault header meant = tt
+trace_stops view (Some files) start NoMemory header meant = tt
+trace_stops {X} {name} {job} {taker} {after} {first} view (Some files) start (Known outcome) header meant =
     of (files (string_bytes taker.name)) refl header.file_exists header.takes
   where
     of : (file : Option (List ℕ)) → files (string_bytes taker.name) ≡ file → IsSome file
-        → TakesWhereKnown file 1 taker first after → trace_outcome job start (files name) ≡ Err (Some outcome)
+        → TakesWhereKnown file 1 taker first after → trace_answer job start (files name) ≡ Err (Some outcome)
     of None e is one = absurd cc
     of (Some file) e is one =
         let here : files name ≡ Some file = ap files (sym header.opens.name) ∙ e in
@@ -185,26 +195,26 @@ not_missed None name is missing = missing
 not_missed (Some files) name is missing = cc
 
 -- a file that is missed is one that the trace lacks
-pub trace_lacks : (known_files : Option Files) (name : List ℕ) (job : JobView) (start : StartView)
-    → IsMissing known_files name → LacksFile known_files (λ files. trace_outcome job start (files name))
-unfolding trace_outcome
+pub trace_lacks : (known_files : Option Files) (name : List ℕ) (job : JobView) (start : HartState)
+    → IsMissing known_files name → LacksFile known_files (λ files. trace_answer job start (files name))
+unfolding trace_answer
 trace_lacks None name job start missing = missing
 trace_lacks (Some files) name job start missing = rw missing refl
 
 -- a failed call for lines misses what the trace lacks
-pub lines_missed : (error : LineError) (known_files : Option Files) (name : List ℕ) (meant : Files → Step Outcome)
+pub lines_missed : (error : LineError) (known_files : Option Files) (name : List ℕ) (meant : Files → Step AnswerView)
     (before now : ℕ) → (IsMissing known_files name → LacksFile known_files meant)
     → MissesWhere (is_read_fault error) known_files name before now
-    → MissesStop {X = Outcome} (Err (line_stop error)) known_files meant before now
+    → MissesStop {X = Answer} (Err (line_stop error)) known_files meant before now
 lines_missed lines.ReadFault known_files name meant before now lacks misses = λ rise. lacks (misses rise)
 lines_missed lines.NoMemory known_files name meant before now lacks misses = misses
 
 -- a read that fails after the header was taken misses no file
 pub later_missed : {name : List ℕ} {job : JobView} {taker : LineTaker} {first : Piece} {after : LineTaker}
-    (error : LineError) (files : Option Files) (meant : Files → Step Outcome) (before now : ℕ)
+    (error : LineError) (files : Option Files) (meant : Files → Step AnswerView) (before now : ℕ)
     → TakesHeader files name job taker first after
     → MissesWhere (is_read_fault error) files (string_bytes after.name) before now
-    → MissesStop {X = Outcome} (Err (line_stop error)) files meant before now
+    → MissesStop {X = Answer} (Err (line_stop error)) files meant before now
 later_missed {after = after} error files meant before now header misses =
     lines_missed error files (string_bytes after.name) meant before now
     (λ missing. absurd (is_there files after header missing)) misses

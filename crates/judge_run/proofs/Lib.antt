@@ -2,8 +2,11 @@ pub mod Starts
 pub mod Taking
 pub mod Passing
 pub mod Endings
+pub mod Outside
+pub mod Written
 pub mod Steps
 pub mod Runs
 pub mod AnyEvents
 pub mod Settled
 pub mod MadeAnswers
+pub mod Pieces

@@ -1,11 +1,12 @@
 -- The answer to words that ask for a made trace.
-use Rattle.std.proofs.Common.{◌≡◌, ◌∙◌, ◌≤◌, ◌^◌, ◌+◌, ◌*◌, ℕ, false, List, ◌∷◌, length, nat_lt, Option, Some, Ok, refl}
+use Rattle.std.proofs.Common.{◌≡◌, ◌∙◌, ◌≤◌, ◌^◌, ◌+◌, ◌*◌, ℕ, false, List, ◌∷◌, length, nat_lt, Option, Some, None, Ok, refl}
 use Rattle.std.proofs.Common.{ap, ap₂, arith}
 use Rattle.std.proofs.lemmas.Bool.{le-ltb}
 use Rattle.std.specs.Prelude.{unwrap_or}
 use Rattle.outside_ports.specs.Ports.{Files}
 use Rattle.judge_words.specs.Job.{IsMadeJob, JobView, job_of}
 use Rattle.judge_words.specs.declared.job.Command.{Command}
+use Rattle.hart_words.specs.Choices.{plain_choices}
 use Rattle.judge_words.specs.declared.values.TheConstants.{FIRST_PC}
 use Rattle.judge_words.specs.declared.job.Command.TheVariants.{Make}
 use Rattle.judge_words.proofs.MadeJobs.{made_plain}
@@ -17,9 +18,13 @@ use Rattle.rvfi_rows.specs.declared.verdict.Verdict.{Verdict}
 use Rattle.rvfi_rows.specs.declared.verdict.Verdict.TheVariants.{Agrees}
 use Rattle.rvfi_rows.specs.Columns.{ColumnList, header_columns}
 use Rattle.rvfi_rows.specs.Rows.{rows_of}
+use Rattle.trace_report.specs.declared.outcome.Ruling.{Ruling}
 use Rattle.trace_report.specs.declared.outcome.Ruling.TheVariants as rulings
 use Rattle.hart_step.specs.Cores.{core_at_reset}
+use Rattle.hart_step.specs.declared.state.Core.{Core}
+use Rattle.hart_step.specs.Rows.{HartState}
 use Rattle.segment_judge.specs.Judgements.{by_hart, judgement_of}
+use Rattle.segment_judge.specs.Laws.{Conclusion, conclusion_from}
 use Rattle.made_runs.specs.Laws.{MadeRunAgrees}
 use Rattle.made_runs.specs.Lines.{made_left, made_lines}
 use Rattle.made_runs.specs.Shows.{header_line, made_columns}
@@ -27,58 +32,88 @@ use Rattle.made_runs.specs.States.{IsMadeMap}
 use Rattle.made_runs.proofs.ImageTexts.{image_len}
 use Rattle.made_runs.proofs.MadeTexts.{texts_agree}
 use Rattle.made_runs.proofs.TraceLines.{trace_len}
-use Rattle.judge_run.specs.Answer.{answer, StartView, columns_in, is_elf, start_at, ruling_at_end, image_in}
-use Rattle.judge_run.specs.Answer.{job_outcome, outcome_step_of}
-use Rattle.judge_run.specs.Answer.{lines_outcome, made_of, start_of, outcome_of, outcome_of_step, text_start, start_in}
-use Rattle.judge_run.specs.Answer.{trace_in, trace_outcome, verdict_on}
+use Rattle.judge_run.specs.Answer.{AnswerView, Step, answer, answer_by_line, answer_of_step, answer_step_of, columns_in}
+use Rattle.judge_run.specs.Answer.{image_in, is_elf, is_saved, job_answer, lines_answer, made_of, outcome_of, rows_end}
+use Rattle.judge_run.specs.Answer.{ruling_at_end, start_at, start_in, start_of, state_written, text_start, trace_answer}
+use Rattle.judge_run.specs.Answer.{trace_in}
 
 -- an image that is not too long and has no fault
 start_is : (job : JobView) (text : List ℕ) (image : ℕ → Option ℕ) → length text ≤ job.max_image
-    → is_elf text ≡ false → image_of job.map.ram text ≡ Ok image
+    → (is_elf text ≡ false) × (is_saved text ≡ false) → image_of job.map.ram text ≡ Ok image
     → start_of job (Some text) ≡ Ok (start_at job image FIRST_PC)
 unfolding start_of start_in
 start_is job text image fits plain read =
     let under : nat_lt job.max_image (length text) ≡ false = le-ltb job.max_image (length text) fits in
-    rw (under, plain) (ap (text_start job) read)
+    rw (under, plain.0, plain.1) (ap (text_start job) read)
 
--- the text that is made is no ELF file
-made_is_text : (number : ℕ) → is_elf (made_image number) ≡ false
+-- the text that is made is no ELF file and no saved state
+made_is_text : (number : ℕ) → (is_elf (made_image number) ≡ false) × (is_saved (made_image number) ≡ false)
 unfolding made_image
-made_is_text number = refl
+made_is_text number = (refl, refl)
+
+-- no state is written of what is made
+made_by_line : (job : JobView) (number rows : ℕ) (ruling : Ruling) (state : Option HartState)
+    → job.command ≡ Make number rows
+    → ◌≡◌ {A = AnswerView}
+    (record { outcome = outcome_of job ruling; state = state_written job.command ruling state })
+    (answer_by_line (outcome_of job ruling))
+made_by_line job number rows ruling state made =
+    ap
+    (λ (command : Command (List ℕ)). record {
+      outcome = outcome_of job ruling;
+      state = state_written command ruling state;
+    }) made
 
 -- a trace whose lines are a header and rows
-lines_are : (job : JobView) (start : StartView) (header : List ℕ) (rows : List (List ℕ)) (columns : ColumnList)
-    (verdict : Verdict)
-    → header_columns header ≡ Ok columns → verdict_on job start (rows_of columns rows) ≡ verdict
-    → lines_outcome job start (record { lines = header ∷ rows; ending = End })
-    ≡ Ok (outcome_of job (ruling_at_end job End verdict))
-unfolding lines_outcome columns_in
-lines_are job start header rows columns verdict named is =
-    rw named (ap (λ verdict. Ok (outcome_of job (ruling_at_end job End verdict))) is)
+lines_are : {number count : ℕ} (job : JobView) (start : HartState) (rows : List (List ℕ)) (verdict : Verdict)
+    → job.command ≡ Make number count → header_columns header_line ≡ Ok made_columns
+    → (conclusion_from by_hart start (rows_of made_columns rows)).verdict ≡ verdict
+    → lines_answer job start (record { lines = header_line ∷ rows; ending = End })
+    ≡ Ok (answer_by_line (outcome_of job (ruling_at_end job End verdict)))
+unfolding lines_answer columns_in
+lines_are {number} {count} job start rows verdict made named is =
+    let judged : Conclusion Core = conclusion_from by_hart start (rows_of made_columns rows) in
+    rw named
+    (ap (λ (given : AnswerView). Ok given)
+    (made_by_line job number count (ruling_at_end job End judged.verdict) judged.end made)
+    ∙ ap (λ verdict. Ok (answer_by_line (outcome_of job (ruling_at_end job End verdict)))) is)
 
-trace_is : (job : JobView) (start : StartView) (text : List ℕ) (left : RemainingLines)
+trace_is : (job : JobView) (start : HartState) (text : List ℕ) (left : RemainingLines)
     → file_lines job.max_trace text ≡ left
-    → trace_outcome job start (Some text) ≡ lines_outcome job start left
-unfolding trace_outcome
-trace_is job start text left is = ap (lines_outcome job start) is
+    → trace_answer job start (Some text) ≡ lines_answer job start left
+unfolding trace_answer
+trace_is job start text left is = ap (lines_answer job start) is
 
 -- the image, then the trace
-both_are : (job : JobView) (image trace : Option (List ℕ)) (start : StartView) → start_of job image ≡ Ok start
-    → job_outcome job image trace ≡ trace_outcome job start trace
-unfolding job_outcome
+both_are : (job : JobView) (image trace : Option (List ℕ)) (start : HartState) → start_of job image ≡ Ok start
+    → job_answer job image trace ≡ trace_answer job start trace
+unfolding job_answer
 both_are job image trace start read = rw read refl
 
 -- the words, then image and trace
 words_ask : (words : List (List ℕ)) (files : Files) (job : JobView) → job_of words ≡ Some job
-    → answer words files ≡ outcome_of_step (job_outcome job (image_in job.command files) (trace_in job.command files))
-unfolding answer outcome_step_of
+    → answer words files ≡ answer_of_step (job_answer job (image_in job.command files) (trace_in job.command files))
+unfolding answer answer_step_of
 words_ask words files job asked = rw asked refl
 
+-- the verdict on what is made, from where it starts
+verdict_is : (job : JobView) (number rows : ℕ) (bytes : ℕ → Option ℕ) → job.pc ≡ None → job.choices ≡ plain_choices
+    → (judgement_of by_hart (core_at_reset FIRST_PC job.map plain_choices)
+    (rows_of made_columns (made_lines number rows)) (λ a. unwrap_or (bytes a) 0)).verdict ≡ Agrees rows rows
+    → (conclusion_from by_hart (start_at job bytes FIRST_PC) (rows_of made_columns (made_lines number rows))).verdict
+    ≡ Agrees rows rows
+unfolding conclusion_from
+verdict_is job number rows bytes pc choices is =
+    ap₂
+    (λ pc choices. (judgement_of by_hart (core_at_reset (unwrap_or pc FIRST_PC) job.map choices)
+    (rows_of made_columns (made_lines number rows)) (λ a. unwrap_or (bytes a) 0)).verdict) pc choices
+    ∙ is
+
 -- the texts that are made agree
-job_agrees : (job : JobView) (number rows : ℕ) → IsMadeJob job number rows
-    → job_outcome job (Some (made_image number)) (Some (made_trace number rows))
-    ≡ Ok (outcome_of job (rulings.Verdict (Agrees rows rows)))
-job_agrees job number rows plain =
+job_agrees : (job : JobView) (number rows : ℕ) → job.command ≡ Make number rows → IsMadeJob job number rows
+    → job_answer job (Some (made_image number)) (Some (made_trace number rows))
+    ≡ Ok (answer_by_line (outcome_of job (rulings.Verdict (Agrees rows rows))))
+job_agrees job number rows made plain =
     let few : rows ≤ 2 ^ 18 = plain.within_most_rows in
     let most_image : job.max_image ≡ 2 ^ 30 = plain.max_image in
     let most_trace : job.max_trace ≡ 2 ^ 40 = plain.max_trace in
@@ -89,24 +124,23 @@ job_agrees job number rows plain =
     let is : IsMadeMap job.map = record { base = plain.base; size = plain.size } in
     let run : MadeRunAgrees job.map number rows job.max_trace =
     texts_agree job.map number rows job.max_trace is (omega arith) trace_fits in
-    let start : StartView = start_at job run.image.bytes FIRST_PC in
+    let start : HartState = start_at job run.image.bytes FIRST_PC in
     both_are job (Some (made_image number)) (Some (made_trace number rows)) start
     (start_is job (made_image number) run.image.bytes image_fits (made_is_text number) run.image.image)
     ∙ trace_is job start (made_trace number rows) (made_left number rows) run.lines
-    ∙ lines_are job start header_line (made_lines number rows) made_columns (Agrees rows rows) run.columns
-    (ap₂
-    (λ pc choices. (judgement_of by_hart (core_at_reset (unwrap_or pc FIRST_PC) job.map choices)
-    (rows_of made_columns (made_lines number rows)) start.memory).verdict) plain.pc plain.choices ∙ run.verdict)
+    ∙ lines_are job start (made_lines number rows) (Agrees rows rows) made run.columns
+    (verdict_is job number rows run.image.bytes plain.pc plain.choices run.verdict)
 
 pub made_agree : (words : List (List ℕ)) (job : JobView) (files : Files) (number rows : ℕ) → job_of words ≡ Some job
     → job.command ≡ Make number rows
     → answer words files
     ≡ Some
-    (record { made = Some (record { number = number; rows = rows }); ruling = rulings.Verdict (Agrees rows rows) })
+    (answer_by_line
+    (record { made = Some (record { number = number; rows = rows }); ruling = rulings.Verdict (Agrees rows rows) }))
 made_agree words job files number rows asked made =
     words_ask words files job asked
-    ∙ ap (λ (command : Command (List ℕ)). outcome_of_step
-    (job_outcome job (image_in command files) (trace_in command files))) made
-    ∙ ap outcome_of_step (job_agrees job number rows (made_plain words job number rows asked made))
+    ∙ ap (λ (command : Command (List ℕ)). answer_of_step
+    (job_answer job (image_in command files) (trace_in command files))) made
+    ∙ ap answer_of_step (job_agrees job number rows made (made_plain words job number rows asked made))
     ∙ ap (λ (command : Command (List ℕ)). Some
-    (record { made = made_of command; ruling = rulings.Verdict (Agrees rows rows) })) made
+    (answer_by_line (record { made = made_of command; ruling = rulings.Verdict (Agrees rows rows) }))) made

@@ -40,14 +40,15 @@ use Rattle.judge_run.specs.declared.progress.Passed.{Passed}
 use Rattle.judge_run.specs.declared.progress.Passed.TheVariants.{Continue, Ends}
 use Rattle.judge_run.specs.declared.progress.Progress.{Progress}
 use Rattle.judge_run.specs.declared.progress.TraceEnd.{TraceEnd}
-use Rattle.trace_report.specs.declared.outcome.Outcome.{Outcome}
-use Rattle.judge_run.specs.Answer.{ruling_at_end, outcome_of}
+use Rattle.trace_report.specs.declared.outcome.Ruling.{Ruling}
+use Rattle.judge_run.specs.Answer.{RowsEnd, ruling_at_end}
 use Rattle.judge_run.specs.Settling.{IsReadPart, IsSettled}
 use Rattle.judge_run.specs.Taking.{TakesSegments, TakesAfter, TakesAfterWhereKnown, remaining_after, with_lines_before}
 use Rattle.judge_run.specs.Taking.{more_turns}
-use Rattle.judge_run.specs.Parts.{CanContinueWith, FollowsPart, FollowsPartBy, HoldsAfter, IsNearerEnd, IsOver}
+use Rattle.judge_run.specs.Parts.{CanContinueWith, FollowsPart, FollowsPartBy, HoldsAfter, IsEndTold, IsNearerEnd}
+use Rattle.judge_run.specs.Parts.{IsOver}
 use Rattle.judge_run.specs.Parts.{IsPartCounted, LeadsFromWhereKnown, PassesPart}
-use Rattle.judge_run.specs.Parts.{PassesWhereKnown, TracePosition, RowsEnd, lookahead_lines, end_after, end_with}
+use Rattle.judge_run.specs.Parts.{PassesWhereKnown, TracePosition, lookahead_lines, end_after, end_with}
 use Rattle.judge_run.specs.Parts.{end_of, position_of, remaining_rows, segments_ahead}
 use Rattle.judge_run.proofs.AnyEvents.{same_lines}
 use Rattle.judge_run.proofs.Taking.{at_most_one_turn}
@@ -65,9 +66,9 @@ counted_from_none (Refused row fault) = let first : 0 + row ≡ row = omega arit
 abbrev concluded : ColumnList → HartState → List (List ℕ) → Conclusion Core
 concluded columns state lines = conclusion_from by_hart state (rows_of columns lines)
 
--- an outcome and a state
-abbrev rows_end : Outcome → Option HartState → RowsEnd
-rows_end outcome state = record { outcome = outcome; state = state }
+-- a ruling and a state
+abbrev ruled : Ruling → Option HartState → RowsEnd
+ruled ruling state = record { ruling = ruling; state = state }
 
 -- rows, and those after them
 parts_come_to : (state : HartState) (columns : ColumnList) (first rest : List (List ℕ))
@@ -81,18 +82,16 @@ parts_come_to state columns first rest =
 on_with : {rows valid : ℕ} {state : HartState} (job : JobView) (reached : TracePosition) (ending : Ending)
     (first : Conclusion Core) (next : HartState → Conclusion Core) → first.verdict ≡ Agrees rows valid
     → first.end ≡ Some state
-    → rows_end
-    (outcome_of job
+    → ruled
     (ruling_at_end job ending
-    (verdict_after_rows (reached.rows + rows) (reached.valid + valid) (next state).verdict))) (next state).end
-    ≡ rows_end
-    (outcome_of job
+    (verdict_after_rows (reached.rows + rows) (reached.valid + valid) (next state).verdict)) (next state).end
+    ≡ ruled
     (ruling_at_end job ending
-    (verdict_after_rows reached.rows reached.valid (conclusion_then first next).verdict)))
+    (verdict_after_rows reached.rows reached.valid (conclusion_then first next).verdict))
     (conclusion_then first next).end
 on_with {rows} {valid} {state} job reached ending first next agrees ends =
     rw (ends, agrees)
-    (ap (λ verdict. rows_end (outcome_of job (ruling_at_end job ending verdict)) (next state).end)
+    (ap (λ verdict. ruled (ruling_at_end job ending verdict) (next state).end)
     (sym (counted_twice reached.rows reached.valid rows valid (next state).verdict)))
 
 goes_on : {rows valid : ℕ} {state : HartState} (job : JobView) (columns : ColumnList) (reached : TracePosition)
@@ -125,10 +124,9 @@ however job one other rows valid first fits none = by first.verdict first.end fi
 -- a part that ends the trace
 ends_here : (job : JobView) (columns : ColumnList) (reached : TracePosition) (lines : List (List ℕ))
     (left : RemainingLines) → (concluded columns reached.state lines).end ≡ None
-    → rows_end
-    (outcome_of job
+    → ruled
     (ruling_at_end job endings.More
-    (verdict_after_rows reached.rows reached.valid (concluded columns reached.state lines).verdict))) None
+    (verdict_after_rows reached.rows reached.valid (concluded columns reached.state lines).verdict)) None
     ≡ end_after job columns reached (with_lines_before lines left)
 unfolding end_after
 ends_here job columns reached lines left none =
@@ -136,12 +134,11 @@ ends_here job columns reached lines left none =
     let whole : concluded columns reached.state (lines ++ left.lines) ≡ first =
     parts_come_to reached.state columns lines left.lines
     ∙ first_alone first (λ now. concluded columns now left.lines) none in
-    ap₂ rows_end
-    (ap (outcome_of job)
+    ap₂ ruled
     (however job endings.More left.ending reached.rows reached.valid first
-    (conclusion_ends by_hart reached.state (rows_of columns lines)) none)
-    ∙ ap (λ (all : Conclusion Core). outcome_of job
-    (ruling_at_end job left.ending (verdict_after_rows reached.rows reached.valid all.verdict))) (sym whole))
+    (conclusion_ends by_hart reached.state (rows_of columns lines)) none
+    ∙ ap (λ (all : Conclusion Core). ruling_at_end job left.ending
+    (verdict_after_rows reached.rows reached.valid all.verdict)) (sym whole))
     (sym none ∙ ap (λ (all : Conclusion Core). all.end) (sym whole))
   where
     first_alone : (first : Conclusion Core) (next : HartState → Conclusion Core) → first.end ≡ None
@@ -161,7 +158,7 @@ nothing_comes columns state = refl
 
 -- where no row is left, what was reached is all
 ends_with : (job : JobView) (columns : ColumnList) (reached : TracePosition) (ending : Ending)
-    → rows_end (outcome_of job (ruling_at_end job ending (Agrees reached.rows reached.valid))) (Some reached.state)
+    → ruled (ruling_at_end job ending (Agrees reached.rows reached.valid)) (Some reached.state)
     ≡ end_after job columns reached (record { lines = []; ending = ending })
 unfolding end_after
 ends_with job columns reached ending =
@@ -169,14 +166,14 @@ ends_with job columns reached ending =
     let valid : reached.valid + 0 ≡ reached.valid = omega arith in
     let counted : Agrees (reached.rows + 0) (reached.valid + 0) ≡ Agrees reached.rows reached.valid =
     rw (rows, valid) refl in
-    ap (λ verdict. rows_end (outcome_of job (ruling_at_end job ending verdict)) (Some reached.state)) (sym counted)
-    ∙ ap (λ (conclusion : Conclusion Core). rows_end
-    (outcome_of job (ruling_at_end job ending (verdict_after_rows reached.rows reached.valid conclusion.verdict)))
+    ap (λ verdict. ruled (ruling_at_end job ending verdict) (Some reached.state)) (sym counted)
+    ∙ ap (λ (conclusion : Conclusion Core). ruled
+    (ruling_at_end job ending (verdict_after_rows reached.rows reached.valid conclusion.verdict))
     conclusion.end) (sym (nothing_comes columns reached.state))
 
 over_with : (job : JobView) (columns : ColumnList) (reached : TracePosition) (ending : Ending) (left : RemainingLines)
     → more_turns ending ≡ 0
-    → rows_end (outcome_of job (ruling_at_end job ending (Agrees reached.rows reached.valid))) (Some reached.state)
+    → ruled (ruling_at_end job ending (Agrees reached.rows reached.valid)) (Some reached.state)
     ≡ end_after job columns reached (with_lines_before [] (remaining_after ending left))
 over_with job columns reached endings.More left none = absurd (omega (arith, none))
 over_with job columns reached endings.End left none = ends_with job columns reached endings.End
@@ -305,8 +302,8 @@ part_passes {M} {bytes_of} {ram_of} {columns} (Some file) job remaining done pas
     ends verdict end concludes none is =
         ap (end_of job bytes_of) is
         ∙ subst
-        (λ verdict. rows_end
-        (outcome_of job (ruling_at_end job endings.More (verdict_after_rows reached.rows reached.valid verdict))) None
+        (λ verdict. ruled
+        (ruling_at_end job endings.More (verdict_after_rows reached.rows reached.valid verdict)) None
         ≡ whole) concludes
         (ends_here job columns reached lines after none ∙ ap (end_after job columns reached) moves)
 
@@ -424,6 +421,17 @@ part_nears {M} {bytes_of} {ram_of} {columns} {window} remaining done passed goin
               ending = omega (arith, is);
             }))
 
+    no_hart : (end : TraceEnd M) (verdict : Verdict)
+        → end
+        ≡ record {
+          verdict = verdict_after_rows remaining.progress.counts.rows remaining.progress.counts.valid verdict;
+          ending = endings.More;
+          hart = None;
+        }
+        → IfSome end.hart (CanStep ram_of)
+    no_hart end verdict is =
+        subst (λ (end : TraceEnd M). IfSome end.hart (CanStep ram_of)) (sym is) tt
+
     by : (verdict : Verdict) (end : Option (Hart M)) (passed : Passed M)
         → IsWithinRows (row_count_of columns ahead.part.items) verdict
         → IfSome end (CanStep ram_of) → FollowsPartBy remaining.progress.counts done verdict end passed
@@ -466,13 +474,14 @@ part_nears {M} {bytes_of} {ram_of} {columns} {window} remaining done passed goin
             room,
           ),
         )
-    by (Agrees rows valid) (Some hart) (Ends end) within can_step follows = tt
+    by (Agrees rows valid) (Some hart) (Ends end) within can_step follows = absurd follows
     by (Agrees rows valid) None (Continue next) within can_step follows = absurd follows
-    by (Agrees rows valid) None (Ends end) within can_step follows = tt
+    by (Agrees rows valid) None (Ends end) within can_step follows = no_hart end (Agrees rows valid) follows
     by (Differs row difference) hart (Continue next) within can_step follows = absurd follows
-    by (Differs row difference) hart (Ends end) within can_step follows = tt
+    by (Differs row difference) hart (Ends end) within can_step follows =
+        no_hart end (Differs row difference) follows
     by (Refused row fault) hart (Continue next) within can_step follows = absurd follows
-    by (Refused row fault) hart (Ends end) within can_step follows = tt
+    by (Refused row fault) hart (Ends end) within can_step follows = no_hart end (Refused row fault) follows
 
 -- a copy of a hart has its state
 pub same_state : {M : Type 0} (bytes_of : M → Bytes) (one other : Hart M) → one.core ≡ other.core
@@ -509,6 +518,26 @@ parts_lead {M} {bytes_of} {job} {columns} {first} (Some files) remaining next is
         let here =
         subst (λ file. PassesWhereKnown job columns bytes_of file remaining (Continue next)) again passes in
         record { end = here.0 ∙ leads.end; name = here.1 ∙ leads.name }
+
+-- the end is what all rows come to, from the first
+pub end_told : {M : Type 0} {bytes_of : M → Bytes} {job : JobView} {columns : ColumnList} {first : Progress M}
+    (files : Option Files) (remaining : Remaining M) (end : TraceEnd M)
+    → LeadsInFile bytes_of files job columns first remaining
+    → PassesWhereKnown job columns bytes_of (file_of files (string_bytes remaining.progress.taker.name)) remaining
+    (Ends end) → IsEndTold job columns bytes_of (file_of files (string_bytes first.taker.name)) first end
+end_told None remaining end is passes = tt
+end_told {M} {bytes_of} {job} {columns} {first} (Some files) remaining end is passes =
+    by (files (string_bytes first.taker.name)) refl is.file_exists is.leads
+  where
+    by : (file : Option (List ℕ)) → files (string_bytes first.taker.name) ≡ file → IsSome file
+        → LeadsFromWhereKnown job columns bytes_of file first remaining
+        → IsEndTold job columns bytes_of file first end
+    by None e exists leads = tt
+    by (Some file) e exists leads =
+        let again : files (string_bytes remaining.progress.taker.name) ≡ Some file =
+        ap (λ text. files (string_bytes text)) leads.name ∙ e in
+        let here = subst (λ file. PassesWhereKnown job columns bytes_of file remaining (Ends end)) again passes in
+        here ∙ leads.end
 
 -- the file that is there stays there
 pub exists_after_part : {M : Type 0} {bytes_of : M → Bytes} {job : JobView} {columns : ColumnList} {first : Progress M}

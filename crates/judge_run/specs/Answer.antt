@@ -2,11 +2,13 @@
 use Rattle.std.specs.Prelude.{ℕ, Bool, nat_lt, ◌==◌, ◌&&◌, if◌then◌else◌, List, [], ◌∷◌, drop, length, slice_index}
 use Rattle.std.specs.Prelude.{Option}
 use Rattle.std.specs.Prelude.{Some, None, is_some, option_and_then, Result, Ok, Err, unwrap_or}
+use Rattle.std.specs.List.{starts_with}
 use Rattle.outside_ports.specs.Ports.{Files}
 use Rattle.judge_words.specs.Job.{JobView, job_of}
 use Rattle.judge_words.specs.declared.values.TheConstants.{FIRST_PC}
 use Rattle.judge_words.specs.declared.job.Command.{Command}
 use Rattle.judge_words.specs.declared.job.Command.TheVariants.{Judge, Make}
+use Rattle.judge_words.specs.declared.job.Product.TheVariants.{State}
 use Rattle.trace_maker.specs.Texts.{made_image, made_trace}
 use Rattle.elf_image.specs.declared.fault.ElfFault.{ElfFault}
 use Rattle.elf_image.specs.Image.{elf_of}
@@ -25,8 +27,37 @@ use Rattle.trace_report.specs.declared.outcome.Made.{Made}
 use Rattle.trace_report.specs.declared.outcome.Outcome.{Outcome}
 use Rattle.trace_report.specs.declared.outcome.Ruling.{Ruling}
 use Rattle.trace_report.specs.declared.outcome.Ruling.TheVariants as rulings
+use Rattle.trace_report.specs.Report.{report_of}
+use Rattle.hart_words.specs.Memory.{Bytes}
+use Rattle.hart_step.specs.declared.state.Core.{Core}
 use Rattle.hart_step.specs.Cores.{core_at_reset}
-use Rattle.segment_judge.specs.Judgements.{by_hart, judgement_of}
+use Rattle.hart_step.specs.Rows.{HartState}
+use Rattle.segment_judge.specs.Judgements.{by_hart}
+use Rattle.segment_judge.specs.Laws.{Conclusion, conclusion_from}
+use Rattle.state_text.specs.declared.fault.StateFault.{StateFault}
+use Rattle.state_text.specs.Lines.{version_line}
+use Rattle.state_text.specs.Texts.{saved_text, state_in}
+
+-- what a run comes to: an outcome, and the state whose text is written in place of the outcome's line, where one is
+pub record AnswerView : Type 0 where
+  pub outcome : Outcome
+  pub state : Option HartState
+
+-- the bytes that are written: the outcome's line, or the text of the state
+abbrev pub bytes_by : Outcome → Option HartState → List ℕ
+bytes_by outcome None = report_of outcome
+bytes_by outcome (Some state) = saved_text state.core state.bytes
+
+abbrev pub answer_bytes : AnswerView → List ℕ
+answer_bytes answer = bytes_by answer.outcome answer.state
+
+-- an answer by its parts
+abbrev pub answer_of : Outcome → Option HartState → AnswerView
+answer_of outcome state = record { outcome = outcome; state = state }
+
+-- an outcome with its line
+abbrev pub answer_by_line : Outcome → AnswerView
+answer_by_line outcome = answer_of outcome None
 
 -- a step towards the answer: its value, or the outcome at once, or nothing where a file is missing
 abbrev pub Step : Type 0 → Type 0
@@ -39,16 +70,16 @@ required_text (Some text) = Ok text
 
 -- the texts of a command's image and of its trace: files, where they are there, or what is made
 abbrev pub image_in : Command (List ℕ) → Files → Option (List ℕ)
-image_in (Judge image trace) files = files image
+image_in (Judge image trace product) files = files image
 image_in (Make number rows) files = Some (made_image number)
 
 abbrev pub trace_in : Command (List ℕ) → Files → Option (List ℕ)
-trace_in (Judge image trace) files = files trace
+trace_in (Judge image trace product) files = files trace
 trace_in (Make number rows) files = Some (made_trace number rows)
 
 -- the two numbers of what is made
 abbrev pub made_of : {N : Type 0} → Command N → Option Made
-made_of (Judge image trace) = None
+made_of (Judge image trace product) = None
 made_of (Make number rows) = Some (record { number = number; rows = rows })
 
 -- a ruling on a job
@@ -59,24 +90,32 @@ abbrev pub required_job : Option JobView → Step JobView
 required_job None = Err (Some (record { made = None; ruling = rulings.NoJob }))
 required_job (Some job) = Ok job
 
--- where a run starts: its memory and the first pc
-pub record StartView : Type 0 where
-  pub memory : ℕ → ℕ
-  pub pc : ℕ
-
--- the memory is the image, and 0 elsewhere; the first pc is the one that the words give, or else the image's
-abbrev pub start_at : JobView → (ℕ → Option ℕ) → ℕ → StartView
-start_at job bytes pc = record { memory = λ address. unwrap_or (bytes address) 0; pc = unwrap_or job.pc pc }
+-- where a run starts: a hart at reset, over the image, and 0 elsewhere; the first pc is the one that the words give, or
+-- else the image's
+abbrev pub start_at : JobView → (ℕ → Option ℕ) → ℕ → HartState
+start_at job bytes pc = record {
+  core = core_at_reset (unwrap_or job.pc pc) job.map job.choices;
+  bytes = λ address. unwrap_or (bytes address) 0;
+}
 
 -- a Verilog text has no first pc of its own
-abbrev pub text_start : JobView → Result (ℕ → Option ℕ) ImageFault → Step StartView
+abbrev pub text_start : JobView → Result (ℕ → Option ℕ) ImageFault → Step HartState
 text_start job (Err fault) = Err (Some (outcome_of job (rulings.ImageFault fault)))
 text_start job (Ok bytes) = Ok (start_at job bytes FIRST_PC)
 
 -- an ELF file has its entry point
-abbrev pub elf_start : JobView → Result ((ℕ → Option ℕ) × ℕ) ElfFault → Step StartView
+abbrev pub elf_start : JobView → Result ((ℕ → Option ℕ) × ℕ) ElfFault → Step HartState
 elf_start job (Err fault) = Err (Some (outcome_of job (rulings.ElfFault fault)))
 elf_start job (Ok image) = Ok (start_at job image.0 image.1)
+
+-- a hart that begins where the words say, or else where it stands
+abbrev pub core_from : Option ℕ → Core → Core
+core_from pc core = record core { pc = unwrap_or pc core.pc }
+
+-- a saved state has a hart and its memory
+abbrev pub saved_start : JobView → Result (Core × Bytes) StateFault → Step HartState
+saved_start job (Err fault) = Err (Some (outcome_of job (rulings.StateFault fault)))
+saved_start job (Ok saved) = Ok (record { core = core_from job.pc saved.0; bytes = saved.1 })
 
 -- the first four bytes are those of an ELF file
 abbrev pub is_elf : List ℕ → Bool
@@ -84,17 +123,24 @@ is_elf image =
     (slice_index image 0 == 0x7f) && (slice_index image 1 == 0x45)
     && (slice_index image 2 == 0x4c) && (slice_index image 3 == 0x46)
 
-abbrev pub image_start : JobView → List ℕ → Step StartView
+-- the first line is that of a saved state
+abbrev pub is_saved : List ℕ → Bool
+is_saved image = starts_with (λ a b. a == b) image version_line
+
+-- an image is an ELF file or a saved state by its first bytes, and else a Verilog text
+abbrev pub image_start : JobView → List ℕ → Step HartState
 image_start job image =
-    if is_elf image then elf_start job (elf_of job.map.ram image) else text_start job (image_of job.map.ram image)
+    if is_elf image then elf_start job (elf_of job.map.ram image)
+    else if is_saved image then saved_start job (state_in job.map job.choices image)
+    else text_start job (image_of job.map.ram image)
 
 -- an image of too many bytes is refused before anything else in it
-unfoldable pub start_in : JobView → List ℕ → Step StartView
+unfoldable pub start_in : JobView → List ℕ → Step HartState
 start_in job image =
     if nat_lt job.max_image (length image) then Err (Some (outcome_of job (rulings.ImageTooLarge job.max_image)))
     else image_start job image
 
-unfoldable pub start_of : JobView → Option (List ℕ) → Step StartView
+unfoldable pub start_of : JobView → Option (List ℕ) → Step HartState
 start_of job image = do
   bytes ← required_text image
   start_in job bytes
@@ -128,42 +174,60 @@ columns_in job left = by_first left.lines
     by_first [] = Err (Some (outcome_of job (without_header job left.ending)))
     by_first (header ∷ rows) = as_columns job (header_columns header)
 
--- the verdict on rows, by which a hart is stepped from reset at the first pc over the memory
-abbrev pub verdict_on : JobView → StartView → List RowReading → Verdict
-verdict_on job start rows = (judgement_of by_hart (core_at_reset start.pc job.map job.choices) rows
-    start.memory).verdict
+-- what all rows come to: the ruling on them, and the state after them where they agree
+pub record RowsEnd : Type 0 where
+  pub ruling : Ruling
+  pub state : Option HartState
 
--- the first line is the header, each other a row
-unfoldable pub lines_outcome : JobView → StartView → RemainingLines → Step Outcome
-lines_outcome job start left = do
+-- the same of what was judged, where the trace ends so
+abbrev pub rows_end : JobView → Ending → Conclusion Core → RowsEnd
+rows_end job ending judged = record { ruling = ruling_at_end job ending judged.verdict; state = judged.end }
+
+-- the state that is written: the last one, where the words ask for it and the ruling is that the rows agree
+abbrev pub state_written : {N : Type 0} → Command N → Ruling → Option HartState → Option HartState
+state_written (Judge image trace State) (rulings.Verdict (Agrees rows valid)) state = state
+state_written command ruling state = None
+
+-- the answer by what the rows come to
+abbrev pub answer_with : JobView → RowsEnd → AnswerView
+answer_with job end = record {
+  outcome = outcome_of job end.ruling;
+  state = state_written job.command end.ruling end.state;
+}
+
+-- The first line is the header, each other a row. A hart is stepped by all rows in order, from the start, and each is
+-- compared with what it did.
+unfoldable pub lines_answer : JobView → HartState → RemainingLines → Step AnswerView
+lines_answer job start left = do
   columns ← columns_in job left
-  let verdict = verdict_on job start (rows_of columns (drop 1 left.lines))
-  Ok (outcome_of job (ruling_at_end job left.ending verdict))
+  let judged = conclusion_from by_hart start (rows_of columns (drop 1 left.lines))
+  Ok (answer_with job (rows_end job left.ending judged))
 
-unfoldable pub trace_outcome : JobView → StartView → Option (List ℕ) → Step Outcome
-trace_outcome job start trace = do
+unfoldable pub trace_answer : JobView → HartState → Option (List ℕ) → Step AnswerView
+trace_answer job start trace = do
   text ← required_text trace
-  lines_outcome job start (file_lines job.max_trace text)
+  lines_answer job start (file_lines job.max_trace text)
 
 -- the image, then the trace
-unfoldable pub job_outcome : JobView → Option (List ℕ) → Option (List ℕ) → Step Outcome
-job_outcome job image trace = do
+unfoldable pub job_answer : JobView → Option (List ℕ) → Option (List ℕ) → Step AnswerView
+job_answer job image trace = do
   start ← start_of job image
-  trace_outcome job start trace
+  trace_answer job start trace
 
 -- words, then image and trace
-unfoldable pub outcome_step_of : List (List ℕ) → Files → Step Outcome
-outcome_step_of words files = do
+unfoldable pub answer_step_of : List (List ℕ) → Files → Step AnswerView
+answer_step_of words files = do
   job ← required_job (job_of words)
-  job_outcome job (image_in job.command files) (trace_in job.command files)
+  job_answer job (image_in job.command files) (trace_in job.command files)
 
-abbrev pub outcome_of_step : Step Outcome → Option Outcome
-outcome_of_step (Ok outcome) = Some outcome
-outcome_of_step (Err stop) = stop
+abbrev pub answer_of_step : Step AnswerView → Option AnswerView
+answer_of_step (Ok answer) = Some answer
+answer_of_step (Err None) = None
+answer_of_step (Err (Some outcome)) = Some (answer_by_line outcome)
 
--- the outcome of these words over these files; none where a file that it takes is missing
-unfoldable pub answer : List (List ℕ) → Files → Option Outcome
-answer words files = outcome_of_step (outcome_step_of words files)
+-- the answer to these words over these files; none where a file that it takes is missing
+unfoldable pub answer : List (List ℕ) → Files → Option AnswerView
+answer words files = answer_of_step (answer_step_of words files)
 
 -- the words ask for a made trace, and so for no file
 abbrev pub is_made : List (List ℕ) → Bool

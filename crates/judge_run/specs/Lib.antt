@@ -6,3 +6,4 @@ pub mod Events
 pub mod Taking
 pub mod Parts
 pub mod Settling
+pub mod Pieces

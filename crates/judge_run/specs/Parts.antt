@@ -1,5 +1,6 @@
 -- The rows of a trace, judged part by part: what is left of them, and what is known after those that were judged.
-use Rattle.std.specs.Prelude.{◌≡◌, ℕ, ◌+◌, ◌*◌, ◌^◌, ◌<◌, ◌≤◌, List, [], ◌++◌, length, Option, Some, None, option_map}
+use Rattle.std.specs.Prelude.{◌≡◌, ℕ, ◌+◌, ◌*◌, ◌^◌, ◌<◌, ◌≤◌, List, [], ◌++◌, length, Option, Some, None, IfSome}
+use Rattle.std.specs.Prelude.{option_map}
 use Rattle.std.specs.List.{flat_map}
 use Rattle.hart_words.specs.declared.span.Span.{Span}
 use Rattle.hart_words.specs.Memory.{Bytes}
@@ -19,7 +20,6 @@ use Rattle.hart_step.specs.Harts.{CanStep, state_of}
 use Rattle.hart_step.specs.Rows.{HartState}
 use Rattle.segment_judge.specs.Judgements.{by_hart, verdict_after_rows}
 use Rattle.segment_judge.specs.Laws.{conclusion_from}
-use Rattle.trace_report.specs.declared.outcome.Outcome.{Outcome}
 use Rattle.judge_run.specs.declared.parts.Settled.{Settled}
 use Rattle.judge_run.specs.declared.progress.Lookahead.{Lookahead}
 use Rattle.judge_run.specs.declared.progress.Progress.{Progress}
@@ -27,7 +27,7 @@ use Rattle.judge_run.specs.declared.progress.Remaining.{Remaining}
 use Rattle.judge_run.specs.declared.progress.TraceEnd.{TraceEnd}
 use Rattle.judge_run.specs.declared.progress.Passed.{Passed}
 use Rattle.judge_run.specs.declared.progress.Passed.TheVariants.{Continue, Ends}
-use Rattle.judge_run.specs.Answer.{ruling_at_end, outcome_of}
+use Rattle.judge_run.specs.Answer.{RowsEnd, ruling_at_end}
 use Rattle.judge_run.specs.Taking.{remaining_after, with_lines_before, more_turns}
 
 -- how many rows were judged, how many of them are valid, and the state after them
@@ -36,25 +36,20 @@ pub record TracePosition : Type 0 where
   pub valid : ℕ
   pub state : HartState
 
--- what all rows come to: the outcome, and the state after them where they agree
-pub record RowsEnd : Type 0 where
-  pub outcome : Outcome
-  pub state : Option HartState
-
--- the same by what was reached and the lines that are left
+-- what all rows come to, by what was reached and the lines that are left
 unfoldable pub end_after : JobView → ColumnList → TracePosition → RemainingLines → RowsEnd
 end_after job columns reached left =
     let rest = conclusion_from by_hart reached.state (rows_of columns left.lines) in
     record {
-      outcome =
-          outcome_of job (ruling_at_end job left.ending (verdict_after_rows reached.rows reached.valid rest.verdict));
+      ruling =
+          ruling_at_end job left.ending (verdict_after_rows reached.rows reached.valid rest.verdict);
       state = rest.end;
     }
 
 -- the same of an end in code
 abbrev pub end_of : {M : Type 0} → JobView → (M → Bytes) → TraceEnd M → RowsEnd
 end_of job bytes_of end = record {
-  outcome = outcome_of job (ruling_at_end job end.ending end.verdict);
+  ruling = ruling_at_end job end.ending end.verdict;
   state = option_map (state_of bytes_of) end.hart;
 }
 
@@ -191,8 +186,8 @@ distance_to_end remaining =
     3 * room_of remaining.progress.taker + 2 * length remaining.lookahead.next.items
     + length remaining.lookahead.part.items + more_turns remaining.lookahead.ending
 
--- after a part that is not the last it is less
+-- after a part that is not the last it is less, and the hart after the last can be stepped on
 abbrev pub IsNearerEnd : {M : Type 0} → ℕ → (M → Span) → Remaining M → Passed M → Type 0
 IsNearerEnd window ram_of remaining (Continue next) =
     CanContinueWith window ram_of next × (distance_to_end next < distance_to_end remaining)
-IsNearerEnd window ram_of remaining (Ends end) = Unit {0}
+IsNearerEnd window ram_of remaining (Ends end) = IfSome end.hart (CanStep ram_of)

@@ -1,10 +1,12 @@
 -- Calls that go towards the answer, and what stops them.
-use Rattle.std.specs.Prelude.{◌≡◌, ℕ, ◌<◌, ◌≤◌, Bool, true, false, Option, Some, None, is_none, Result, Ok, Err}
+use Rattle.std.specs.Prelude.{◌≡◌, ℕ, ◌<◌, ◌≤◌, Bool, true, false, Option, Some, None, Result, Ok, Err}
 use Rattle.outside_ports.specs.Counts.{Rose}
 use Rattle.outside_ports.specs.Ports.{Files}
 use Rattle.judge_words.specs.Job.{JobView}
 use Rattle.elf_image.specs.declared.fault.ElfError.{ElfError}
 use Rattle.elf_image.specs.declared.fault.ElfError.TheVariants as elf
+use Rattle.state_text.specs.declared.fault.StateError.{StateError}
+use Rattle.state_text.specs.declared.fault.StateError.TheVariants as states
 use Rattle.image_text.specs.declared.fault.ImageError.{ImageError}
 use Rattle.image_text.specs.declared.fault.ImageError.TheVariants as errors
 use Rattle.trace_lines.specs.declared.piece.LineError.{LineError}
@@ -12,6 +14,7 @@ use Rattle.trace_lines.specs.declared.piece.LineError.TheVariants as lines
 use Rattle.trace_report.specs.declared.outcome.Outcome.{Outcome}
 use Rattle.trace_report.specs.declared.outcome.Ruling.{Ruling}
 use Rattle.trace_report.specs.declared.outcome.Ruling.TheVariants as rulings
+use Rattle.judge_run.specs.declared.answer.Answer.{Answer}
 use Rattle.judge_run.specs.declared.stop.Stop.{Stop}
 use Rattle.judge_run.specs.declared.stop.Stop.TheVariants.{Known, ReadFault, NoMemory}
 use Rattle.judge_run.specs.Answer.{Step, outcome_of}
@@ -68,12 +71,12 @@ WasRead (Err (Known outcome)) = Unit {0}
 WasRead (Err ReadFault) = ⊥
 WasRead (Err NoMemory) = Unit {0}
 
--- the same of a call that gives an outcome
-abbrev pub IsJobsOutcome : Result Outcome Stop → Type 0
-IsJobsOutcome (Ok outcome) = is_no_job outcome ≡ false
-IsJobsOutcome (Err (Known outcome)) = is_no_job outcome ≡ false
-IsJobsOutcome (Err ReadFault) = Unit {0}
-IsJobsOutcome (Err NoMemory) = Unit {0}
+-- the same of a call that gives an answer
+abbrev pub IsJobsAnswer : Result Answer Stop → Type 0
+IsJobsAnswer (Ok given) = is_no_job given.outcome ≡ false
+IsJobsAnswer (Err (Known outcome)) = is_no_job outcome ≡ false
+IsJobsAnswer (Err ReadFault) = Unit {0}
+IsJobsAnswer (Err NoMemory) = Unit {0}
 
 -- how an image that cannot be read stops the run
 abbrev pub image_stop : JobView → ImageError → Stop
@@ -84,14 +87,11 @@ abbrev pub elf_stop : JobView → ElfError → Stop
 elf_stop job (elf.Fault fault) = Known (outcome_of job (rulings.ElfFault fault))
 elf_stop job elf.NoMemory = NoMemory
 
+abbrev pub state_stop : JobView → StateError → Stop
+state_stop job (states.Fault fault) = Known (outcome_of job (rulings.StateFault fault))
+state_stop job states.NoMemory = NoMemory
+
 -- how a trace whose lines cannot be taken stops the run
 abbrev pub line_stop : LineError → Stop
 line_stop lines.ReadFault = ReadFault
 line_stop lines.NoMemory = NoMemory
-
--- an outcome tells whether the words ask for a job
-abbrev pub WordsTell : Option JobView → Result Outcome Stop → Type 0
-WordsTell job (Ok outcome) = is_no_job outcome ≡ is_none job
-WordsTell job (Err (Known outcome)) = is_no_job outcome ≡ is_none job
-WordsTell job (Err ReadFault) = Unit {0}
-WordsTell job (Err NoMemory) = Unit {0}

@@ -2,22 +2,25 @@
 
 ghost use Rattle.std.specs.Prelude.{◌≡◌, ◌%◌, ℕ, List, IfOk, unwrap_or};
 ghost use Rattle.outside_ports.specs.Front.{HasFront};
-ghost use Rattle.image_text.specs.Bytes.{byte_at};
+ghost use Rattle.hart_step.specs.Cores.{IsSound, core_at_reset};
 ghost use Rattle.image_text.specs.Image.{image_of};
 ghost use Rattle.elf_image.specs.Image.{elf_of};
 ghost use Rattle.judge_words.specs.Job.{job_view, IsLawful};
-ghost use Rattle.judge_run.specs.Answer.{elf_start, image_start, is_elf, start_at, start_in, start_of, text_start};
-ghost use Rattle.judge_run.specs.Starts.{start_view};
-ghost use Rattle.judge_run.specs.Stops.{MeantBy, MeantWhereKnown, CountsStop, MissesStop, IsJobs, WasRead, elf_stop, image_stop};
+ghost use Rattle.state_text.specs.Texts.{state_in};
+ghost use Rattle.judge_run.specs.Answer.{core_from, elf_start, image_start, is_elf, is_saved, saved_start, start_in, start_of, text_start};
+ghost use Rattle.judge_run.specs.Starts.{CanBegin, IsStartOf, start_view, state_view};
+ghost use Rattle.judge_run.specs.Stops.{MeantBy, MeantWhereKnown, CountsStop, MissesStop, IsJobs, WasRead, elf_stop, image_stop, state_stop};
 
 use crate::outcomes::outcome_of;
 use crate::start::Start;
 use crate::stop::Stop;
 use elf_image::{ElfError, read_elf};
-use image_text::{ImageError, Pieces, read_image};
+use hart_step::Core;
+use image_text::{ImageError, read_image};
 use judge_words::{FIRST_PC, Job};
 use outside_ports::{Front, ReadError, Shelf, read_front};
 use page_image::PageImage;
+use state_text::{State, StateError, read_state};
 use std::alloc::Global;
 use trace_report::Ruling;
 
@@ -32,7 +35,7 @@ pub fn read_start<H: Shelf>(
     ensures known_files { H.known_files shelf.new ≡ H.known_files shelf.old }
     ensures meant { MeantWhereKnown (H.known_files shelf.old) (λ start. start_view start) result
         (λ files. start_of (job_view job.now) (files name.now)) }
-    ensures ram { IfOk result (λ start. start.image.ram ≡ job.now.map.ram) }
+    ensures begins { IfOk result CanBegin }
     ensures jobs { IsJobs result }
     ensures faults { CountsStop result (H.faults shelf.old) (H.faults shelf.new) }
     ensures misses { MissesStop result (H.known_files shelf.old)
@@ -51,7 +54,7 @@ fn start_in(alloc: Global, job: &Job, front: &Front) -> Result<Start, Stop>
     requires { IsLawful (job_view job.now) }
     ensures meant { (file : List ℕ) → HasFront file (job_view job.now).max_image front.now
         → MeantBy (λ start. start_view start) result (start_in (job_view job.now) file) }
-    ensures ram { IfOk result (λ start. start.image.ram ≡ job.now.map.ram) }
+    ensures begins { IfOk result CanBegin }
     ensures jobs { IsJobs result }
     ensures read { WasRead result }
 {
@@ -61,44 +64,33 @@ fn start_in(alloc: Global, job: &Job, front: &Front) -> Result<Start, Stop>
         };
         return Err(Stop::Known(outcome_of(job, ruling)));
     }
-    let (pieces, pc) = match pieces_in(alloc, job, &front.bytes) {
-        Ok(read) => read,
+    let state = match image_state(alloc, job, &front.bytes) {
+        Ok(state) => state,
         Err(stop) => return Err(stop),
     };
-    match PageImage::build(alloc, &pieces, job.map.ram) {
+    match PageImage::build(alloc, &state.pieces, job.map.ram) {
         Ok(image) => Ok(Start {
             image,
-            pc: first_pc(job, pc),
+            core: state.core,
         }),
         Err(_) => Err(Stop::NoMemory),
     }
 }
 
-/// The first pc: the one that the words give, or else this one.
-fn first_pc(job: &Job, pc: u64) -> u64
-    requires lawful { IsLawful (job_view job.now) }
-    requires even { pc % 2 ≡ 0 }
-    ensures value { result ≡ unwrap_or (job_view job.now).pc pc }
-    ensures even { result % 2 ≡ 0 }
-{
-    match job.pc {
-        Some(given) => given,
-        None => pc,
-    }
-}
-
-/// The pieces of an image, and the first pc that it has.
-fn pieces_in(alloc: Global, job: &Job, image: &[u8]) -> Result<(Pieces, u64), Stop>
-    ensures meant { MeantBy (λ read. start_at (job_view job.now) (byte_at read.0) read.1) result
-        (image_start (job_view job.now) image.now) }
-    ensures even { IfOk result (λ read. read.1 % 2 ≡ 0) }
+/// The hart and the memory that an image says.
+fn image_state(alloc: Global, job: &Job, image: &[u8]) -> Result<State, Stop>
+    requires { IsLawful (job_view job.now) }
+    ensures meant { MeantBy state_view result (image_start (job_view job.now) image.now) }
+    ensures start { IfOk result (IsStartOf job.now.map) }
     ensures jobs { IsJobs result }
     ensures read { WasRead result }
 {
     if is_elf(image) {
-        elf_pieces(alloc, job, image)
+        elf_state(alloc, job, image)
+    } else if is_saved(image) {
+        saved_state(alloc, job, image)
     } else {
-        text_pieces(alloc, job, image)
+        text_state(alloc, job, image)
     }
 }
 
@@ -109,33 +101,100 @@ fn is_elf(image: &[u8]) -> bool
     matches!(image, [0x7f, b'E', b'L', b'F', ..])
 }
 
-/// The pieces of an ELF file, and its entry point.
+/// Whether the first line is that of a saved state.
+fn is_saved(image: &[u8]) -> bool
+    ensures { result ≡ is_saved image.now }
+{
+    image.starts_with(b"rvstate 1\n")
+}
+
+/// A hart at reset where an ELF file begins, over its segments.
 #[tactic(auto, using(crate::proofs::Starts::elf_read, crate::proofs::Starts::elf_refused))]
-fn elf_pieces(alloc: Global, job: &Job, image: &[u8]) -> Result<(Pieces, u64), Stop>
-    ensures meant { MeantBy (λ read. start_at (job_view job.now) (byte_at read.0) read.1) result
+fn elf_state(alloc: Global, job: &Job, image: &[u8]) -> Result<State, Stop>
+    requires { IsLawful (job_view job.now) }
+    ensures meant { MeantBy state_view result
         (elf_start (job_view job.now) (elf_of job.now.map.ram image.now)) }
-    ensures even { IfOk result (λ read. read.1 % 2 ≡ 0) }
+    ensures start { IfOk result (IsStartOf job.now.map) }
     ensures jobs { IsJobs result }
     ensures read { WasRead result }
 {
     match read_elf(alloc, image, job.map.ram) {
-        Ok(read) => Ok(read),
+        Ok((pieces, entry)) => Ok(State {
+            core: core_at_reset(job, entry),
+            pieces,
+        }),
         Err(error) => Err(elf_stop(job, error)),
     }
 }
 
-/// The pieces of a Verilog text, and the first pc where none is given.
+/// A saved state, at the first pc that the words give, if any.
+#[tactic(auto, using(crate::proofs::Starts::saved_read, crate::proofs::Starts::saved_refused))]
+fn saved_state(alloc: Global, job: &Job, image: &[u8]) -> Result<State, Stop>
+    requires { IsLawful (job_view job.now) }
+    ensures meant { MeantBy state_view result
+        (saved_start (job_view job.now) (state_in job.now.map job.now.choices image.now)) }
+    ensures start { IfOk result (IsStartOf job.now.map) }
+    ensures jobs { IsJobs result }
+    ensures read { WasRead result }
+{
+    match read_state(alloc, image, job.map, job.choices) {
+        Ok(state) => Ok(State {
+            core: core_from(job, state.core),
+            pieces: state.pieces,
+        }),
+        Err(error) => Err(state_stop(job, error)),
+    }
+}
+
+/// A hart at reset at the first pc, over a Verilog text.
 #[tactic(auto, using(crate::proofs::Starts::text_read, crate::proofs::Starts::text_refused))]
-fn text_pieces(alloc: Global, job: &Job, image: &[u8]) -> Result<(Pieces, u64), Stop>
-    ensures meant { MeantBy (λ read. start_at (job_view job.now) (byte_at read.0) read.1) result
+fn text_state(alloc: Global, job: &Job, image: &[u8]) -> Result<State, Stop>
+    requires { IsLawful (job_view job.now) }
+    ensures meant { MeantBy state_view result
         (text_start (job_view job.now) (image_of job.now.map.ram image.now)) }
-    ensures even { IfOk result (λ read. read.1 % 2 ≡ 0) }
+    ensures start { IfOk result (IsStartOf job.now.map) }
     ensures jobs { IsJobs result }
     ensures read { WasRead result }
 {
     match read_image(alloc, image, job.map.ram) {
-        Ok(pieces) => Ok((pieces, FIRST_PC)),
+        Ok(pieces) => Ok(State {
+            core: core_at_reset(job, FIRST_PC),
+            pieces,
+        }),
         Err(error) => Err(image_stop(job, error)),
+    }
+}
+
+/// A hart at reset at the first pc: the one that the words give, or else this one.
+fn core_at_reset(job: &Job, pc: u64) -> Core
+    requires lawful { IsLawful (job_view job.now) }
+    requires even { pc % 2 ≡ 0 }
+    ensures core { result
+        ≡ core_at_reset (unwrap_or (job_view job.now).pc pc) job.now.map job.now.choices }
+    ensures map { result.map ≡ job.now.map }
+    ensures sound { IsSound result }
+{
+    let first = match job.pc {
+        Some(given) => given,
+        None => pc,
+    };
+    Core::reset(first, job.map, job.choices)
+}
+
+/// A hart at the first pc that the words give, or else where it stands.
+fn core_from(job: &Job, core: Core) -> Core
+    requires lawful { IsLawful (job_view job.now) }
+    requires sound { IsSound core }
+    ensures core { result ≡ core_from (job_view job.now).pc core }
+    ensures sound { IsSound result }
+{
+    match job.pc {
+        None => core,
+        Some(pc) => {
+            let mut core = core;
+            core.pc = pc;
+            core
+        }
     }
 }
 
@@ -156,5 +215,15 @@ fn elf_stop(job: &Job, error: ElfError) -> Stop
     match error {
         ElfError::Fault(fault) => Stop::Known(outcome_of(job, Ruling::ElfFault(fault))),
         ElfError::NoMemory => Stop::NoMemory,
+    }
+}
+
+/// The same of a saved state.
+fn state_stop(job: &Job, error: StateError) -> Stop
+    ensures { result ≡ state_stop (job_view job.now) error }
+{
+    match error {
+        StateError::Fault(fault) => Stop::Known(outcome_of(job, Ruling::StateFault(fault))),
+        StateError::NoMemory => Stop::NoMemory,
     }
 }

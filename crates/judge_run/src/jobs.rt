@@ -1,53 +1,54 @@
-//! From the words to the outcome.
+//! From the words to what is written.
 
-ghost use Rattle.std.specs.Prelude.{◌≡◌, Some, IfOk, true, codes, map, string_bytes};
-ghost use Rattle.judge_words.specs.Job.{IsLawful, job_of, job_view};
+ghost use Rattle.std.specs.Prelude.{◌≡◌, Some, IfOk, codes, map, string_bytes};
+ghost use Rattle.judge_words.specs.Job.{IsLawful, job_view};
 ghost use Rattle.outside_ports.specs.Memory.{files_of};
-ghost use Rattle.outside_ports.specs.Ports.{Files};
 ghost use Rattle.trace_maker.specs.Texts.{made_image, made_trace};
-ghost use Rattle.judge_run.specs.Answer.{is_made, job_outcome, outcome_step_of};
-ghost use Rattle.judge_run.specs.Stops.{MeantBy, MeantWhereKnown, CountsStop, IsJobsOutcome, MissesStop, WasRead, WordsTell};
+ghost use Rattle.judge_run.specs.Answer.{job_answer};
+ghost use Rattle.judge_run.specs.Ends.{Ends, EndsOverFiles, EndsOverMade, moment_of, sink_moment};
 
+use crate::answers::{write_found, write_outcome};
 use crate::images::read_start;
 use crate::outcomes::no_job;
-use crate::stop::Stop;
 use crate::traces::judge_trace;
 use crate::workers::Workers;
+use hart_words::NoMemory;
 use judge_words::{Command, Job, WordError, read_words};
-use outside_ports::{Gate, MemShelf, NamedFile, Shelf};
-use std::alloc::{AllocError, Global};
+use outside_ports::{Gate, MemShelf, NamedFile, Shelf, Sink};
+use std::alloc::Global;
 use std::thread::Threads;
 use trace_maker::make;
-use trace_report::Outcome;
 
-/// The outcome of these words over the files of the shelf: of the words first, then of the image,
-/// then of the trace. A trace that is made takes no file.
-pub fn find_outcome<R, H: Shelf, G: Gate>(
+/// The names of an image and a trace.
+#[derive(Clone, Copy)]
+struct Names<'n> {
+    image: &'n str,
+    trace: &'n str,
+}
+
+/// Reads the words, judges what they name over the files of the shelf, and writes what that comes
+/// to: of the words first, then of the image, then of the trace. A trace that is made takes no
+/// file.
+pub fn run<R, H: Shelf, O: Sink, G: Gate>(
     rt: &R,
     alloc: Global,
     words: &Vec<String>,
     shelf: &mut H,
+    out: &mut O,
     gate: &G,
-) -> Result<Outcome, Stop>
+) -> u8
 where
     R: Threads + Sync,
     ensures known_files { H.known_files shelf.new ≡ H.known_files shelf.old }
-    ensures meant { MeantWhereKnown (H.known_files shelf.old) (λ outcome. outcome) result
-        (λ files. outcome_step_of (map string_bytes words.now.items) files) }
-    ensures made { is_made (map string_bytes words.now.items) ≡ true → (files : Files)
-        → MeantBy (λ outcome. outcome) result
-        (outcome_step_of (map string_bytes words.now.items) files) }
-    ensures read { is_made (map string_bytes words.now.items) ≡ true → WasRead result }
-    ensures words { WordsTell (job_of (map string_bytes words.now.items)) result }
-    ensures faults { CountsStop result (H.faults shelf.old) (H.faults shelf.new) }
-    ensures misses { MissesStop result (H.known_files shelf.old)
-        (λ files. outcome_step_of (map string_bytes words.now.items) files) (H.misses shelf.old)
-        (H.misses shelf.new) }
+    ensures ends { Ends (H.known_files shelf.old) (map string_bytes words.now.items)
+        (moment_of H.faults H.misses O.held O.faults shelf.old out.old)
+        (moment_of H.faults H.misses O.held O.faults shelf.new out.new)
+        result }
 {
     let job = match read_words(alloc, words) {
         Ok(job) => job,
-        Err(WordError::NotAJob) => return Err(Stop::Known(no_job())),
-        Err(WordError::NoMemory) => return Err(Stop::NoMemory),
+        Err(WordError::NotAJob) => return write_outcome(&no_job(), out),
+        Err(WordError::NoMemory) => return 6,
     };
     let workers = Workers {
         rt,
@@ -56,72 +57,80 @@ where
         count: job.sharing.workers,
     };
     match &job.command {
-        Command::Judge { image, trace } => {
-            judge_files(&workers, &job, image.as_str(), trace.as_str(), shelf)
+        Command::Judge { image, trace, .. } => {
+            let names = Names {
+                image: image.as_str(),
+                trace: trace.as_str(),
+            };
+            run_files(&workers, &job, names, shelf, out)
         }
-        Command::Make { number, rows } => judge_made(&workers, &job, *number, *rows),
+        Command::Make { number, rows } => run_made(&workers, &job, *number, *rows, out),
     }
 }
 
-/// The outcome of a job over the files of these names.
-fn judge_files<R, H: Shelf, G: Gate>(
+/// Judges the files of these names, and writes what they come to while the image is there.
+fn run_files<R, H: Shelf, O: Sink, G: Gate>(
     workers: &Workers<R, G>,
     job: &Job,
-    image: &str,
-    trace: &str,
+    names: Names<'_>,
     shelf: &mut H,
-) -> Result<Outcome, Stop>
+    out: &mut O,
+) -> u8
 where
     R: Threads + Sync,
     requires lawful { IsLawful (job_view job.now) }
     ensures known_files { H.known_files shelf.new ≡ H.known_files shelf.old }
-    ensures meant { MeantWhereKnown (H.known_files shelf.old) (λ outcome. outcome) result
-        (λ files. job_outcome (job_view job.now) (files image.now) (files trace.now)) }
-    ensures jobs { IsJobsOutcome result }
-    ensures faults { CountsStop result (H.faults shelf.old) (H.faults shelf.new) }
-    ensures misses { MissesStop result (H.known_files shelf.old)
-        (λ files. job_outcome (job_view job.now) (files image.now) (files trace.now))
-        (H.misses shelf.old) (H.misses shelf.new) }
+    ensures ends { EndsOverFiles (H.known_files shelf.old)
+        (λ files. job_answer (job_view job.now) (files names.entry.image.now)
+        (files names.entry.trace.now))
+        (moment_of H.faults H.misses O.held O.faults shelf.old out.old)
+        (moment_of H.faults H.misses O.held O.faults shelf.new out.new)
+        result }
 {
-    let start = match read_start(workers.alloc, job, image, shelf) {
+    let start = match read_start(workers.alloc, job, names.image, shelf) {
         Ok(start) => start,
-        Err(stop) => return Err(stop),
+        Err(stop) => return write_found(&Err(stop), out),
     };
-    judge_trace(workers, job, trace, &start, shelf)
+    let found = judge_trace(workers, job, names.trace, &start, shelf);
+    write_found(&found, out)
 }
 
-/// The outcome of a job over what is made, by the path of files, from a shelf in memory.
-fn judge_made<R, G: Gate>(
+/// Judges what is made, by the path of files, from a shelf in memory.
+fn run_made<R, O: Sink, G: Gate>(
     workers: &Workers<R, G>,
     job: &Job,
     number: u32,
     rows: u32,
-) -> Result<Outcome, Stop>
+    out: &mut O,
+) -> u8
 where
     R: Threads + Sync,
     requires lawful { IsLawful (job_view job.now) }
-    ensures meant { MeantBy (λ outcome. outcome) result (job_outcome (job_view job.now)
-        (Some (made_image number)) (Some (made_trace number rows))) }
-    ensures jobs { IsJobsOutcome result }
-    ensures read { WasRead result }
+    ensures { EndsOverMade (job_view job.now) number rows (sink_moment O.held O.faults out.old)
+        (sink_moment O.held O.faults out.new) result }
 {
-    let mut shelf = shelf_of(workers.alloc, make(workers.alloc, number, rows)?)?;
-    match judge_files(workers, job, "image", "trace", &mut shelf) {
-        Ok(outcome) => Ok(outcome),
-        Err(Stop::ReadFault) => unreachable!(),
-        Err(stop) => Err(stop),
+    match shelf_made(workers.alloc, number, rows) {
+        Err(_) => 6,
+        Ok(shelf) => {
+            let mut shelf = shelf;
+            let names = Names {
+                image: "image",
+                trace: "trace",
+            };
+            run_files(workers, job, names, &mut shelf, out)
+        }
     }
 }
 
-/// A shelf of two files, `image` and `trace`, with these texts.
-fn shelf_of(alloc: Global, texts: (Vec<u8>, Vec<u8>)) -> Result<MemShelf, AllocError>
+/// A shelf of two files, `image` and `trace`, with the texts that are made of this number.
+fn shelf_made(alloc: Global, number: u32, rows: u32) -> Result<MemShelf, NoMemory>
     ensures image { IfOk result (λ shelf.
-        files_of shelf.files.items (codes "image") ≡ Some texts.0.items) }
+        files_of shelf.files.items (codes "image") ≡ Some (made_image number)) }
     ensures trace { IfOk result (λ shelf.
-        files_of shelf.files.items (codes "trace") ≡ Some texts.1.items) }
+        files_of shelf.files.items (codes "trace") ≡ Some (made_trace number rows)) }
     ensures misses { IfOk result (λ shelf. shelf.misses ≡ 0) }
 {
-    let (image, trace) = texts;
+    let (image, trace) = make(alloc, number, rows)?;
     let mut files = Vec::new(alloc);
     files.push(NamedFile {
         name: String::from_str(alloc, "image")?,

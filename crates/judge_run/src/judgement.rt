@@ -5,18 +5,17 @@ ghost use Rattle.outside_ports.specs.Counts.{Rose};
 ghost use Rattle.outside_ports.specs.Ports.{Files};
 ghost use Rattle.judge_words.specs.Job.{job_of};
 ghost use Rattle.judge_run.specs.Answer.{answer, is_made};
-ghost use Rattle.judge_run.specs.Ends.{Ends, IsAnswer, Writes, moment_of};
+ghost use Rattle.judge_run.specs.Ends.{Ends, HasStateReadBack, IsAnswer, moment_of};
 
-use crate::jobs::find_outcome;
-use crate::stop::Stop;
-use outside_ports::{Gate, Shelf, Sink, write_all};
+use crate::jobs::run;
+use outside_ports::{Gate, Shelf, Sink};
 use std::alloc::Global;
 use std::thread::Threads;
-use trace_report::{Outcome, report, status};
 
 /// Judges the trace that the words name over the image that they name, writes one line of text to
-/// `out` and gives the status: 0 the trace agrees, 1 it differs, 2 the words are refused, 3 the
-/// image is, 4 the trace is, 5 a read or a write failed, 6 memory was refused.
+/// `out`, or the text of the state after a trace that agrees, and gives the status: 0 the trace
+/// agrees, 1 it differs, 2 the words are refused, 3 the image is, 4 the trace is, 5 a read or a
+/// write failed, 6 memory was refused.
 ///
 /// The first word is the program's name and is not looked at. Each worker passes `gate` before and
 /// after a segment.
@@ -31,8 +30,8 @@ pub fn judge<R, H: Shelf, O: Sink, G: Gate>(
 where
     R: Threads + Sync,
     // Where the files return what they hold and no fault rises, the bytes written and the status
-    // are those of one reference hart stepped from reset over the rows in order and compared at
-    // each; or the status is 6 and nothing is written.
+    // are those of one reference hart stepped from reset, or from the saved state that the image
+    // is, over the rows in order and compared at each; or the status is 6 and nothing is written.
     ensures headline { (files : Files) → H.known_files shelf.old ≡ Some files
         → ¬ Rose (H.faults shelf.old) (H.faults shelf.new)
         → ¬ Rose (O.faults out.old) (O.faults out.new)
@@ -60,6 +59,9 @@ where
     ensures misses { H.misses shelf.old < H.misses shelf.new
         → (files : Files) × (H.known_files shelf.old ≡ Some files)
         × (answer (map string_bytes words.now.items) files ≡ None) }
+    // A state that was written is read again as that state.
+    ensures back { (files : Files) → H.known_files shelf.old ≡ Some files → result ≤ 4
+        → HasStateReadBack (answer (map string_bytes words.now.items) files) }
     // For every shelf the words alone decide whether they are refused.
     ensures words { result ≤ 4 → (result ≡ 2) ↔ (job_of (map string_bytes words.now.items) ≡ None) }
     ensures out_of_memory { result ≡ 6 → O.held out.new ≡ O.held out.old }
@@ -68,44 +70,4 @@ where
     ensures range { result ≤ 6 }
 {
     run(rt, alloc, words, shelf, out, gate)
-}
-
-/// Finds the outcome and writes it.
-fn run<R, H: Shelf, O: Sink, G: Gate>(
-    rt: &R,
-    alloc: Global,
-    words: &Vec<String>,
-    shelf: &mut H,
-    out: &mut O,
-    gate: &G,
-) -> u8
-where
-    R: Threads + Sync,
-    ensures known_files { H.known_files shelf.new ≡ H.known_files shelf.old }
-    ensures ends { Ends (H.known_files shelf.old) (map string_bytes words.now.items)
-        (moment_of H.faults H.misses O.held O.faults shelf.old out.old)
-        (moment_of H.faults H.misses O.held O.faults shelf.new out.new)
-        result }
-{
-    match find_outcome(rt, alloc, words, shelf, gate) {
-        Ok(outcome) => write_outcome(&outcome, out),
-        Err(Stop::Known(outcome)) => write_outcome(&outcome, out),
-        Err(Stop::ReadFault) => 5,
-        Err(Stop::NoMemory) => 6,
-    }
-}
-
-/// Writes the text of an outcome, and gives its status, or 5 where a write failed.
-fn write_outcome<O: Sink>(outcome: &Outcome, out: &mut O) -> u8
-    ensures { Writes outcome.now result (O.held out.old) (O.held out.new)
-        (O.faults out.old) (O.faults out.new) }
-{
-    let text = report(outcome);
-    let text = text.as_slice();
-    let done = write_all(out, text);
-    if done < text.len() {
-        5
-    } else {
-        status(outcome)
-    }
 }

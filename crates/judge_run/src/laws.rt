@@ -1,6 +1,6 @@
 //! What holds of every way to judge a trace in segments, and of what is made.
 
-ghost use Rattle.std.specs.Prelude.{◌≡◌, ℕ, List, Some};
+ghost use Rattle.std.specs.Prelude.{◌≡◌, ℕ, List, Option, Some};
 ghost use Rattle.board_core.specs.declared.event.Event.{Event};
 ghost use Rattle.outside_ports.specs.Ports.{Files};
 ghost use Rattle.rvfi_rows.specs.Columns.{ColumnList};
@@ -12,7 +12,9 @@ ghost use Rattle.segment_judge.specs.Judgements.{Judgement};
 ghost use Rattle.judge_words.specs.Job.{JobView, job_of};
 ghost use Rattle.judge_words.specs.declared.job.Command.TheVariants.{Make};
 ghost use Rattle.trace_report.specs.declared.outcome.Ruling.TheVariants.{Verdict};
-ghost use Rattle.judge_run.specs.Answer.{answer};
+ghost use Rattle.trace_lines.specs.declared.piece.Ending.{Ending};
+ghost use Rattle.judge_run.specs.Answer.{answer, answer_by_line};
+ghost use Rattle.judge_run.specs.Pieces.{RunsGoOn};
 ghost use Rattle.judge_run.specs.Events.{AnyEvents};
 
 /// However the lines are cut, whatever is guessed of the hart before each piece, and whatever
@@ -30,8 +32,19 @@ pub fn any_events()
 pub fn made_traces_agree()
     ensures { (words : List (List ℕ)) (job : JobView) (files : Files) (number rows : ℕ)
         → job_of words ≡ Some job → job.command ≡ Make number rows
-        → answer words files ≡ Some (record {
+        → answer words files ≡ Some (answer_by_line (record {
           made = Some (record { number = number; rows = rows });
           ruling = Verdict (Agrees rows rows);
-        }) }
+        })) }
+{}
+
+/// A trace may be judged in pieces, by runs that go on from one another: where a run's rows agree
+/// and it writes the state after them, a run over more rows that begins from that text comes to
+/// what one run over all rows does. A row's number is less by the first run's rows, and the number
+/// after `agrees` by its valid ones. Both runs have the same header, map and choices. That the text
+/// is read back as the state is a clause of `judge`, for every state that a run writes.
+pub fn runs_go_on()
+    ensures { (first second : JobView) (image : Option (List ℕ)) (trace after header : List ℕ)
+        (lines more : List (List ℕ)) (ending : Ending) (saved : HartState)
+        → RunsGoOn first second image trace after header lines more ending saved }
 {}

@@ -5,6 +5,8 @@
 //! joins the parts that follow the standards; none of its own does.
 #![tactic(auto)]
 
+mod answer;
+mod answers;
 mod images;
 mod jobs;
 mod judgement;
@@ -33,5 +35,7 @@ mod limit_tests;
 mod program_tests;
 #[cfg(test)]
 mod segment_tests;
+#[cfg(test)]
+mod state_tests;
 #[cfg(test)]
 mod tests;

@@ -1,6 +1,7 @@
 //! Judging the rows of a trace that remain, part by part.
 
-ghost use Rattle.std.specs.Prelude.{◌≡◌, ◌<◌, ◌^◌, IfOk, string_bytes};
+ghost use Rattle.std.specs.Prelude.{◌≡◌, ◌<◌, ◌^◌, IfOk, IfSome, string_bytes};
+ghost use Rattle.hart_step.specs.Harts.{CanStep};
 ghost use Rattle.judge_words.specs.Job.{IsLawful, job_view};
 ghost use Rattle.outside_ports.specs.Faults.{CountsFault, CountsMiss};
 ghost use Rattle.outside_ports.specs.Ports.{IsThere, file_of};
@@ -37,6 +38,7 @@ where
     ensures meant { let file = file_of (H.known_files shelf.old)
         (string_bytes progress.taker.name) in
         IfOk result (IsEndTold (job_view job.now) columns.now M.bytes file progress) }
+    ensures can_step { IfOk result (λ end. IfSome end.hart (CanStep M.ram)) }
     ensures faults { CountsFault is_read_fault result (H.faults shelf.old) (H.faults shelf.new) }
     ensures misses { CountsMiss is_read_fault result (H.known_files shelf.old)
         (string_bytes progress.taker.name) (H.misses shelf.old) (H.misses shelf.new) }

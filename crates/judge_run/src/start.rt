@@ -1,13 +1,11 @@
 //! Where a run starts.
 
-ghost use Rattle.std.specs.Prelude.{◌≡◌, ◌%◌};
-
+use hart_step::Core;
 use page_image::PageImage;
 
-/// The memory before the first step, and the first pc.
+/// A hart before its first step, and the image of its memory.
 #[derive(Drop)]
 pub struct Start {
     pub image: PageImage,
-    pub pc: u64,
-    ghost even: { pc % 2 ≡ 0 },
+    pub core: Core,
 }

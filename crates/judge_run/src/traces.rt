@@ -1,13 +1,16 @@
 //! Judging the trace of a job.
 
-ghost use Rattle.std.specs.Prelude.{◌≡◌};
+ghost use Rattle.std.specs.Prelude.{◌≡◌, IfOk};
 ghost use Rattle.judge_words.specs.Job.{job_view, IsLawful};
 ghost use Rattle.trace_lines.specs.Pieces.{piece_view};
-ghost use Rattle.judge_run.specs.Answer.{columns_in, trace_outcome};
-ghost use Rattle.judge_run.specs.Starts.{start_view};
-ghost use Rattle.judge_run.specs.Stops.{MeantBy, MeantWhereKnown, CountsStop, MissesStop, IsJobs, IsJobsOutcome, WasRead};
+ghost use Rattle.judge_run.specs.Answer.{columns_in, trace_answer};
+ghost use Rattle.judge_run.specs.Ends.{CanStepOn, answer_view};
+ghost use Rattle.judge_run.specs.Starts.{CanBegin, start_view};
+ghost use Rattle.judge_run.specs.Stops.{MeantBy, MeantWhereKnown, CountsStop, MissesStop, IsJobs, IsJobsAnswer, WasRead};
 
-use crate::outcomes::{outcome_of, ruling_at_end, without_header};
+use crate::answer::Answer;
+use crate::answers::answer_with;
+use crate::outcomes::{outcome_of, without_header};
 use crate::progress::Progress;
 use crate::remaining::judge_rows;
 use crate::start::Start;
@@ -21,28 +24,29 @@ use rvfi_rows::{Columns, HeaderError, RowCounts, read_header};
 use std::alloc::Global;
 use std::thread::Threads;
 use trace_lines::{LineTaker, Piece};
-use trace_report::{Outcome, Ruling};
+use trace_report::Ruling;
 
 /// Reads the trace of a job, a file of this name, and judges its rows from the start. The lines
 /// after the first are taken once that is known to be a header.
-pub fn judge_trace<R, G: Gate, H: Shelf>(
+pub fn judge_trace<'a, R, G: Gate, H: Shelf>(
     workers: &Workers<R, G>,
     job: &Job,
     name: &str,
-    start: &Start,
+    start: &'a Start,
     shelf: &mut H,
-) -> Result<Outcome, Stop>
+) -> Result<Answer<'a>, Stop>
 where
     R: Threads + Sync,
     requires lawful { IsLawful (job_view job.now) }
-    requires ram { start.now.image.ram ≡ job.now.map.ram }
+    requires begins { CanBegin start.now }
     ensures known_files { H.known_files shelf.new ≡ H.known_files shelf.old }
-    ensures meant { MeantWhereKnown (H.known_files shelf.old) (λ outcome. outcome) result
-        (λ files. trace_outcome (job_view job.now) (start_view start.now) (files name.now)) }
-    ensures jobs { IsJobsOutcome result }
+    ensures meant { MeantWhereKnown (H.known_files shelf.old) answer_view result
+        (λ files. trace_answer (job_view job.now) (start_view start.entry.now) (files name.now)) }
+    ensures can_step { IfOk result CanStepOn }
+    ensures jobs { IsJobsAnswer result }
     ensures faults { CountsStop result (H.faults shelf.old) (H.faults shelf.new) }
     ensures misses { MissesStop result (H.known_files shelf.old)
-        (λ files. trace_outcome (job_view job.now) (start_view start.now) (files name.now))
+        (λ files. trace_answer (job_view job.now) (start_view start.entry.now) (files name.now))
         (H.misses shelf.old) (H.misses shelf.new) }
 {
     let taker = LineTaker::open(workers.alloc, name, job.max_trace)?;
@@ -56,16 +60,17 @@ where
     };
     let progress = Progress {
         taker,
-        hart: Hart::reset(
-            Layered::over(workers.alloc, &start.image),
-            start.pc,
-            job.map,
-            job.choices,
-        ),
+        hart: Hart {
+            core: start.core,
+            mem: Layered::over(workers.alloc, &start.image),
+        },
         counts: RowCounts::zero(),
     };
     match judge_rows(workers, job, &columns, progress, shelf) {
-        Ok(end) => Ok(outcome_of(job, ruling_at_end(job, end.ending, end.verdict))),
+        Ok(end) => {
+            let answer = answer_with(job, end)?;
+            Ok(answer)
+        }
         Err(error) => Err(line_stop(error)),
     }
 }

@@ -17,6 +17,8 @@ use Rattle.judge_words.specs.Commands.{command_line, command_entered, values_giv
 use Rattle.hart_words.specs.Choices.{plain_choices}
 use Rattle.judge_words.specs.Job.{IsMadeJob, JobView, given_choices, files_job, job_from, job_of, made_job, sharing_of}
 use Rattle.judge_words.specs.declared.job.Command.TheVariants.{Judge, Make}
+use Rattle.judge_words.specs.declared.job.Product.{Product}
+use Rattle.judge_words.specs.declared.job.Product.TheVariants.{Line, State}
 use Rattle.judge_words.specs.declared.values.TheConstants.{MOST_IMAGE_BYTES, MOST_MADE_NUMBER, MOST_MADE_ROWS}
 use Rattle.judge_words.specs.declared.values.TheConstants.{MOST_TRACE_BYTES, RAM_BASE, RAM_SIZE}
 use Rattle.judge_words.specs.declared.job.Sharing.{Sharing}
@@ -65,15 +67,16 @@ within most text =
     (λ text there. following Within (number_of_text text) (at_most most) (λ value read. within_most most value))
 
 -- jobs over files are not made
-of_files : (job : JobView) (image trace : List ℕ) → job.command ≡ Judge image trace → ForSome (Some job) IfMade
-of_files job image trace is other same number rows made =
+of_files : (job : JobView) (image trace : List ℕ) (product : Product) → job.command ≡ Judge image trace product
+    → ForSome (Some job) IfMade
+of_files job image trace product is other same number rows made =
     let one : job ≡ other = cc in
-    let never : Judge image trace ≡ Make number rows = sym is ∙ ap (λ (job : JobView). job.command) one ∙ made in
+    let never : Judge image trace product ≡ Make number rows = sym is ∙ ap (λ (job : JobView). job.command) one ∙ made in
     cc
 
-files_named : (given : List Row) → ForSome (files_job given) IfMade
+files_named : (product : Product) (given : List Row) → ForSome (files_job product given) IfMade
 unfolding files_job
-files_named given =
+files_named product given =
     following IfMade (first_of (codes "image") given) _ (λ image e1.
     following IfMade (first_of (codes "trace") given) _ (λ trace e2.
     following IfMade (first_pc_in (first_of (codes "pc") given)) _ (λ pc e3.
@@ -87,7 +90,7 @@ files_named given =
     of_files
     (record {
       command =
-          Judge image trace;
+          Judge image trace product;
       pc = pc;
       map = map;
       max_image = max_image;
@@ -95,7 +98,7 @@ files_named given =
       choices = choices;
       sharing = sharing;
     })
-    image trace refl))))))))))
+    image trace product refl))))))))))
 
 -- a range has the base and the size that it is made of
 span_has : (base size : ℕ) → ForSome (span_of base size) (λ span. (span.base ≡ base) × (span.size ≡ size))
@@ -166,12 +169,14 @@ pub made_plain : (words : List (List ℕ)) (job : JobView) (number rows : ℕ) �
 unfolding job_of
 made_plain words job number rows asked made =
     let entered = command_entered command_line words in
-    go (values_given_to (codes "judge") entered) (values_given_to (codes "make") entered) job asked number rows made
+    go (values_given_to (codes "judge") entered) (values_given_to (codes "state") entered)
+    (values_given_to (codes "make") entered) job asked number rows made
   where
-    go : (judge make : Option (List Row)) → ForSome (job_from judge make) IfMade
-    go (Some given) make = files_named given
-    go None (Some given) = made_given given
-    go None None = λ job asked. cc
+    go : (judge state make : Option (List Row)) → ForSome (job_from judge state make) IfMade
+    go (Some given) state make = files_named Line given
+    go None (Some given) make = files_named State given
+    go None None (Some given) = made_given given
+    go None None None = λ job asked. cc
 
 -- words that ask for such a job
 pub made_asked : option_map (λ job. job.command)

@@ -43,10 +43,10 @@ sharing_rules =
 abbrev pub with_rules : App → List Rule → App
 with_rules command rules = fold with_rule command rules
 
--- `judge`, with the names of two files
-abbrev pub judge_command : App
-judge_command =
-    with_rules (with_rules (with_rules (new_app (codes "judge")) (
+-- a command with the names of two files, as `judge` and `state` are
+abbrev pub files_command : Text → App
+files_command name =
+    with_rules (with_rules (with_rules (new_app name) (
     required_word (codes "image")
     ∷ required_word (codes "trace")
     ∷ option_of (codes "pc")
@@ -73,7 +73,9 @@ IsCommand app command = (app_of command ≡ app) × ((out-Command command).has_g
 -- the program's command line: its name, a command, what that command takes
 unfoldable pub command_line : App
 command_line =
-    with_subcommand (with_subcommand (new_app (codes "rvjudge")) judge_command.top) make_command.top
+    with_subcommand
+    (with_subcommand (with_subcommand (new_app (codes "rvjudge")) (files_command (codes "judge")).top)
+    (files_command (codes "state")).top) make_command.top
 
 -- what is found where there is no kind of error
 abbrev pub unless_refused : {X : Type 0} → Kinds → Option X → Option X

@@ -16,6 +16,8 @@ use Rattle.judge_words.specs.declared.values.TheConstants.{MOST_MADE_ROWS}
 use Rattle.judge_words.specs.declared.job.Sharing.{Sharing}
 use Rattle.judge_words.specs.declared.job.Command.{Command}
 use Rattle.judge_words.specs.declared.job.Command.TheVariants.{Judge, Make}
+use Rattle.judge_words.specs.declared.job.Product.{Product}
+use Rattle.judge_words.specs.declared.job.Product.TheVariants.{Line, State}
 use Rattle.judge_words.specs.declared.job.Job.{Job}
 use Rattle.judge_words.specs.declared.job.WordError.{WordError}
 use Rattle.judge_words.specs.declared.job.WordError.TheVariants.{NotAJob, NoMemory}
@@ -49,9 +51,9 @@ sharing_of given = do
   window ← first_of (codes "window") given >>= window_in
   Some (record { workers = workers; segment = segment; window = window })
 
--- the job that is given to the command `judge`
-unfoldable pub files_job : List Row → Option JobView
-files_job given = do
+-- the job over files that is given to a command, which gives this where the trace agrees
+unfoldable pub files_job : Product → List Row → Option JobView
+files_job product given = do
   image ← first_of (codes "image") given
   trace ← first_of (codes "trace") given
   pc ← first_pc_in (first_of (codes "pc") given)
@@ -63,7 +65,7 @@ files_job given = do
   choices ← given_choices given
   sharing ← sharing_of given
   Some (record {
-    command = Judge image trace;
+    command = Judge image trace product;
     pc = pc;
     map = map;
     max_image = max_image;
@@ -90,21 +92,23 @@ made_job given = do
     sharing = sharing;
   })
 
--- the job of the command that was given anything, `judge` or `make`
-abbrev pub job_from : Option (List Row) → Option (List Row) → Option JobView
-job_from (Some given) made = files_job given
-job_from None (Some given) = made_job given
-job_from None None = None
+-- the job of the command that was given anything: `judge`, `state` or `make`
+abbrev pub job_from : (judge state make : Option (List Row)) → Option JobView
+job_from (Some given) state make = files_job Line given
+job_from None (Some given) make = files_job State given
+job_from None None (Some given) = made_job given
+job_from None None None = None
 
 -- the job that the words of a command line ask for, the program's name first, where there is one
 unfoldable pub job_of : List (List ℕ) → Option JobView
 job_of words =
     let entered = command_entered command_line words in
-    job_from (values_given_to (codes "judge") entered) (values_given_to (codes "make") entered)
+    job_from (values_given_to (codes "judge") entered) (values_given_to (codes "state") entered)
+    (values_given_to (codes "make") entered)
 
 -- the same command by what its names are
 abbrev pub command_by : {N M : Type 0} → (N → M) → Command N → Command M
-command_by view (Judge image trace) = Judge (view image) (view trace)
+command_by view (Judge image trace product) = Judge (view image) (view trace) product
 command_by view (Make number rows) = Make number rows
 
 -- a job as it is defined

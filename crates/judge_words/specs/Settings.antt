@@ -2,11 +2,12 @@
 use Rattle.judge_words.specs.Job.{JobView}
 use Rattle.judge_words.specs.declared.job.Settings.{Settings}
 use Rattle.judge_words.specs.declared.job.Command.TheVariants.{Judge}
+use Rattle.judge_words.specs.declared.job.Product.{Product}
 
--- the same job as it is defined
-abbrev pub settings_view : Settings → JobView
-settings_view settings = record {
-  command = Judge settings.image.now settings.trace.now;
+-- the job that gives this, as it is defined
+abbrev pub settings_view : Product → Settings → JobView
+settings_view product settings = record {
+  command = Judge settings.image.now settings.trace.now product;
   pc = settings.pc;
   map = settings.map;
   max_image = settings.max_image;

@@ -3,7 +3,7 @@
 ghost use Rattle.std.specs.Prelude.{◌≡◌, IfOk, MatchResult, None, true, false, map, option_map, string_bytes};
 ghost use Rattle.clap.specs.Words.{Row, app_of, first_of, found_of, is_simple_and_free, rows_of, rule_of, subcommand_rows_of};
 ghost use Rattle.clap.specs.declared.builder.command.Command.TheViews.{out-Command};
-ghost use Rattle.judge_words.specs.Commands.{IsCommand, command_line, command_entered, values_given_to, judge_command, make_command, option_of, option_or, required_word, choices_rules, sharing_rules, with_rules};
+ghost use Rattle.judge_words.specs.Commands.{IsCommand, command_line, command_entered, values_given_to, files_command, make_command, option_of, option_or, required_word, choices_rules, sharing_rules, with_rules};
 ghost use Rattle.judge_words.specs.declared.job.WordError.TheVariants.{NotAJob};
 
 use crate::job::WordError;
@@ -12,21 +12,23 @@ use clap::{Arg, ArgMatches, Command};
 use std::alloc::{AllocError, Global};
 
 /// `rvjudge judge IMAGE TRACE [--pc A] [--ram B:S] [--io B:S] [--max-image M] [--max-trace M]
-/// [--misaligned trap|done] [--mtval value|zero] [--ad fault|set] [--reserve R] [--bits on|off]`
-/// and `rvjudge make NUMBER ROWS`, each with `[--workers N] [--segment K] [--window W]`.
+/// [--misaligned trap|done] [--mtval value|zero] [--ad fault|set] [--reserve R] [--bits on|off]`,
+/// `rvjudge state` with the same, and `rvjudge make NUMBER ROWS`, each with
+/// `[--workers N] [--segment K] [--window W]`.
 pub fn command_line<'a>(alloc: Global) -> Result<Command<'a>, AllocError>
     ensures { IfOk result (λ line. app_of line ≡ command_line) }
 {
     Command::new(alloc, "rvjudge")
-        .subcommand(judge_command(alloc)?)?
+        .subcommand(files_command(alloc, "judge")?)?
+        .subcommand(files_command(alloc, "state")?)?
         .subcommand(make_command(alloc)?)
 }
 
-/// `judge`, with the names of two files.
-fn judge_command<'a>(alloc: Global) -> Result<Command<'a>, AllocError>
-    ensures { IfOk result (IsCommand judge_command) }
+/// A command with the names of two files.
+fn files_command<'a>(alloc: Global, name: &'a str) -> Result<Command<'a>, AllocError>
+    ensures { IfOk result (IsCommand (files_command name.entry.now)) }
 {
-    let judge = Command::new(alloc, "judge")
+    let files = Command::new(alloc, name)
         .arg(required_word(alloc, "image"))?
         .arg(required_word(alloc, "trace"))?
         .arg(option(alloc, "pc"))?
@@ -34,7 +36,7 @@ fn judge_command<'a>(alloc: Global) -> Result<Command<'a>, AllocError>
         .arg(option(alloc, "io"))?
         .arg(option_or(alloc, "max-image", "0x40000000"))?
         .arg(option_or(alloc, "max-trace", "0x10000000000"))?;
-    with_sharing(alloc, with_choices(alloc, judge)?)
+    with_sharing(alloc, with_choices(alloc, files)?)
 }
 
 /// `make`, with two numbers.

@@ -22,9 +22,22 @@ use thiserror::Error;
 #[derive(Debug, Drop)]
 pub enum Command<N> {
     /// Judges a trace over an image, files of these names.
-    Judge { image: N, trace: N },
+    Judge {
+        image: N,
+        trace: N,
+        product: Product,
+    },
     /// Judges what is made: the image and the trace of this number, the trace with so many rows.
     Make { number: u32, rows: u32 },
+}
+
+/// What is written where a trace agrees.
+#[derive(Clone, Copy, Debug, PartialEq, Eq)]
+pub enum Product {
+    /// The line that says so.
+    Line,
+    /// The text of the state after the last row.
+    State,
 }
 
 /// How the work of a job is shared out, which changes no answer.
@@ -79,9 +92,11 @@ impl From<AllocError> for WordError {
 /// [--misaligned trap|done] [--mtval value|zero] [--ad fault|set] [--reserve R] [--bits on|off]
 /// [--workers N] [--segment K] [--window W]`
 ///
+/// `rvjudge state` with the same words, and
+///
 /// `rvjudge make NUMBER ROWS [--workers N] [--segment K] [--window W]`
 ///
-/// Each option stands at most once, as `--name value` or `--name=value`. Numbers are decimal, or
+/// `state` gives the state after the last row where the trace agrees, in place of a line. Each option stands at most once, as `--name value` or `--name=value`. Numbers are decimal, or
 /// hexadecimal after `0x`. A is even; B and S are multiples of 4,096, S at least 4,096 and B + S at
 /// most 2^56, and the two ranges have no byte in common; the M of the image is from 1 to 2^30, that
 /// of the trace to 2^40, R a power of two from 8 to 4,096, N from 1 to 64, K from 1 to 2^20, and W
@@ -104,25 +119,29 @@ pub fn read_words(alloc: Global, words: &Vec<String>) -> Result<Job, WordError>
 {
     let matches = parse(command_line(alloc)?, words.as_slice())?;
     match given_to(&matches, "judge") {
-        Some(given) => files_job(alloc, given),
-        None => match given_to(&matches, "make") {
-            Some(given) => made_job(given).ok_or(WordError::NotAJob),
-            None => Err(WordError::NotAJob),
+        Some(given) => files_job(alloc, Product::Line, given),
+        None => match given_to(&matches, "state") {
+            Some(given) => files_job(alloc, Product::State, given),
+            None => match given_to(&matches, "make") {
+                Some(given) => made_job(given).ok_or(WordError::NotAJob),
+                None => Err(WordError::NotAJob),
+            },
         },
     }
 }
 
-/// The job that is given to the command `judge`.
-fn files_job(alloc: Global, given: &ArgMatches<'_>) -> Result<Job, WordError>
-    ensures job { GivesJob (files_job (rows_of (found_of given.now))) result }
+/// The job over files that is given to a command.
+fn files_job(alloc: Global, product: Product, given: &ArgMatches<'_>) -> Result<Job, WordError>
+    ensures job { GivesJob (files_job product (rows_of (found_of given.now))) result }
     ensures lawful { IfOk result (λ job. IsLawful (job_view job)) }
 {
-    match settings_from(given) {
+    match settings_from(product, given) {
         None => Err(WordError::NotAJob),
         Some(settings) => Ok(Job {
             command: Command::Judge {
                 image: String::from_str(alloc, settings.image)?,
                 trace: String::from_str(alloc, settings.trace)?,
+                product,
             },
             pc: settings.pc,
             map: settings.map,
@@ -147,11 +166,13 @@ struct Settings<'a> {
     sharing: Sharing,
 }
 
-/// The settings that are given, where each can be read.
+/// The settings that are given, where each can be read. The product is that of the job which is
+/// meant.
 #[tactic(auto, unfolding(crate::specs::Job::files_job))]
-fn settings_from<'a>(given: &ArgMatches<'a>) -> Option<Settings<'a>>
-    ensures job { option_map settings_view result ≡ files_job (rows_of (found_of given.now)) }
-    ensures lawful { IfSome result (λ settings. IsLawful (settings_view settings)) }
+fn settings_from<'a>(product: Product, given: &ArgMatches<'a>) -> Option<Settings<'a>>
+    ensures job { option_map (settings_view product) result
+        ≡ files_job product (rows_of (found_of given.now)) }
+    ensures lawful { IfSome result (λ settings. IsLawful (settings_view product settings)) }
 {
     let ram = read_span(text_of(given, "ram")?)?;
     let io = read_io(text_of(given, "io"))?;

@@ -9,7 +9,7 @@ mod job;
 pub mod laws;
 mod values;
 
-pub use job::{Command, Job, Sharing, WordError, read_words};
+pub use job::{Command, Job, Product, Sharing, WordError, read_words};
 pub use values::FIRST_PC;
 
 #[cfg(test)]

@@ -24,7 +24,7 @@ fn takes(
 ) -> Result<(), Fail> {
     let job = job_at(alloc, words)??;
     match &job.command {
-        Command::Judge { image, trace } => {
+        Command::Judge { image, trace, .. } => {
             assert_eq!(rt; image.as_str(), files.0);
             assert_eq!(rt; trace.as_str(), files.1);
         }

@@ -16,6 +16,9 @@ use Rattle.rvfi_rows.specs.declared.fault.RowFault.{RowFault}
 use Rattle.rvfi_rows.specs.declared.fault.RowFault.TheVariants as row
 use Rattle.rvfi_rows.specs.declared.verdict.Verdict.{Verdict}
 use Rattle.rvfi_rows.specs.declared.verdict.Verdict.TheVariants.{Agrees, Differs, Refused}
+use Rattle.state_text.specs.declared.fault.FaultKind.{FaultKind as StateFaultKind}
+use Rattle.state_text.specs.declared.fault.FaultKind.TheVariants as state
+use Rattle.state_text.specs.declared.fault.StateFault.{StateFault}
 use Rattle.trace_report.specs.declared.outcome.Outcome.{Outcome}
 use Rattle.trace_report.specs.declared.outcome.Made.{Made}
 use Rattle.trace_report.specs.declared.outcome.Ruling.{Ruling}
@@ -48,6 +51,17 @@ elf_fault_text elf.BadEntry = codes "refused image: elf entry odd\n"
 elf_fault_text (elf.BadSegment index) = segment_text index (codes ": bad size\n")
 elf_fault_text (elf.OutsideRam index) = segment_text index (codes ": outside RAM\n")
 elf_fault_text (elf.Overlap index) = segment_text index (codes ": overlap\n")
+
+-- what a fault of a saved state is called
+abbrev pub state_kind_text : StateFaultKind → List ℕ
+state_kind_text state.BadLine = codes ": bad line\n"
+state_kind_text state.BadValue = codes ": bad value\n"
+state_kind_text state.OutsideRam = codes ": outside RAM\n"
+
+-- the line for a fault of a saved state
+unfoldable pub state_fault_text : StateFault → List ℕ
+state_fault_text fault =
+    codes "refused image: line " ++ decimal fault.line ++ state_kind_text fault.kind
 
 -- what a refusal puts after a column's name: the suffix of its port, and nothing for port 0
 abbrev pub port_text : Port → List ℕ
@@ -103,6 +117,7 @@ ruling_text (rulings.ImageTooLarge most) =
     codes "refused image: more than " ++ decimal most ++ codes " bytes\n"
 ruling_text (rulings.ImageFault fault) = image_fault_text fault
 ruling_text (rulings.ElfFault fault) = elf_fault_text fault
+ruling_text (rulings.StateFault fault) = state_fault_text fault
 ruling_text rulings.NoHeader = codes "refused trace: no header\n"
 ruling_text (rulings.HeaderFault fault) = header_fault_text fault
 ruling_text (rulings.TooLong line) = codes "refused trace: line " ++ decimal line ++ codes " too long\n"
@@ -132,6 +147,7 @@ ruling_status rulings.NoJob = 2
 ruling_status (rulings.ImageTooLarge most) = 3
 ruling_status (rulings.ImageFault fault) = 3
 ruling_status (rulings.ElfFault fault) = 3
+ruling_status (rulings.StateFault fault) = 3
 ruling_status rulings.NoHeader = 4
 ruling_status (rulings.HeaderFault fault) = 4
 ruling_status (rulings.TooLong line) = 4

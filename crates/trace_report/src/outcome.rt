@@ -6,6 +6,7 @@ ghost use Rattle.trace_report.specs.Report.{ruling_status, status_of};
 use elf_image::ElfFault;
 use image_text::ImageFault;
 use rvfi_rows::{HeaderFault, Verdict};
+use state_text::StateFault;
 
 /// What is ruled of words, an image and a trace.
 #[derive(Clone, Copy, Debug, PartialEq, Eq)]
@@ -18,6 +19,8 @@ pub enum Ruling {
     ImageFault(ImageFault),
     /// The ELF file is no image.
     ElfFault(ElfFault),
+    /// The text is no saved state.
+    StateFault(StateFault),
     /// The trace has no line, and so no header.
     NoHeader,
     /// The first line of the trace is no header.
@@ -58,7 +61,10 @@ fn ruling_status(ruling: &Ruling) -> u8
 {
     match ruling {
         Ruling::NoJob => 2,
-        Ruling::ImageTooLarge { .. } | Ruling::ImageFault(_) | Ruling::ElfFault(_) => 3,
+        Ruling::ImageTooLarge { .. }
+        | Ruling::ImageFault(_)
+        | Ruling::ElfFault(_)
+        | Ruling::StateFault(_) => 3,
         Ruling::NoHeader
         | Ruling::HeaderFault(_)
         | Ruling::TooLong { .. }

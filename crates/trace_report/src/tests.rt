@@ -3,6 +3,7 @@ use elf_image::ElfFault;
 use hart_words::{CsrName, CsrSide, Difference, Signal};
 use image_text::{FaultKind, ImageFault};
 use rvfi_rows::{Column, HeaderFault, Port, RowFault, Verdict};
+use state_text::StateFault;
 use std::test::Fail;
 
 #[test]
@@ -46,6 +47,14 @@ fn reports_outcomes(rt: HostRuntime) -> Result<(), Fail> {
             Ruling::ElfFault(ElfFault::Overlap { index: 12 }),
             3,
             b"refused image: elf segment 12: overlap\n",
+        ),
+        (
+            Ruling::StateFault(StateFault {
+                kind: state_text::FaultKind::BadValue,
+                line: 3,
+            }),
+            3,
+            b"refused image: line 3: bad value\n",
         ),
         (Ruling::NoHeader, 4, b"refused trace: no header\n"),
         (

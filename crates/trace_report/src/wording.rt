@@ -3,7 +3,7 @@
 ghost use Rattle.std.specs.Prelude.{◌≡◌, ◌≤◌, ◌+◌, ◌++◌, length};
 ghost use Rattle.hart_words.specs.SignalNames.{name_of};
 ghost use Rattle.trace_report.specs.declared.wording.TheConstants.{MOST_LINE};
-ghost use Rattle.trace_report.specs.Report.{report_of, made_text, ruling_text, kind_text, image_fault_text, elf_fault_text, segment_text, port_text, column_name, header_fault_text, row_fault_text, column_text, difference_text, verdict_text};
+ghost use Rattle.trace_report.specs.Report.{report_of, made_text, ruling_text, kind_text, image_fault_text, elf_fault_text, segment_text, state_fault_text, state_kind_text, port_text, column_name, header_fault_text, row_fault_text, column_text, difference_text, verdict_text};
 
 use crate::outcome::{Made, Outcome, Ruling};
 use crate::text::Text;
@@ -11,6 +11,7 @@ use elf_image::ElfFault;
 use hart_words::{Difference, Signal};
 use image_text::{FaultKind, ImageFault};
 use rvfi_rows::{Column, HeaderFault, Port, RowFault, Verdict};
+use state_text::StateFault;
 
 /// The most bytes of the line for a ruling; what goes before it has at most 50.
 const MOST_LINE: usize = 140;
@@ -61,6 +62,7 @@ fn ruling_line(ruling: &Ruling) -> Text
         }
         Ruling::ImageFault(fault) => put_image_fault(&mut text, *fault),
         Ruling::ElfFault(fault) => put_elf_fault(&mut text, *fault),
+        Ruling::StateFault(fault) => put_state_fault(&mut text, *fault),
         Ruling::NoHeader => text.put(b"refused trace: no header\n"),
         Ruling::HeaderFault(fault) => put_header_fault(&mut text, *fault),
         Ruling::TooLong { line } => {
@@ -129,6 +131,29 @@ fn put_segment(text: &mut Text, index: u16, end: &[u8])
     text.put(b"refused image: elf segment ");
     text.put_decimal(u64::from(index));
     text.put(end);
+}
+
+#[tactic(auto, unfolding(crate::specs::Report::state_fault_text))]
+fn put_state_fault(text: &mut Text, fault: StateFault)
+    requires { length text.old ≤ 0 }
+    ensures text { text.new ≡ text.old ++ state_fault_text fault }
+    ensures short { length text.new ≤ MOST_LINE }
+{
+    text.put(b"refused image: line ");
+    text.put_decimal(fault.line);
+    text.put(state_kind_text(fault.kind));
+}
+
+/// What a fault of a saved state is called, to the end of the line.
+fn state_kind_text(kind: state_text::FaultKind) -> &'static [u8]
+    ensures bytes { result.now ≡ state_kind_text kind }
+    ensures short { length result.now ≤ 20 }
+{
+    match kind {
+        state_text::FaultKind::BadLine => b": bad line\n",
+        state_text::FaultKind::BadValue => b": bad value\n",
+        state_text::FaultKind::OutsideRam => b": outside RAM\n",
+    }
 }
 
 /// Appends the name of a signal.

@@ -1,4 +1,4 @@
-use Rattle.judge_run.proofs.Runs.{headline, counted, fault, made_answer, made_counts, misses, words_decide}
+use Rattle.judge_run.proofs.Runs.{back, headline, counted, fault, made_answer, made_counts, misses, words_decide}
 use Rattle.judge_run.proofs.Runs.{out_of_memory, range}
 use Rattle.judge_run.proofs.judgement.judge.Goals as goal
 
@@ -28,3 +28,6 @@ returns-clause-made g c = made_counts c.run.ensures.ends
 
 pub returns-clause-made_answer : goal.returns-clause-made_answer
 returns-clause-made_answer g c = made_answer c.run.ensures.ends
+
+pub returns-clause-back : goal.returns-clause-back
+returns-clause-back g c = back c.run.ensures.ends

@@ -3,13 +3,14 @@ use Rattle.judge_words.specs.Job.{job_view}
 use Rattle.outside_ports.specs.Ports.{IsMissing, file_of}
 use Rattle.judge_run.specs.Starts.{start_view}
 use Rattle.page_layers.specs.Memories.{layered_bytes}
-use Rattle.trace_report.specs.declared.outcome.Outcome.{Outcome}
-use Rattle.judge_run.specs.Answer.{outcome_of, trace_outcome}
-use Rattle.judge_run.specs.Parts.{IsEndTold}
-use Rattle.judge_run.specs.Stops.{MeantWhereKnown}
+use Rattle.judge_run.specs.Answer.{answer_with, trace_answer}
+use Rattle.judge_run.specs.Ends.{answer_view}
+use Rattle.hart_step.specs.Rows.{HartState}
+use Rattle.hart_words.specs.Memory.{Bytes}
+use Rattle.judge_run.specs.Parts.{IsEndTold, end_of}
 use Rattle.judge_run.specs.declared.progress.Progress.{Progress}
-use Rattle.judge_run.proofs.Endings.{IsAtReset, TakesHeader, later_missed, lines_missed, trace_lacks, trace_stops}
-use Rattle.judge_run.proofs.Endings.{trace_told}
+use Rattle.judge_run.proofs.Endings.{IsAtStart, TakesHeader, later_missed, lines_missed, seen_as, trace_lacks}
+use Rattle.judge_run.proofs.Endings.{trace_stops, trace_told}
 use Rattle.judge_run.proofs.traces.judge_trace.Goals as goal
 
 pub returns-in-Err-clause-misses : goal.returns-in-Err-clause-misses
@@ -19,7 +20,7 @@ returns-in-Err-clause-misses g c =
     let known_files = g.H.Shelf.known_files c.args.shelf.now in
     let name = c.args.name.now in
     rw c.line_stop.ensures
-    (lines_missed c.in-Err.error known_files _ (λ files. trace_outcome job start (files name)) _ _
+    (lines_missed c.in-Err.error known_files _ (λ files. trace_answer job start (files name)) _ _
     (λ missing. trace_lacks known_files name job start
     (subst (IsMissing known_files) c.in_ok-taker.ensures.name missing)) c.in-Err.ensures.misses)
 
@@ -34,7 +35,7 @@ returns-in-Err-columns_in-clause-meant g c =
       file_exists = c.in-Ok.ensures.file_exists opens.cursor;
       takes = c.in-Ok.ensures.takes;
     } in
-    trace_stops files (start_view c.args.start.now) c.in-Err-columns_in.stop header c.in-Err-columns_in.ensures.meant
+    trace_stops answer_view files (start_view c.args.start.now) c.in-Err-columns_in.stop header c.in-Err-columns_in.ensures.meant
 
 pub returns-in-Ok-judge_rows-clause-meant : goal.returns-in-Ok-judge_rows-clause-meant
 returns-in-Ok-judge_rows-clause-meant g c =
@@ -45,17 +46,21 @@ returns-in-Ok-judge_rows-clause-meant g c =
     let columns = c.in-Ok-columns_in.columns in
     let end = c.in-Ok-judge_rows.end in
     let progress : Progress _ =
-    record { taker = c.in-Ok.taken.1; hart = c.reset.result; counts = c.zero.result } in
+    record {
+      taker = c.in-Ok.taken.1;
+      hart = record { core = c.args.start.now.core; mem = c.over.result };
+      counts = c.zero.result;
+    } in
     let header : TakesHeader files c.args.name.now job c.in_ok-taker.taker c.in-Ok.taken.0 progress.taker =
     record {
       opens = opens;
       file_exists = c.in-Ok.ensures.file_exists opens.cursor;
       takes = c.in-Ok.ensures.takes;
     } in
-    let reset : IsAtReset layered_bytes job start progress =
+    let state : Bytes → HartState = λ bytes. record { core = c.args.start.now.core; bytes = bytes } in
+    let at_start : IsAtStart layered_bytes start progress =
     record {
-      core = c.reset.ensures.core;
-      bytes = ap layered_bytes c.reset.ensures.mem ∙ c.over.ensures.bytes;
+      state = ap state c.over.ensures.bytes;
       rows = c.zero.ensures.rows;
       valid = c.zero.ensures.valid;
     } in
@@ -63,11 +68,9 @@ returns-in-Ok-judge_rows-clause-meant g c =
     subst
     (λ files. IsEndTold job columns layered_bytes (file_of files (string_bytes progress.taker.name)) progress end)
     c.in-Ok.ensures.known_files c.in-Ok-judge_rows.ensures.meant in
-    let is = c.outcome_of.ensures.outcome ∙ ap (outcome_of job) c.ruling_at_end.ensures.ruling in
-    subst
-    (λ outcome. MeantWhereKnown {X = Outcome} files (λ outcome. outcome) (Ok outcome)
-    (λ files. trace_outcome job start (files c.args.name.now))) (sym is)
-    (trace_told files progress end header c.in-Ok-columns_in.ensures.meant reset gives)
+    seen_as answer_view c.in_ok-answer-in-Ok-judge_rows.answer (answer_with job (end_of job layered_bytes end)) files
+    (λ files. trace_answer job start (files c.args.name.now)) c.in_ok-answer-in-Ok-judge_rows.ensures.answer
+    (trace_told files progress end header c.in-Ok-columns_in.ensures.meant at_start gives)
 
 pub returns-clause-misses : goal.returns-clause-misses
 returns-clause-misses g c =
@@ -82,6 +85,6 @@ returns-clause-misses g c =
       takes = c.in-Ok.ensures.takes;
     } in
     rw c.line_stop-in-Err-judge_rows.ensures
-    (later_missed c.in-Err-judge_rows.error known_files (λ files. trace_outcome job start (files c.args.name.now))
+    (later_missed c.in-Err-judge_rows.error known_files (λ files. trace_answer job start (files c.args.name.now))
     _ _ header
     (rw (c.in-Ok.ensures.known_files, c.in-Ok.ensures.misses) at c.in-Err-judge_rows.ensures.misses))

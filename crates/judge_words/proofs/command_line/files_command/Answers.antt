@@ -3,7 +3,7 @@ use Rattle.std.proofs.lemmas.Result.{IfOk-weaker}
 use Rattle.clap.specs.Words.{App}
 use Rattle.judge_words.specs.Commands.{choices_rules, sharing_rules, with_rules}
 use Rattle.judge_words.proofs.CommandLine.{adds_rule}
-use Rattle.judge_words.proofs.command_line.judge_command.Goals as goal
+use Rattle.judge_words.proofs.command_line.files_command.Goals as goal
 
 pub with_choices-requires : goal.with_choices-requires
 with_choices-requires c =
@@ -20,7 +20,7 @@ with_choices-requires c =
     let io = adds_rule c.in_ok-arg-5.ensures ram.0 ram.1 c.option-2.ensures.rule c.option-2.ensures.local in
     let max_image =
     adds_rule c.in_ok-arg-6.ensures io.0 io.1 c.option_or-2.ensures.rule c.option_or-2.ensures.local in
-    (adds_rule c.in_ok-judge.ensures max_image.0 max_image.1 c.option_or-3.ensures.rule
+    (adds_rule c.in_ok-files.ensures max_image.0 max_image.1 c.option_or-3.ensures.rule
     c.option_or-3.ensures.local).1
 
 pub returns : goal.returns
@@ -39,7 +39,7 @@ returns c =
     let max_image =
     adds_rule c.in_ok-arg-6.ensures io.0 io.1 c.option_or-2.ensures.rule c.option_or-2.ensures.local in
     let max_trace =
-    adds_rule c.in_ok-judge.ensures max_image.0 max_image.1 c.option_or-3.ensures.rule
+    adds_rule c.in_ok-files.ensures max_image.0 max_image.1 c.option_or-3.ensures.rule
     c.option_or-3.ensures.local in
     let choices =
     c.in_ok-with_choices.ensures.0 ∙ ap (λ (app : App). with_rules app choices_rules) max_trace.0 in

@@ -1,0 +1,129 @@
+//! From what the rows of a trace come to, to what is written.
+
+ghost use Rattle.std.specs.Prelude.{◌≡◌, IfOk, IfSome, false, option_map};
+ghost use Rattle.hart_step.specs.Harts.{CanStep, state_of};
+ghost use Rattle.judge_words.specs.Job.{job_view};
+ghost use Rattle.page_layers.specs.Memories.{layered_bytes, layered_ram};
+ghost use Rattle.state_text.specs.Laws.{IsZeroOutside};
+ghost use Rattle.judge_run.specs.Answer.{answer_by_line, answer_with, state_written};
+ghost use Rattle.judge_run.specs.Ends.{BacksFound, CanStepOn, IsReadBack, Writes, WritesFound, answer_view};
+ghost use Rattle.judge_run.specs.Parts.{end_of};
+ghost use Rattle.judge_run.specs.Stops.{is_no_job};
+
+use crate::answer::Answer;
+use crate::outcomes::{outcome_of, ruling_at_end};
+use crate::progress::TraceEnd;
+use crate::stop::Stop;
+use hart_step::Hart;
+use hart_words::NoMemory;
+use judge_words::{Command, Job, Product};
+use outside_ports::{Sink, write_all};
+use page_layers::Layered;
+use rvfi_rows::Verdict;
+use state_text::write_state;
+use trace_report::{Outcome, Ruling, report, status};
+
+/// What a job comes to by what the rows of its trace do.
+pub fn answer_with<'a>(job: &Job, end: TraceEnd<Layered<'a>>) -> Result<Answer<'a>, NoMemory>
+    requires { IfSome end.hart (CanStep layered_ram) }
+    ensures answer { IfOk result (λ answer. answer_view answer
+        ≡ answer_with (job_view job.now)
+        (end_of (job_view job.now) layered_bytes end.entry)) }
+    ensures can_step { IfOk result CanStepOn }
+    ensures jobs { IfOk result (λ answer. is_no_job answer.outcome ≡ false) }
+{
+    let ruling = ruling_at_end(job, end.ending, end.verdict);
+    let hart = copy_of(hart_written(job, ruling, end.hart))?;
+    Ok(Answer {
+        outcome: outcome_of(job, ruling),
+        hart,
+    })
+}
+
+/// The hart whose state is written: the last one, where the words ask for it and the ruling is that
+/// the rows agree.
+fn hart_written<'a>(
+    job: &Job,
+    ruling: Ruling,
+    hart: Option<Hart<Layered<'a>>>,
+) -> Option<Hart<Layered<'a>>>
+    requires { IfSome hart (CanStep layered_ram) }
+    ensures state { option_map (state_of layered_bytes) result
+        ≡ state_written (job_view job.now).command ruling
+        (option_map (state_of layered_bytes) hart.entry) }
+    ensures can_step { IfSome result (CanStep layered_ram) }
+{
+    match (&job.command, ruling) {
+        (
+            Command::Judge {
+                product: Product::State,
+                ..
+            },
+            Ruling::Verdict(Verdict::Agrees { .. }),
+        ) => hart,
+        _ => None,
+    }
+}
+
+/// The same hart, over a copy of its memory. What was written is a layer in the copy, whose pages
+/// are found in their order.
+#[tactic(auto, using(crate::proofs::Passing::same_state))]
+fn copy_of<'a>(hart: Option<Hart<Layered<'a>>>) -> Result<Option<Hart<Layered<'a>>>, NoMemory>
+    requires { IfSome hart (CanStep layered_ram) }
+    ensures state { IfOk result (λ other. option_map (state_of layered_bytes) other
+        ≡ option_map (state_of layered_bytes) hart.entry) }
+    ensures can_step { IfOk result (λ other. IfSome other (CanStep layered_ram)) }
+{
+    match hart {
+        None => Ok(None),
+        Some(hart) => Ok(Some(hart.copy()?)),
+    }
+}
+
+/// Writes what was found, and gives the status: that of the outcome, 5 where a read or a write
+/// failed, and 6 where memory was refused.
+pub fn write_found<O: Sink>(found: &Result<Answer<'_>, Stop>, out: &mut O) -> u8
+    requires { IfOk found.now CanStepOn }
+    ensures written { WritesFound answer_view found.now result (O.held out.old) (O.held out.new)
+        (O.faults out.old) (O.faults out.new) }
+    ensures back { BacksFound answer_view found.now }
+{
+    match found {
+        Ok(answer) => write_answer(answer, out),
+        Err(Stop::Known(outcome)) => write_outcome(outcome, out),
+        Err(Stop::ReadFault) => 5,
+        Err(Stop::NoMemory) => 6,
+    }
+}
+
+/// Writes the text of an answer, and gives its status, or 5 where a write failed.
+fn write_answer<O: Sink>(answer: &Answer<'_>, out: &mut O) -> u8
+    requires { CanStepOn answer.now }
+    ensures written { Writes (answer_view answer.now) result (O.held out.old) (O.held out.new)
+        (O.faults out.old) (O.faults out.new) }
+    ensures back { IfSome (answer_view answer.now).state
+        (λ state. IsZeroOutside state.core.map.ram state.bytes → IsReadBack state) }
+{
+    match &answer.hart {
+        None => write_outcome(&answer.outcome, out),
+        Some(hart) => match write_state(hart, out) {
+            Ok(()) => status(&answer.outcome),
+            Err(_) => 5,
+        },
+    }
+}
+
+/// Writes the line of an outcome, and gives its status, or 5 where a write failed.
+pub fn write_outcome<O: Sink>(outcome: &Outcome, out: &mut O) -> u8
+    ensures { Writes (answer_by_line outcome.now) result (O.held out.old) (O.held out.new)
+        (O.faults out.old) (O.faults out.new) }
+{
+    let text = report(outcome);
+    let text = text.as_slice();
+    let done = write_all(out, text);
+    if done < text.len() {
+        5
+    } else {
+        status(outcome)
+    }
+}
