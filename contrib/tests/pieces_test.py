@@ -1,6 +1,5 @@
 #!/usr/bin/env python3
-"""Tries pieces.py: pieces_test.py PROGRAM, a judge that knows the command state. Names each test that
-failed; status 1 then.
+"""Tries pieces.py: pieces_test.py PROGRAM, the judge. Names each test that failed; status 1 then.
 
 The states are those that PROGRAM itself prints for the rows before each cut.
 """
@@ -165,7 +164,7 @@ def test_wrong_marks(it):
 
 
 def test_ports(it):
-    """Two rows a line, where the judge knows that."""
+    """Two rows a line."""
     odd = len(it.rows) % 2
     names = it.header.split(",")
     header = ",".join([*names, "valid_0", *(f"{name}_1" for name in names), "valid_1"])
@@ -174,9 +173,6 @@ def test_ports(it):
     if odd:
         pairs[-1] = pairs[-1][:-1] + "0"
     it.write(header, pairs)
-    if it.judge("judge", it.trace)[1]:
-        print("contrib: not run: pieces of a trace of two ports, as the judge knows no ports")
-        return
     it.run(*it.states(5, 10, ports=2)).wants(0, f"agrees {len(it.rows)}")
     it.run("--at", f"9={it.path}/5.rvstate").wants(2)
     assert "no line begins after row 9" in it.said, it.said

@@ -91,7 +91,7 @@ test_spike() {
     begin 'spike, from its start' "$image"
     grep -q '^    bin/rvjudge judge start.rvstate ' "$folder/said" || fail 'spike_log.py: no command'
     grep -qx 'x11 0000000000001020' "$folder/start.rvstate" || fail 'spike_log.py: a1 at the start'
-    ! knows_states || expect 'spike, from its start' 'agrees 25' "$folder/start.rvstate" "$out"
+    expect 'spike, from its start' 'agrees 25' "$folder/start.rvstate" "$out"
     expect_columns spike "$out" 35
     python3 "$contrib/spike_log.py" <"$log" 2>/dev/null | cmp -s - "$out" ||
         fail "spike_log.py differs on standard input"
@@ -190,7 +190,7 @@ test_qemu_rom() {
     grep -qx 'x11 0000000087e00000' "$folder/start.rvstate" || fail 'qemu_log.py: a1 at the start'
     "$program" judge "$folder/image.hex" "$out" --io $io >"$folder/said"
     [ $? -eq 1 ] || fail "qemu after its boot ROM, from reset: $(cat "$folder/said")"
-    ! knows_states || expect 'qemu after its boot ROM' "agrees $(($(wc -l <"$out") - 1))" \
+    expect 'qemu after its boot ROM' "agrees $(($(wc -l <"$out") - 1))" \
         "$folder/start.rvstate" "$out" --io $io
 }
 
@@ -230,32 +230,10 @@ test_boot() {
     [ "$status $found" = "1 $wanted" ] || fail "firmware without an image: $status '$found'"
 }
 
-# Whether the judge knows the names of ports; says once where it does not.
-knows_ports() {
-    if [ -z "${ports_known:-}" ]; then
-        printf 'insn_0,pc_rdata_0\n' >"$folder/ports.csv"
-        ports_known=$("$program" judge "$tests/rvfi/image.hex" "$folder/ports.csv")
-        [ "$ports_known" = 'agrees 0' ] ||
-            leave_out 'the verdict on traces with one line for all ports: the judge knows no ports'
-    fi
-    [ "$ports_known" = 'agrees 0' ]
-}
-
-# Whether the judge knows saved states; says once where it does not.
-knows_states() {
-    if [ -z "${states_known:-}" ]; then
-        printf 'insn,pc_rdata\n' >"$folder/none.csv"
-        "$program" state "$tests/rvfi/image.hex" "$folder/none.csv" >"$folder/none.rvstate"
-        states_known=$(head -n 1 "$folder/none.rvstate")
-        [ "$states_known" != 'refused words' ] ||
-            leave_out 'runs from saved states: the judge does not know the command state'
-    fi
-    [ "$states_known" != 'refused words' ]
-}
-
 # A state that make_state.py makes and the judge begins from: its text is that of the judge.
 expect_state() {
-    ! knows_states || "$program" state "$2" "$folder/none.csv" | cmp - "$2" ||
+    printf 'insn,pc_rdata\n' >"$folder/none.csv"
+    "$program" state "$2" "$folder/none.csv" | cmp - "$2" ||
         fail "$1: the judge writes the state otherwise"
 }
 
@@ -283,7 +261,7 @@ judge_lines() {
     sed -e '/^0x0,*$/d' -e 's/^valid,//' -e 's/^0x1,//' "$folder/apart.csv" |
         cmp - "$folder/rows.csv" || fail "$1: other rows than with a line for each"
     expect "$1, taken apart" 'agrees 10' "$tests/rvfi/image.hex" "$folder/apart.csv"
-    ! knows_ports || judge_bench "$1"
+    judge_bench "$1"
 }
 
 test_iverilog() {
@@ -455,7 +433,7 @@ judge_elf() {
     python3 "$contrib/make_state.py" "$folder/elf" -o "$folder/elf.rvstate" ||
         fail "its state, ld $*"
     expect_state "its state, ld $*" "$folder/elf.rvstate"
-    ! knows_states || expect "its state, ld $*" 'agrees 5' "$folder/elf.rvstate" \
+    expect "its state, ld $*" 'agrees 5' "$folder/elf.rvstate" \
         "$tests/elf/run.csv" --bits on
 }
 
@@ -542,7 +520,7 @@ can_run 'firmware in qemu' python3 qemu-system-riscv64 mkfifo timeout &&
 can_run 'rvfi_csv.sv in Icarus Verilog' iverilog vvp python3 && test_iverilog
 can_run 'a trace that is judged live' iverilog vvp mkfifo && test_live
 can_run 'make_state.py' python3 && test_make_state
-if can_run 'pieces.py' python3 && knows_states; then
+if can_run 'pieces.py' python3; then
     python3 "$tests/pieces_test.py" "$program" || fail "pieces.py"
 fi
 can_run 'port_rows.py' python3 && test_port_rows
