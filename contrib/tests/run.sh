@@ -386,6 +386,22 @@ test_make_state() {
         python3 "$contrib/make_state.py" --blob "0x1000=$folder/blob"
 }
 
+# The state in the middle of a trace, by its text, and the trace that goes on from there.
+test_state() {
+    examples=$tests/examples
+    head -n 7 "$examples/interrupt.csv" >"$folder/front.csv"
+    "$program" state "$examples/interrupt.hex" "$folder/front.csv" | cmp - "$examples/interrupt.rvstate" ||
+        fail 'state: another text than interrupt.rvstate'
+    sed -n '1p;8,$p' "$examples/interrupt.csv" | cmp - "$examples/interrupt_rest.csv" ||
+        fail 'interrupt_rest.csv is not the rest of interrupt.csv'
+    expect 'from a state, at another pc' \
+        'differs row 1: csr_mepc_rdata expected 0x0000000080000010 found 0x0000000080000018' \
+        "$examples/interrupt.rvstate" "$examples/interrupt_rest.csv" --pc 0x80000010
+    sed 's/^mode 3/mode 2/' "$examples/interrupt.rvstate" >"$folder/mode.rvstate"
+    expect 'a state that cannot be' 'refused image: line 3: bad line' "$folder/mode.rvstate" \
+        "$folder/front.csv"
+}
+
 # Lines for all ports that show other columns for each, in any order.
 test_port_rows() {
     printf '%s\n' 'rvfi_insn_1,"pc_rdata",note_3, insn ,rvfi_pc_rdata_1' '2,1,"a,""b",,3' '' \
@@ -440,6 +456,43 @@ judge_elf() {
 test_elf() {
     judge_elf -T "$contrib/link.ld"
     judge_elf -n -Ttext=0x80000000
+    expect 'a file to be linked' 'refused image: elf of another kind' "$folder/elf.o" "$tests/elf/run.csv"
+    riscv64-unknown-elf-ld --no-warn-rwx-segments -Ttext=0x80000000 -o "$folder/elf" "$folder/elf.o"
+    expect 'headers in a segment' 'refused image: elf segment 1: outside RAM' "$folder/elf" \
+        "$tests/elf/run.csv"
+}
+
+# Files that ld of Linux links, whose addresses are to be chosen when they are loaded.
+test_moving_elf() {
+    riscv64-unknown-elf-as -march=rv64ima_zba_zbb_zbs -o "$folder/elf.o" "$tests/elf/program.s"
+    for kind in -pie -shared; do
+        riscv64-linux-gnu-ld $kind -o "$folder/elf" "$folder/elf.o" || fail "ld $kind"
+        expect "ld $kind" 'refused image: elf of another kind' "$folder/elf" "$tests/elf/run.csv"
+    done
+}
+
+# Several segments: one that is loaded elsewhere than it runs, one with bytes that are not in the file.
+# The state at the end is the same from the ELF file and from its text, and is read again.
+test_segments() {
+    elf=$folder/segments.elf out=$folder/segments.csv io=0x100000:0x1000
+    riscv64-unknown-elf-gcc -march=rv64imac_zicsr_zifencei -mabi=lp64 -mcmodel=medany -O1 -Wall -Wextra \
+        -Werror -ffreestanding -nostdlib -mstrict-align -Wl,--build-id=none \
+        -T "$tests/elf/segments.ld" -o "$elf" "$tests/elf/segments.c" || fail 'segments.c'
+    riscv64-unknown-elf-objcopy -O verilog "$elf" "$elf.hex"
+    entry=$(riscv64-unknown-elf-objdump -f "$elf" | sed -n 's/^start address //p')
+    timeout 60 qemu-system-riscv64 -M virt -display none -monitor none -serial null -bios none \
+        -cpu rv64,f=off,d=off,h=off,sstc=off,zba=off,zbb=off,zbc=off,zbs=off -singlestep \
+        -device "loader,file=$elf,cpu-num=0" -d in_asm,cpu,exec,int,nochain -D "$folder/log"
+    python3 "$contrib/qemu_log.py" "$folder/log" --pc "$entry" -o "$out" 2>/dev/null ||
+        fail 'qemu_log.py: segments.c'
+    rows=$(($(wc -l <"$out") - 1))
+    expect 'several segments' "agrees $rows" "$elf" "$out" --io $io
+    expect 'several segments as text' "agrees $rows" "$elf.hex" "$out" --io $io --pc "$entry"
+    "$program" state "$elf" "$out" --io $io >"$folder/segments.rvstate"
+    grep -qx 'x11 0000000000000000' "$folder/segments.rvstate" || fail 'segments.c: main did not give 0'
+    "$program" state "$elf.hex" "$out" --io $io --pc "$entry" | cmp - "$folder/segments.rvstate" ||
+        fail 'several segments: another memory than that of their text'
+    expect_state 'several segments' "$folder/segments.rvstate"
 }
 
 # From C to a verdict.
@@ -519,6 +572,7 @@ can_run 'firmware in qemu' python3 qemu-system-riscv64 mkfifo timeout &&
     has_version 'firmware in qemu' qemu-system-riscv64 'version 7\.' && test_boot
 can_run 'rvfi_csv.sv in Icarus Verilog' iverilog vvp python3 && test_iverilog
 can_run 'a trace that is judged live' iverilog vvp mkfifo && test_live
+test_state
 can_run 'make_state.py' python3 && test_make_state
 if can_run 'pieces.py' python3; then
     python3 "$tests/pieces_test.py" "$program" || fail "pieces.py"
@@ -527,6 +581,11 @@ can_run 'port_rows.py' python3 && test_port_rows
 can_run 'sort_rows.py' python3 && test_sort
 can_run 'an ELF file' python3 riscv64-unknown-elf-as riscv64-unknown-elf-ld riscv64-unknown-elf-objcopy &&
     test_elf
+can_run 'files that are moved when they are loaded' riscv64-unknown-elf-as riscv64-linux-gnu-ld &&
+    test_moving_elf
+can_run 'several segments' python3 riscv64-unknown-elf-gcc riscv64-unknown-elf-objcopy \
+    riscv64-unknown-elf-objdump qemu-system-riscv64 &&
+    has_version 'several segments' qemu-system-riscv64 'version 7\.' && test_segments
 can_run 'a program in C' python3 make riscv64-unknown-elf-gcc riscv64-unknown-elf-objcopy \
     qemu-system-riscv64 && has_version 'a program in C' qemu-system-riscv64 'version 7\.' && test_c
 can_run 'rvfi_csv.sv in Verilator' verilator make g++ python3 &&

@@ -5,4 +5,4 @@ apt-get update
 DEBIAN_FRONTEND=noninteractive apt-get install -y --no-install-recommends \
     python3 python3-pyelftools gzip zstd make g++ git procps parallel shellcheck man-db \
     iverilog verilator qemu-system-misc gcc-riscv64-unknown-elf binutils-riscv64-unknown-elf \
-    opensbi u-boot-qemu
+    binutils-riscv64-linux-gnu opensbi u-boot-qemu
