@@ -30,6 +30,7 @@ from typing import NamedTuple
 
 import elf_image
 from cover import BIT_MANIPULATION, name_of
+from image_start import bytes_at, registers_at
 
 HERE = Path(__file__).resolve().parent
 UNPACK = {".gz": ["gzip", "-dc"], ".zst": ["zstd", "-dcq"]}
@@ -233,11 +234,11 @@ def lines_of(file):
             yield at, text
 
 
-def rows_of(path, last):
+def rows_of(words, last):
     """The rows from the first to number last, each with the registers before it."""
-    state = {it: (0, 0) for it in range(32)}
-    satp = (0, 0)
-    with opened(path) as file:
+    state = {it: (words.start.get(f"x{it}", 0), 0) for it in range(32)}
+    satp = (words.start.get("csr_satp", 0), 0)
+    with opened(words.trace) as file:
         lines = lines_of(file)
         names = [it.strip(" \t").removeprefix("rvfi_") for it in fields_of(next(lines)[1])]
         columns = [(at, name) for at, name in enumerate(names) if name in READ]
@@ -322,9 +323,9 @@ class Stored(NamedTuple):
 
 def memory_at(words, address, size, before):
     """What stands at a physical address before a row: the image, and the stores of the rows."""
-    memory = image_bytes(words.image, address, size)
+    memory = bytes_at(words.image, address, size)
     known, last, count, hidden = list(memory), 0, size, 0
-    for row in rows_of(words.trace, before - 1):
+    for row in rows_of(words, before - 1):
         stored = store_of(row)
         if stored is None:
             continue
@@ -341,31 +342,6 @@ def memory_at(words, address, size, before):
     value = None if None in known else sum(it << 8 * at for at, it in enumerate(known))
     text = f"{hidden} stores do not show where they went" if hidden else ""
     return Stored(value, last, count, text)
-
-
-def image_bytes(path, address, size):
-    """Bytes of the image, 0 where it has none."""
-    found, at = [0] * size, 0
-    with open(path, "rb") as file:
-        data = file.read()
-    if data.startswith(elf_image.MAGIC):
-        for at, part in elf_image.segments(data):
-            for it in range(size):
-                if 0 <= address + it - at < len(part):
-                    found[it] = part[address + it - at]
-        return found
-    text = data.decode("latin-1")
-    if not re.match(r"\s*[@0-9a-fA-F/]", text):
-        return [None] * size
-    text = re.sub(r"/\*.*?\*/|//[^\n]*", " ", text, flags=re.S)
-    for token in text.split():
-        if token[0] == "@":
-            at = int(token[1:], 16)
-        else:
-            if 0 <= at - address < size:
-                found[at - address] = int(token, 16)
-            at += 1
-    return found
 
 
 # ---- names of places
@@ -526,14 +502,16 @@ class Explanation:
         value, writer = operand(row, register, name), row.state[register][1]
         shown = "not shown" if value is None else f"0x{value:016x}"
         text = f"{ABI[register]} (x{register}) = {shown}"
-        return f"{text}, {self.written_in(writer) if writer else 'never written before'}"
+        if writer:
+            return f"{text}, {self.written_in(writer)}"
+        return f"{text}, {'as the saved state has it' if self.words.start else 'never written before'}"
 
     def written_in(self, count):
         near = next((it for it in self.rows if it.number == count), None)
         row = near or self.by_number.get(count)
         if row is None:
             row = self.by_number[count] = next(
-                it for it in rows_of(self.words.trace, count) if it.number == count)
+                it for it in rows_of(self.words, count) if it.number == count)
         return f"written in row {count} at 0x{row.pc:x}: " \
                f"{self.places.disassembly(row.pc, row.bits) or hex(row.bits)}"
 
@@ -638,7 +616,8 @@ class Explanation:
                 value = self.row.state[it][0]
                 texts.append(f"{ABI[it]:>4} " + ("?" * 16 if value is None else f"{value:016x}"))
             lines.append("  ".join(texts))
-        self.add("registers before the row, as the trace shows them", lines)
+        shown = "the saved state and the trace have" if self.words.start else "the trace shows"
+        self.add(f"registers before the row, as {shown} them", lines)
 
 
 def entry_fault(entry, level, row, access, sets_marks):
@@ -763,7 +742,8 @@ def explain(words):
     if found is None:
         print(line)
         return status
-    rows = deque(rows_of(words.trace, int(found[1])), max(1, words.rows))
+    words.start = registers_at(words.image)
+    rows = deque(rows_of(words, int(found[1])), max(1, words.rows))
     if not rows or rows[-1].number != int(found[1]):
         raise Refused(f"row {found[1]} was not found in {words.trace}")
     parts = Explanation(words, Places(words.elf or elf_of(words.image)), found, list(rows)).parts

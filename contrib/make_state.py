@@ -27,8 +27,8 @@ import struct
 import sys
 
 import elf_image
+from image_start import SAVED
 
-FRONT = b"rvstate 1\n"  # by which a saved state is told from other images
 PAGE, BLOCK = 4096, 16  # bytes
 RESET_PC = RAM_BASE = 0x80000000
 RAM_SIZE = 0x8000000
@@ -125,7 +125,7 @@ class State:
         self.parts |= {f"csr_{it}": 0 for it in CSRS} | {"csr_mstatus": XLENS}
 
     def lines(self):
-        yield FRONT.decode()
+        yield SAVED.decode()
         for name, value in self.parts.items():
             is_text = name in ("mode", "flags")
             yield f"{name} {value}\n" if is_text else as_line(name, value)
@@ -203,7 +203,7 @@ def take_image(state, path):
     state.memory.begin(path)
     if data.startswith(elf_image.MAGIC):
         take_elf(state, path, data)
-    elif data.startswith(FRONT):
+    elif data.startswith(SAVED):
         take_state(state, path, data.decode("latin-1").split("\n"))
     else:
         take_text(state, path, data.decode("latin-1"))

@@ -38,6 +38,7 @@ from itertools import chain
 from pathlib import Path
 from typing import NamedTuple
 
+from image_start import SAVED
 from port_rows import fields_of, names_in
 from regress import (
     CHILDREN, HERE, Refused, add_ways, check_program, check_ways, options_by_name, parallel_results,
@@ -47,7 +48,6 @@ from regress import (
 AGREES, DIFFERS, REFUSED, NONE = "agrees", "differs", "refused", "no verdict"
 STATUS = {AGREES: 0, DIFFERS: 1, NONE: 2}
 MARK, BLANK = b"\xef\xbb\xbf", (b"", b"\n", b"\r", b"\r\n")
-FIRST_LINE = b"rvstate 1\n"
 BLOCK = 1 << 20  # bytes that are read at once
 MOST_BYTES = 1 << 40  # of a trace, where no option says another number
 VERDICTS = {
@@ -190,7 +190,7 @@ def compare(out, piece, settings):
     """The first line that the judge prints, and where the state that it prints is another than that
     which is wanted."""
     first, unmet, number = out.readline(), "", 0
-    if first != FIRST_LINE:
+    if first != SAVED:
         return first.decode("latin-1") + out.read(BLOCK).decode("latin-1"), unmet
     keep = settings["end"] if not piece.after else ""
     with (
@@ -203,7 +203,7 @@ def compare(out, piece, settings):
                 unmet = told(piece, number, line, other)
         if piece.after and not unmet and (other := wanted.readline()):
             unmet = told(piece, number + 1, b"", other)
-    return "rvstate 1\n", unmet
+    return SAVED.decode(), unmet
 
 
 def told(piece, number, line, other):

@@ -124,11 +124,33 @@ def try_elf(program, folder):
     assert ran.stdout == text, f"{ran.stdout} {ran.stderr}"
 
 
+def try_state(program, folder):
+    """A run from a saved state: registers and memory that the trace does not show are those of the state."""
+    for name, cut, wanted in (
+        ("lost_store", 13, ["differs row 1: rd_wdata expected 0x000000000000000d",
+                            "(x8) = 0x0000000080004018, as the saved state has it",
+                            "memory   0x000000000000000d, as the image has it"]),
+        ("wrong_entry", 40, ["differs row 2: trap", "satp     0x8000000000080001\n", "D is 0"]),
+    ):
+        fields, swaps, options = CASES[name]
+        image, trace = (STORED / "image.hex").read_text().lower(), (STORED / "run.csv").read_text()
+        for old, new in swaps.items():
+            image = image.replace(old, new)
+        lines = altered(trace, fields).splitlines(keepends=True)
+        (folder / "front.hex").write_text(image)
+        (folder / "front.csv").write_text("".join(lines[:1 + cut]))
+        state = subprocess.run([program, "state", "front.hex", "front.csv", *options], cwd=folder,
+                               capture_output=True, text=True, check=True).stdout
+        said, _ = explained(program, folder, state, "".join([lines[0], *lines[1 + cut:]]), options)
+        for line in [*wanted, "as the saved state and the trace have them"]:
+            assert line in said, f"{line} is not in {said}"
+
+
 def main():
     program, failed = str(Path(sys.argv[1]).resolve()), 0
     with tempfile.TemporaryDirectory() as folder:
         for name, test in [*((it, try_case) for it in CASES), ("forms", try_forms),
-                           ("choices", try_choices), ("elf", try_elf)]:
+                           ("choices", try_choices), ("elf", try_elf), ("state", try_state)]:
             try:
                 if name in CASES:
                     test(name, program, Path(folder))
