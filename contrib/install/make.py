@@ -9,6 +9,7 @@ from pathlib import Path
 
 USAGE = Path(__file__).resolve().parents[2] / "bin" / "usage.txt"
 OPTION = re.compile(r"  (--[\w-]+) (\S+) +(.*)")
+COMMANDS = ("judge", "state", "make")
 OF_MAKE = ("--workers", "--segment", "--window")
 WORDS = re.compile(r": (\w+) or (\w+) \(")  # where an option's value is one of two words
 
@@ -60,18 +61,18 @@ _rvjudge() {{
     local word=${{COMP_WORDS[COMP_CWORD]}} before=${{COMP_WORDS[COMP_CWORD-1]}}
     COMPREPLY=()
     if [ "$COMP_CWORD" -eq 1 ]; then
-        mapfile -t COMPREPLY < <(compgen -W 'judge make' -- "$word")
+        mapfile -t COMPREPLY < <(compgen -W '{' '.join(COMMANDS)}' -- "$word")
     elif [[ $word == -* ]]; then
         local names='{' '.join(names)}'
-        [ "${{COMP_WORDS[1]}}" = judge ] || names='{' '.join(OF_MAKE)}'
+        [ "${{COMP_WORDS[1]}}" != make ] || names='{' '.join(OF_MAKE)}'
         mapfile -t COMPREPLY < <(compgen -W "$names" -- "$word")
-    elif [ "${{COMP_WORDS[1]}}" = judge ] && [[ $before == -* ]]; then
+    elif [ "${{COMP_WORDS[1]}}" != make ] && [[ $before == -* ]]; then
         local values=
         case $before in
 {values}
         esac
         mapfile -t COMPREPLY < <(compgen -W "$values" -- "$word")
-    elif [ "${{COMP_WORDS[1]}}" = judge ]; then
+    elif [ "${{COMP_WORDS[1]}}" != make ]; then
         compopt -o filenames
         mapfile -t COMPREPLY < <(compgen -f -- "$word")
     fi
@@ -89,12 +90,12 @@ def zsh(_):
                 text = re.sub(r"[\[\]':]", " ", text)
                 yield f"        '{name}=[{text}]:{value.replace(':', ' and ')}:{words}'"
 
-    yield """#compdef rvjudge rvjudge-unproved
+    yield f"""#compdef rvjudge rvjudge-unproved
 # Completion of rvjudge for zsh, made by contrib/install/make.py.
 local -a options
 if (( CURRENT == 2 )); then
-    compadd judge make
-elif [[ $words[2] == judge ]]; then
+    compadd {' '.join(COMMANDS)}
+elif [[ $words[2] != make ]]; then
     options=("""
     yield from specs([it[0] for it in options])
     yield """    )
