@@ -5,9 +5,9 @@
 
 Each altered image is judged with a trace of a few rows that agrees with the image as it is; with --states
 its state at reset is asked for too, which names every byte that is loaded. The executable is altered bit by
-bit, and cut off at each byte. Each byte of the state becomes another digit, another case, a blank and a line
-feed, is left out, and stands twice: with --states alone, as the program must know the command state. What
-is due is foretold by judge.py. Without PROGRAM the answers are only foretold. The status is 1 where an
+bit, and cut off at each byte. With --states alone, which takes ten times as long, each byte of the state becomes
+another digit, another case, a blank and a line feed, is left out, and stands twice. What is due is foretold by
+judge.py. Without PROGRAM the answers are only foretold. The status is 1 where an
 answer is not the one due, where what is not altered does not agree, or where a kind of answer did not come.
 """
 import argparse
@@ -152,7 +152,7 @@ class Holder:
 def parse():
     parser = argparse.ArgumentParser(description=__doc__, formatter_class=argparse.RawDescriptionHelpFormatter)
     parser.add_argument("program", nargs="?", help="without it the answers are only foretold")
-    parser.add_argument("--states", action="store_true", help="the program knows the command state")
+    parser.add_argument("--states", action="store_true", help="alter the state too, and ask for states")
     parser.add_argument("--jobs", type=number, default=os.cpu_count())
     return parser.parse_args()
 

@@ -14,6 +14,9 @@ from pathlib import Path
 TESTS = Path(__file__).resolve().parent
 PIECES = [sys.executable, str(TESTS.parent / "pieces.py")]
 IMAGE, TRACE = TESTS / "explain/image.hex", TESTS / "explain/run.csv"
+sys.path.insert(0, str(TESTS.parent))
+from qemu_log import image_bytes  # noqa: E402  # found by the line before
+from small_elf import small_elf  # noqa: E402
 DEVICES = ("--io", "0x10000000:0x1000")
 # A judge that does what the file NAME.does says where its image is NAME.
 ODD_JUDGE = """#!/bin/sh
@@ -212,6 +215,31 @@ def test_parallel(it):
     it.run(*it.states(5, 10, 20), "--with", "parallel", "--sshlogin", "1/one,1/two", "-j", "2")
     it.wants(0).wants_verdict()
     assert {"one", "two"} <= set(used.read_text().split()), used.read_text()
+
+
+def test_long_trace(it):
+    """As README has it: an ELF file, a state from each piece before, four local jobs of GNU parallel."""
+    if not shutil.which("parallel"):
+        return  # run.sh says so
+    by_address = image_bytes(IMAGE)
+    start = min(by_address)
+    data = bytes(by_address.get(at, 0) for at in range(start, max(by_address) + 1))
+    program, marks = it.path / "program.elf", []
+    program.write_bytes(small_elf(start, data))
+    it.image, quarter = program, len(it.rows) // 4
+    for at in (quarter, 2 * quarter, 3 * quarter):
+        it.write(rows=it.rows[at - quarter : at])
+        state = it.path / f"{at}.rvstate"
+        state.write_text(it.judge("state", it.trace)[0])
+        marks += ["--at", f"{at}={state}"]
+        it.image = state
+    it.image, words = program, ("--with", "parallel", "-j", "4")
+    it.write()
+    it.run(*marks, *words).wants(0, f"agrees {len(it.rows)}").wants_verdict()
+    pc = it.rows[2 * quarter + 1].split(",")[it.header.split(",").index("pc_rdata")]
+    it.alter(2 * quarter + 1, pc, "0x4")
+    it.run(*marks, *words)
+    assert it.wants_verdict().startswith(f"differs row {2 * quarter + 2}: pc_rdata"), it.said
 
 
 def test_slurm(it):
