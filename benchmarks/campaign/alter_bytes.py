@@ -7,8 +7,8 @@ Each altered image is judged with a trace of a few rows that agrees with the ima
 its state at reset is asked for too, which names every byte that is loaded. The executable is altered bit by
 bit, and cut off at each byte. With --states alone, which takes ten times as long, each byte of the state becomes
 another digit, another case, a blank and a line feed, is left out, and stands twice. What is due is foretold by
-judge.py. Without PROGRAM the answers are only foretold. The status is 1 where an
-answer is not the one due, where what is not altered does not agree, or where a kind of answer did not come.
+judge.py. Without PROGRAM the answers are only foretold. The status is 1 where an answer is not the one due, where
+what is not altered does not agree, or where a kind of answer did not come.
 """
 import argparse
 import os
