@@ -1,17 +1,19 @@
 #!/bin/sh
-# How long a run takes to start from 64 MiB, and to write them: starts_64mib.sh [PROGRAM]. Judges an empty trace from
-# ELF files with 64 MiB of zeros, of zeros that are not in the file, and of other bytes; writes the state of the
-# latter, 213 MB of text, and judges an empty trace from it. The state must be written again as it was read.
+# How long a run takes to start from 64 MiB, and to write them: starts_64mib.sh [PROGRAM [MIB]], with MIB another size
+# up to 128. Judges an empty trace from ELF files with so many zeros, zeros that are not in the file, and other bytes;
+# writes the state of the latter, 214 MB of text for 64 MiB, and judges an empty trace from it. The state must be
+# written again as it was read.
 set -eu
 here=$(cd "$(dirname "$0")" && pwd)
 program=${1:-$here/../../bin/rvjudge}
+size=${2:-64}
 folder=$(mktemp -d)
 trap 'rm -rf "$folder"' EXIT
-python3 - "$folder" <<'END'
+python3 - "$folder" "$size" <<'END'
 import struct
 import sys
 
-SIZE, BASE = 64 << 20, 0x80000000
+SIZE, BASE = int(sys.argv[2]) << 20, 0x80000000
 for name, data in (("unstored", b""), ("zeros", bytes(SIZE)), ("bytes", bytes(range(1, 256)) * (SIZE // 255 + 1))):
     data = data[:SIZE]
     head = b"\x7fELF\2\1\1" + bytes(9) + struct.pack("<HHIQQQIHHHHHH", 2, 243, 1, BASE, 64, 0, 0, 64, 56, 1, 0, 0, 0)
@@ -34,13 +36,13 @@ write_state() {
         sh -c '"$1" state "$2" "$3" >"$4"' '' "$program" "$folder/$1" "$folder/trace" "$folder/$2"
 }
 
-from_image 'an ELF file of 64 MiB that are zero, not stored' unstored
-from_image 'an ELF file of 64 MiB that are zero' zeros
-from_image 'an ELF file of 64 MiB that are not zero' bytes
+from_image "an ELF file of $size MiB that are zero, not stored" unstored
+from_image "an ELF file of $size MiB that are zero" zeros
+from_image "an ELF file of $size MiB that are not zero" bytes
 echo 'from that, and its state is written:'
 write_state bytes state
 echo "bytes of the state: $(wc -c <"$folder/state")"
-from_image 'a state of 64 MiB that are not zero' state
+from_image "a state of $size MiB that are not zero" state
 echo 'from that, and the state is written again:'
 write_state state again
 cmp "$folder/state" "$folder/again"
