@@ -1,6 +1,6 @@
 #!/bin/sh
-# Runs the program once for each status from 0 to 5, in a folder of its own, and compares the status
-# and what it wrote; then bin/rvjudge where it cannot build. `tests/statuses.sh PROGRAM` takes a program
+# Runs the program for each status from 0 to 5, in a folder of its own, and compares the status and what
+# it wrote; then bin/rvjudge where it cannot build. `tests/statuses.sh PROGRAM` takes a program
 # that was built already.
 set -u
 top=$(cd "$(dirname "$(readlink -f "$0")")/.." && pwd) || exit 1
@@ -28,6 +28,7 @@ printf '@80000000\n9' >bad.hex
 printf 'insn,pc_rdata,rd_addr,rd_wdata\n0x00500093,0x80000000,1,5\n' >agrees.csv
 printf 'insn,pc_rdata,rd_addr,rd_wdata\n0x00500093,0x80000000,1,6\n' >differs.csv
 printf 'insn\n' >bad.csv
+printf 'insn,pc_rdata\n' >header.csv
 
 expect 0 'agrees 1' judge "an image.hex" agrees.csv
 expect 1 'differs row 1: rd_wdata expected 0x0000000000000005 found 0x0000000000000006' \
@@ -39,11 +40,42 @@ expect 3 'refused image: line 2: bad byte' judge bad.hex agrees.csv
 expect 4 'refused trace: no column pc_rdata' judge "an image.hex" bad.csv
 expect 5 '' judge "an image.hex" missing.csv
 
-# Standard output that takes nothing is a failed write.
+expect 1 'differs row 1: rd_wdata expected 0x0000000000000005 found 0x0000000000000006' \
+    state "an image.hex" differs.csv
+expect 2 'refused words' state "an image.hex"
+expect 5 '' state "an image.hex" missing.csv
+
+# A state is written, and a run begins from it.
+"$program" state "an image.hex" agrees.csv >after
+code=$?
+lines=$(sed -n '1,3p;7p;$p' after | tr '\n' ' ')
+if [ "$code" -ne 0 ] ||
+    [ "$lines" != 'rvstate 1 pc 0000000080000004 mode 3 x1 0000000000000005 end ' ]; then
+    echo "state: status $code, '$lines'" >&2
+    failed=1
+fi
+expect 1 'differs row 1: pc_rdata expected 0x0000000080000004 found 0x0000000080000000' \
+    judge after agrees.csv
+expect 0 'agrees 1' judge after agrees.csv --pc 0x80000000
+expect 0 "$(cat after)" state after header.csv
+sed 's/^mode 3/mode 2/' after >bad.state
+expect 3 'refused image: line 3: bad line' judge bad.state agrees.csv
+
+# Standard output that takes nothing is a failed write, and so is one that takes a part of a state.
 if [ -w /dev/full ]; then
-    "$program" judge "an image.hex" agrees.csv >/dev/full
-    code=$?
-    [ "$code" -eq 5 ] || { echo "onto /dev/full: status $code, wanted 5" >&2; failed=1; }
+    for command in judge state; do
+        "$program" $command "an image.hex" agrees.csv >/dev/full
+        code=$?
+        [ "$code" -eq 5 ] || { echo "$command onto /dev/full: status $code, wanted 5" >&2; failed=1; }
+    done
+fi
+seq -f '@800%05g 01' 10000 10 29999 >many.hex
+"$program" state many.hex header.csv >whole
+(trap '' XFSZ; ulimit -f 16; "$program" state many.hex header.csv >part)
+code=$? taken=$(wc -c <part)
+if [ "$code" -ne 5 ] || [ "$taken" -ge "$(wc -c <whole)" ] || ! cmp -n "$taken" part whole; then
+    echo "a state that is not taken whole: status $code, $taken bytes; wanted 5 and its front" >&2
+    failed=1
 fi
 
 # Without rt nothing can be built.
