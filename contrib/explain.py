@@ -504,7 +504,8 @@ class Explanation:
         text = f"{ABI[register]} (x{register}) = {shown}"
         if writer:
             return f"{text}, {self.written_in(writer)}"
-        return f"{text}, {'as the saved state has it' if self.words.start else 'never written before'}"
+        is_saved = self.words.start
+        return f"{text}, {'as the saved state has it' if is_saved else 'never written before'}"
 
     def written_in(self, count):
         near = next((it for it in self.rows if it.number == count), None)

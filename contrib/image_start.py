@@ -1,4 +1,4 @@
-"""What an image says of the hart before the first row: an ELF file, a saved state, or Verilog text."""
+"""What an image says of the hart at its start: an ELF file, a saved state, or Verilog text."""
 import re
 
 import elf_image
@@ -8,8 +8,8 @@ BLOCK = 16  # bytes of a line of a saved state
 
 
 def registers_at(path):
-    """The registers of a saved state by the names of its lines; none of another image, as all are 0 at
-    reset."""
+    """The registers of a saved state by the names of its lines; none of another image, as all are 0
+    at reset."""
     found = {}
     with open(path, "rb") as file:
         if file.read(len(SAVED)) != SAVED:

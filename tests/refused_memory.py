@@ -3,7 +3,7 @@
 
 Each run below is made again and again, with the first of its calls for memory refused, the second,
 and so on until it makes no such call; then so again with the call and all later ones refused. Every
-answer must be the usual line and status, or status 6 with nothing written; but for one call for the
+answer must be the usual text and status, or status 6 with nothing written; but for one call for the
 name of each file, which is refused as the file would be: status 5, with nothing written. Calls are
 those of malloc and its kin (tests/refuse_memory.c, loaded by LD_PRELOAD) from main on; the
 program's allocator has no other way, which its dynamic symbols tell. What the loader and the C
@@ -15,6 +15,7 @@ PROGRAM is the built one where it is left out. Without gcc nothing is tried, and
 without valgrind what it would show is left out, and that is said."""
 import os
 import shutil
+import struct
 import subprocess
 import sys
 import tempfile
@@ -40,7 +41,39 @@ REGISTER_ROWS = """insn,pc_rdata,trap,rd_wdata,csr_mscratch_wdata,csr_mtvec_rdat
 0x00000297,0x80000010,0,0x80000010,0xffffffffffffffe0,0x80000010,11
 """
 
+CSRS = """mstatus medeleg mideleg mie mtvec stvec mcounteren scounteren menvcfg senvcfg
+mcountinhibit mscratch sscratch mepc sepc mcause scause mtval stval mip satp pmpcfg0 pmpcfg2""".split()
+CODE = bytes.fromhex("93005000")  # ADDI x1, x0, 5
+
+
+def saved(pc, x1, *memory):
+    """The text of a state at reset but for pc, x1 and these blocks, without the last line feed."""
+    values = {f"x{at}": 0 for at in range(1, 32)} | {"x1": x1}
+    values |= {f"csr_{name}": 0 for name in (*CSRS, *(f"pmpaddr{at}" for at in range(16)))}
+    values["csr_mstatus"] = 0xA00000000
+    lines = ["rvstate 1", f"pc {pc:016x}", "mode 3", "order none", "flags 00", "reserved none"]
+    lines += [f"{name} {value:016x}" for name, value in values.items()]
+    return "\n".join([*lines, *(f"@{at:016x} {data.hex():0<32}" for at, data in memory), "end"])
+
+
+def executable(*segments):
+    """An ELF file with the entry 0x80000000, each segment an address, bytes, a size in memory."""
+    place = 64 + 56 * len(segments)
+    head = b"\x7fELF\2\1\1" + bytes(9) + struct.pack(
+        "<HHIQQQIHHHHHH", 2, 243, 1, 0x80000000, 64, 0, 0, 64, 56, len(segments), 0, 0, 0)
+    for address, data, size in segments:
+        head += struct.pack("<IIQQQQQQ", 1, 7, place, address, address, len(data), size, 1)
+        place += len(data)
+    return head + b"".join(data for _, data, _ in segments)
+
+
+MEMORY = (0x80000000, CODE), (0x80003000, b"\1")
+ELF = executable((0x80003000, b"\1", 9), (0x80000000, CODE, 0x2000))
 FILES = {
+    "one.elf": ELF,
+    "cut.elf": ELF[:-1],
+    "one.state": saved(0x80000000, 7, *MEMORY) + "\n",
+    "bad.state": saved(0x80000000, 7, *MEMORY),
     "one.hex": "@80000000 93 00 50 00",
     "one.csv": "insn,pc_rdata,rd_addr,rd_wdata,pc_wdata\n0x00500093,0x80000000,1,5,0x80000004\n",
     "other.csv": "insn,pc_rdata,rd_addr,rd_wdata,pc_wdata\n0x00500093,0x80000000,1,6,0x80000004\n",
@@ -74,11 +107,19 @@ FILES = {
 
 WORKERS = ("--workers=1", "--workers=2", "--workers=4")
 REGISTERS = ["judge", "registers.hex", "registers.csv"]
-# each: the words, the status and the line that are usual
+# each: the words, the status and the text that are usual, or None: what it is without refusals
 RUNS = [
     (["judge", "one.hex", "one.csv"], 0, "agrees 1"),
     (["judge", "one.hex", "other.csv"], 1,
      "differs row 1: rd_wdata expected 0x0000000000000005 found 0x0000000000000006"),
+    (["judge", "one.elf", "one.csv"], 0, "agrees 1"),
+    (["state", "one.elf", "one.csv"], 0, saved(0x80000004, 5, *MEMORY)),
+    (["judge", "cut.elf", "one.csv"], 3, "refused image: elf segment 1: bad size"),
+    (["judge", "one.state", "one.csv"], 0, "agrees 1"),
+    (["state", "one.state", "one.csv"], 0, saved(0x80000004, 5, *MEMORY)),
+    (["state", "one.state", "other.csv"], 1,
+     "differs row 1: rd_wdata expected 0x0000000000000005 found 0x0000000000000006"),
+    (["judge", "bad.state", "one.csv"], 3, "refused image: line 79: bad line"),
     (["judge", "one.hex", "broken.csv"], 4, "refused trace: row 2: insn not a number"),
     (["judge", "sums.hex", "sums.csv", "--segment=1"], 0, "agrees 4"),
     (["make", "7", "50"], 0, "made 7 50: agrees 50"),
@@ -90,6 +131,7 @@ RUNS = [
     (["judge", *PAGED], 0, "agrees 39"),
     (["judge", *PAGED, "--segment=1", "--window=1"], 0, "agrees 39"),
     (["judge", *PAGED, "--segment=5", "--window=3"], 0, "agrees 39"),
+    (["state", *PAGED, "--segment=5", "--window=3"], 0, None),
 ]
 
 
@@ -126,7 +168,7 @@ class Count:
 
 def refuse_each(program, library, words, usual, count):
     """Refuses each call of a run in turn, alone and with all later ones."""
-    files = 2 if words[0] == "judge" else 0
+    files = 0 if words[0] == "make" else 2
     for later in (False, True):
         call, was_made, not_read = 0, True, 0
         while was_made:
@@ -170,6 +212,8 @@ def built():
 
 
 def try_run(program, library, words, usual, count):
+    status, text = usual
+    usual = status, answer([program, *words])[1] if text is None else f"{text}\n"
     refuse_each(program, library, words, usual, count)
     if shutil.which("valgrind"):
         look_for_leaks(program, words, usual, count)
@@ -182,12 +226,12 @@ def try_all(program, folder, count):
     flags = ["-shared", "-fPIC", "-O2", "-Wall"]
     subprocess.run(["gcc", *flags, "-o", library, source, "-ldl"], check=True)
     for name, text in FILES.items():
-        (Path(folder) / name).write_text(text, encoding="ascii")
+        (Path(folder) / name).write_bytes(text if isinstance(text, bytes) else text.encode())
     os.chdir(folder)
     with ThreadPoolExecutor(os.cpu_count()) as pool:
         tried = [
-            pool.submit(try_run, program, library, [*words, workers], (status, f"{line}\n"), count)
-            for words, status, line in RUNS for workers in WORKERS
+            pool.submit(try_run, program, library, [*words, workers], usual, count)
+            for words, *usual in RUNS for workers in WORKERS
         ]
         for one in tried:
             one.result()

@@ -1,6 +1,6 @@
 #!/bin/sh
-# Runs the program for each status from 0 to 5, in a folder of its own, and compares the status and what
-# it wrote; then bin/rvjudge where it cannot build. `tests/statuses.sh PROGRAM` takes a program
+# Runs the program for each status from 0 to 5, in a folder of its own, and compares the status and
+# what it wrote; then bin/rvjudge where it cannot build. `tests/statuses.sh PROGRAM` takes a program
 # that was built already.
 set -u
 top=$(cd "$(dirname "$(readlink -f "$0")")/.." && pwd) || exit 1
@@ -66,7 +66,8 @@ if [ -w /dev/full ]; then
     for command in judge state; do
         "$program" $command "an image.hex" agrees.csv >/dev/full
         code=$?
-        [ "$code" -eq 5 ] || { echo "$command onto /dev/full: status $code, wanted 5" >&2; failed=1; }
+        [ "$code" -eq 5 ] ||
+            { echo "$command onto /dev/full: status $code, wanted 5" >&2; failed=1; }
     done
 fi
 seq -f '@800%05g 01' 10000 10 29999 >many.hex

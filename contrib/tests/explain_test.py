@@ -125,7 +125,7 @@ def try_elf(program, folder):
 
 
 def try_state(program, folder):
-    """A run from a saved state: registers and memory that the trace does not show are those of the state."""
+    """A run from a saved state, which has the registers and the memory that no row shows."""
     for name, cut, wanted in (
         ("lost_store", 13, ["differs row 1: rd_wdata expected 0x000000000000000d",
                             "(x8) = 0x0000000080004018, as the saved state has it",

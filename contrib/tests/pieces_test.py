@@ -218,7 +218,7 @@ def test_parallel(it):
 
 
 def test_long_trace(it):
-    """As README has it: an ELF file, a state from each piece before, four local jobs of GNU parallel."""
+    """As README has it: an ELF file, a state from each piece before, four jobs of GNU parallel."""
     if not shutil.which("parallel"):
         return  # run.sh says so
     by_address = image_bytes(IMAGE)
