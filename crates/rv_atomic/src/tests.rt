@@ -86,3 +86,28 @@ fn covers_a_block(rt: HostRuntime) -> Result<(), Fail> {
     assert!(rt; !reservation.covers(0x8000_1000, 4));
     Ok(())
 }
+
+/// Bytes beside a block and in it, as another hart's stores write them.
+#[test]
+fn loses_a_block(rt: HostRuntime) -> Result<(), Fail> {
+    let cases = [
+        (0x8000_003c, 4, false),
+        (0x8000_003d, 4, true),
+        (0x8000_0038, 8, false),
+        (0x8000_0040, 1, true),
+        (0x8000_007f, 1, true),
+        (0x8000_007c, 8, true),
+        (0x8000_0080, 8, false),
+        (0x8000_0050, 0, false),
+        (u64::MAX, 8, false),
+    ];
+    for (pa, len, lost) in cases {
+        let mut reservation = Reservation::NONE;
+        assert!(rt; !reservation.touches(pa, len));
+        reservation.set(0x8000_0044, 64);
+        assert_eq!(rt; reservation.touches(pa, len), lost, "{len} bytes at {pa}");
+        reservation.lose(pa, len);
+        assert_eq!(rt; reservation.block.is_none(), lost, "{len} bytes at {pa}");
+    }
+    Ok(())
+}
