@@ -12,7 +12,6 @@ pub mod StoreBytes
 pub mod TwoPages
 pub mod ShownStores
 pub mod PlainTruth
-pub mod KeptChoices
 pub mod TrueRows
 pub mod ShownWords
 pub mod CsrWords

@@ -30,7 +30,7 @@ use Rattle.boundary_guess.specs.Truth.{true_starts}
 use Rattle.boundary_guess.proofs.Compared.{ShowsWords}
 use Rattle.boundary_guess.proofs.CoreWords.{IsSane}
 use Rattle.boundary_guess.proofs.Actions.{AreBytes, written_bytes}
-use Rattle.boundary_guess.proofs.KeptChoices.{next_keeps}
+use Rattle.hart_step.proofs.KeptChoices.{next_keeps}
 use Rattle.boundary_guess.proofs.NoSets.{SetsNone}
 use Rattle.boundary_guess.proofs.PlainTruth.{IsInRange}
 use Rattle.boundary_guess.proofs.SaneSteps.{next_sane}

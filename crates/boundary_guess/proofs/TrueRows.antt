@@ -22,7 +22,7 @@ use Rattle.boundary_guess.specs.Guesses.{guess_after_row, state_shown}
 use Rattle.boundary_guess.specs.Truth.{ShowsChanges}
 use Rattle.boundary_guess.proofs.Compared.{RowAgrees, ShowsWords}
 use Rattle.boundary_guess.proofs.Actions.{AreBytes}
-use Rattle.boundary_guess.proofs.KeptChoices.{begun_keeps}
+use Rattle.hart_step.proofs.KeptChoices.{begun_keeps}
 use Rattle.boundary_guess.proofs.NoSets.{SetsNone}
 use Rattle.boundary_guess.proofs.PlainSteps.{Runs, ran_runs}
 use Rattle.boundary_guess.proofs.PlainTruth.{IsInRange, IsRunOf, plain_facts, ran_true}

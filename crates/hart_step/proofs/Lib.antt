@@ -25,3 +25,6 @@ pub mod StoreWords
 pub mod PageEnds
 pub mod ReservedBlocks
 pub mod WordLists
+pub mod KeptChoices
+pub mod TakenWrites
+pub mod Lost

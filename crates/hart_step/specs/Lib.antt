@@ -13,3 +13,5 @@ pub mod Rows
 pub mod Harts
 pub mod ProtectionLaws
 pub mod TranslationLaws
+pub mod TakenRows
+pub mod Meanings

@@ -19,6 +19,7 @@ use Rattle.interrupt_pick.specs.Interrupts.{pick_of}
 use Rattle.rvfi_rows.specs.declared.expected.Expected.{Expected}
 use Rattle.rvfi_rows.specs.declared.expected.Expected.TheVariants as expected
 use Rattle.rvfi_rows.specs.declared.expected.Effects.{Effects}
+use Rattle.rvfi_rows.specs.Meanings.{Gave}
 use Rattle.hart_step.specs.declared.state.Core.{Core}
 use Rattle.hart_step.specs.declared.instruction.InstructionOutcome.{InstructionOutcome}
 use Rattle.hart_step.specs.declared.instruction.InstructionOutcome.TheVariants.{Trapped, Retired}
@@ -26,9 +27,8 @@ use Rattle.hart_step.specs.Choices.{shows, order_after, pending_lines_of, asks_i
 use Rattle.hart_step.specs.Instructions.{InstructionRun, instruction_run}
 
 -- the state after a row, and what the reference hart did
-pub record StepResult : Type 0 where
-  pub next : Core
-  pub expected : Expected
+abbrev pub StepResult : Type 0
+StepResult = Gave Core
 
 -- the order index moves on
 unfoldable pub core_after_count : Core → Shown → Core

@@ -1,8 +1,9 @@
 //! What holds of every step.
 
-ghost use Rattle.std.specs.Prelude.{◌≡◌, ◌≤◌, ◌<◌, ℕ, Bool, true, false, Option, Some, None};
+ghost use Rattle.std.specs.Prelude.{◌≡◌, ◌≤◌, ◌<◌, ℕ, Bool, true, false, List, Option, Some, None};
 ghost use Rattle.hart_words.specs.declared.privilege.Mode.{Mode};
 ghost use Rattle.hart_words.specs.Privilege.{mode_number};
+ghost use Rattle.hart_words.specs.declared.accesses.Write.{Write};
 ghost use Rattle.hart_words.specs.Memory.{Bytes, AgreeOn};
 ghost use Rattle.hart_words.specs.Signals.{Shown};
 ghost use Rattle.mem_access.specs.Accesses.{Exception};
@@ -15,6 +16,7 @@ ghost use Rattle.hart_step.specs.Cores.{IsSound};
 ghost use Rattle.hart_step.specs.Choices.{asks_interrupt, pending_lines_of};
 ghost use Rattle.hart_step.specs.Steps.{before_instruction, interrupt_of, step_of};
 ghost use Rattle.hart_step.specs.Laws.{request_at_pc, next_of, RowsDecideAlike, TrapsStoreNothing, enters_interrupt, RisesByTrapsOnly, FallsByReturnsOnly, ReturnsTo, AsksInterrupt, IsFetched, EntersInterrupt, LacksRightly, StoresInReservedBlock};
+ghost use Rattle.hart_step.specs.Meanings.{LosesByBytes};
 ghost use Rattle.hart_step.specs.TrapLaws.{executed_at, Raises, IsRaisedIn, LeadsToHandler, HasCause};
 
 /// Memories that agree on what a step reads give the same step: the same state after it, the same
@@ -111,4 +113,10 @@ pub fn no_row_stores_unreserved()
         → request_at_pc (before_instruction core shown) bytes ≡ Some (Access request)
         → request.op ≡ StoreConditional value
         → StoresInReservedBlock core shown bytes }
+{}
+
+/// By the writes of other harts a hart loses its reservation exactly where one of their bytes lies
+/// in the reserved block, and it loses nothing else.
+pub fn reservations_are_lost_by_bytes()
+    ensures { (core : Core) (writes : List Write) → LosesByBytes core writes }
 {}

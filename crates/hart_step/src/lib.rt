@@ -14,6 +14,7 @@
 mod accesses;
 mod changes;
 mod choices;
+mod core_step;
 mod csr_access;
 mod execution;
 mod hart;

@@ -1,12 +1,13 @@
 //! The bytes that a row shows a store to put into memory.
 
-ghost use Rattle.std.specs.Prelude.{◌≡◌, ◌<◌, ◌≤◌, ◌-◌, ◌/◌, ◌^◌, ℕ, IfSome, IsOk, IsTrue, OnErr, OnOk, true, unwrap_or};
-ghost use Rattle.hart_words.specs.Memory.{Bytes, bytes_after_store};
+ghost use Rattle.std.specs.Prelude.{◌≡◌, ◌<◌, ◌≤◌, ◌-◌, ◌/◌, ◌^◌, ℕ, [], IfSome, IsOk, IsTrue, OnErr, OnOk, true, unwrap_or};
+ghost use Rattle.hart_words.specs.Memory.{Bytes, after_writes, bytes_after_store};
 ghost use Rattle.hart_words.specs.Spans.{IsPlace, is_in};
 ghost use Rattle.rvfi_rows.specs.Cells.{shown_in};
+ghost use Rattle.hart_step.specs.TakenRows.{is_in_page, len_of_mask};
 
 use csr_file::has_bit;
-use hart_words::{NoMemory, PAGE_SIZE, PhysMem, Signal, Span};
+use hart_words::{NoMemory, PAGE_SIZE, PhysMem, Signal, Span, Wrote};
 use rvfi_rows::{Row, moved_down};
 
 /// Where a store's bytes go, which of eight bytes do, and the eight, the lowest first.
@@ -20,6 +21,7 @@ pub struct ShownStore {
 
 impl ShownStore {
     ghost use Rattle.hart_step.specs.PlainRows.{byte_place, byte_put, bytes_put, stores_byte, store_shown, AreReady};
+    ghost use Rattle.hart_step.specs.TakenRows.{byte_writes, len_at_once, writes_of};
 
     /// The store that the row shows: at `mem_paddr`, or at `mem_addr` where that is not shown.
     #[tactic(auto, unfolding(crate::specs::PlainRows::store_shown))]
@@ -51,13 +53,43 @@ impl ShownStore {
     /// lie in one page of RAM. Most stores are such, and one write costs less than eight.
     #[tactic(auto, using(crate::proofs::WholeStores::put_at_once))]
     fn len_at_once(&self, ram: &Span) -> Option<u8>
+        ensures value { result ≡ len_at_once ram.now self.now }
         ensures place { IfSome result (λ len. IsPlace ram.now self.now.place len) }
         ensures whole { IfSome result (λ len. (bytes : Bytes) → bytes_put ram.now self.now 8 bytes
             ≡ bytes_after_store self.now.place len self.now.value bytes) }
     {
         match len_of_mask(self.mask) {
-            Some(len) if ram.is_place(self.place, len) => Some(len),
+            Some(len) if is_in_page(ram, self.place, len) => Some(len),
             _ => None,
+        }
+    }
+
+    /// The writes that put the bytes that lie in RAM.
+    #[tactic(auto, using(crate::proofs::TakenWrites::bytes_written), unfolding(crate::specs::TakenRows::writes_of, hart_words::specs::Memory::after_writes))]
+    pub fn writes(&self, ram: &Span) -> Wrote
+        ensures value { result ≡ writes_of ram.now self.now }
+        ensures bytes { (bytes : Bytes) → after_writes result bytes
+            ≡ bytes_put ram.now self.now 8 bytes }
+    {
+        let mut wrote = Wrote::empty();
+        match self.len_at_once(ram) {
+            Some(len) => wrote.put(self.place, len, self.value),
+            None => self.note_bytes(ram, &mut wrote),
+        }
+        wrote
+    }
+
+    /// Notes a write for each byte that lies in RAM.
+    #[tactic(auto, unfolding(crate::specs::TakenRows::byte_writes))]
+    fn note_bytes(&self, ram: &Span, wrote: &mut Wrote)
+        requires { wrote.old ≡ [] }
+        ensures { wrote.new ≡ byte_writes ram.now self.now 8 }
+    {
+        for number in 0..8 {
+            if self.has_byte(ram, number) {
+                let value = moved_down(self.value, u64::from(number));
+                wrote.put(self.byte_place(number), 1, value);
+            }
         }
     }
 
@@ -151,6 +183,8 @@ fn place_shown(physical: Option<u64>, address: Option<u64>) -> u64
 
 /// How many bytes a mask has, where these are the low 1, 2, 4 or 8.
 fn len_of_mask(mask: u64) -> Option<u8>
+    ensures value { result ≡ len_of_mask mask }
+    ensures len { IfSome result (λ len. (1 ≤ len) × (len ≤ 8)) }
     ensures mask { IfSome result (λ len. mask ≡ 2 ^ len - 1) }
 {
     match mask {
@@ -160,6 +194,16 @@ fn len_of_mask(mask: u64) -> Option<u8>
         0xff => Some(8),
         _ => None,
     }
+}
+
+/// Whether so many bytes, 1 to 8, lie in RAM and in one page.
+fn is_in_page(ram: &Span, pa: u64, len: u8) -> bool
+    requires some { 1 ≤ len }
+    requires few { len ≤ 8 }
+    ensures value { result ≡ is_in_page ram.now pa len }
+    ensures place { IsTrue result → IsPlace ram.now pa len }
+{
+    ram.holds(pa, len) && pa % PAGE_SIZE + u64::from(len) <= PAGE_SIZE
 }
 
 /// Whether the byte at an address is one of RAM.

@@ -1,16 +1,18 @@
 //! The state after a plain row, as the row shows it.
 
-ghost use Rattle.std.specs.Prelude.{◌≡◌, ◌%◌, OnErr, OnOk};
+ghost use Rattle.std.specs.Prelude.{◌≡◌, ◌%◌, [], IfOk, OnErr, OnOk};
+ghost use Rattle.hart_words.specs.Actions.{Performs};
 ghost use Rattle.hart_words.specs.Registers.{with_register};
 ghost use Rattle.rvfi_rows.specs.Cells.{shown_in};
 ghost use Rattle.hart_step.specs.Cores.{IsSound};
 ghost use Rattle.hart_step.specs.PlainRows.{next_address_shown, memory_shown, core_shown, next_pc_shown, registers_shown};
+ghost use Rattle.hart_step.specs.TakenRows.{taken_of};
 
 use crate::hart::Hart;
 use crate::plain_rows::{insn_shown, length_of, shows_store};
 use crate::shown_store::ShownStore;
 use crate::state::Core;
-use hart_words::{NoMemory, PhysMem, Registers, Signal};
+use hart_words::{NoMemory, PhysMem, Registers, Signal, Wrote};
 use rvfi_rows::Row;
 
 impl<M: PhysMem + Drop> Hart<M> {
@@ -33,18 +35,46 @@ impl<M: PhysMem + Drop> Hart<M> {
             let ram = self.core.map.ram;
             ShownStore::of(row).put(&mut self.mem, &ram)?;
         }
-        self.core.take_shown(row);
+        self.core.take_core_shown(row);
         Ok(())
     }
 }
 
 impl Core {
+    /// Takes the state after a row from what the row shows, and a store's bytes into a memory: the
+    /// bytes of RAM that it wrote. Without memory neither the state nor a byte changes.
+    #[tactic(auto, using(crate::proofs::TakenWrites::took_none, crate::proofs::TakenWrites::took_store))]
+    pub(crate) fn take_row<M: PhysMem>(&mut self, mem: &mut M, row: &Row) -> Result<Wrote, NoMemory>
+        requires ram { M.ram mem.old ≡ self.old.map.ram }
+        ensures taken { IfOk result (λ wrote. Performs (taken_of self.old (shown_in row.now))
+            self.new [] [] [] wrote (M.bytes mem.old) (M.bytes mem.new)) }
+        ensures err { OnErr result ((self.new ≡ self.old) × (M.bytes mem.new ≡ M.bytes mem.old)) }
+        ensures sound { IsSound self.old → IsSound self.new }
+        ensures map { self.new.map ≡ self.old.map }
+        ensures choices { self.new.choices ≡ self.old.choices }
+        ensures ram { M.ram mem.new ≡ M.ram mem.old }
+    {
+        if shows_store(row) {
+            let ram = self.map.ram;
+            let store = ShownStore::of(row);
+            match store.put(mem, &ram) {
+                Err(NoMemory) => return Err(NoMemory),
+                Ok(()) => {}
+            }
+            self.take_core_shown(row);
+            return Ok(store.writes(&ram));
+        }
+        self.take_core_shown(row);
+        Ok(Wrote::empty())
+    }
+
     /// Takes the state after a row, but for memory, from what the row shows.
     #[tactic(auto, unfolding(crate::specs::PlainRows::core_shown, crate::specs::Steps::core_after_count))]
-    pub(crate) fn take_shown(&mut self, row: &Row)
+    pub(crate) fn take_core_shown(&mut self, row: &Row)
         ensures state { self.new ≡ core_shown self.old (shown_in row.now) }
         ensures sound { IsSound self.old → IsSound self.new }
         ensures map { self.new.map ≡ self.old.map }
+        ensures choices { self.new.choices ≡ self.old.choices }
     {
         self.count(row);
         take_register(

@@ -8,3 +8,4 @@ pub mod Readings
 pub mod Window
 pub mod RowsRead
 pub mod Segments
+pub mod Meanings

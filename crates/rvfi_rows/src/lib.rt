@@ -2,13 +2,15 @@
 //!
 //! In comes a line of bytes. Out goes what the header names (`specs/Columns.antt`) or what the rows
 //! of the line show, one for each port (`specs/Rows.antt`), or the first fault; and for the crates
-//! above what the reference hart did at a row (`Expected`, `Stepped`), how many rows there are
-//! (`RowCounts`), and the verdict on them (`Verdict`).
+//! above what the reference hart did at a row (`Expected`, `Stepped`), what a hart without its memory
+//! is to those who step it (`CoreStep`), how many rows there are (`RowCounts`), and the verdict on
+//! them (`Verdict`).
 #![tactic(auto)]
 
 mod cells;
 mod column;
 mod columns;
+mod core_step;
 mod expected;
 mod fault;
 mod header;
@@ -28,6 +30,7 @@ mod window;
 pub use cells::read_row;
 pub use column::{Column, Port};
 pub use columns::Columns;
+pub use core_step::CoreStep;
 pub use expected::{Accessed, Effects, Expected, Retired, Stepped};
 pub use fault::{HeaderError, HeaderFault, RowError, RowFault};
 pub use header::read_header;

@@ -1,12 +1,13 @@
 -- A step keeps the choices of an implementation.
 use Rattle.std.proofs.Common.{◌≡◌, ℕ, Bool, true, false, Option, Some, None, Ok, Err, Result, refl, ap, ◌∙◌}
 use Rattle.std.proofs.Common.{inl, inr, if◌then◌else◌}
-use Rattle.std.specs.Prelude.{IfOk, not}
+use Rattle.std.specs.Prelude.{IfOk, OnErr, not, []}
 use Rattle.std.proofs.lemmas.Bool.{cases_Bool}
 use Rattle.hart_words.specs.declared.privilege.Mode.{Mode}
 use Rattle.hart_words.specs.Memory.{Bytes}
 use Rattle.hart_words.specs.Signals.{Shown}
-use Rattle.hart_words.specs.Actions.{pure, mapped}
+use Rattle.hart_words.specs.declared.fault.NoMemory.{NoMemory}
+use Rattle.hart_words.specs.Actions.{Performs, pure, mapped}
 use Rattle.csr_file.specs.declared.csrs.Csrs.{Csrs}
 use Rattle.csr_file.specs.declared.access.Illegal.{Illegal}
 use Rattle.csr_file.specs.declared.fields.TheConstants.{TSR, TVM}
@@ -19,6 +20,7 @@ use Rattle.rv_integer.specs.declared.int_result.SystemRequest.TheVariants as sys
 use Rattle.rv_integer.specs.Results.{result_of}
 use Rattle.mem_access.specs.Accesses.{Exception}
 use Rattle.mem_access.proofs.Grants.{then_gives}
+use Rattle.rvfi_rows.specs.declared.expected.Stepped.{Stepped}
 use Rattle.hart_step.specs.declared.state.Core.{Core}
 use Rattle.hart_step.specs.declared.choices.RowChoices.{RowChoices}
 use Rattle.hart_step.specs.declared.instruction.Instruction.{Instruction}
@@ -36,7 +38,7 @@ use Rattle.hart_step.specs.Instructions.{core_after_retirement, execution_by, ex
 use Rattle.hart_step.specs.Instructions.{instruction_run, op_for, run_of_decoded, run_of_fetched, run_of_result}
 use Rattle.hart_step.specs.Instructions.{second_value, system_execution}
 use Rattle.hart_step.specs.Steps.{before_instruction, core_after_count, core_after_entry, core_after_interrupt}
-use Rattle.hart_step.specs.Steps.{core_after_interrupt_by, core_after_outcome, core_after_run, interrupt_of}
+use Rattle.hart_step.specs.Steps.{core_after_interrupt_by, core_after_outcome, core_after_run, interrupt_of, step_of}
 use Rattle.hart_step.specs.Laws.{next_of}
 use Rattle.hart_step.proofs.Phases.{next_halted, next_running}
 
@@ -151,3 +153,11 @@ next_keeps core shown bytes = elim (cases_Bool core.halted) [
       ap (λ k. k.choices) (next_running core shown bytes runs) ∙ ended_keeps done shown ∙ ran_keeps begun shown bytes
       ∙ begun_keeps core shown
 ]
+
+-- so does a call that steps, or lacks memory
+pub call_keeps : (core next : Core) (shown : Shown) (result : Result Stepped NoMemory) (before now : Bytes)
+    → IfOk result (λ done. Performs (step_of core shown) (record { next = next; expected = done.expected }) [] done.seen
+    [] done.wrote before now) → OnErr result ((next ≡ core) × (now ≡ before)) → next.choices ≡ core.choices
+call_keeps core next shown (Ok done) before now ran unchanged =
+    ap (λ g. g.next.choices) ran.value_is ∙ next_keeps core shown before
+call_keeps core next shown (Err lacking) before now ran unchanged = ap (λ k. k.choices) unchanged.0

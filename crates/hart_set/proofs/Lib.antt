@@ -1,0 +1,4 @@
+pub mod Filled
+pub mod Places
+pub mod Steps
+pub mod SetLaws
