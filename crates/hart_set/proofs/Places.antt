@@ -1,6 +1,8 @@
 -- Which hart stands at which place after one of them went on.
 use Rattle.std.proofs.Common.{◌≡◌, ◌≢◌, ℕ, zero, suc, List, [], ◌∷◌, map, length, refl, ap, ◌∙◌}
 use Rattle.std.proofs.Common.{◌+◌, ◌<◌, ◌≤◌, ◌++◌, add-one, append-nil, arith, drop, get_or, sym, subst, take, Some}
+use Rattle.std.proofs.Common.{inl, inr, true, false}
+use Rattle.std.proofs.lemmas.Bool.{cases_lt}
 use Rattle.std.proofs.Math.ListN.{set}
 use Rattle.std.specs.List.{All, slice_get}
 use Rattle.std.proofs.lemmas.List.Elements.{All-cons, All-head, All-nil, All-tail}
@@ -162,3 +164,7 @@ pub as_long_after : {C : Type 0} (cores : List C) (place : ℕ) (x : C) → leng
 as_long_after [] place x = refl
 as_long_after (core ∷ cores) zero x = refl
 as_long_after (core ∷ cores) (suc place) x = ap suc (as_long_after cores place x)
+
+-- a hart that is not absent is there
+pub present : (number long : ℕ) → (long ≤ number → false ≡ true) → number < long
+present number long there = elim (cases_lt number long) [ inl below ↦ below | inr past ↦ absurd (let no = there past in cc) ]

@@ -25,6 +25,8 @@ impl<C: CoreStep<M> + Drop, M: PhysMem + Drop> HartSet<C, M> {
         requires { 1 ≤ harts }
         ensures cores { IfOk result (λ set. set.cores.items ≡ replicate harts core) }
         ensures mem { IfOk result (λ set. set.mem ≡ mem) }
+        ensures can { C.is_sound core → M.ram mem ≡ (C.meaning.map_of core).ram
+            → IfOk result (λ set. CanStep C.meaning C.is_sound (M.ram set.mem) set.cores.items) }
     {
         let mut cores = Vec::new(alloc);
         for _ in 1..harts {
@@ -72,7 +74,7 @@ impl<C: CoreStep<M> + Drop, M: PhysMem + Drop> HartSet<C, M> {
             ≡ map C.meaning.choices_of self.old.cores.items }
         ensures ram { M.ram self.new.mem ≡ M.ram self.old.mem }
     {
-        if number >= self.cores.len() {
+        if self.is_absent(number) {
             return Ok(Stepped::halted());
         }
         let done = self.cores[number].step(&mut self.mem, row);
@@ -130,13 +132,10 @@ impl<C: CoreStep<M> + Drop, M: PhysMem + Drop> HartSet<C, M> {
             ≡ map C.meaning.choices_of self.old.cores.items }
         ensures ram { M.ram self.new.mem ≡ M.ram self.old.mem }
     {
-        if number >= self.cores.len() {
+        if self.is_absent(number) {
             return Ok(());
         }
-        let wrote = match self.cores[number].take_shown(&mut self.mem, row) {
-            Err(NoMemory) => return Err(NoMemory),
-            Ok(wrote) => wrote,
-        };
+        let wrote = self.cores[number].take_shown(&mut self.mem, row)?;
         self.lose_beside(number, wrote.as_slice());
         Ok(())
     }
@@ -170,6 +169,13 @@ impl<C: CoreStep<M> + Drop, M: PhysMem + Drop> HartSet<C, M> {
             cores,
             mem: self.mem.copy()?,
         })
+    }
+
+    /// Whether no hart has a number.
+    fn is_absent(&self, number: usize) -> bool
+        ensures { Decides result (length self.now.cores.items ≤ number) }
+    {
+        number >= self.cores.len()
     }
 
     /// Takes from each hart, but for that of a number, the reservation in whose block a write lies.

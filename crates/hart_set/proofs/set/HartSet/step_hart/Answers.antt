@@ -1,14 +1,14 @@
-use Rattle.std.proofs.Common.{◌<◌, ◌≡◌, ◌≤◌, ◌∙◌, ap, arith, length}
+use Rattle.std.proofs.Common.{◌<◌, ◌≡◌, ◌≤◌, ◌∙◌, ap, length, refl}
 use Rattle.std.proofs.lemmas.Option.{slice_get_past}
 use Rattle.rvfi_rows.specs.Cells.{shown_in}
-use Rattle.hart_set.proofs.Places.{found_at}
+use Rattle.hart_set.proofs.Places.{found_at, present}
 use Rattle.hart_set.proofs.Steps.{can_go_on, gone_after, has_of, maps_stay, stepped_there, stood_still}
 use Rattle.hart_set.proofs.set.HartSet.step_hart.Goals as goal
 
-pub returns-then-number-len-clause-stepped : goal.returns-then-number-len-clause-stepped
-returns-then-number-len-clause-stepped g c =
+pub returns-then-is_absent-clause-stepped : goal.returns-then-is_absent-clause-stepped
+returns-then-is_absent-clause-stepped g c =
     let set = c.args.self.now in
-    let past : length set.cores.items ≤ c.args.number = omega (arith, c.if-number-len.true, c.len.ensures, set.cores.ok) in
+    let past : length set.cores.items ≤ c.args.number = c.if-is_absent.ensures.0 refl in
     stood_still g.C.CoreStep.meaning set.cores.items (shown_in c.args.row.now) c.args.number
     (slice_get_past set.cores.items c.args.number past) c.halted.ensures.expected c.halted.ensures.seen
     c.halted.ensures.wrote
@@ -18,7 +18,7 @@ returns-clause-stepped g c =
     let m = g.C.CoreStep.meaning in
     let set = c.args.self.now in
     let number = c.args.number in
-    let below : number < length set.cores.items = omega (arith, c.if-number-len.false, c.len.ensures, set.cores.ok) in
+    let below : number < length set.cores.items = present number (length set.cores.items) c.if-is_absent.ensures.1 in
     let there = found_at set.cores.items number c.index_mut.result.now below c.index_mut.ensures.value in
     let after = c.lose_beside.new.self in
     stepped_there m set.cores.items after.cores.items (shown_in c.args.row.now) number c.index_mut.result.now
@@ -33,7 +33,7 @@ returns-clause-can g c =
     let m = g.C.CoreStep.meaning in
     let set = c.args.self.now in
     let number = c.args.number in
-    let below : number < length set.cores.items = omega (arith, c.if-number-len.false, c.len.ensures, set.cores.ok) in
+    let below : number < length set.cores.items = present number (length set.cores.items) c.if-is_absent.ensures.1 in
     let there = found_at set.cores.items number c.index_mut.result.now below c.index_mut.ensures.value in
     let after = c.lose_beside.new.self in
     can_go_on m g.C.CoreStep.is_sound (g.M.PhysMem.ram set.mem) (g.M.PhysMem.ram after.mem) number
@@ -49,7 +49,7 @@ returns-clause-maps g c =
     let m = g.C.CoreStep.meaning in
     let set = c.args.self.now in
     let number = c.args.number in
-    let below : number < length set.cores.items = omega (arith, c.if-number-len.false, c.len.ensures, set.cores.ok) in
+    let below : number < length set.cores.items = present number (length set.cores.items) c.if-is_absent.ensures.1 in
     let there = found_at set.cores.items number c.index_mut.result.now below c.index_mut.ensures.value in
     let after = c.lose_beside.new.self in
     maps_stay m m.map_of number c.index_mut.result.now c.step-done.new.self set.cores.items after.cores.items
@@ -62,7 +62,7 @@ returns-clause-choices g c =
     let m = g.C.CoreStep.meaning in
     let set = c.args.self.now in
     let number = c.args.number in
-    let below : number < length set.cores.items = omega (arith, c.if-number-len.false, c.len.ensures, set.cores.ok) in
+    let below : number < length set.cores.items = present number (length set.cores.items) c.if-is_absent.ensures.1 in
     let there = found_at set.cores.items number c.index_mut.result.now below c.index_mut.ensures.value in
     let after = c.lose_beside.new.self in
     maps_stay m m.choices_of number c.index_mut.result.now c.step-done.new.self set.cores.items after.cores.items

@@ -1,14 +1,14 @@
-use Rattle.std.proofs.Common.{◌<◌, ◌≡◌, ◌≤◌, ◌∙◌, ap, arith, length}
+use Rattle.std.proofs.Common.{◌<◌, ◌≡◌, ◌≤◌, ◌∙◌, ap, length, refl}
 use Rattle.std.proofs.lemmas.Option.{slice_get_past}
 use Rattle.rvfi_rows.specs.Cells.{shown_in}
-use Rattle.hart_set.proofs.Places.{found_at}
+use Rattle.hart_set.proofs.Places.{found_at, present}
 use Rattle.hart_set.proofs.Steps.{can_go_on, gone_after, has_of, maps_stay, none_taken, taken_there}
 use Rattle.hart_set.proofs.set.HartSet.take_hart_shown.Goals as goal
 
-pub returns-then-number-len-clause-taken : goal.returns-then-number-len-clause-taken
-returns-then-number-len-clause-taken g c =
+pub returns-then-is_absent-clause-taken : goal.returns-then-is_absent-clause-taken
+returns-then-is_absent-clause-taken g c =
     let set = c.args.self.now in
-    let past : length set.cores.items ≤ c.args.number = omega (arith, c.if-number-len.true, c.len.ensures, set.cores.ok) in
+    let past : length set.cores.items ≤ c.args.number = c.if-is_absent.ensures.0 refl in
     none_taken g.C.CoreStep.meaning set.cores.items (shown_in c.args.row.now) c.args.number
     (slice_get_past set.cores.items c.args.number past)
 
@@ -17,13 +17,13 @@ returns-clause-taken g c =
     let m = g.C.CoreStep.meaning in
     let set = c.args.self.now in
     let number = c.args.number in
-    let below : number < length set.cores.items = omega (arith, c.if-number-len.false, c.len.ensures, set.cores.ok) in
+    let below : number < length set.cores.items = present number (length set.cores.items) c.if-is_absent.ensures.1 in
     let there = found_at set.cores.items number c.index_mut.result.now below c.index_mut.ensures.value in
     let after = c.lose_beside.new.self in
     taken_there m set.cores.items after.cores.items (shown_in c.args.row.now) number c.index_mut.result.now
-    c.take_shown.new.self there c.in-Ok.ensures.taken
+    c.take_shown.new.self there c.in_ok-wrote.ensures.taken
     (gone_after m number c.take_shown.new.self set.cores.items after.cores.items c.as_slice.result.now
-    c.in-Ok.wrote c.as_slice.ensures below c.lose_beside.ensures.cores)
+    c.in_ok-wrote.wrote c.as_slice.ensures below c.lose_beside.ensures.cores)
     (ap g.M.PhysMem.bytes c.lose_beside.ensures.mem)
 
 pub returns-clause-can : goal.returns-clause-can
@@ -31,39 +31,39 @@ returns-clause-can g c =
     let m = g.C.CoreStep.meaning in
     let set = c.args.self.now in
     let number = c.args.number in
-    let below : number < length set.cores.items = omega (arith, c.if-number-len.false, c.len.ensures, set.cores.ok) in
+    let below : number < length set.cores.items = present number (length set.cores.items) c.if-is_absent.ensures.1 in
     let there = found_at set.cores.items number c.index_mut.result.now below c.index_mut.ensures.value in
     let after = c.lose_beside.new.self in
     can_go_on m g.C.CoreStep.is_sound (g.M.PhysMem.ram set.mem) (g.M.PhysMem.ram after.mem) number
-    c.index_mut.result.now c.take_shown.new.self set.cores.items after.cores.items c.in-Ok.wrote
+    c.index_mut.result.now c.take_shown.new.self set.cores.items after.cores.items c.in_ok-wrote.wrote
     g.met.C.CoreStep.stays_sound g.met.C.CoreStep.keeps_map there c.take_shown.ensures.sound c.take_shown.ensures.map
     (has_of (λ k. g.M.PhysMem.ram set.mem ≡ (m.map_of k).ram) number c.index_mut.result.now set.cores.items there below
     c.requires.can.maps) (ap g.M.PhysMem.ram c.lose_beside.ensures.mem ∙ c.take_shown.ensures.ram)
     (gone_after m number c.take_shown.new.self set.cores.items after.cores.items c.as_slice.result.now
-    c.in-Ok.wrote c.as_slice.ensures below c.lose_beside.ensures.cores) c.requires.can
+    c.in_ok-wrote.wrote c.as_slice.ensures below c.lose_beside.ensures.cores) c.requires.can
 
 pub returns-clause-maps : goal.returns-clause-maps
 returns-clause-maps g c =
     let m = g.C.CoreStep.meaning in
     let set = c.args.self.now in
     let number = c.args.number in
-    let below : number < length set.cores.items = omega (arith, c.if-number-len.false, c.len.ensures, set.cores.ok) in
+    let below : number < length set.cores.items = present number (length set.cores.items) c.if-is_absent.ensures.1 in
     let there = found_at set.cores.items number c.index_mut.result.now below c.index_mut.ensures.value in
     let after = c.lose_beside.new.self in
     maps_stay m m.map_of number c.index_mut.result.now c.take_shown.new.self set.cores.items after.cores.items
-    c.in-Ok.wrote g.met.C.CoreStep.keeps_map there c.take_shown.ensures.map
+    c.in_ok-wrote.wrote g.met.C.CoreStep.keeps_map there c.take_shown.ensures.map
     (gone_after m number c.take_shown.new.self set.cores.items after.cores.items c.as_slice.result.now
-    c.in-Ok.wrote c.as_slice.ensures below c.lose_beside.ensures.cores)
+    c.in_ok-wrote.wrote c.as_slice.ensures below c.lose_beside.ensures.cores)
 
 pub returns-clause-choices : goal.returns-clause-choices
 returns-clause-choices g c =
     let m = g.C.CoreStep.meaning in
     let set = c.args.self.now in
     let number = c.args.number in
-    let below : number < length set.cores.items = omega (arith, c.if-number-len.false, c.len.ensures, set.cores.ok) in
+    let below : number < length set.cores.items = present number (length set.cores.items) c.if-is_absent.ensures.1 in
     let there = found_at set.cores.items number c.index_mut.result.now below c.index_mut.ensures.value in
     let after = c.lose_beside.new.self in
     maps_stay m m.choices_of number c.index_mut.result.now c.take_shown.new.self set.cores.items after.cores.items
-    c.in-Ok.wrote g.met.C.CoreStep.keeps_choices there c.take_shown.ensures.choices
+    c.in_ok-wrote.wrote g.met.C.CoreStep.keeps_choices there c.take_shown.ensures.choices
     (gone_after m number c.take_shown.new.self set.cores.items after.cores.items c.as_slice.result.now
-    c.in-Ok.wrote c.as_slice.ensures below c.lose_beside.ensures.cores)
+    c.in_ok-wrote.wrote c.as_slice.ensures below c.lose_beside.ensures.cores)
