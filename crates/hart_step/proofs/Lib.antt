@@ -28,3 +28,4 @@ pub mod WordLists
 pub mod KeptChoices
 pub mod TakenWrites
 pub mod Lost
+pub mod LostAlike

@@ -1,12 +1,11 @@
 -- What a hart loses by the writes of other harts.
 use Rattle.std.proofs.Common.{◌≡◌, ℕ, ◌+◌, ◌<◌, ◌≤◌, Bool, true, false, ◌||◌, Option, Some, None, List, [], ◌∷◌, refl}
-use Rattle.std.proofs.Common.{sym, ap, ◌∙◌, subst, max, min, arith, inl, inr, nat_lt, nat_le, if◌then◌else◌}
+use Rattle.std.proofs.Common.{sym, ap, ◌∙◌, subst, max, arith, inl, inr, if◌then◌else◌}
 use Rattle.std.proofs.lemmas.Bool.{cases_Bool}
 use Rattle.std.proofs.lemmas.Bool.Decides.{nat_tests}
 use Rattle.hart_words.specs.declared.accesses.Write.{Write}
 use Rattle.hart_words.specs.Memory.{is_within}
 use Rattle.rv_atomic.specs.declared.reservation.Block.{Block}
-use Rattle.rv_atomic.specs.declared.reservation.Reservation.{Reservation}
 use Rattle.rv_atomic.specs.Blocks.{block_left, is_touched, IsReserved}
 use Rattle.rvfi_rows.specs.Meanings.{lost_by}
 use Rattle.hart_step.specs.declared.state.Core.{Core}
@@ -14,7 +13,7 @@ use Rattle.hart_step.specs.Meanings.{core_after_loss, core_meaning, is_written, 
 
 -- ---- one write
 
-touched_at : (block : Option Block) (pa len address : ℕ) → IsReserved block address → is_within pa len address ≡ true
+pub touched_at : (block : Option Block) (pa len address : ℕ) → IsReserved block address → is_within pa len address ≡ true
     → is_touched block pa len ≡ true
 touched_at None pa len address reserved within = absurd reserved
 touched_at (Some block) pa len address reserved within =
@@ -22,7 +21,7 @@ touched_at (Some block) pa len address reserved within =
     let high = reserved.1 in
     grind (arith, nat_tests)
 
-untouched : (block : Option Block) (pa len : ℕ)
+pub untouched : (block : Option Block) (pa len : ℕ)
     → ((address : ℕ) → IsReserved block address → is_within pa len address ≡ false) → is_touched block pa len ≡ false
 untouched None pa len apart = refl
 untouched (Some block) pa len apart = elim (cases_Bool (is_touched (Some block) pa len)) [

@@ -1,5 +1,5 @@
 -- The writes of a plain row's store leave the bytes that the row shows.
-use Rattle.std.proofs.Common.{◌≡◌, ℕ, zero, suc, ◌+◌, ◌≤◌, ◌%◌, ◌^◌, ◌-◌, Bool, true, false, Option, Some, None, List, []}
+use Rattle.std.proofs.Common.{◌≡◌, ℕ, zero, suc, ◌+◌, ◌≤◌, Bool, true, false, List, []}
 use Rattle.std.proofs.Common.{◌∷◌, ◌++◌, length, refl, sym, ap, ◌∙◌, arith, if◌then◌else◌}
 use Rattle.std.proofs.lemmas.List.{length-append}
 use Rattle.hart_words.specs.declared.accesses.Write.{Write}
@@ -11,7 +11,7 @@ use Rattle.hart_words.specs.Signals.{Shown}
 use Rattle.rvfi_rows.specs.Window.{moved_down}
 use Rattle.hart_step.specs.declared.state.Core.{Core}
 use Rattle.hart_step.specs.declared.shown_store.ShownStore.{ShownStore}
-use Rattle.hart_step.specs.PlainRows.{byte_place, byte_put, bytes_put, core_shown, shows_store, stores_byte, store_shown}
+use Rattle.hart_step.specs.PlainRows.{byte_place, bytes_put, core_shown, shows_store, stores_byte, store_shown}
 use Rattle.hart_step.specs.TakenRows.{byte_write, byte_writes, taken_of, writes_of, writes_shown}
 
 one_put : (test : Bool) (pa value : ℕ) (bytes : Bytes)

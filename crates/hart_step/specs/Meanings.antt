@@ -3,7 +3,7 @@
 use Rattle.std.specs.Prelude.{◌≡◌, ℕ, Bool, true, false, Option, None, List, if◌then◌else◌, IfSome}
 use Rattle.std.specs.List.{list_any}
 use Rattle.hart_words.specs.declared.accesses.Write.{Write}
-use Rattle.hart_words.specs.Memory.{is_within}
+use Rattle.hart_words.specs.Memory.{Bytes, after_writes, is_within}
 use Rattle.rv_atomic.specs.declared.reservation.Block.{Block}
 use Rattle.rv_atomic.specs.Blocks.{block_left, is_touched, IsReserved}
 use Rattle.rvfi_rows.specs.Meanings.{Meaning, lost_by}
@@ -56,3 +56,9 @@ pub record LosesByBytes (core : Core) (writes : List Write) : Type 0 where
       → lost_by core_meaning writes core ≡ core
   pub alone : lost_by core_meaning writes core
       ≡ record core { reservation = (lost_by core_meaning writes core).reservation }
+
+-- writes that leave the same bytes in every memory take the same: what a hart loses hangs on the bytes alone
+abbrev pub LosesAlike : Core → List Write → List Write → Type 0
+LosesAlike core one other =
+    ((bytes : Bytes) → after_writes one bytes ≡ after_writes other bytes)
+    → lost_by core_meaning one core ≡ lost_by core_meaning other core

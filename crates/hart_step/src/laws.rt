@@ -16,7 +16,7 @@ ghost use Rattle.hart_step.specs.Cores.{IsSound};
 ghost use Rattle.hart_step.specs.Choices.{asks_interrupt, pending_lines_of};
 ghost use Rattle.hart_step.specs.Steps.{before_instruction, interrupt_of, step_of};
 ghost use Rattle.hart_step.specs.Laws.{request_at_pc, next_of, RowsDecideAlike, TrapsStoreNothing, enters_interrupt, RisesByTrapsOnly, FallsByReturnsOnly, ReturnsTo, AsksInterrupt, IsFetched, EntersInterrupt, LacksRightly, StoresInReservedBlock};
-ghost use Rattle.hart_step.specs.Meanings.{LosesByBytes};
+ghost use Rattle.hart_step.specs.Meanings.{LosesAlike, LosesByBytes};
 ghost use Rattle.hart_step.specs.TrapLaws.{executed_at, Raises, IsRaisedIn, LeadsToHandler, HasCause};
 
 /// Memories that agree on what a step reads give the same step: the same state after it, the same
@@ -119,4 +119,9 @@ pub fn no_row_stores_unreserved()
 /// in the reserved block, and it loses nothing else.
 pub fn reservations_are_lost_by_bytes()
     ensures { (core : Core) (writes : List Write) → LosesByBytes core writes }
+{}
+
+/// Writes that leave the same bytes in every memory take the same from a hart.
+pub fn losses_follow_the_bytes()
+    ensures { (core : Core) (one other : List Write) → LosesAlike core one other }
 {}
