@@ -1,6 +1,6 @@
 -- A list that becomes another one, element by element.
-use Rattle.std.proofs.Common.{◌≡◌, ℕ, zero, suc, ◌+◌, ◌-◌, ◌≤◌, List, [], ◌∷◌, ◌++◌, take, drop, replicate, refl, ap, ◌∙◌}
-use Rattle.std.proofs.Common.{arith, Some}
+use Rattle.std.proofs.Common.{◌≡◌, ℕ, zero, suc, ◌+◌, ◌-◌, ◌≤◌, List, [], ◌∷◌, ◌++◌, take, drop, replicate}
+use Rattle.std.proofs.Common.{refl, ap, ◌∙◌, arith, Some}
 use Rattle.std.proofs.lemmas.List.{replicate_more}
 use Rattle.std.proofs.Math.ListN.{set}
 use Rattle.std.specs.List.{slice_get}

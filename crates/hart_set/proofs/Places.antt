@@ -145,7 +145,8 @@ pub passed : {C : Type 0} (lose : C → C) (number other : ℕ) (core : C) (befo
 passed lose number other core before cores there same so_far =
     let last = gone_on lose number core before in
     let old : slice_get before other ≡ Some core = ap (slice_get before) same ∙ there in
-    let new : slice_get last other ≡ Some core = ap (slice_get last) same ∙ at_number lose number core core before there in
+    let new : slice_get last other ≡ Some core =
+    ap (slice_get last) same ∙ at_number lose number core core before there in
     so_far ∙ filled_by_itself last before other core new old
     ∙ ap (λ n. take n last ++ drop n before) (sym (add-one other))
 
@@ -167,4 +168,7 @@ as_long_after (core ∷ cores) (suc place) x = ap suc (as_long_after cores place
 
 -- a hart that is not absent is there
 pub present : (number long : ℕ) → (long ≤ number → false ≡ true) → number < long
-present number long there = elim (cases_lt number long) [ inl below ↦ below | inr past ↦ absurd (let no = there past in cc) ]
+present number long there = elim (cases_lt number long) [
+  | inl below ↦ below
+  | inr past ↦ let no = there past in absurd cc
+]

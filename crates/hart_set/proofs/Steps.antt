@@ -125,8 +125,8 @@ pub can_go_on : {C : Type 0} (meaning : Meaning C) (is_sound : C → Type 0) (ra
     → slice_get cores number ≡ Some core → is_sound next → meaning.map_of next ≡ meaning.map_of core
     → ram ≡ (meaning.map_of core).ram → now ≡ ram → after ≡ gone_on (lost_by meaning writes) number next cores
     → CanStep meaning is_sound ram cores → CanStep meaning is_sound now after
-can_go_on {C} meaning is_sound ram now number core next cores after writes stays maps there sound same core_ram ram_is is
-    can =
+can_go_on {C} meaning is_sound ram now number core next cores after writes stays maps there sound same core_ram ram_is
+    is can =
     let lose = lost_by meaning writes in
     let HasRam : C → Type 0 = λ c. now ≡ (meaning.map_of c).ram in
     let before : All HasRam cores =
@@ -191,8 +191,8 @@ has_of P number core cores there below all =
 pub stepped_there : {C : Type 0} (meaning : Meaning C) (cores after : List C) (shown : Shown) (number : ℕ)
     (core next : C) (before now last : Bytes) {result : Result Stepped NoMemory} {done : Stepped}
     → slice_get cores number ≡ Some core → result ≡ Ok done
-    → IfOk result (λ s. Performs (meaning.stepped core shown) (record { next = next; expected = s.expected }) [] s.seen []
-    s.wrote before now) → after ≡ gone_on (lost_by meaning done.wrote) number next cores → last ≡ now
+    → IfOk result (λ s. Performs (meaning.stepped core shown) (record { next = next; expected = s.expected }) []
+    s.seen [] s.wrote before now) → after ≡ gone_on (lost_by meaning done.wrote) number next cores → last ≡ now
     → IfOk result (λ s. Performs (step_of_hart meaning cores shown number)
     (record { next = after; expected = s.expected }) [] s.seen [] s.wrote before last)
 stepped_there {C} meaning cores after shown number core next before now last {result} {done} there is ran gone same =

@@ -1,6 +1,7 @@
 -- Several harts over one memory, and what a row does to them: the row's hart steps over the memory, and then each other
--- hart loses its reservation where a byte of RAM that the step wrote lies in its block, as the Unprivileged ISA's chapter
--- "A Extension for Atomic Instructions" has it of the stores of other harts. The order of rows is that of memory.
+-- hart loses its reservation where a byte of RAM that the step wrote lies in its block, as the Unprivileged ISA's
+-- chapter "A Extension for Atomic Instructions" has it of the stores of other harts. The order of rows is that of
+-- memory.
 use Rattle.std.specs.Prelude.{ℕ, suc, Bool, false, List, ◌∷◌, ◌++◌, map, take, drop, slice_get, Option, Some, None}
 use Rattle.std.proofs.Common.{ap}
 use Rattle.hart_words.specs.Actions.{Action, Run, pure}

@@ -13,8 +13,8 @@ use Rattle.hart_step.specs.Meanings.{core_after_loss, core_meaning, is_written, 
 
 -- ---- one write
 
-pub touched_at : (block : Option Block) (pa len address : ℕ) → IsReserved block address → is_within pa len address ≡ true
-    → is_touched block pa len ≡ true
+pub touched_at : (block : Option Block) (pa len address : ℕ) → IsReserved block address
+    → is_within pa len address ≡ true → is_touched block pa len ≡ true
 touched_at None pa len address reserved within = absurd reserved
 touched_at (Some block) pa len address reserved within =
     let low = reserved.0 in
@@ -77,11 +77,11 @@ lost_at core (write ∷ writes) address reserved written =
           subst P (sym (stays core write.pa write.len apart)) (lost_at core writes address reserved later)
     ]
 
-left_false : (one other : Bool) → (one || other) ≡ false → one ≡ false
+pub left_false : (one other : Bool) → (one || other) ≡ false → one ≡ false
 left_false true other is = absurd cc
 left_false false other is = refl
 
-right_false : (one other : Bool) → (one || other) ≡ false → other ≡ false
+pub right_false : (one other : Bool) → (one || other) ≡ false → other ≡ false
 right_false true other is = absurd cc
 right_false false other is = is
 

@@ -1,6 +1,6 @@
 -- What a hart loses hangs on the bytes that were written, and not on the writes that put them there.
-use Rattle.std.proofs.Common.{◌≡◌, ◌⊎◌, ℕ, ◌-◌, ◌/◌, ◌%◌, ◌^◌, ◌<◌, ◌+◌, ◌≤◌, Bool, true, false, ◌||◌, Option, Some, None, List, []}
-use Rattle.std.proofs.Common.{◌∷◌, refl, sym, ap, ◌∙◌, max, arith, inl, inr, if◌then◌else◌}
+use Rattle.std.proofs.Common.{◌≡◌, ◌⊎◌, ℕ, ◌-◌, ◌/◌, ◌%◌, ◌^◌, ◌<◌, ◌+◌, ◌≤◌, Bool, true, false, ◌||◌, Option, Some, None}
+use Rattle.std.proofs.Common.{List, [], ◌∷◌, refl, sym, ap, ◌∙◌, max, arith, inl, inr, if◌then◌else◌}
 use Rattle.std.proofs.lemmas.Bool.{cases_Bool}
 use Rattle.std.proofs.lemmas.Bool.Decides.{nat_tests}
 use Rattle.hart_words.specs.declared.accesses.Write.{Write}
@@ -11,7 +11,7 @@ use Rattle.rv_atomic.specs.Blocks.{is_touched, IsReserved}
 use Rattle.rvfi_rows.specs.Meanings.{lost_by}
 use Rattle.hart_step.specs.declared.state.Core.{Core}
 use Rattle.hart_step.specs.Meanings.{core_meaning, is_written, LosesAlike}
-use Rattle.hart_step.proofs.Lost.{loses_by_bytes, touched_at}
+use Rattle.hart_step.proofs.Lost.{left_false, loses_by_bytes, right_false, touched_at}
 
 -- ---- which bytes were written can be read off a memory of numbers that are no bytes
 
@@ -22,14 +22,6 @@ stored_by true new old is = absurd cc
 put_by : (test : Bool) (number old : ℕ) → test ≡ true → (if test then number % 256 else old) < 256
 put_by true number old is = omega arith
 put_by false number old is = absurd cc
-
-left_false : (one other : Bool) → (one || other) ≡ false → one ≡ false
-left_false true other is = absurd cc
-left_false false other is = refl
-
-right_false : (one other : Bool) → (one || other) ≡ false → other ≡ false
-right_false true other is = absurd cc
-right_false false other is = is
 
 unwritten : (writes : List Write) (bytes : Bytes) (address : ℕ) → is_written writes address ≡ false
     → after_writes writes bytes address ≡ bytes address

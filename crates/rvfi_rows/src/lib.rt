@@ -2,9 +2,9 @@
 //!
 //! In comes a line of bytes. Out goes what the header names (`specs/Columns.antt`) or what the rows
 //! of the line show, one for each port (`specs/Rows.antt`), or the first fault; and for the crates
-//! above what the reference hart did at a row (`Expected`, `Stepped`), what a hart without its memory
-//! is to those who step it (`CoreStep`), how many rows there are (`RowCounts`), and the verdict on
-//! them (`Verdict`).
+//! above what the reference hart did at a row (`Expected`, `Stepped`), what a hart without its
+//! memory is to those who step it (`CoreStep`), how many rows there are (`RowCounts`), and the
+//! verdict on them (`Verdict`).
 #![tactic(auto)]
 
 mod cells;

@@ -14,4 +14,5 @@ returns-clause-cores g c =
     let one : 1 ≤ c.loop.counter = omega (arith, c.loop.auto.counter) in
     let all : c.loop.counter ≡ c.args.harts =
     omega (arith, c.loop.auto.counter, c.loop.auto.counter-end, c.loop-test.false, c.requires) in
-    c.in_ok-push-2.ensures.items ∙ all_copied c.args.core c.loop.counter c.args.harts c.loop.cores.items one all c.loop.invariant
+    c.in_ok-push-2.ensures.items
+    ∙ all_copied c.args.core c.loop.counter c.args.harts c.loop.cores.items one all c.loop.invariant
