@@ -21,7 +21,7 @@ use Rattle.rvfi_rows.specs.Columns.{ColumnList}
 use Rattle.rvfi_rows.specs.Rows.{RowReading, rows_of}
 use Rattle.segment_judge.specs.Judgements.{by_hart, judgement_of}
 use Rattle.segment_judge.specs.Laws.{Conclusion, conclusion_from}
-use Rattle.boundary_guess.proofs.KeptChoices.{next_keeps}
+use Rattle.hart_step.proofs.KeptChoices.{next_keeps}
 use Rattle.segment_judge.proofs.Maps.{map_stays}
 use Rattle.segment_judge.proofs.Parts.{by_different, by_invalid, by_valid}
 use Rattle.segment_judge.proofs.Within.{WriteLies, writes_lie}
