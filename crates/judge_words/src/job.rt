@@ -28,7 +28,10 @@ pub enum Command<N> {
         product: Product,
     },
     /// Judges what is made: the image and the trace of this number, the trace with so many rows.
-    Make { number: u32, rows: u32 },
+    Make {
+        number: u32,
+        rows: u32,
+    },
 }
 
 /// What is written where a trace agrees.
