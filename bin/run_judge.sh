@@ -24,7 +24,7 @@ run_judge() {
     shift "$program_words"
     read_words "$@"
     progress=
-    if [ -t 2 ] && [ "$command" = judge ] && [ -z "$reason" ]; then
+    if [ -t 2 ] && [ "$command" != make ] && [ -z "$reason" ]; then
         tell_progress "$judge" "$image" "$trace" </dev/null >/dev/null 3<&- &
         progress=$!
     fi
@@ -67,7 +67,7 @@ tell_status() {
 # Which file could not be read, as far as it can be told now.
 tell_files() {
     found=
-    [ "$command" = judge ] || image='' trace=''
+    [ "$command" != make ] || image='' trace=''
     for file in "$image" "$trace"; do
         [ -n "$file" ] || continue
         if [ ! -e "$file" ]; then found=1; say "$file: there is no such file"
@@ -84,9 +84,9 @@ tell_files() {
 read_words() {
     command='' image='' trace='' reason='' seen=' ' plain=0 all_plain='' ram_span='' io_span=''
     case ${1:-} in
-        judge | make) command=$1 ;;
-        '') reason="there is no command: judge or make"; return ;;
-        *) reason="'$1' is no command: judge or make"; return ;;
+        judge | state | make) command=$1 ;;
+        '') reason="there is no command: judge, state or make"; return ;;
+        *) reason="'$1' is no command: judge, state or make"; return ;;
     esac
     shift
     while [ $# -gt 0 ] && [ -z "$reason" ]; do
@@ -113,8 +113,8 @@ read_words() {
 take_plain() {
     plain=$((plain + 1))
     case $command$plain in
-        judge1) image=$1 ;;
-        judge2) trace=$1 ;;
+        judge1 | state1) image=$1 ;;
+        judge2 | state2) trace=$1 ;;
         make1) check_range NUMBER "$1" 0 4294967295 ;;
         make2) check_range ROWS "$1" 0 262144 ;;
         *) reason="'$1' is a third word after $command" ;;
@@ -130,7 +130,7 @@ take_option() {
         --window) check_range "$1" "$2" 1 1024 ;;
         --pc | --ram | --io | --max-image | --max-trace | \
             --misaligned | --mtval | --ad | --reserve | --bits)
-            [ "$command" = judge ] || { reason="$1 is an option of judge alone"; return; }
+            [ "$command" != make ] || { reason="$1 is no option of make"; return; }
             case $1 in
                 --max-image) check_range "$1" "$2" 1 1073741824 ;;
                 --max-trace) check_range "$1" "$2" 1 1099511627776 ;;

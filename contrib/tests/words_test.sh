@@ -124,6 +124,24 @@ judge i t --window 99999999999999999999
 judge i t --widow 4
 judge i t -w 4
 judge i t --
+state
+state i
+state i t
+state i t u
+state -- i t
+state i t --pc 0x80000000
+state i t --pc 0x80000001
+state --pc=0x80000000 i t
+state i t --ram 0x80000000:0x1000
+state i t --ram 0x80000000:0x1001
+state i t --io 0x7ffff000:0x2000
+state i t --max-image 0
+state i t --max-trace 1
+state i t --misaligned done --mtval zero --ad set --reserve 8 --bits on
+state i t --misaligned DONE
+state i t --workers 2 --segment 1 --window 1
+state i t --workers 65
+state i t --pc 0 --pc 0
 make 7 10
 make 7
 make 7 10 11
@@ -154,6 +172,9 @@ expect_told() {
     [ -z "$wanted_told" ] || grep -qF -e "$wanted_told" told || fail "$*: told $(cat told)"
 }
 expect_told 0 'agrees 1' '' judge i t
+expect_told 1 'differs row 1: pc_rdata expected 0x0000000080000004 found 0x0000000080000000' '' \
+    state i t --pc 0x80000004
+expect_told 5 '' 'rvjudge: none: there is no such file' state i none
 expect_told 2 'refused words' "rvjudge: --workers: 65 is not in 1 to 64" judge i t --workers 65
 expect_told 2 'refused words' 'usage: rvjudge judge IMAGE TRACE' --help
 expect_told 2 'refused words' 'version of the test' --version
