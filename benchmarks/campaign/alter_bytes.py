@@ -58,7 +58,8 @@ def small_elf():
 
 def small_state():
     """The text of a state in S under translation, with a reservation, and a trace of three rows from there."""
-    judge = judge_at_start(b"", Setting())
+    harts = judge_at_start(b"", Setting())
+    judge = harts.judges[0]
     hart, registers = judge.hart, judge.hart.csrs
     for name, value in (
         ("pmpaddr0", (1 << 54) - 1), ("pmpcfg0", 0x1F), ("satp", SV39 << SATP_MODE_AT | ROOT // PAGE),
@@ -74,7 +75,7 @@ def small_state():
         hart.memory.write(hart.pc + 4 * at, 4, word)
     hart.memory.write(ROOT + 8 * 2, 8, LEAF)
     hart.memory.write(DATA + 8, 8, 0x0BADCAFE)
-    return text_of(judge).encode(), small_trace(judge)
+    return text_of(harts).encode(), small_trace(judge)
 
 
 def small_trace(judge):

@@ -52,6 +52,7 @@ class Memory:
         self.ram = ram
         self.pages = {}
         self.own = set()  # the numbers of the pages that no copy has too
+        self.written = []  # what steps stored, as ranges of addresses, since this was emptied
         for address, byte in image:
             self.write(address, 1, byte)
 
@@ -73,6 +74,11 @@ class Memory:
             self.pages[number] = bytearray(self.pages.get(number, PAGE))
             self.own.add(number)
         self.pages[number][at : at + length] = value.to_bytes(length, "little")
+
+    def store(self, address, length, value):
+        """Writes these bytes as a part of a step, and notes it."""
+        self.written.append(range(address, address + length))
+        self.write(address, length, value)
 
 
 def read_image(path):
@@ -119,7 +125,7 @@ def translate(csrs, memory, kind, mode, address, marks):
                 # The entry is written as a store of S that has all its bytes.
                 if not csrs.allows(S, place, ENTRY, WRITE):
                     raise Trap(kind.access_fault, address)
-                memory.write(place, ENTRY, entry | needed)
+                memory.store(place, ENTRY, entry | needed)
             return named + address % size
         if entry & (PTE_U | PTE_A | PTE_D):  # reserved where an entry names a table
             raise page_fault

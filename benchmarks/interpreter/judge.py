@@ -3,7 +3,7 @@
 
     judge.py [judge|state] IMAGE TRACE [--pc A] [--ram B:S] [--io B:S] [--max-image M] [--max-trace M]
              [--misaligned trap|done] [--mtval value|zero] [--ad fault|set] [--reserve BYTES]
-             [--bits off|on]
+             [--bits off|on] [--harts N]
 
 Prints the line that `rvjudge judge` prints for an image and a trace, and ends with its status; after the
 word state, where they agree, the text of the state that the hart is in at the end. The rules of
@@ -13,8 +13,12 @@ in elf_file.py and saved_state.py. Of the words it knows what these options say,
 the first line. An option that stands twice, and a choice that is not listed here, is refused. BYTES is a
 power of two from 8 to 4096.
 
-The last five say what the core chose that made the trace; the first values and 64 are the defaults.
+Five options say what the core chose that made the trace; the first values and 64 are the defaults.
 hart_choices.py says what each means.
+
+N harts, 1 to 8, stand over one memory, each reset alike. A row steps the hart that its column
+`hart` names, 0 where that is not shown; then each other hart loses its reservation where a byte of
+RAM that the step wrote lies in its block.
 """
 import argparse
 import os
@@ -45,6 +49,9 @@ CSRS = (
 WIDTHS = PLAIN | {
     f"csr_{name}_{part}": 64 for name in CSRS for part in ("rmask", "wmask", "rdata", "wdata")
 }
+HART = "hart"  # the column that names a row's hart, which is not compared
+KNOWN = WIDTHS | {HART: 64}  # all columns that are known
+MOST_HARTS = 8
 CSR_DATA = [(name, f"csr_{name}_rdata", f"csr_{name}_wdata") for name in CSRS]
 
 # what a row does not tell of a register after the row: bits of lines, which may have moved
@@ -128,6 +135,7 @@ class Judge:
         self.next_order = None
         self.trapped_last = False
         self.halted = False
+        self.retired = None  # what the last row's step did; None where the hart was halted
 
     def copy(self):
         judge = Judge(self.hart.copy())
@@ -135,7 +143,8 @@ class Judge:
         return judge
 
     def judge(self, row):
-        """The first difference of a valid row, None where there is none."""
+        """Steps the hart along a valid row; the first difference, None where there is none."""
+        self.retired = None
         for signal, value, mask in self.expect(row):
             found = row.get(signal, 1 if signal == "valid" else None)
             if found is not None and (found ^ value) & mask:
@@ -161,7 +170,7 @@ class Judge:
         mode, registers = hart.mode, list(hart.registers)
         shown = [name for name, before, after in CSR_DATA if before in row or after in row]
         before = self.csr_values(shown)
-        retired = hart.step()
+        retired = self.retired = hart.step()
         after = self.csr_values(shown)
         self.trapped_last, self.halted = retired.trap is not None, row.get("halt") == 1
         yield from expect_head(retired, mode)
@@ -234,6 +243,36 @@ def expect_csrs(row, before, after):
         yield Expected(f"csr_{name}_wdata", after[name], csr_shown(row, name, "w") & ~UNTOLD_AFTER.get(name, 0))
 
 
+class Harts:
+    """Judges of harts that stand over one memory, by the numbers of the harts."""
+
+    def __init__(self, judges):
+        self.judges = judges
+        self.stepped = None  # the number of the last row's hart, and what its step did
+
+    def judge(self, row):
+        """The same for the hart that the row names; then others may lose their reservations."""
+        number = row.get(HART, 0)
+        own = self.judges[number]
+        difference = own.judge(row)
+        self.stepped = number, own.retired
+        if own.retired:
+            for other in self.judges:
+                if other is not own:
+                    other.hart.lose(own.retired.written)
+        return difference
+
+    def load(self, memory):
+        """Puts all harts over this memory."""
+        for judge in self.judges:
+            judge.hart.memory = memory
+
+    def go_to(self, pc):
+        """Lets all harts go on at this pc."""
+        for judge in self.judges:
+            judge.hart.pc = pc
+
+
 def answer(judge, rows, seen=0, valid=0):
     """The line for these rows, where so many rows and valid rows stood before them."""
     for row in rows:
@@ -260,6 +299,7 @@ class Setting(NamedTuple):
     most_image: int = 1 << 30
     most_trace: int = 1 << 40
     choices: Choices = Choices()
+    harts: int = 1
 
 
 # each option that names a choice, with the choice
@@ -272,18 +312,23 @@ STATUS = {"agrees": 0, "rvstate": 0, "differs": 1, "refused image:": 3, "refused
 
 
 def judge_at_start(image, setting):
-    """A judge that is in the state which an image and the options say."""
+    """A judge of harts that are in the state which an image and the options say."""
     if len(image) > setting.most_image:
         raise Refused(f"image: more than {setting.most_image} bytes")
-    judge = Judge(Hart(Memory(ram=setting.ram), devices=setting.devices, choices=setting.choices))
+    memory = Memory(ram=setting.ram)
+    harts = Harts([
+        Judge(Hart(memory, devices=setting.devices, choices=setting.choices))
+        for _ in range(setting.harts)
+    ])
     if image.startswith(saved_state.FRONT):
-        saved_state.read_into(judge, image, setting)
+        saved_state.read_into(harts, image, setting)
     else:
-        found, judge.hart.pc = read_bytes(image, setting.ram)
-        judge.hart.memory = Memory(found.items(), setting.ram)
+        found, pc = read_bytes(image, setting.ram)
+        harts.load(Memory(found.items(), setting.ram))
+        harts.go_to(pc)
     if setting.pc is not None:
-        judge.hart.pc = setting.pc
-    return judge
+        harts.go_to(setting.pc)
+    return harts
 
 
 def read_bytes(image, ram):
@@ -296,10 +341,11 @@ def read_bytes(image, ram):
 def foretell(image, trace, setting, command="judge"):
     """The text and the status for the bytes of an image and of a trace."""
     try:
-        judge = judge_at_start(image, setting)
-        said = answer(judge, read_rows(trace, setting.most_trace, WIDTHS))
+        harts = judge_at_start(image, setting)
+        rows = read_rows(trace, setting.most_trace, KNOWN, setting.harts)
+        said = answer(harts, rows)
         if command == "state" and said.startswith("agrees"):
-            said = saved_state.text_of(judge).removesuffix("\n")
+            said = saved_state.text_of(harts).removesuffix("\n")
     except Refused as refused:
         said = f"refused {refused}"
     return said, next(status for front, status in STATUS.items() if said.startswith(front))
@@ -310,8 +356,8 @@ def span(text):
     return range(number(base), number(base) + number(size))
 
 
-def block_bytes(text):
-    """The bytes of a reservation set, which are a number as a trace has them."""
+def trace_number(text):
+    """A number as a trace has them; None where it is none."""
     return read_number(os.fsencode(text))
 
 
@@ -338,7 +384,7 @@ class Once(argparse.Action):
 def add_choices(parser):
     """Gives a parser the options that say what a core chose."""
     for name, choice in CHOSEN.items():
-        kind = block_bytes if choice == "block" else str
+        kind = trace_number if choice == "block" else str
         usual = getattr(Choices(), choice)
         parser.add_argument(name, type=kind, default=usual, choices=VALUES[choice], action=Once, dest=choice)
 
@@ -348,31 +394,35 @@ def choices_of(options):
     return Choices(**{choice: getattr(options, choice) for choice in CHOSEN.values()})
 
 
-def parse():
+def parse(words):
+    """The command of these words, the paths of image and trace, and the setting."""
     default = Setting()
     parser = Parser(
         description=__doc__, formatter_class=argparse.RawDescriptionHelpFormatter, allow_abbrev=False
     )
     parser.add_argument("image", type=Path)
     parser.add_argument("trace", type=Path)
-    words = sys.argv[1:]
-    command = words.pop(0) if words[:1] in (["judge"], ["state"]) else "judge"
+    command = "judge"
+    if words[:1] in (["judge"], ["state"]):
+        command, *words = words
     for name, kind, value in (
         ("--pc", number, default.pc), ("--ram", span, default.ram), ("--io", span, default.devices),
         ("--max-image", number, default.most_image), ("--max-trace", number, default.most_trace),
     ):
         parser.add_argument(name, type=kind, default=value, action=Once)
+    parser.add_argument(
+        "--harts", type=trace_number, default=1, choices=range(1, MOST_HARTS + 1), action=Once)
     add_choices(parser)
-    return command, parser.parse_args(words)
+    options = parser.parse_args(words)
+    return command, (options.image, options.trace), Setting(
+        options.pc, options.ram, options.io, options.max_image, options.max_trace,
+        choices_of(options), options.harts)
 
 
 def main():
-    command, options = parse()
-    setting = Setting(
-        options.pc, options.ram, options.io, options.max_image, options.max_trace, choices_of(options)
-    )
+    command, paths, setting = parse(sys.argv[1:])
     try:
-        files = options.image.read_bytes(), options.trace.read_bytes()
+        files = [path.read_bytes() for path in paths]
     except OSError as fault:
         print(fault, file=sys.stderr)
         return 5

@@ -38,7 +38,12 @@ class Access(NamedTuple):
 
 
 class Retired(NamedTuple):
-    """What one instruction did; bits and instruction are None where a trap came before they were known."""
+    """What one instruction did.
+
+    bits and instruction are None where a trap came before they were known. written has all bytes of
+    RAM that the step wrote, those of page tables too, also where it trapped, as ranges of physical
+    addresses.
+    """
 
     bits: int | None
     length: int
@@ -50,6 +55,7 @@ class Retired(NamedTuple):
     value: int
     access: Access | None
     trap: Trap | None
+    written: list
 
 
 class Core:
@@ -108,6 +114,12 @@ class Hart:
         """Enters an interrupt ahead of the next instruction."""
         self.mode, self.pc = self.csrs.enter(self.mode, self.pc, code, 0, True)
 
+    def lose(self, written):
+        """Ends the reservation where a byte that another hart wrote lies in its block."""
+        block = self.choices.block
+        if any(byte // block == self.reserved for place in written for byte in place):
+            self.reserved = None
+
     def fetch(self):
         """The bits at pc, 16 or 32 of them, and their length in bytes; each half is checked by itself."""
         bits = self.fetch_half(self.pc)
@@ -156,6 +168,7 @@ class Hart:
         """Carries out one instruction, or enters the trap that it runs into."""
         pc, bits, length, instruction = self.pc, None, 0, None
         source1 = source2 = 0
+        self.memory.written = []
         try:
             bits, length = self.fetch()
             self.fetched = bits
@@ -166,12 +179,16 @@ class Hart:
         except Trap as trap:
             told = 0 if self.choices.trap_values == "zero" else trap.value
             self.mode, self.pc = self.csrs.enter(self.mode, pc, trap.cause, told, False)
-            return Retired(bits, length, instruction, pc, self.pc, source1, source2, 0, None, trap)
+            return Retired(
+                bits, length, instruction, pc, self.pc, source1, source2, 0, None, trap,
+                self.memory.written)
         value = value & MASK if instruction.rd else 0
         if instruction.rd:
             self.registers[instruction.rd] = value
         self.pc = next_pc
-        return Retired(bits, length, instruction, pc, next_pc, source1, source2, value, access, None)
+        return Retired(
+            bits, length, instruction, pc, next_pc, source1, source2, value, access, None,
+            self.memory.written)
 
     def meaning(self, bits, length):
         """The instruction of these bits."""
@@ -234,7 +251,7 @@ class Hart:
         if place in self.memory.ram:
             left = stored
             for at, size in parts:
-                self.memory.write(at, size, left & ((1 << 8 * size) - 1))
+                self.memory.store(at, size, left & ((1 << 8 * size) - 1))
                 left >>= 8 * size
         else:
             self.core.device_store(place, length, stored)
@@ -256,10 +273,10 @@ class Hart:
                 self.reserved = None
                 if not succeeds:
                     return 1, after, None
-                self.memory.write(place, length, source)
+                self.memory.store(place, length, source)
                 return 0, after, Access(address, place, length, None, source)
         stored = ATOMIC[operation](old, source, 8 * length) & ((1 << 8 * length) - 1)
-        self.memory.write(place, length, stored)
+        self.memory.store(place, length, stored)
         return signed(old, 8 * length), after, Access(address, place, length, old, stored)
 
     def illegal(self):

@@ -22,6 +22,7 @@ SAVED_CSRS = (
 
 NUMBER = rb"([0-9a-f]{16})"
 MEMORY = re.compile(rb"@" + NUMBER + rb" ([0-9a-f]{32})")
+HARTS = re.compile(rb"harts (0|[1-9][0-9]*)")
 MODE, FLAGS = re.compile(rb"mode ([013])"), re.compile(rb"flags ([01])([01])")
 
 
@@ -33,18 +34,28 @@ def number_or_none(name):
     return re.compile(name.encode() + b" (?:" + NUMBER + b"|none)")
 
 
-def text_of(judge):
-    """The text of a judge's state."""
+def text_of(harts):
+    """The text of the state of a judge of harts."""
+    judges = harts.judges
+    lines = ["rvstate 1"]
+    if len(judges) > 1:
+        lines.append(f"harts {len(judges)}")
+    for judge in judges:
+        lines += hart_lines(judge)
+    lines += (*memory_lines(judges[0].hart.memory), "end")
+    return "".join(f"{line}\n" for line in lines)
+
+
+def hart_lines(judge):
+    """The lines of one hart, and of what is known of its rows."""
     hart, values = judge.hart, judge.hart.csrs.values
     reserved = None if hart.reserved is None else hart.reserved * hart.choices.block
-    lines = [
-        "rvstate 1", f"pc {hart.pc:016x}", f"mode {hart.mode}", f"order {digits(judge.next_order)}",
+    return [
+        f"pc {hart.pc:016x}", f"mode {hart.mode}", f"order {digits(judge.next_order)}",
         f"flags {int(judge.trapped_last)}{int(judge.halted)}", f"reserved {digits(reserved)}",
         *(f"x{n} {hart.registers[n]:016x}" for n in range(1, 32)),
         *(f"csr_{name} {values[name]:016x}" for name in SAVED_CSRS),
-        *memory_lines(hart.memory), "end",
     ]
-    return "".join(f"{line}\n" for line in lines)
 
 
 def digits(number):
@@ -151,10 +162,28 @@ def read_memory(lines, ram):
     return found
 
 
-def read_into(judge, text, setting):
-    """Puts the state that a text says into a new judge."""
-    lines, hart = Lines(text), judge.hart
+def count_said(text):
+    """How many harts the second line of a text says, ended or not; 1 where it says none."""
+    found = HARTS.fullmatch(text.split(b"\n", 2)[1])
+    return int(found[1]) if found else 1
+
+
+def read_into(harts, text, setting):
+    """Puts the state that a text says into a new judge of harts."""
+    if count_said(text) != setting.harts:
+        raise Refused("image: wrong number of harts")
+    lines = Lines(text)
     lines.match(re.compile(b"rvstate 1"))
+    if setting.harts > 1:
+        lines.match(HARTS)
+    for judge in harts.judges:
+        read_hart(judge, lines, setting)
+    harts.load(Memory(read_memory(lines, setting.ram).items(), setting.ram))
+
+
+def read_hart(judge, lines, setting):
+    """Puts the state that the next lines say into the judge of one hart."""
+    hart = judge.hart
     hart.pc = lines.number("pc")
     if hart.pc % 2:
         raise lines.refused("bad value")
@@ -164,4 +193,3 @@ def read_into(judge, text, setting):
     hart.reserved = read_reserved(lines, setting.ram, setting.choices.block)
     hart.registers = [0, *(lines.number(f"x{n}") for n in range(1, 32))]
     hart.csrs = ControlRegisters({name: read_csr(lines, name) for name in SAVED_CSRS})
-    hart.memory = Memory(read_memory(lines, setting.ram).items(), setting.ram)

@@ -188,10 +188,11 @@ def split_name(name):
     return (found[1], int(found[2])) if found else (name, 0)
 
 
-def read_rows(text, most, widths):
+def read_rows(text, most, widths, harts=1):
     """The rows of a trace, as they are asked for: those of a line in the order of its ports.
 
-    A refusal where a line has one, at its first row, or a row has one.
+    A refusal where a line has one, at its first row, or a row has one. The last one that a row can
+    have is that it names a hart which is not there, where there are so many.
     """
     lines = lines_of(text, most)
     header = next(lines, None)
@@ -202,4 +203,7 @@ def read_rows(text, most, widths):
     for first, line in zip(itertools.count(1, ports), lines):
         fields = columns.fields(line, first)
         for port in range(ports):
-            yield columns.read(fields, port, first + port)
+            row = columns.read(fields, port, first + port)
+            if row.get("hart", 0) >= harts:  # which one that is not valid does not show
+                raise Refused(f"trace: row {first + port}: hart not there")
+            yield row
