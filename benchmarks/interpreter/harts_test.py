@@ -416,7 +416,7 @@ class Words(unittest.TestCase):
             return run.stdout.split("\n")[0], run.returncode
 
     def test_numbers_that_are_taken(self):
-        for words in ("--harts 2", "--harts=0x8", "--harts 002"):
+        for words in ("--harts 2", "--harts=0x8", "--harts 002", "--origin --harts 3"):
             self.assertEqual(self.run_judge("judge", *words.split()), ("agrees 1", 0), words)
         self.assertEqual(self.run_judge("state", "--harts", "2"), ("rvstate 1", 0))
         for words in ((), ("--harts", "1")):
@@ -427,6 +427,9 @@ class Words(unittest.TestCase):
         for words in (
             ("judge", "--harts", "0"), ("judge", "--harts", "9"), ("judge", "--harts", "x"),
             ("judge", "--harts="), ("judge", "--harts"), ("judge", "--harts", "2", "--harts", "2"),
+            ("judge", "--harts", "2", "--origin", "--origin"),
+            ("judge", "--harts", "2", "--origin=on"),
+            ("state", "--harts", "2", "--origin"),
         ):
             self.assertEqual(self.run_judge(*words), ("refused words", 2), words)
 

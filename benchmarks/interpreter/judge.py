@@ -3,7 +3,7 @@
 
     judge.py [judge|state] IMAGE TRACE [--pc A] [--ram B:S] [--io B:S] [--max-image M] [--max-trace M]
              [--misaligned trap|done] [--mtval value|zero] [--ad fault|set] [--reserve BYTES]
-             [--bits off|on] [--harts N]
+             [--bits off|on] [--harts N] [--origin]
 
 Prints the line that `rvjudge judge` prints for an image and a trace, and ends with its status; after the
 word state, where they agree, the text of the state that the hart is in at the end. The rules of
@@ -18,7 +18,9 @@ hart_choices.py says what each means.
 
 N harts, 1 to 8, stand over one memory, each reset alike. A row steps the hart that its column
 `hart` names, 0 where that is not shown; then each other hart loses its reservation where a byte of
-RAM that the step wrote lies in its block.
+RAM that the step wrote lies in its block. With --origin, which is for judging alone, lines after
+that of a difference say which earlier rows wrote last what the differing row works on
+(row_origin.py).
 """
 import argparse
 import os
@@ -33,6 +35,7 @@ from hart_instructions import MASK
 from hart_memory import RAM, Memory
 from hart_registers import LINES, M
 from reference_hart import BREAKPOINT, CALL_FROM_U, Core, Hart
+from row_origin import Last
 from trace_text import Refused, read_image, read_number, read_rows
 
 # the columns with their bits, in the order of comparison; halt is never compared
@@ -145,7 +148,7 @@ class Judge:
     def judge(self, row):
         """Steps the hart along a valid row; the first difference, None where there is none."""
         self.retired = None
-        for signal, value, mask in self.expect(row):
+        for signal, value, mask in list(self.expect(row)):
             found = row.get(signal, 1 if signal == "valid" else None)
             if found is not None and (found ^ value) & mask:
                 return Difference(signal, value & mask, found & mask)
@@ -164,9 +167,9 @@ class Judge:
         if row.get("intr") == 1 and not (self.trapped_last and row["pc_rdata"] == hart.pc):
             code = hart.csrs.pending(hart.mode, hart.core.up)
             if code is None:
-                yield Expected("intr", 0)
-                return  # that differs
-            hart.take_interrupt(code)
+                yield Expected("intr", 0)  # that differs
+            else:
+                hart.take_interrupt(code)
         mode, registers = hart.mode, list(hart.registers)
         shown = [name for name, before, after in CSR_DATA if before in row or after in row]
         before = self.csr_values(shown)
@@ -273,8 +276,11 @@ class Harts:
             judge.hart.pc = pc
 
 
-def answer(judge, rows, seen=0, valid=0):
-    """The line for these rows, where so many rows and valid rows stood before them."""
+def answer(judge, rows, seen=0, valid=0, last=None):
+    """The text for these rows, where so many rows and valid rows stood before them.
+
+    With a judge of Harts and what its rows wrote last, it says too where things came from.
+    """
     for row in rows:
         seen += 1
         if row.get("valid") == 0:
@@ -283,7 +289,10 @@ def answer(judge, rows, seen=0, valid=0):
         difference = judge.judge(row)
         if difference:
             signal, expected, found = difference
-            return f"differs row {seen}: {signal} expected 0x{expected:016x} found 0x{found:016x}"
+            line = f"differs row {seen}: {signal} expected 0x{expected:016x} found 0x{found:016x}"
+            return "\n".join([line, *(last.lines(*judge.stepped) if last else ())])
+        if last:
+            last.add(seen, *judge.stepped)
     return f"agrees {valid}"
 
 
@@ -300,6 +309,7 @@ class Setting(NamedTuple):
     most_trace: int = 1 << 40
     choices: Choices = Choices()
     harts: int = 1
+    origin: bool = False
 
 
 # each option that names a choice, with the choice
@@ -343,7 +353,8 @@ def foretell(image, trace, setting, command="judge"):
     try:
         harts = judge_at_start(image, setting)
         rows = read_rows(trace, setting.most_trace, KNOWN, setting.harts)
-        said = answer(harts, rows)
+        last = Last() if setting.origin and command == "judge" else None
+        said = answer(harts, rows, last=last)
         if command == "state" and said.startswith("agrees"):
             said = saved_state.text_of(harts).removesuffix("\n")
     except Refused as refused:
@@ -381,6 +392,16 @@ class Once(argparse.Action):
         setattr(options, self.dest, value)
 
 
+class Flag(Once):
+    """An option without a value."""
+
+    def __init__(self, **words):
+        super().__init__(nargs=0, default=False, **words)
+
+    def __call__(self, parser, options, value, option=None):
+        super().__call__(parser, options, True, option)
+
+
 def add_choices(parser):
     """Gives a parser the options that say what a core chose."""
     for name, choice in CHOSEN.items():
@@ -412,11 +433,14 @@ def parse(words):
         parser.add_argument(name, type=kind, default=value, action=Once)
     parser.add_argument(
         "--harts", type=trace_number, default=1, choices=range(1, MOST_HARTS + 1), action=Once)
+    parser.add_argument("--origin", action=Flag)
     add_choices(parser)
     options = parser.parse_args(words)
+    if options.origin and command != "judge":
+        parser.error("--origin is for judging alone")
     return command, (options.image, options.trace), Setting(
         options.pc, options.ram, options.io, options.max_image, options.max_trace,
-        choices_of(options), options.harts)
+        choices_of(options), options.harts, options.origin)
 
 
 def main():

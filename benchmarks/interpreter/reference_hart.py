@@ -40,9 +40,9 @@ class Access(NamedTuple):
 class Retired(NamedTuple):
     """What one instruction did.
 
-    bits and instruction are None where a trap came before they were known. written has all bytes of
-    RAM that the step wrote, those of page tables too, also where it trapped, as ranges of physical
-    addresses.
+    bits and instruction are None where a trap came before they were known. loaded has the bytes of
+    RAM that its own access read. written has all bytes of RAM that the step wrote, those of page
+    tables too, also where it trapped. Both are ranges of physical addresses.
     """
 
     bits: int | None
@@ -55,6 +55,7 @@ class Retired(NamedTuple):
     value: int
     access: Access | None
     trap: Trap | None
+    loaded: list
     written: list
 
 
@@ -99,6 +100,7 @@ class Hart:
         self.csrs = ControlRegisters()
         self.reserved = None
         self.fetched = None  # the bits of the instruction at hand
+        self.loaded = []  # the bytes of RAM that its own access read
         self.decoded = {}
 
     def copy(self):
@@ -168,7 +170,7 @@ class Hart:
         """Carries out one instruction, or enters the trap that it runs into."""
         pc, bits, length, instruction = self.pc, None, 0, None
         source1 = source2 = 0
-        self.memory.written = []
+        self.loaded, self.memory.written = [], []
         try:
             bits, length = self.fetch()
             self.fetched = bits
@@ -181,14 +183,14 @@ class Hart:
             self.mode, self.pc = self.csrs.enter(self.mode, pc, trap.cause, told, False)
             return Retired(
                 bits, length, instruction, pc, self.pc, source1, source2, 0, None, trap,
-                self.memory.written)
+                [], self.memory.written)
         value = value & MASK if instruction.rd else 0
         if instruction.rd:
             self.registers[instruction.rd] = value
         self.pc = next_pc
         return Retired(
             bits, length, instruction, pc, next_pc, source1, source2, value, access, None,
-            self.memory.written)
+            self.loaded, self.memory.written)
 
     def meaning(self, bits, length):
         """The instruction of these bits."""
@@ -239,6 +241,7 @@ class Hart:
             loaded = 0
             for at, size in reversed(parts):
                 loaded = loaded << 8 * size | self.memory.read(at, size)
+            self.loaded = [range(at, at + size) for at, size in parts]
         else:
             loaded = self.core.device_load(address, place, length)
         value = signed(loaded, 8 * length) if by_sign else loaded
@@ -264,6 +267,8 @@ class Hart:
         ((place, _),) = self.parts(address, length, LOAD if operation == "LR" else STORE, True)
         block = place // self.choices.block
         old = self.memory.read(place, length)
+        if operation != "SC":
+            self.loaded = [range(place, place + length)]
         match operation:
             case "LR":
                 self.reserved = block
