@@ -2,7 +2,7 @@
 """Holds a program to the answers of judge.py on random images and traces.
 
     campaign.py PROGRAM [--first N] [--count M] [--seed S] [--jobs J] [--keep FOLDER] [--part]
-                [--no-choices] [--ports] [--states]
+                [--no-choices] [--ports] [--states] [--harts] [--origin]
 
 Each case, which its number and the seed decide, is a program that is made up while a hart runs
 through it, a trace of that run with columns drawn by chance, and options. In half of the cases one
@@ -12,7 +12,10 @@ program gets the options for that; with --no-choices the cases are others, all o
 defaults. With --ports a line has one to four ports, drawn by chance, and each trace of one port is
 judged again with two, three and four, where the verdict must be the same. With --states each trace is
 cut in two besides, before a line that is drawn by chance, and its second part judged from the state
-that the first one ends in. What the cases reached is counted and printed. The status is 1 where an answer is not the
+that the first one ends in. With --harts one to eight harts run through one memory, where they contend
+for a few blocks, and with --origin half of the commands ask where the operands of a differing row came
+from. Without PROGRAM judge.py answers in its place, to the same words but those that share the work
+out. What the cases reached is counted and printed. The status is 1 where an answer is not the
 one due, where a trace in which nothing is altered does not agree, where a core with bit
 manipulation does not differ as it must from a hart without, or the other way round, or, without
 --part, where one of the things that campaign_reach.py lists was not reached. With --keep the files
@@ -33,12 +36,15 @@ from pathlib import Path
 # The hart and its judge are those of the folder beside this one.
 sys.path.insert(0, str(Path(__file__).resolve().parents[1] / "interpreter"))
 
-from campaign_case import make_case
+from campaign_case import Kinds, make_case
 from campaign_cuts import cut_in_two, cuts_to_reach
+from campaign_harts import count_harts, harts_to_reach
+from campaign_origin import count_held, count_origins, origins_due, origins_to_reach
 from campaign_ports import count_answer, ports_to_reach, rewritten
 from campaign_reach import all_to_reach
-from judge import foretell, number
+from judge import foretell, number, parse as setting_of
 
+SHARING = ("--workers", "--segment", "--window")  # options that judge.py does not have
 CHUNK = 250  # cases that a process takes at once
 PATIENCE = 60  # seconds for one answer
 WRONG_SHOWN = 20
@@ -67,6 +73,20 @@ def answer_of(program, words):
     return said.decode("latin-1"), os.waitstatus_to_exitcode(status)
 
 
+def answer_of_judge(words):
+    """What judge.py prints for the words of a command, and its status, as a program's answer."""
+    known, rest = [], iter(words)
+    for word in rest:
+        name, equals, _ = word.partition("=")
+        if name not in SHARING:
+            known.append(word)
+        elif not equals:
+            next(rest)
+    command, paths, setting = setting_of(known)
+    said, status = foretell(*(path.read_bytes() for path in paths), setting, command)
+    return f"{said}\n", status
+
+
 def kind_of(said):
     """The kind of a line and its name, under which it is counted."""
     words = said.split()
@@ -89,7 +109,7 @@ def fault_of(case, said, due):
     line, status = due
     if case.altered is None and status not in (0, 3, 4):
         return "nothing is altered, so that it should agree"
-    if case.foreknown and line != f"{case.foreknown}\n":
+    if case.foreknown and line.split("\n")[0] != case.foreknown:
         return f"it should be {case.foreknown}"
     return None
 
@@ -107,12 +127,14 @@ def keep(folder, at, case, said, due):
 def judge_cases(options, first, last):
     """What the cases from first up to last reached, and the wrong answers among them."""
     reached, wrong = Counter(), []
+    kinds = Kinds(options.choices, options.ports, options.harts, options.origin)
     with tempfile.TemporaryDirectory(dir=options.folder) as folder:
         for at in range(first, last):
-            case = make_case(options.seed, at, reached, options.choices, options.ports)
+            case = make_case(options.seed, at, reached, kinds)
             said, status = foretell(case.image, case.trace, case.setting)
             count_case(reached, case, said)
             wrong += hold(options, folder, at, case, (f"{said}\n", status))
+            wrong += hold_origins(at, case, said, reached)
             if options.ports:
                 wrong += hold_rewritten(options, folder, at, case, said, reached)
             if options.states:
@@ -125,8 +147,23 @@ def count_case(reached, case, said):
     reached[kind_of(said)] += 1
     reached["altered", case.altered or "nothing"] += 1
     if case.foreknown:
-        reached["bits", f"{case.altered.removeprefix('bits ')}: known to differ"] += 1
+        kind = "bits" if case.altered.startswith("bits") else "harts"
+        reached[kind, f"{case.altered.removeprefix('bits ')}: known to differ"] += 1
     count_answer(reached, case, said)
+    count_harts(reached, said)
+    count_origins(reached, case, said)
+
+
+def hold_origins(at, case, said, reached):
+    """Holds judge.py to the origins that a run knows of; the wrong answer, where there is one."""
+    due = origins_due(case, said)
+    if due is None:
+        return []
+    line, *lines = said.split("\n")
+    if lines != due:
+        return [(at, "origins, by judge.py", said, "\n".join([line, *due]))]
+    count_held(reached, case, said)
+    return []
 
 
 def hold(options, folder, at, case, due):
@@ -135,7 +172,7 @@ def hold(options, folder, at, case, due):
     Path(image).write_bytes(case.image)
     Path(trace).write_bytes(case.trace)
     words = [{"IMAGE": image, "TRACE": trace}.get(word, word) for word in case.words]
-    found = answer_of(options.program, words) if options.program else due
+    found = answer_of(options.program, words) if options.program else answer_of_judge(words)
     why = fault_of(case, found, due)
     if why is None:
         return []
@@ -205,7 +242,7 @@ def parse():
     parser = argparse.ArgumentParser(
         description=__doc__, formatter_class=argparse.RawDescriptionHelpFormatter
     )
-    parser.add_argument("program", nargs="?", help="without it the answers are only foretold")
+    parser.add_argument("program", nargs="?", help="without it judge.py answers in its place")
     parser.add_argument("--first", type=number, default=0)
     parser.add_argument("--count", type=number, default=200_000)
     parser.add_argument("--seed", default="1")
@@ -222,6 +259,12 @@ def parse():
     parser.add_argument(
         "--states", action="store_true", help="each trace is cut in two, too, and goes on from a saved state"
     )
+    parser.add_argument(
+        "--harts", action="store_true", help="one to eight harts over one memory, drawn by chance"
+    )
+    parser.add_argument(
+        "--origin", action="store_true", help="half of the commands ask for origins of differences"
+    )
     parser.add_argument("--folder", help="where the files of the cases are for a while")
     return parser.parse_args()
 
@@ -235,7 +278,9 @@ def main():
     summary(reached)
     needed = [
         *all_to_reach(options.choices), *(ports_to_reach() if options.ports else ()),
-        *(cuts_to_reach() if options.states else ()),
+        *(cuts_to_reach(options.harts) if options.states else ()),
+        *(harts_to_reach() if options.harts else ()),
+        *(origins_to_reach() if options.origin else ()),
     ]
     missed = [what for what in needed if not reached[what]]
     for kind, name in missed:

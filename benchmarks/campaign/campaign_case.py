@@ -1,18 +1,17 @@
 """One case: an image, a trace, and the words of a command; a part of campaign.py."""
-from collections import Counter
 from dataclasses import replace
 from typing import NamedTuple
 
-from campaign_hart import MODES, MadeCore, MadeHart, count_row, manipulation_of
+from campaign_harts import Runs, add_column, alter_hart, pick_count
+from campaign_origin import Record
 from campaign_plan import Chance, Maker
 from campaign_ports import in_ports, pick_ports
-from campaign_rows import Row, alter_field, alter_image, alter_rows, pick_columns
+from campaign_rows import alter_field, alter_image, alter_rows, pick_columns
+from campaign_run import Run
 from campaign_text import Form, alter_lines, break_image, image_text, trace_lines, trace_text
 from hart_choices import VALUES, Choices
-from hart_instructions import MASK
 from hart_memory import PAGE, RAM
-from hart_registers import LINES, M
-from judge import CHOSEN, CSR_DATA, Setting
+from judge import CHOSEN, MOST_HARTS, Setting
 
 PHYSICAL_END = 1 << 56
 MEGA, GIGA = 1 << 21, 1 << 30
@@ -21,7 +20,8 @@ MEGA, GIGA = 1 << 21, 1 << 30
 class Case(NamedTuple):
     """A command's files and words, what they say, and what was altered, None where nothing was.
 
-    foreknown is the line that is due, where it is known without judge.py; ports is how many a line has.
+    foreknown is the line that is due, where it is known without judge.py; ports is how many a line
+    has; record is what a run kept for origins, None where they are not asked for.
     """
 
     image: bytes
@@ -31,6 +31,7 @@ class Case(NamedTuple):
     altered: str | None
     foreknown: str | None
     ports: int
+    record: Record | None
 
 
 def pick_ram(chance):
@@ -92,99 +93,6 @@ def alter_choices(chance, choices):
     return pick_choices(chance), "other choices"
 
 
-class Run:
-    """A hart's run through a program that is made up on the way, and the rows that it shows."""
-
-    def __init__(self, chance, setting, columns, reached, with_choices):
-        self.chance, self.reached = chance, reached
-        self.columns = dict.fromkeys(columns)
-        maker = Maker(chance, setting, with_choices)
-        self.count = maker.rows
-        self.core = MadeCore(chance, set(columns))
-        self.hart = maker.hart = MadeHart(maker, self.core, setting, reached)
-        self.names = [name for name, *data in CSR_DATA if not self.columns.keys().isdisjoint(data)]
-        self.order = chance.pick((0, 1, MASK - 3, chance.getrandbits(64)))
-        self.share = chance.pick((0, 0, 0.05, 0.3))  # of fields that are left empty
-        self.trapped_last = False
-        self.reserved = None  # the place of the last LR, while its block is reserved
-        self.rows, self.pcs = [], []
-        self.first_bits = None  # number and row of the first instruction of bit manipulation
-
-    def make(self):
-        """Its rows, fewer where the hart comes to the same place again and again."""
-        visits = Counter()
-        while len(self.rows) < self.count and visits[self.hart.pc] < 4:
-            visits[self.hart.pc] += 1
-            self.step()
-            if "valid" in self.columns and self.chance.one_in(16):
-                row = Row(self.chance, self.columns)
-                row.invalid()
-                self.rows.append(row.fields)
-                self.reached["form", "row not valid"] += 1
-        if self.chance.one_in(8):
-            self.rows[-1]["halt"] = 1
-
-    def enters(self):
-        """Enters an interrupt, where one is pending and the row can show it; whether it did."""
-        hart, mode = self.hart, self.hart.mode
-        lines = self.core.level if self.core.shows_lines else 0
-        code = hart.csrs.pending(mode, lines)
-        if code is None or "intr" not in self.columns or self.chance.one_in(2):
-            return False
-        kept = hart.csrs.copy()
-        pc, values = hart.pc, hart.csrs.values
-        hart.take_interrupt(code)
-        if self.trapped_last and hart.pc == pc:  # a row could not tell it from the trap's handler
-            hart.csrs.values, hart.pc, hart.mode = kept.values, pc, mode
-            return False
-        vector = values["mtvec" if hart.mode == M else "stvec"]
-        way = "vectored" if vector & 1 else "direct"
-        self.reached["interrupt", f"{code} to {MODES[hart.mode]}, {way}"] += 1
-        self.reached["interrupt", f"from {MODES[mode]}"] += 1
-        return True
-
-    def step(self):
-        """One row."""
-        hart, core = self.hart, self.core
-        core.begin()
-        entered = self.enters()
-        lines = core.level if core.shows_lines else 0
-        mode, registers = hart.mode, list(hart.registers)
-        before = {name: hart.csrs.read(name, lines) for name in self.names}
-        reserved = self.reserved if hart.reserved is not None else None
-        retired = hart.step()
-        after = {name: hart.csrs.read(name, lines) for name in self.names}
-        count_row(self.reached, hart, mode, retired, reserved)
-        if retired.access and retired.instruction.name.startswith("LR"):
-            self.reserved = retired.access.place
-        self.pcs.append(retired.pc)
-        row = Row(self.chance, self.columns)
-        row.head(retired, self.order, mode, entered, self.trapped_last)
-        row.registers(retired, registers)
-        shows_address = "mem_addr" in self.columns and (core.asked or not self.chance.one_in(10))
-        row.memory(retired, shows_address)
-        row.csrs(before, after, LINES if entered or core.needs_lines else 0)
-        if self.share and not core.asked and not entered:
-            row.hide(self.share)
-            self.reached["form", "empty fields"] += 1
-        self.order = self.order + 1 & MASK
-        self.trapped_last = retired.trap is not None
-        self.rows.append(row.fields)
-        if self.first_bits is None and manipulation_of(retired):
-            self.first_bits = len(self.rows), row.fields
-
-    def turned_bits(self):
-        """The line that is due where the options turn bit manipulation on or off, if its first row
-        shows trap."""
-        if self.first_bits is None or "trap" not in self.columns:
-            return None
-        number, fields = self.first_bits
-        trap = fields["trap"]
-        if trap is None:
-            return None
-        return f"differs row {number}: trap expected 0x{1 - trap:016x} found 0x{trap:016x}"
-
-
 def spelled(chance, value):
     """A number as a word may have it."""
     if chance.one_in(2):
@@ -206,7 +114,17 @@ def choice_words(chance, choices, reached):
             yield option(chance, name.removeprefix("--"), text)
 
 
-def pick_words(chance, setting, reached, with_choices):
+def hart_words(chance, setting, reached, kinds):
+    """The options for harts and origins, where cases have them."""
+    if kinds.harts and (setting.harts > 1 or chance.one_in(2)):
+        yield option(chance, "harts", spelled(chance, setting.harts))
+        reached["option", f"harts {setting.harts}"] += 1
+    if setting.origin:
+        yield ["--origin"]
+        reached["option", "origin"] += 1
+
+
+def pick_words(chance, setting, reached, kinds):
     """The words of a command with this setting, in any order that is allowed."""
     pieces = [["IMAGE"], ["TRACE"]]
     # A part has a third of the window at most: in the widest one it has more than 64 segments of a row.
@@ -224,11 +142,12 @@ def pick_words(chance, setting, reached, with_choices):
         ("pc", setting.pc, RAM.start), ("max-image", setting.most_image, 1 << 30),
         ("max-trace", setting.most_trace, 1 << 40),
     ):
-        if value != default:
+        if value not in (default, None):
             pieces.append(option(chance, name, spelled(chance, value)))
             reached["option", name] += 1
-    if with_choices:
+    if kinds.choices:
         pieces += choice_words(chance, setting.choices, reached)
+    pieces += hart_words(chance, setting, reached, kinds)
     files = pieces[:2]  # which stand in this order
     chance.shuffle(pieces)
     for piece, place in zip(files, sorted(map(pieces.index, files))):
@@ -243,39 +162,107 @@ def limited(chance, setting, image, trace):
     return setting._replace(most_image=most) if text is image else setting._replace(most_trace=most)
 
 
-def make_case(seed, number, reached, with_choices, with_ports=False):
-    """The case of this number; what it reaches is counted. With choices, or ports, it is another one."""
-    chance = Chance(f"{seed} {number}{' choices' if with_choices else ''}{' ports' if with_ports else ''}")
-    setting, columns, form = pick_setting(chance), pick_columns(chance), Form(chance)
-    if with_choices:
-        setting = setting._replace(choices=pick_choices(chance))
-    form.count(reached)
-    run = Run(chance, setting, columns, reached, with_choices)
-    run.make()
-    image, altered, foreknown = run.hart.memory.image, None, None
-    kind = chance.random()
+class Kinds(NamedTuple):
+    """What the cases have, by options of the campaign; with other options they are other cases."""
+
+    choices: bool = True
+    ports: bool = False
+    harts: bool = False
+    origin: bool = False
+
+    def chance(self, seed, number):
+        """The chance of the case of this number."""
+        names = (name for name, has in self._asdict().items() if has)
+        return Chance(" ".join((str(seed), str(number), *names)))
+
+
+def alter_run(chance, kind, run, columns, harts):
+    """Alters what a run shows, in some cases; what was done, and the line that is due, if known."""
+    image = run.hart.memory.image
     if kind < 0.37:
-        altered = alter_field(chance, columns, run.rows)
-    elif kind < 0.42:
-        altered = alter_rows(chance, run.rows)
-    elif kind < 0.46 and image:
-        altered = alter_image(chance, image, run.pcs)
-    ports = pick_ports(chance, form, reached) if with_ports else 1
-    shown = in_ports(chance, columns, run.rows, ports) if with_ports else (columns, run.rows)
+        if harts and run.failed and chance.one_in(2):
+            return run.show_store()
+        if harts and chance.one_in(4):
+            return alter_hart(chance, run.rows, harts), None
+        return alter_field(chance, columns, run.rows), None
+    if kind < 0.42:
+        return alter_rows(chance, run.rows), None
+    if kind < 0.46 and image:
+        return alter_image(chance, image, run.pcs), None
+    return None, None
+
+
+def begin_run(chance, setting, columns, reached, kinds):
+    """The run of one hart or, where that is asked for, of several."""
+    if kinds.harts:
+        return Runs(chance, setting, columns, reached, kinds.choices)
+    return Run(chance, setting, columns, reached, Maker(chance, setting, kinds.choices))
+
+
+def pick_options(chance, setting, kinds):
+    """The setting with what is asked of cases of some kinds alone."""
+    if kinds.choices:
+        setting = setting._replace(choices=pick_choices(chance))
+    if kinds.harts:
+        setting = setting._replace(harts=pick_count(chance))
+    if kinds.origin:
+        setting = setting._replace(origin=chance.one_in(2))
+    return setting
+
+
+def alter_command(chance, kind, setting, kinds, files, is_known):
+    """Alters what the command says of its hart or its files, in some cases.
+
+    Gives the setting, and what was altered of harts. The line that is due may be known already.
+    """
+    if kinds.choices and 0.5 <= kind < 0.53:
+        choices, altered = alter_choices(chance, setting.choices)
+        return setting._replace(choices=choices), altered
+    if kinds.harts and 0.53 <= kind < 0.56:
+        return setting._replace(harts=1 + chance.below(MOST_HARTS)), "other number of harts"
+    if chance.one_in(40) and not is_known:
+        setting = limited(chance, setting, *files)
+    return setting, None
+
+
+def start_text(chance, run, setting):
+    """The image that a run begins from, and the setting that goes with it."""
+    image = run.hart.memory.image
+    if run.start:
+        return run.start.text(image), setting._replace(pc=None)
+    return image_text(chance, image), setting
+
+
+def make_case(seed, number, reached, kinds):
+    """The case of this number; what it reaches is counted."""
+    chance = kinds.chance(seed, number)
+    setting, columns, form = pick_setting(chance), pick_columns(chance), Form(chance)
+    setting = pick_options(chance, setting, kinds)
+    if kinds.harts:
+        add_column(chance, columns)
+    form.count(reached)
+    run = begin_run(chance, setting, columns, reached, kinds)
+    run.make()
+    kind, record = chance.random(), Record.of(run) if setting.origin else None
+    harts = setting.harts if kinds.harts else 0
+    altered, foreknown = alter_run(chance, kind, run, columns, harts)
+    ports = pick_ports(chance, form, reached) if kinds.ports else 1
+    shown = in_ports(chance, columns, run.rows, ports) if kinds.ports else (columns, run.rows)
     lines = list(trace_lines(chance, form, *shown))
     if 0.46 <= kind < 0.49:
         altered = alter_lines(chance, lines)
-    trace, text = trace_text(chance, form, lines), image_text(chance, image)
+    trace = trace_text(chance, form, lines)
+    text, setting = start_text(chance, run, setting)
     if 0.49 <= kind < 0.5:
         text, altered = break_image(chance, text, setting.ram)
-    elif with_choices and 0.5 <= kind < 0.53:
-        choices, altered = alter_choices(chance, setting.choices)
-        setting = setting._replace(choices=choices)
-        foreknown = run.turned_bits() if altered.startswith("bits") else None
-    elif chance.one_in(40):
-        setting = limited(chance, setting, text, trace)
+    else:
+        is_known = foreknown is not None
+        setting, told = alter_command(chance, kind, setting, kinds, (text, trace), is_known)
+        altered = altered or told
+        if told and told.startswith("bits"):
+            foreknown = run.turned_bits()
     reached["rows"] += len(run.rows)
     for column in columns:
         reached["column", column] += 1
-    words = pick_words(chance, setting, reached, with_choices)
-    return Case(text, trace, words, setting, altered, foreknown, ports)
+    words = pick_words(chance, setting, reached, kinds)
+    return Case(text, trace, words, setting, altered, foreknown, ports, record)

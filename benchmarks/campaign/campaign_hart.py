@@ -137,6 +137,7 @@ class MadeCore(Core):
         self.needs_lines = False  # and whether on lines that csr_mip_rdata alone shows
         self.level = 0
         self.restless = chance.one_in(2)
+        self.number = None  # of its hart, among several
 
     def begin(self):
         self.asked = self.needs_lines = False
@@ -154,6 +155,8 @@ class MadeCore(Core):
         if "rd_wdata" not in self.columns:
             return 0
         self.asked = True
+        if name == "mhartid" and self.number is not None:
+            return self.number
         return self.chance.number()
 
     def lines(self, instruction):
@@ -179,8 +182,8 @@ class MadeCore(Core):
 class MadeHart(Hart):
     """A hart over made memory that counts what its accesses reach."""
 
-    def __init__(self, maker, core, setting, reached):
-        memory = MadeMemory(maker, setting.ram)
+    def __init__(self, maker, core, setting, reached, memory=None):
+        memory = memory or MadeMemory(maker, setting.ram)
         super().__init__(memory, core, setting.devices, setting.pc, setting.choices)
         self.csrs = CountedRegisters(reached)
         self.reached = reached

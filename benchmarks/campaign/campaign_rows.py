@@ -1,7 +1,7 @@
 """What the rows of a made trace show, and what is altered in it; a part of campaign.py."""
 from hart_instructions import MASK
 from hart_registers import LINES
-from judge import CALLS, CSRS, PLAIN, UNTOLD_AFTER, WIDTHS
+from judge import CALLS, CSRS, KNOWN, PLAIN, UNTOLD_AFTER, WIDTHS
 from reference_hart import BREAKPOINT
 from trace_text import NEEDED
 
@@ -173,7 +173,7 @@ def alter_field(chance, columns, rows):
     """Alters one field of one row; what was done."""
     often = [*columns, *(name for name in columns if name in PLAIN)]
     row, column = chance.pick(rows), chance.pick(often)
-    width, kind = WIDTHS[column], chance.below(12)
+    width, kind = KNOWN[column], chance.below(12)
     if kind == 0:
         row[column] = None
         return "emptied field"

@@ -50,5 +50,7 @@ def as_due(said, ports):
     port = (row - 1) % ports
     if fault in OF_A_LINE:
         return f"refused trace: row {row - port}: {fault}"
+    if fault == "hart not there":
+        return said
     column, _, why = fault.partition(" ")
     return f"refused trace: row {row}: {suffixed(column, port)} {why}"

@@ -123,6 +123,7 @@ class Rewritten(unittest.TestCase):
             (f"{refused}trap not a number", 2, f"{refused}trap not a number"),
             (f"{refused}stray return", 4, "refused trace: row 5: stray return"),
             (f"{refused}wrong number of fields", 2, f"{refused}wrong number of fields"),
+            (f"{refused}hart not there", 4, f"{refused}hart not there"),
         ):
             self.assertEqual(as_due(said_of_one, ports), due)
 
