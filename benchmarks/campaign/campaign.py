@@ -12,10 +12,10 @@ program gets the options for that; with --no-choices the cases are others, all o
 defaults. With --ports a line has one to four ports, drawn by chance, and each trace of one port is
 judged again with two, three and four, where the verdict must be the same. With --states each trace is
 cut in two besides, before a line that is drawn by chance, and its second part judged from the state
-that the first one ends in. With --harts one to eight harts run through one memory, where they contend
-for a few blocks, and with --origin half of the commands ask where the operands of a differing row came
-from. Without PROGRAM judge.py answers in its place, to the same words but those that share the work
-out. What the cases reached is counted and printed. The status is 1 where an answer is not the
+that the first one ends in. With --harts one to eight harts run through one memory, where they
+contend for a few blocks, and with --origin half of the commands ask where the operands of a
+differing row came from. Without PROGRAM judge.py answers in its place, to the same words but those
+that share the work out. What the cases reached is counted and printed. The status is 1 where an answer is not the
 one due, where a trace in which nothing is altered does not agree, where a core with bit
 manipulation does not differ as it must from a hart without, or the other way round, or, without
 --part, where one of the things that campaign_reach.py lists was not reached. With --keep the files
