@@ -15,11 +15,11 @@ cut in two besides, before a line that is drawn by chance, and its second part j
 that the first one ends in. With --harts one to eight harts run through one memory, where they
 contend for a few blocks, and with --origin half of the commands ask where the operands of a
 differing row came from. Without PROGRAM judge.py answers in its place, to the same words but those
-that share the work out. What the cases reached is counted and printed. The status is 1 where an answer is not the
-one due, where a trace in which nothing is altered does not agree, where a core with bit
-manipulation does not differ as it must from a hart without, or the other way round, or, without
---part, where one of the things that campaign_reach.py lists was not reached. With --keep the files
-of each wrong answer are put into a folder.
+that share the work out. What the cases reached is counted and printed. The status is 1 where an
+answer is not the one due, where a trace in which nothing is altered does not agree, where a core
+with bit manipulation does not differ as it must from a hart without, or the other way round, or,
+without --part, where one of the things that campaign_reach.py lists was not reached. With --keep
+the files of each wrong answer are put into a folder.
 """
 import argparse
 import os

@@ -176,7 +176,7 @@ class Kinds(NamedTuple):
         return Chance(" ".join((str(seed), str(number), *names)))
 
 
-def alter_run(chance, kind, run, columns, harts):
+def alter_run(chance, kind, run, columns, harts, record):
     """Alters what a run shows, in some cases; what was done, and the line that is due, if known."""
     image = run.hart.memory.image
     if kind < 0.37:
@@ -184,7 +184,9 @@ def alter_run(chance, kind, run, columns, harts):
             return run.show_store()
         if harts and chance.one_in(4):
             return alter_hart(chance, run.rows, harts), None
-        return alter_field(chance, columns, run.rows), None
+        loading = list(record.loading()) if record else []
+        rows = loading if loading and chance.one_in(2) else run.rows
+        return alter_field(chance, columns, rows), None
     if kind < 0.42:
         return alter_rows(chance, run.rows), None
     if kind < 0.46 and image:
@@ -245,7 +247,7 @@ def make_case(seed, number, reached, kinds):
     run.make()
     kind, record = chance.random(), Record.of(run) if setting.origin else None
     harts = setting.harts if kinds.harts else 0
-    altered, foreknown = alter_run(chance, kind, run, columns, harts)
+    altered, foreknown = alter_run(chance, kind, run, columns, harts, record)
     ports = pick_ports(chance, form, reached) if kinds.ports else 1
     shown = in_ports(chance, columns, run.rows, ports) if kinds.ports else (columns, run.rows)
     lines = list(trace_lines(chance, form, *shown))

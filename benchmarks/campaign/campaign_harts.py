@@ -7,7 +7,7 @@ from campaign_plan import Maker
 from campaign_run import Run
 from campaign_start import Start, prepare
 from hart_instructions import ATOMIC, LOADS, MASK, STORES
-from hart_memory import ENTRY, FETCH, PTE_D, PTE_W
+from hart_memory import ENTRY, FETCH, PTE_D, PTE_W, STORE
 from judge import HART, MOST_HARTS
 
 MHARTID = 0xF14
@@ -136,6 +136,8 @@ class SharingMaker(Maker):
         return super().address(length)
 
     def frame(self, size, offset, kind):
+        if kind == STORE and self.chance.one_in(12):
+            return self.ram.stop + size - 1 & -size  # outside, which is found out once D is set
         if kind != FETCH and self.chance.one_in(2):
             begin = self.chance.pick(self.places.blocks) & -size
             if begin + offset in self.ram:

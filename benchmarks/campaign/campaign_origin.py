@@ -42,6 +42,16 @@ class Record(NamedTuple):
             if kept:
                 yield at, *kept
 
+    def loading(self):
+        """The rows whose step loaded a byte that an earlier row wrote."""
+        written = set()
+        for kept, row in zip(self.history, self.rows):
+            if kept:
+                _, retired = kept
+                if not retired.trap and not written.isdisjoint(bytes_of(retired.loaded)):
+                    yield row
+                written.update(bytes_of(retired.written))
+
     def wrote_register(self, row, hart, register):
         """The numbers of the earlier rows that wrote a register of this hart."""
         for at, of, retired in self.steps(row):
@@ -64,10 +74,14 @@ class Record(NamedTuple):
             if register and register not in sources[:at]:
                 last = max(self.wrote_register(row, hart, register), default=0)
                 lines.append(f"origin x{register} " + (f"row {last}" if last else "reset"))
-        for byte in sorted(byte for place in retired.loaded for byte in place):
+        for byte in sorted(bytes_of(retired.loaded)):
             last = max(self.wrote_byte(row, byte), default=0)
             lines.append(f"origin byte 0x{byte:016x} " + (f"row {last}" if last else "image"))
         return lines
+
+
+def bytes_of(places):
+    return (byte for place in places for byte in place)
 
 
 def origins_due(case, said):
