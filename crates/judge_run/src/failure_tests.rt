@@ -4,7 +4,7 @@ ghost use Rattle.std.specs.Prelude.{◌<◌};
 ghost use Rattle.outside_ports.specs.Memory.{known_files_of};
 
 use super::program_tests::{CALL_IMAGE, CALL_TRACE};
-use super::state_tests::{STATE, STATE_IMAGE, STATE_WORDS};
+use super::state_tests::{STATE, STATE_FILES, STATE_WORDS};
 use super::tests::{IMAGE, TRACE, list, named_file};
 use crate::judge;
 use outside_ports::{DripShelf, FailSink, Failed, MemShelf, MemSink, NamedFile, OpenGate, Shelf};
@@ -158,9 +158,8 @@ const BOTH: &[&str] = &["rvjudge", "judge", "i", "t", "--segment=2", "--window=3
 
 /// A row, rows whose guesses are wrong, a made trace, control and status registers, page tables:
 /// in one window, over the ends of windows or in further rounds; and each other kind of line.
-const CASES: [Case; 18] = [
+const CASES: [Case; 17] = [
     (PLAIN, &[IMAGE, TRACE], 0, b"agrees 1\n"),
-    (STATE_WORDS, &[STATE_IMAGE, TRACE], 0, STATE),
     (LINES, &[FOUR_IMAGE, FOUR_TRACE], 0, b"agrees 4\n"),
     (WINDOWS, &[FOUR_IMAGE, FOUR_TRACE], 0, b"agrees 4\n"),
     (MAKE, &[], 0, b"made 7 1000: agrees 1000\n"),
@@ -291,6 +290,14 @@ fn ends_with_each_write_that_fails(rt: HostRuntime) -> Result<(), Fail> {
         fail_each_write(&rt, rt.alloc(), case)?;
     }
     Ok(())
+}
+
+/// The same of a run that writes the state after it.
+#[test]
+fn ends_with_each_failure_of_a_state(rt: HostRuntime) -> Result<(), Fail> {
+    let case: Case = (STATE_WORDS, STATE_FILES, 0, STATE);
+    fail_each_read(&rt, rt.alloc(), &case, 15)?;
+    fail_each_write(&rt, rt.alloc(), &case)
 }
 
 /// In windows of one line the trace is read no further than the line that differs, here a byte a

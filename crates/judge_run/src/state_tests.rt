@@ -89,6 +89,8 @@ end
 
 pub const STATE_WORDS: &[&str] = &["rvjudge", "state", "i", "t"];
 
+pub const STATE_FILES: &[&[u8]] = &[STATE_IMAGE, TRACE];
+
 /// The second row, and the same with another order index.
 const SECOND: &[u8] = b"order,insn,pc_rdata,rd_addr,rd_wdata,pc_wdata
 1,0x00108093,0x80000004,1,6,0x80000008
@@ -105,79 +107,41 @@ const AGAIN: &[u8] = b"order,insn,pc_rdata,rd_addr,rd_wdata,pc_wdata
 
 const WRONG: &[u8] = b"insn,pc_rdata,rd_addr,rd_wdata\n0x00500093,0x80000000,1,6\n";
 
-/// The words, the image, the trace, and the status and the text that these come to.
-type Case = (
-    &'static [&'static str],
-    &'static [u8],
-    &'static [u8],
-    u8,
-    &'static [u8],
-);
-
-const CASES: [Case; 9] = [
-    (STATE_WORDS, STATE_IMAGE, TRACE, 0, STATE),
-    (
-        STATE_WORDS,
-        STATE_IMAGE,
-        WRONG,
-        1,
-        b"differs row 1: rd_wdata expected 0x0000000000000005 found 0x0000000000000006\n",
-    ),
-    (
-        &["rvjudge", "state", "i", "t", "--max-trace", "99"],
-        STATE_IMAGE,
-        TRACE,
-        4,
-        b"refused trace: more than 99 bytes\n",
-    ),
-    (
-        &["rvjudge", "judge", "i", "t"],
-        STATE,
-        SECOND,
-        0,
-        b"agrees 1\n",
-    ),
-    (
-        &["rvjudge", "judge", "i", "t"],
-        STATE,
-        LATER,
-        1,
-        b"differs row 1: order expected 0x0000000000000001 found 0x0000000000000002\n",
-    ),
-    (
-        &["rvjudge", "judge", "i", "t", "--pc", "0x80000000"],
-        STATE,
-        AGAIN,
-        0,
-        b"agrees 1\n",
-    ),
-    (
-        &["rvjudge", "judge", "i", "t", "--ram", "0:0x1000"],
-        STATE,
-        SECOND,
-        3,
-        b"refused image: line 77: outside RAM\n",
-    ),
-    (
-        &["rvjudge", "state", "i", "t", "--max-image", "9"],
-        STATE,
-        SECOND,
-        3,
-        b"refused image: more than 9 bytes\n",
-    ),
-    (
-        &["rvjudge", "state", "i"],
-        STATE_IMAGE,
-        TRACE,
-        2,
-        b"refused words\n",
-    ),
-];
+#[test]
+fn writes_states(rt: HostRuntime) -> Result<(), Fail> {
+    let small: &[&str] = &["rvjudge", "state", "i", "t", "--max-trace", "80"];
+    let few: &[&str] = &["rvjudge", "state", "i"];
+    let differs = b"differs row 1: rd_wdata expected 0x0000000000000005 found 0x0000000000000006\n";
+    let cases: [(&[&str], &[u8], u8, &[u8]); 4] = [
+        (STATE_WORDS, TRACE, 0, STATE),
+        (STATE_WORDS, WRONG, 1, differs),
+        (small, TRACE, 4, b"refused trace: more than 80 bytes\n"),
+        (few, TRACE, 2, b"refused words\n"),
+    ];
+    for (words, trace, status, text) in cases {
+        let (found, sink) = output_of(&rt, rt.alloc(), words, STATE_IMAGE, trace)?;
+        assert_eq!(rt; found, status);
+        assert_eq!(rt; sink.held.as_slice(), text);
+    }
+    Ok(())
+}
 
 #[test]
-fn writes_and_begins_from_states(rt: HostRuntime) -> Result<(), Fail> {
-    for (words, image, trace, status, text) in CASES {
-        let (found, sink) = output_of(&rt, rt.alloc(), words, image, trace)?;
+fn begins_from_states(rt: HostRuntime) -> Result<(), Fail> {
+    let plain: &[&str] = &["rvjudge", "judge", "i", "t"];
+    let there: &[&str] = &["rvjudge", "judge", "i", "t", "--pc", "0x80000000"];
+    let low: &[&str] = &["rvjudge", "judge", "i", "t", "--ram", "0:0x1000"];
+    let small: &[&str] = &["rvjudge", "state", "i", "t", "--max-image", "9"];
+    let differs = b"differs row 1: order expected 0x0000000000000001 found 0x0000000000000002\n";
+    let cases: [(&[&str], &[u8], u8, &[u8]); 5] = [
+        (plain, SECOND, 0, b"agrees 1\n"),
+        (plain, LATER, 1, differs),
+        (there, AGAIN, 0, b"agrees 1\n"),
+        (low, SECOND, 3, b"refused image: line 77: outside RAM\n"),
+        (small, SECOND, 3, b"refused image: more than 9 bytes\n"),
+    ];
+    for (words, trace, status, text) in cases {
+        let (found, sink) = output_of(&rt, rt.alloc(), words, STATE, trace)?;
         assert_eq!(rt; found, status);
         assert_eq!(rt; sink.held.as_slice(), text);
     }
