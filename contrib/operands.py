@@ -9,6 +9,7 @@ READS_OF_MIP = (0x344, 0x144)
 # SYSTEM (28) it is those on control and status registers.
 WRITERS = (0, 4, 5, 6, 11, 12, 13, 14, 25, 27)
 READERS_OF_ONE, READERS_OF_TWO = (0, 4, 6, 25), (8, 11, 12, 14, 24)
+WFI = 0x10500073
 NO_ACCESS = ",0x0,,0x0,"
 
 
@@ -44,6 +45,7 @@ class Decoded(NamedTuple):
     rd: int
     reads_mip: bool
     is_bit_manipulation: bool
+    is_wfi: bool
     access: "Access | None"
 
 
@@ -111,7 +113,7 @@ def decoded(bits):
         f"0x{bits:x}", bits >> 15 & 31 if reads_one or reads_two else None,
         bits >> 20 & 31 if reads_two else None, written_register(bits),
         bits & 0x7F == 0x73 and bits >> 20 in READS_OF_MIP, name_of(bits) in BIT_MANIPULATION,
-        access_of(bits))
+        bits == WFI, access_of(bits))
 
 
 def amo_result(operation, old, operand, bits):

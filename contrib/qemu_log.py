@@ -27,10 +27,17 @@ fits; --choices names both in any case. --bits on is named where instructions of
 were carried out, as qemu does with zba=on, zbb=on, zbs=on. Where registers are not as at reset
 before the first row, as a boot ROM leaves them, the commands are named by which the judge begins
 with these: make_state.py makes the state.
+
+Several harts: --harts N reads the log of -smp N with -accel tcg,thread=single, under which qemu
+runs one hart at a time, and with exec in -d. The column hart names the hart of each row. Rows stand
+in the order in which qemu carried them out, which is the order of memory; those of a turn, a tenth
+of a second, wait until the harts before it go on. The judge does not know several harts yet: it
+passes over the column, and takes all rows for those of one hart.
 """
 import argparse
 import re
 import sys
+from collections import deque
 from typing import NamedTuple
 
 import elf_image
@@ -57,9 +64,11 @@ MOST_BLOCKS = 1 << 16  # lines of exec that are remembered
 FETCHES = (1, 12)  # the causes of an instruction that could not be fetched
 INSTRUCTION = re.compile(r"(0x[0-9a-f]+): +(\S+)")
 PRIVILEGE = re.compile(r"Priv: (\d)")
-ENTERED = re.compile(r"Trace \d+: (0x[0-9a-f]+) \[[0-9a-f]+/[0-9a-f]+/([0-9a-f]+)/")
+ENTERED = re.compile(r"Trace (\d+): (0x[0-9a-f]+) \[[0-9a-f]+/[0-9a-f]+/([0-9a-f]+)/")
 RAISED = re.compile(r"riscv_cpu_do_interrupt: hart:(\d+), async:([01]), cause:([0-9a-f]+), "
                     r"epc:0x([0-9a-f]+)")
+MOST_HARTS = 8
+ONE_AT_A_TIME = "-accel tcg,thread=single"
 NOT_CARRIED_OUT = ("Stopped execution", "cpu_io_recompile")
 PASSED_OVER = ("----", "IN:", "Disassembler disagrees", "Please report this")
 
@@ -85,6 +94,12 @@ def number(text):
         return int(text, 0)
     except ValueError:
         raise argparse.ArgumentTypeError(f"{text} is no number") from None
+
+
+def harts(text):
+    if not text.isdigit() or not 1 <= int(text) <= MOST_HARTS:
+        raise argparse.ArgumentTypeError(f"{text} is no number from 1 to {MOST_HARTS}")
+    return int(text)
 
 
 def image_bytes(path):
@@ -200,7 +215,8 @@ class Layout:
 class Row:
     """A row that is held until what it has written is known."""
 
-    __slots__ = ("pc", "code", "mode", "intr", "trap", "state", "mip", "mask", "pc_wdata")
+    __slots__ = ("pc", "code", "mode", "intr", "trap", "state", "mip", "mask", "pc_wdata", "place")
+
 
 class Translations:
     """What stands where: by the block that exec names, or else by address."""
@@ -252,26 +268,39 @@ class Translations:
         return found
 
 
-class Converter:
-    """Rows from lines. A row is held until the state after it says what it has written."""
+class Order:
+    """The texts of several harts, in the order in which their places were taken."""
 
-    def __init__(self, start, image, write):
-        self.start = start
+    def __init__(self, write):
         self.write = write
+        self.waiting = deque()
+
+    def place(self):
+        self.waiting.append([None])
+        return self.waiting[-1]
+
+    def fill(self, place, text):
+        """An empty text leaves a place out."""
+        place[0] = text
+        while self.waiting and self.waiting[0][0] is not None:
+            if first := self.waiting.popleft()[0]:
+                self.write(first)
+
+
+class Converter:
+    """What the lines of a log say, for its harts."""
+
+    def __init__(self, start, image, harts, write):
         self.code = Translations(image)
-        self.block = self.block_mode = None
+        self.block = self.block_mode = self.turn_of = None  # of the latest line of exec
         self.lines, self.names, self.values = [], [], []  # of the state that is being read
         self.layout = self.latest = None  # the form of states, and the last one
         self.blocks = {}  # lines of exec, with what they say
-        self.held = None  # a row
-        self.unfetched = None  # a row after it that could not be fetched
-        self.interrupt = None  # the code of one that was entered, until its handler's first row
-        self.entered = None  # the code of the last one
         self.tells_traps = False
-        self.csrs, self.csr_text = None, ("", "")
-        self.rows = self.before = self.again = self.misaligned = self.bits = 0
-        self.first = self.first_mode = None  # the state before the first row
-        self.translates = False
+        order = Order(write) if harts > 1 else None
+        self.harts = [Hart(self, it, start, write, order) for it in range(harts)]
+        self.by_digits = {}  # the harts of states, by mhartid as it stands there
+        self.hart = self.harts[0]  # that of the latest state
 
     def take(self, line):
         if line.startswith(" "):
@@ -279,17 +308,18 @@ class Converter:
         elif self.lines:
             raise Refused("a state is cut off")
         elif found := ENTERED.match(line):
-            self.block, self.block_mode = found[1], int(found[2], 16) & 3
+            self.turn_of, self.block, self.block_mode = found[1], found[2], int(found[3], 16) & 3
             if len(self.blocks) < MOST_BLOCKS:
-                self.blocks[line] = self.block, self.block_mode
+                self.blocks[line] = self.turn_of, self.block, self.block_mode
         elif found := INSTRUCTION.match(line):
             self.code.take(*found.groups())
         elif found := PRIVILEGE.match(line):
             self.code.mode = int(found[1])
         elif found := RAISED.match(line):
-            self.raised(found)
+            self.tells_traps = True
+            self.numbered(int(found[1])).raised(found)
         elif line.startswith(NOT_CARRIED_OUT):
-            self.drop()
+            self.hart.drop()
         elif line and not line.startswith(PASSED_OVER):
             raise Refused(f"no line of a log of in_asm, cpu, exec and int: {line[:60]!r}")
 
@@ -312,14 +342,81 @@ class Converter:
                 layout = Layout(lines)
                 self.layout = layout if layout.is_whole else None
 
+    def numbered(self, number):
+        if number >= len(self.harts):
+            raise Refused(f"hart {number} is in the log: give --harts {number + 1}, or more")
+        return self.harts[number]
+
     def begin(self, state):
-        """A state: before an instruction is carried out."""
-        if state.hart.strip("0"):
-            hart = int(state.hart, 16)
-            raise Refused(f"a state of hart {hart}: qemu must have one hart, number 0")
+        """A state: before its hart carries out an instruction."""
+        hart = self.by_digits.get(state.hart)
+        if hart is None:
+            hart = self.by_digits[state.hart] = self.numbered(int(state.hart, 16))
+        if hart.order is not None:
+            self.take_turn(hart)
         pc, block, mode = int(state.pc, 16), self.block, self.block_mode
-        self.block = self.block_mode = None
-        code = self.code.find(pc, block)
+        self.block = self.block_mode = self.turn_of = None
+        hart.begin(state, pc, self.code.find(pc, block), mode)
+
+    def take_turn(self, hart):
+        """The state of one of several harts: it must be that which exec names."""
+        if self.turn_of is None:
+            raise Refused("a state without its line of exec: add exec to -d")
+        if int(self.turn_of) != hart.number:
+            raise Refused(f"hart {hart.number} and hart {self.turn_of} run at once")
+        if hart is not self.hart:
+            self.hart.rest()
+            self.hart = hart
+
+    def finish(self):
+        """The log ends."""
+        for hart in self.harts:
+            hart.finish(None)
+
+    def total(self, name):
+        """How many of something all harts have."""
+        return sum(getattr(it, name) for it in self.harts)
+
+    def tell(self):
+        """What standard error gets of a log that was read."""
+        yield f"{self.total('rows')} rows"
+        if before := self.total("before"):
+            yield f"{before} rows before 0x{self.hart.start:x} are left out"
+        if again := self.total("again"):
+            yield f"{again} states are left out that were begun anew, or led to themselves"
+        if self.lines:
+            yield "the log ends in the middle of a state, which is left out"
+        if misaligned := self.total("misaligned"):
+            yield f"{misaligned} accesses at misaligned addresses: judge with {MISALIGNED}"
+        if self.total("translates"):
+            yield f"pages whose A and D qemu sets: judge with {MARKS}"
+        if bits := self.total("bits"):
+            yield f"{bits} instructions of bit manipulation: judge with {BITS}"
+        if len(self.harts) > 1:
+            yield from (f"hart {it.number} has no row" for it in self.harts if not it.rows)
+            yield "the judge does not know several harts yet, and passes over the column hart"
+
+    def choices(self):
+        """The judge's options that fit qemu, and what it carried out."""
+        return f"{MISALIGNED} {MARKS} {BITS}" if self.total("bits") else f"{MISALIGNED} {MARKS}"
+
+
+class Hart:
+    """The rows of a hart. One is held until the state after it says what it has written."""
+
+    def __init__(self, log, number, start, write, order):
+        self.log, self.number, self.start, self.write, self.order = log, number, start, write, order
+        self.held = None  # a row
+        self.unfetched = None  # a row after it that could not be fetched, with its place
+        self.interrupt = None  # the code of one that was entered, until its handler's first row
+        self.entered = None  # the code of the last one
+        self.csrs, self.csr_text = None, ("", "")
+        self.rows = self.before = self.again = self.misaligned = self.bits = 0
+        self.first = self.first_mode = None  # the state before the first row
+        self.translates = False
+
+    def begin(self, state, pc, code, mode):
+        """A state: before an instruction is carried out."""
         if self.held is None and self.rows == 0 and pc != self.start:
             self.before += 1
             self.interrupt = None
@@ -332,10 +429,18 @@ class Converter:
         row.mode = code.mode if mode is None else mode
         if self.first is None:
             self.first, self.first_mode = state, row.mode
-        row.intr, row.trap = int(self.interrupt is not None), 0 if self.tells_traps else None
+        row.intr, row.trap = int(self.interrupt is not None), 0 if self.log.tells_traps else None
         row.mip, row.mask = self.lines_of(now, state)
+        row.place = None if self.order is None else self.order.place()
         self.held = row
         self.interrupt = None
+
+    def rest(self):
+        """Another hart has its turn. One that waits in WFI may do so to the log's end: its row is
+        known, and the rows of others do not wait for it."""
+        row = self.held
+        if row and row.code.is_wfi and not row.trap and not self.unfetched:
+            self.finish(row.state._replace(pc=f"{row.pc + 4:x}"))
 
     def lines_of(self, code, state):
         """What is shown of mip before the row, an interrupt's entry included, and its mask."""
@@ -361,12 +466,13 @@ class Converter:
             self.again += 1
             if self.held.intr:
                 self.interrupt = self.entered
+            if self.order is not None:
+                self.order.fill(self.held.place, "")
             self.held = None
 
     def raised(self, found):
         """A trap or an interrupt."""
         pc, cause = int(found[4], 16), int(found[3], 16)
-        self.tells_traps = True
         if found[2] == "1":
             self.enter(pc, cause & 63)
         elif self.held and self.held.pc == pc and not self.unfetched:
@@ -392,18 +498,25 @@ class Converter:
             self.held.pc_wdata = f"0x{pc:x}"
         line = "" if self.interrupt is None else f"0x{1 << self.interrupt:x}"
         csrs = ",".join(line if it == "mip" else "" for it in CSRS)
-        self.unfetched = f"{'0x1' if line else '0x0'},0x{pc:x},,0x1,0x0,,,,,,,,{line},{csrs},,,,,\n"
+        text = f"{'0x1' if line else '0x0'},0x{pc:x},,0x1,0x0,,,,,,,,{line},{csrs},,,,,\n"
+        self.unfetched = text, None if self.order is None else self.order.place()
         self.interrupt = None
 
     def finish(self, state):
         """Writes what is held, after which the hart has a state."""
         if self.held is not None:
-            self.write(self.row_text(self.held, state))
-            self.rows += 1
+            self.put(self.row_text(self.held, state), self.held.place)
         if self.unfetched is not None:
-            self.write(self.unfetched)
-            self.rows += 1
+            self.put(*self.unfetched)
         self.held = self.unfetched = None
+
+    def put(self, text, place):
+        """Writes a row, of several harts at its place."""
+        self.rows += 1
+        if place is None:
+            self.write(text)
+        else:
+            self.order.fill(place, f"0x{self.number:x},{text}")
 
     def row_text(self, row, after):
         """The fields of a row, in the order of COLUMNS."""
@@ -442,22 +555,6 @@ class Converter:
             self.csrs, self.csr_text = csrs, (",".join(texts[:at]), ",".join(texts[at:]))
         return self.csr_text
 
-    def tell(self):
-        """What standard error gets of a log that was read."""
-        yield f"{self.rows} rows"
-        if self.before:
-            yield f"{self.before} rows before 0x{self.start:x} are left out"
-        if self.again:
-            yield f"{self.again} states are left out that were begun anew, or led to themselves"
-        if self.lines:
-            yield "the log ends in the middle of a state, which is left out"
-        if self.misaligned:
-            yield f"{self.misaligned} accesses at misaligned addresses: judge with {MISALIGNED}"
-        if self.translates:
-            yield f"pages whose A and D qemu sets: judge with {MARKS}"
-        if self.bits:
-            yield f"{self.bits} instructions of bit manipulation: judge with {BITS}"
-
     def set_at_start(self):
         """The registers that are not as at reset before the first row. Of mip it is the bits that no
         interrupt line has."""
@@ -469,10 +566,6 @@ class Converter:
         values["mip"] = int(self.first.mip or "0", 16) & 0x22
         values["mode"] = 3 if self.first_mode is None else self.first_mode
         return {name: it for name, it in values.items() if it != AT_RESET.get(name, 0)}
-
-    def choices(self):
-        """The judge's options that fit qemu, and what it carried out."""
-        return f"{MISALIGNED} {MARKS} {BITS}" if self.bits else f"{MISALIGNED} {MARKS}"
 
 
 class Reader:
@@ -505,7 +598,7 @@ class Reader:
             line = text[position:end].rstrip()
             position = end + 1
             if line in blocks and not converter.lines:
-                converter.block, converter.block_mode = blocks[line]
+                converter.turn_of, converter.block, converter.block_mode = blocks[line]
             else:
                 converter.take(line)
         self.rest = text[position:]
@@ -524,6 +617,9 @@ def arguments():
                         help="the judge's image, for instructions that the log does not list")
     parser.add_argument("--without", default="", metavar="COLUMN,..",
                         help="columns to leave out, as csr_medeleg_rdata")
+    parser.add_argument("--harts", type=harts, default=1, metavar="N",
+                        help="the harts of the log, which are then shown in a column hart: 1 to "
+                        f"{MOST_HARTS} (default 1: no such column)")
     parser.add_argument("--choices", action="store_true",
                         help="tell on standard error which options of the judge fit what qemu "
                         "chooses otherwise than the judge does by default")
@@ -537,35 +633,49 @@ def arguments():
 
 def convert(log, words, out):
     """Writes the trace of a log, and says on standard error what was left out."""
-    kept = [at for at, name in enumerate(COLUMNS) if name not in words.without]
+    columns = ("hart", *COLUMNS) if words.harts > 1 else COLUMNS
+    kept = [at for at, name in enumerate(columns) if name not in words.without]
 
     def write(text):
         fields = text[:-1].split(",")
         out.write(",".join([fields[at] for at in kept]) + "\n")
 
-    out.write(",".join(COLUMNS[at] for at in kept) + "\n")
+    out.write(",".join(columns[at] for at in kept) + "\n")
     image = image_bytes(words.image) if words.image else {}
-    converter = Converter(words.pc, image, write if words.without else out.write)
+    write = write if words.without else out.write
+    converter = Converter(words.pc, image, words.harts, write)
     reader = Reader(converter)
+    hint = "" if words.harts == 1 else f" (several harts need {ONE_AT_A_TIME})"
     try:
         while chunk := log.read1(CHUNK):
             reader.take(chunk.decode("latin-1"))
         reader.take("", is_end=True)
     except Endless as fault:
-        print(f"qemu_log.py: {fault}", file=sys.stderr)
+        print(f"qemu_log.py: {fault}{hint}", file=sys.stderr)
     except Refused as fault:
-        raise Refused(f"{words.log}: line {reader.at}: {fault}") from None
+        raise Refused(f"{words.log}: line {reader.at}: {fault}{hint}") from None
     try:
-        converter.finish(None)
-        if not converter.rows:
+        converter.finish()
+        if not converter.total("rows"):
             raise Refused(f"no instruction at 0x{words.pc:x}")
     except Refused as fault:
         raise Refused(f"{words.log}: line {reader.at}: {fault}") from None
+    tell(converter, words)
+
+
+def tell(converter, words):
+    """Says on standard error what there is to say of a log that was read."""
     for text in converter.tell():
         print(f"qemu_log.py: {text}", file=sys.stderr)
-    if found := converter.set_at_start():
-        print("qemu_log.py: registers are set before the first row; to begin with them:",
-              *make_state.command_lines(found, words.pc, words.o), sep="\n", file=sys.stderr)
+    for hart in converter.harts:
+        found = hart.set_at_start()
+        if found and words.harts > 1:
+            values = " ".join(f"{name}=0x{value:x}" for name, value in found.items())
+            print(f"qemu_log.py: set before the first row of hart {hart.number}: {values}",
+                  file=sys.stderr)
+        elif found:
+            print("qemu_log.py: registers are set before the first row; to begin with them:",
+                  *make_state.command_lines(found, words.pc, words.o), sep="\n", file=sys.stderr)
     if words.choices:
         print(f"qemu_log.py: the judge's options that fit qemu: {converter.choices()}",
               file=sys.stderr)

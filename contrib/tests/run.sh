@@ -125,6 +125,7 @@ test_qemu_log() {
     grep -q 'judge with' "$folder/said" && fail "qemu_log.py names options: $(cat "$folder/said")"
     expect qemu 'agrees 274' "$image" "$out" --io $io
     expect_columns qemu "$out" 34
+    [ "$(cksum <"$out")" = '683740526 47908' ] || fail 'qemu_log.py: one hart has another trace'
     python3 "$tests/memory_columns.py" "$out" || fail 'qemu_log.py: the columns of memory'
     sed '/^0x0000000080000010/{p;p;p;}' "$folder/log" >"$folder/endless"
     python3 "$contrib/qemu_log.py" "$folder/endless" -o "$folder/endless.csv" 2>"$folder/said"
@@ -156,6 +157,27 @@ test_qemu() {
     rows=$(($(wc -l <"$out") - 1))
     [ "$rows" -gt 200 ] || fail "qemu carried out $rows rows"
     expect 'qemu, run here' "agrees $rows" "$folder/image.hex" "$out" --io 0x100000:0xff01000
+}
+
+# Harts that count under one lock, run here: their rows stand in the order of memory.
+test_qemu_harts() {
+    for harts in 2 4; do
+        sh "$tests/qemu/harts.sh" "$folder" $harts || fail "harts.s, $harts harts: no run in qemu"
+        out=$folder/harts.csv
+        python3 "$contrib/qemu_log.py" --harts $harts "$folder/harts.log" -o "$out" 2>"$folder/said" ||
+            fail "qemu_log.py --harts $harts: $(cat "$folder/said")"
+        found=$(python3 "$tests/memory_order.py" "$out")
+        case $found in
+            *" rows of $harts harts in "*": $((3 * harts)) SC stored, "*) ;;
+            *) fail "harts.s, $harts harts: '$found'" ;;
+        esac
+        grep -q "^0x0,.*,0xa,$(printf '0x%x' $((3 * harts)))," "$out" ||
+            fail "harts.s, $harts harts: another count than $((3 * harts))"
+    done
+    sh "$tests/qemu/harts.sh" "$folder" 1 || fail 'harts.s, one hart: no run in qemu'
+    python3 "$contrib/qemu_log.py" "$folder/harts.log" -o "$out" 2>/dev/null || fail 'qemu_log.py'
+    expect 'harts.s, one hart' "agrees $(($(wc -l <"$out") - 1))" "$folder/harts.elf" "$out" \
+        --io 0x100000:0xff01000
 }
 
 # What qemu chose otherwise than the judge does by default, under the options that qemu_log.py names.
@@ -565,6 +587,12 @@ can_run 'the stored log of qemu' python3 gzip && test_qemu_log
 can_run 'a run in qemu' python3 riscv64-unknown-elf-gcc riscv64-unknown-elf-objcopy \
     qemu-system-riscv64 && has_version 'a run in qemu' qemu-system-riscv64 'version 7\.' &&
     test_qemu && test_qemu_choices && test_qemu_bits && test_qemu_rom
+if can_run 'rows of several harts' python3; then
+    python3 "$tests/harts_test.py" || fail "rows of several harts"
+fi
+can_run 'several harts in qemu' python3 riscv64-unknown-elf-as riscv64-unknown-elf-ld timeout \
+    qemu-system-riscv64 && has_version 'several harts in qemu' qemu-system-riscv64 'version 7\.' &&
+    test_qemu_harts
 if can_run 'the start of firmware' python3; then
     python3 "$tests/boot_test.py" "$program" || fail "the start of firmware"
 fi
