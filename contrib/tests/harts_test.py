@@ -16,6 +16,7 @@ sys.path.insert(0, str(CONTRIB))
 import qemu_log  # noqa: E402  # found by the line before
 
 LOG = TESTS / "qemu" / "harts.log.gz"
+MERGE = CONTRIB / "merge_rows.py"
 START = 0x80000000
 ORDER = "187 rows of 2 harts in 27 turns: 6 SC stored, 3 failed\n"
 NOT_YET = "the judge does not know several harts yet"
@@ -96,6 +97,120 @@ def values_at_start(log):
           and "make_state" not in ran.stderr, ran.stderr)
 
 
+def merged_again(folder, out):
+    """The rows of each hart in a file of its own, merged by the number that each row had."""
+    header, *rows = out.read_text().splitlines()
+    whole, two = folder / "whole.csv", [folder / "0.csv", folder / "1.csv.gz"]
+    whole.write_text("".join(f"{it}\n" for it in [
+        f"{header},cycle", *(f"{row},{at}" for at, row in enumerate(rows))]))
+    for hart, path in enumerate(two):
+        text = "".join(it for it in whole.read_text().splitlines(keepends=True)
+                       if it.startswith((f"0x{hart},", "hart,")))
+        path.write_bytes(gzip.compress(text.encode()) if hart else text.encode())
+    ran = run(MERGE, *two, "-o", folder / "merged.csv")
+    check("merge_rows.py", ran.returncode == 0 and NOT_YET in ran.stderr, ran.stderr)
+    check("merged rows", (folder / "merged.csv").read_text() == whole.read_text())
+    ran = run(MERGE, two[1], "-", text=two[0].read_text())
+    check("merged from standard input", ran.stdout == whole.read_text(), ran.stderr)
+    bare = [folder / "bare0.csv", folder / "bare=1.csv"]
+    for path, named in zip(bare, two):
+        data = gzip.decompress(named.read_bytes()) if named.suffix == ".gz" else named.read_bytes()
+        path.write_text("".join(it.partition(",")[2] for it in data.decode().splitlines(True)))
+    ran = run(MERGE, f"{bare[0]}=0", f"{bare[1]}=1")
+    check("merged by the harts that are named", ran.stdout == whole.read_text(), ran.stderr)
+
+
+def files(folder, texts):
+    """A file of each text, in which blanks end the lines."""
+    paths = [folder / f"{name}.csv" for name in "abc"[:len(texts)]]
+    for path, text in zip(paths, texts):
+        path.write_text("".join(f"{it}\n" for it in text.split(" ")))
+    return paths
+
+
+PLACES = [
+    # a name, the traces, further words, the rows
+    ("ties", ["insn,hart,time 1,0,5 2,0,5 3,0,6", "insn,hart,time 4,1,5 5,1,0x6"], [],
+     "insn,hart,time 1,0,5 2,0,5 4,1,5 3,0,6 5,1,0x6"),
+    ("another tie", ["insn,hart,time 4,1,5", "insn,hart,time 1,0,5 2,0,5"], [],
+     "insn,hart,time 4,1,5 1,0,5 2,0,5"),
+    ("time before cycle", ["insn,hart,cycle,time 1,0,1,7", "insn,hart,cycle,time 2,1,2,6"], [],
+     "insn,hart,cycle,time 2,1,2,6 1,0,1,7"),
+    ("--by", ["insn,hart,seen,time 1,0,1,7", "insn,hart,seen,time 2,1,2,6"], ["--by", "seen"],
+     "insn,hart,seen,time 1,0,1,7 2,1,2,6"),
+    ("three, one of them empty", ["insn,hart,time", "insn,hart,time 1,7,2", "insn,hart,time 2,3,1"],
+     [], "insn,hart,time 2,3,1 1,7,2"),
+    ("rows that are not valid", ["valid,insn,hart,time 0,,, 1,1,0,4 0,,,", "valid,insn,hart,time "
+                                 "1,2,1,4 0,,, 1,3,1,5"], [],
+     "valid,insn,hart,time 0,,, 1,1,0,4 0,,, 1,2,1,4 0,,, 1,3,1,5"),
+    ("lines for two ports", ["valid_0,insn_0,hart_0,time_0,valid_1,insn_1,hart_1,time_1 "
+                             "0,,,,1,2,0,8 1,3,0,10,0,,,", "valid_0,insn_0,hart_0,time_0,valid_1,"
+                             "insn_1,hart_1,time_1 1,4,1,9,1,5,1,9"], [],
+     "valid_0,insn_0,hart_0,time_0,valid_1,insn_1,hart_1,time_1 0,,,,1,2,0,8 1,4,1,9,1,5,1,9 "
+     "1,3,0,10,0,,,"),
+    ("a hart that is not shown", ["insn,hart,time 1,,1", "insn,hart,time 2,1,0"], [],
+     "insn,hart,time 2,1,0 1,,1"),
+    ("quotes and a prefix", ['rvfi_insn,"hart",time 1,0,"2"', "insn,hart,rvfi_time 2,1,1"], [],
+     'rvfi_insn,"hart",time 2,1,1 1,0,"2"'),
+]
+FAULTS = [
+    # what is told, the traces, whether rows were written
+    ("a.csv: line 3: time 4 comes after 5: it must not fall",
+     ["insn,hart,time 1,0,5 2,0,4", "insn,hart,time 1,1,5"], True),
+    ("b.csv: no column cycle, which", ["hart,insn,cycle 0,1,2", "hart,insn 0,1"], False),
+    ("b.csv: a column note, which", ["hart,insn,time 0,1,2", "hart,insn,time,note 0,1,2,3"], False),
+    ("b.csv: its columns have another order", ["hart,insn,time 0,1,2", "insn,hart,time 1,1,2"],
+     False),
+    ("a.csv: there is no column time or cycle", ["hart,insn 0,1", "hart,insn 1,1"], False),
+    ("a.csv: there is no column hart: name its hart", ["insn,time 1,2", "insn,time 1,2"], False),
+    ("hart 0 has two traces", ["hart,insn,time 0,1,2", "hart,insn,time 0,1,3"], False),
+    ("a.csv: line 3: a row of hart 1, where the trace is of hart 0",
+     ["hart,insn,time 0,1,2 1,1,3", "hart,insn,time 2,1,5"], True),
+    ("b.csv: line 3: 2 fields under 3 names",
+     ["hart,insn,time 0,1,2", "hart,insn,time 1,1,1 1,1"], True),
+    ("a.csv: line 2: 'x' is no number", ["hart,insn,time 0,1,x", "hart,insn,time 1,1,1"], False),
+    ("a.csv: line 2: no time", ["hart,insn,time 0,1,", "hart,insn,time 1,1,1"], False),
+    ("take the ports apart", ["hart_0,insn_0,time_0,hart_1,insn_1,time_1 0,1,2,0,1,3"], False),
+]
+
+
+def merged(folder):
+    for name, texts, words, wanted in PLACES:
+        ran = run(MERGE, *files(folder, texts), *words)
+        check(f"merge_rows.py, {name}", ran.stdout.split() == wanted.split(), ran)
+    for wanted, texts, has_rows in FAULTS:
+        ran = run(MERGE, *files(folder, texts))
+        refused(f"merge_rows.py, {wanted}", wanted, ran)
+        check(f"merge_rows.py ends what it wrote, {wanted}",
+              ran.stdout.endswith("\nx\n") if has_rows else not ran.stdout, ran.stdout)
+    lines = files(folder, ["insn_0,insn_1,time 1,2,3"])[0]
+    ran = run(MERGE, f"{lines}=5")
+    check("a hart for each port", ran.stdout == "hart_0,hart_1,insn_0,insn_1,time\n0x5,0x5,1,2,3\n")
+
+
+def faults_of_files(folder):
+    """Files that cannot be read, or are named as they must not be."""
+    first, second = files(folder, ["hart,insn,time 0,1,2", "hart,insn,time 1,1,2"])
+    refused("a hart that is not the column's", "a row of hart 0, where the trace is of hart 3",
+            run(MERGE, f"{first}=3", second))
+    refused("one hart twice", "hart 4 has two traces", run(MERGE, f"{first}=4", f"{second}=4"))
+    refused("no header", "there is no header", run(MERGE, first, "-", text=""))
+    refused("standard input twice", "for one trace alone", run(MERGE, "-", "-", text=""))
+    refused("a trace that is written over", "so it cannot be written", run(MERGE, first, "-o", first))
+    refused("a file that is not there", "none.csv", run(MERGE, first, folder / "none.csv"))
+    first, other = files(folder, ["time,hart,insn 0,0,1", "time,hart,insn"])
+    text = other.read_text() + "".join(f"7,1,{at ** 9}\n" for at in range(5000))
+    packed = folder / "cut.csv.gz"
+    packed.write_bytes(gzip.compress(text.encode())[:-2000])
+    ran = run(MERGE, first, packed)
+    refused("a packed trace that is cut off", "could not be unpacked", ran)
+    check("its rows end with one that is refused", ran.stdout.endswith("\nx\n"))
+    first.write_bytes(b"hart,insn,time\n0,\xff,2\n")
+    refused("bytes that are no text", "a.csv: 'utf-8' codec", run(MERGE, first, second))
+    ran = run(MERGE, "--help")
+    check("--help", ran.returncode == 0 and "does not know several harts yet" in ran.stdout)
+
+
 def main():
     with tempfile.TemporaryDirectory() as folder:
         folder = Path(folder)
@@ -104,6 +219,9 @@ def main():
         faults_of_logs(log)
         rows_that_wait(log)
         values_at_start(log)
+        merged_again(folder, out)
+        merged(folder)
+        faults_of_files(folder)
     return 1 if faults else 0
 
 
