@@ -3,9 +3,10 @@
 
     port_rows.py [TRACE] [-o FILE]
 
-The columns are those of all ports, without _0 to _3 after their names. Each line gives a row for each
-port, port 0 first, those that are not valid too: so rows keep the numbers that the judge gives them. A
-column that a port lacks is empty in its rows. Without TRACE, or with - for it, standard input is read.
+The columns are those of all ports, without _0 to _3 after their names: those that the judge knows, and
+hart, time and cycle. Each line gives a row for each port, port 0 first, those that are not valid too:
+so rows keep the numbers that the judge gives them. A column that a port lacks is empty in its rows.
+Without TRACE, or with - for it, standard input is read.
 """
 import argparse
 import csv
@@ -15,6 +16,7 @@ import sys
 from cover import KNOWN
 
 SUFFIX = re.compile(r"(.*)_([0-3])")
+OF_PORTS = {*KNOWN, "hart", "time", "cycle"}
 
 
 class Refused(Exception):
@@ -26,12 +28,11 @@ def fields_of(line):
 
 
 def names_in(line):
-    """The column and the port of each name of the header. One that the judge does not know has no
-    port."""
+    """The column and the port of each name of the header. One that is not of ports is of port 0."""
     for name in fields_of(line.removeprefix("\ufeff")):
         name = name.strip(" \t").removeprefix("rvfi_")
         found = SUFFIX.fullmatch(name)
-        yield (found[1], int(found[2])) if found and found[1] in KNOWN else (name, 0)
+        yield (found[1], int(found[2])) if found and found[1] in OF_PORTS else (name, 0)
 
 
 def quoted(field):

@@ -286,6 +286,39 @@ judge_lines() {
     judge_bench "$1"
 }
 
+# Two cores that wrote first.csv and second.csv, merged by their time: a name, and the hart of each row.
+judge_pair() {
+    for core in first second; do
+        expect "$1, the $core core" 'agrees 10' "$tests/rvfi/image.hex" "$folder/$core.csv"
+    done
+    python3 "$contrib/merge_rows.py" "$folder/first.csv" "$folder/second.csv" 2>"$folder/said" |
+        python3 "$contrib/port_rows.py" -o "$folder/pair.csv" 2>/dev/null
+    grep -q 'second.csv: .* of hart 1$' "$folder/said" || fail "$1: $(cat "$folder/said")"
+    found=$(awk -F , 'NR == 1 { for (i = 1; i <= NF; i++) if ($i == "hart") column = i }
+        NR > 1 { printf "%s", substr($column, 3) }' "$folder/pair.csv")
+    [ "$found" = "$2" ] || fail "$1: rows of the harts $found, wanted $2"
+}
+
+# The numbers of harts: a column more, and nothing else changes.
+test_hart_column() {
+    for case in '1 0 0' '2 1 5'; do
+        # shellcheck disable=SC2086  # the case's words
+        set -- $case
+        play_bench "$1" "$2"
+        cp "$folder/bench.csv" "$folder/rows.csv"
+        play_bench "$1" "$2" -Pbench.HART="$3" -Pbench.TIME=1
+        judge_bench "iverilog, hart $3"
+        awk -F , -v OFS= 'NR == 1 { for (i = 1; i <= NF; i++) if ($i ~ /^(hart|time)/) skip[i] = 1 }
+            { for (i = 1; i <= NF; i++) $i = i in skip ? "" : (i > 1 ? "," : "") $i; print }' \
+            "$folder/bench.csv" | cmp - "$folder/rows.csv" || fail "rvfi_csv.sv, hart $3: other rows"
+        [ "$(grep -c ",0x$3," "$folder/bench.csv")" -gt 4 ] || fail "rvfi_csv.sv: no row of hart $3"
+    done
+    iverilog -g2012 -DPAIR -s bench -o "$folder/bench" "$tests/rvfi/bench.sv" "$contrib/rvfi_csv.sv" \
+        2>/dev/null
+    (cd "$folder" && vvp -n bench >/dev/null 2>&1)
+    judge_pair 'iverilog, two cores' 00101010101010101011
+}
+
 test_iverilog() {
     for ports in 1 2 3; do
         play_bench $ports 0
@@ -300,6 +333,7 @@ test_iverilog() {
     vvp -n "$folder/all" "+rvfi_csv=$folder/all.csv" 2>/dev/null
     expect_columns 'rvfi_csv.sv with every column' "$folder/all.csv" 109
     test_unknown
+    test_hart_column
     for case in 'OPEN rvfi_valid is left open' 'UNKNOWN_VALID rvfi_valid is unknown'; do
         iverilog -g2012 -D"${case%% *}" -s bench -o "$folder/bench" \
             "$tests/rvfi/bench.sv" "$contrib/rvfi_csv.sv" 2>/dev/null
@@ -316,10 +350,12 @@ test_iverilog() {
         "$tests/rvfi/bench.sv" "$contrib/rvfi_csv.sv"
 }
 
-# The bench at so many ports, with one line for them or not.
+# The bench at so many ports, with one line for them or not, and with further words.
 play_bench() {
-    iverilog -g2012 -Pbench.NRET="$1" -Pbench.ONE_LINE="$2" -s bench -o "$folder/bench" \
-        "$tests/rvfi/bench.sv" "$contrib/rvfi_csv.sv" 2>"$folder/said" ||
+    ports_of_bench=$1 one_line=$2
+    shift 2
+    iverilog -g2012 -Pbench.NRET="$ports_of_bench" -Pbench.ONE_LINE="$one_line" "$@" -s bench \
+        -o "$folder/bench" "$tests/rvfi/bench.sv" "$contrib/rvfi_csv.sv" 2>"$folder/said" ||
         fail "iverilog: $(cat "$folder/said")"
     vvp -n "$folder/bench" "+rvfi_csv=$folder/bench.csv" 2>"$folder/said"
 }
@@ -365,6 +401,8 @@ test_verilator() {
         verilate_bench -GNRET=$ports -GONE_LINE=1
         judge_lines "verilator, one line for $ports ports"
     done
+    verilate_bench -GNRET=2 -GONE_LINE=1 -DPAIR
+    judge_pair 'verilator, two cores with a line for two ports' 00001100110011001111
     expect_fault 'rvfi_csv.sv with an XLEN of 32' 'XLEN is' verilator --lint-only --top-module all \
         -GXLEN=32 -Wno-PINMISSING -Wno-WIDTH "$tests/rvfi/all.sv" "$contrib/rvfi_csv.sv"
     expect_fault 'rvfi_csv.sv, one line for 5 ports' 'NRET is' verilator --lint-only \
