@@ -1,20 +1,20 @@
 #!/usr/bin/env python3
-"""Merges the traces of several cores, one of each, into one whose rows stand in the order of memory.
+"""Merges the traces of several cores, one of each, into one with the rows in the order of memory.
 
     merge_rows.py TRACE[=HART] TRACE[=HART] .. [-o FILE] [--by COLUMN]
 
-Rows are ordered by the column time, or cycle where there is no time, or the one that --by names. All
-traces must count it alike, and in each of them it never falls. It must be the time at which a row
-takes effect for the other harts: that of a store is when it becomes visible, and not when it
+Rows are ordered by the column time, or cycle where there is no time, or the one that --by names.
+All traces must count it alike, and in each of them it never falls. It must be the time at which a
+row takes effect for the other harts: that of a store is when it becomes visible, and not when it
 retires (docs/TRACES.md, "Several harts"). Rows of the same time stand in the order in which the
-traces are named: all those of the first, then those of the next. Rows of one trace keep their order.
+traces are named: all those of the first, then those of the next. Rows of a trace keep their order.
 
-Each trace has the rows of one hart. Its number is HART, or stands in the column hart, which is added
-where there is none. The traces must have the same columns in the same order. A line for several ports
-keeps its rows together. A row whose valid is 0 and that has no time stays behind the one before it.
-TRACE may be packed (.gz, .zst); - is standard input. One line of each trace is held, so that pipes
-from one simulation may wait for each other without end: merge files. Where a trace is refused what
-was written ends with a row that the judge refuses.
+Each trace has the rows of one hart. Its number is HART, or stands in the column hart, which is
+added where there is none. The traces must have the same columns in the same order. A line for
+several ports keeps its rows together. A row whose valid is 0 and that has no time stays behind the
+one before it. TRACE may be packed (.gz, .zst); - is standard input. One line of each trace is held.
+Merge files: pipes from one simulation may wait for each other without end. Where a trace is refused
+what was written ends with a row that the judge refuses.
 
 The judge does not know several harts yet: it passes over the column hart, and takes all rows for
 those of one hart.

@@ -3,10 +3,10 @@
 
     port_rows.py [TRACE] [-o FILE]
 
-The columns are those of all ports, without _0 to _3 after their names: those that the judge knows, and
-hart, time and cycle. Each line gives a row for each port, port 0 first, those that are not valid too:
-so rows keep the numbers that the judge gives them. A column that a port lacks is empty in its rows.
-Without TRACE, or with - for it, standard input is read.
+The columns are those of all ports, without _0 to _3 after their names: those that the judge knows,
+and hart, time and cycle. Each line gives a row for each port, port 0 first, those that are not
+valid too: so rows keep the numbers that the judge gives them. A column that a port lacks is empty
+in its rows. Without TRACE, or with - for it, standard input is read.
 """
 import argparse
 import csv

@@ -1,8 +1,8 @@
 #!/usr/bin/env python3
 """Tries what reads and writes rows of several harts: harts_test.py.
 
-The log of qemu is that of harts.s with two harts, stored. What is merged is made here, and cut out of
-the rows of that log.
+The log of qemu is that of harts.s with two harts, stored. What is merged is made here, and cut out
+of the rows of that log.
 """
 import gzip
 import subprocess
@@ -196,7 +196,8 @@ def faults_of_files(folder):
     refused("one hart twice", "hart 4 has two traces", run(MERGE, f"{first}=4", f"{second}=4"))
     refused("no header", "there is no header", run(MERGE, first, "-", text=""))
     refused("standard input twice", "for one trace alone", run(MERGE, "-", "-", text=""))
-    refused("a trace that is written over", "so it cannot be written", run(MERGE, first, "-o", first))
+    refused("a trace that is written over", "so it cannot be written",
+            run(MERGE, first, "-o", first))
     refused("a file that is not there", "none.csv", run(MERGE, first, folder / "none.csv"))
     first, other = files(folder, ["time,hart,insn 0,0,1", "time,hart,insn"])
     text = other.read_text() + "".join(f"7,1,{at ** 9}\n" for at in range(5000))

@@ -64,7 +64,8 @@ class Harts:
         is_done = row["rd_wdata"] == "0x0"
         self.stored, self.failed = self.stored + is_done, self.failed + (not is_done)
         if is_done != (self.reserved.pop(hart, None) is not None):
-            raise Wrong("an SC that was to fail stores" if is_done else "an SC that was to store fails")
+            wanted, found = ("fail", "stores") if is_done else ("store", "fails")
+            raise Wrong(f"an SC that was to {wanted} {found}")
 
     def write(self, hart, bytes_of, text):
         for place, at in enumerate(bytes_of):

@@ -164,7 +164,8 @@ test_qemu_harts() {
     for harts in 2 4; do
         sh "$tests/qemu/harts.sh" "$folder" $harts || fail "harts.s, $harts harts: no run in qemu"
         out=$folder/harts.csv
-        python3 "$contrib/qemu_log.py" --harts $harts "$folder/harts.log" -o "$out" 2>"$folder/said" ||
+        python3 "$contrib/qemu_log.py" --harts $harts "$folder/harts.log" -o "$out" \
+            2>"$folder/said" ||
             fail "qemu_log.py --harts $harts: $(cat "$folder/said")"
         found=$(python3 "$tests/memory_order.py" "$out")
         case $found in
@@ -286,7 +287,8 @@ judge_lines() {
     judge_bench "$1"
 }
 
-# Two cores that wrote first.csv and second.csv, merged by their time: a name, and the hart of each row.
+# Two cores that wrote first.csv and second.csv, merged by their time: a name, and the hart of each
+# row.
 judge_pair() {
     for core in first second; do
         expect "$1, the $core core" 'agrees 10' "$tests/rvfi/image.hex" "$folder/$core.csv"
@@ -310,11 +312,12 @@ test_hart_column() {
         judge_bench "iverilog, hart $3"
         awk -F , -v OFS= 'NR == 1 { for (i = 1; i <= NF; i++) if ($i ~ /^(hart|time)/) skip[i] = 1 }
             { for (i = 1; i <= NF; i++) $i = i in skip ? "" : (i > 1 ? "," : "") $i; print }' \
-            "$folder/bench.csv" | cmp - "$folder/rows.csv" || fail "rvfi_csv.sv, hart $3: other rows"
+            "$folder/bench.csv" | cmp - "$folder/rows.csv" ||
+            fail "rvfi_csv.sv, hart $3: other rows"
         [ "$(grep -c ",0x$3," "$folder/bench.csv")" -gt 4 ] || fail "rvfi_csv.sv: no row of hart $3"
     done
-    iverilog -g2012 -DPAIR -s bench -o "$folder/bench" "$tests/rvfi/bench.sv" "$contrib/rvfi_csv.sv" \
-        2>/dev/null
+    iverilog -g2012 -DPAIR -s bench -o "$folder/bench" \
+        "$tests/rvfi/bench.sv" "$contrib/rvfi_csv.sv" 2>/dev/null
     (cd "$folder" && vvp -n bench >/dev/null 2>&1)
     judge_pair 'iverilog, two cores' 00101010101010101011
 }

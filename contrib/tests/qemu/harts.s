@@ -1,8 +1,9 @@
-# Harts that count under one lock: HARTS of them, ROUNDS times each, in RV64IMA. A hart that waits in
-# WFI with its own software interrupt pending goes on in its next turn, and the others run before it:
-# so harts change between LR and SC, and inside the lock. The lock's word is odd where it is taken, and
-# only ever rises: qemu's SC asks for the value that LR read, and here that tells what the judge asks,
-# whether another hart wrote. The first hart waits for all, loads the count to a0 and ends the run.
+# Harts that count under one lock: HARTS of them, ROUNDS times each, in RV64IMA. A hart that waits
+# in WFI with its own software interrupt pending goes on in its next turn, and the others run before
+# it: so harts change between LR and SC, and inside the lock. The lock's word is odd where it is
+# taken, and only ever rises: qemu's SC asks for the value that LR read, and here that tells what SC
+# is to ask, whether another hart wrote. The first hart waits for all, loads the count to a0 and
+# ends the run.
         .option norvc
         .equ    ROUNDS, 3
         .section .init

@@ -7,7 +7,8 @@ here=$(cd "$(dirname "$0")" && pwd)
 harts=$2
 cd "$1"
 riscv64-unknown-elf-as -march=rv64ima_zicsr --defsym HARTS="$harts" -o harts.o "$here/harts.s"
-riscv64-unknown-elf-ld -n --no-warn-rwx-segments --section-start=.init=0x80000000 -o harts.elf harts.o
+riscv64-unknown-elf-ld -n --no-warn-rwx-segments --section-start=.init=0x80000000 \
+    -o harts.elf harts.o
 starts='-device loader,file=harts.elf,cpu-num=0' hart=1
 while [ "$hart" -lt "$harts" ]; do
     starts="$starts -device loader,addr=0x80000000,cpu-num=$hart" hart=$((hart + 1))
