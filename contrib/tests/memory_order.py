@@ -1,7 +1,7 @@
 #!/usr/bin/env python3
 """Holds the rows of several harts to one memory, in the order in which they stand.
 
-Each row of a hart is at the address to which its row before led. Each read has the bytes that the
+Each row of a hart is at the address to which its row before led, or begins a handler. Each read has the bytes that the
 rows before it wrote last. An SC stores where no other hart wrote into its block since the LR, and
 nowhere else. Tells how many rows, harts and turns there are, and what SCs there were.
 
@@ -33,7 +33,7 @@ class Harts:
         self.turns += hart != self.last
         self.last = hart
         pc = int(row["pc_rdata"], 0)
-        if self.next.get(hart, pc) != pc:
+        if self.next.get(hart, pc) != pc and row["intr"] != "0x1":
             raise Wrong(f"at 0x{pc:x}, and the hart's row before led to 0x{self.next[hart]:x}")
         if row["pc_wdata"] and row["trap"] != "0x1":
             self.next[hart] = int(row["pc_wdata"], 0)

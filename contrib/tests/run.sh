@@ -179,6 +179,24 @@ test_qemu_harts() {
     python3 "$contrib/qemu_log.py" "$folder/harts.log" -o "$out" 2>/dev/null || fail 'qemu_log.py'
     expect 'harts.s, one hart' "agrees $(($(wc -l <"$out") - 1))" "$folder/harts.elf" "$out" \
         --io 0x100000:0xff01000
+    test_qemu_interrupts
+}
+
+# A hart that interrupts another: they share no memory, so that the rows of each agree alone.
+test_qemu_interrupts() {
+    sh "$tests/qemu/harts.sh" "$folder" 2 interrupts.s || fail 'interrupts.s: no run in qemu'
+    python3 "$contrib/qemu_log.py" --harts 2 "$folder/harts.log" -o "$out" 2>/dev/null ||
+        fail 'qemu_log.py: interrupts.s'
+    python3 "$tests/memory_order.py" "$out" >"$folder/said" 2>&1 ||
+        fail "interrupts.s: $(cat "$folder/said")"
+    [ "$(grep -c '^0x1,0x1,' "$out")" -eq 6 ] || fail 'interrupts.s: other than 6 interrupts'
+    for hart in 0 1; do
+        grep -e '^hart,' -e "^0x$hart," "$out" >"$folder/alone.csv"
+        rows=$(($(wc -l <"$folder/alone.csv") - 1))
+        [ "$rows" -gt 40 ] || fail "interrupts.s: $rows rows of hart $hart"
+        expect "interrupts.s, hart $hart" "agrees $rows" "$folder/harts.elf" "$folder/alone.csv" \
+            --io 0x100000:0xff01000
+    done
 }
 
 # What qemu chose otherwise than the judge does by default, under the options that qemu_log.py names.

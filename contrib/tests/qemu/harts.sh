@@ -1,12 +1,12 @@
 #!/bin/sh
-# Builds harts.s for so many harts, runs it in qemu, one hart at a time, and leaves harts.elf and
-# harts.log in FOLDER: harts.sh FOLDER HARTS. With Debian's binutils-riscv64-unknown-elf and
-# qemu-system-misc.
+# Builds harts.s, or another SOURCE, for so many harts, runs it in qemu, one hart at a time, and leaves
+# harts.elf and harts.log in FOLDER: harts.sh FOLDER HARTS [SOURCE]. With Debian's
+# binutils-riscv64-unknown-elf and qemu-system-misc.
 set -eu
 here=$(cd "$(dirname "$0")" && pwd)
 harts=$2
 cd "$1"
-riscv64-unknown-elf-as -march=rv64ima_zicsr --defsym HARTS="$harts" -o harts.o "$here/harts.s"
+riscv64-unknown-elf-as -march=rv64ima_zicsr --defsym HARTS="$harts" -o harts.o "$here/${3:-harts.s}"
 riscv64-unknown-elf-ld -n --no-warn-rwx-segments --section-start=.init=0x80000000 \
     -o harts.elf harts.o
 starts='-device loader,file=harts.elf,cpu-num=0' hart=1
