@@ -31,7 +31,7 @@ from contextlib import suppress
 
 UNPACK = {".gz": ["gzip", "-dc"], ".zst": ["zstd", "-dcq"]}
 INSN = re.compile(r"insn(|_[0-3])")
-NUMBER = re.compile(r"[ \t]*(0[xX][0-9a-fA-F]+|[0-9]+)[ \t]*", re.ASCII)
+NUMBER = re.compile(r"[ \t]*(0[xX][0-9a-fA-F]{1,40}|[0-9]{1,40})[ \t]*", re.ASCII)
 SAME_PORT = {"": "_0", "_0": ""}
 NOT_YET = "the judge does not know several harts yet, and passes over the column hart"
 
@@ -43,12 +43,15 @@ class Refused(Exception):
 def number(text):
     found = NUMBER.fullmatch(text)
     if found is None:
-        raise Refused(f"{text!r} is no number")
+        raise Refused(f"{text[:60]!r} is no number")
     return int(found[1], 16 if found[1][:2] in ("0x", "0X") else 10)
 
 
 def fields_of(line):
-    return next(csv.reader([line])) if '"' in line else line.split(",")
+    try:
+        return next(csv.reader([line])) if '"' in line else line.split(",")
+    except csv.Error as fault:
+        raise Refused(str(fault)) from None
 
 
 def lines_of(path):
