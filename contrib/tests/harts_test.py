@@ -120,6 +120,13 @@ def merged_again(folder, out):
     check("merged by the harts that are named", ran.stdout == whole.read_text(), ran.stderr)
 
 
+def documented():
+    """The example of the documents."""
+    examples = TESTS / "examples"
+    ran = run(MERGE, f"{examples}/hart0.csv=0", f"{examples}/hart1.csv=1")
+    check("harts.csv", ran.stdout == (examples / "harts.csv").read_text(), ran.stderr)
+
+
 def files(folder, texts):
     """A file of each text, in which blanks end the lines."""
     paths = [folder / f"{name}.csv" for name in "abc"[:len(texts)]]
@@ -224,6 +231,7 @@ def main():
         faults_of_logs(log)
         rows_that_wait(log)
         values_at_start(log)
+        documented()
         merged_again(folder, out)
         merged(folder)
         faults_of_files(folder)
