@@ -1,9 +1,9 @@
 #!/usr/bin/env python3
 """Holds the rows of several harts to one memory, in the order in which they stand.
 
-Each row of a hart is at the address to which its row before led, or begins a handler. Each read has the bytes that the
-rows before it wrote last. An SC stores where no other hart wrote into its block since the LR, and
-nowhere else. Tells how many rows, harts and turns there are, and what SCs there were.
+Each row of a hart is at the address to which its row before led, or begins a handler. Each read
+has the bytes that the rows before it wrote last. An SC stores where no other hart wrote into its
+block since the LR, and nowhere else. Tells how many rows, harts and turns there are, and what SCs.
 
     memory_order.py TRACE
 """

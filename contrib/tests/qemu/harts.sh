@@ -1,6 +1,6 @@
 #!/bin/sh
-# Builds harts.s, or another SOURCE, for so many harts, runs it in qemu, one hart at a time, and leaves
-# harts.elf and harts.log in FOLDER: harts.sh FOLDER HARTS [SOURCE]. With Debian's
+# Builds harts.s, or another SOURCE, for so many harts, runs it in qemu, one hart at a time, and
+# leaves harts.elf and harts.log in FOLDER: harts.sh FOLDER HARTS [SOURCE]. With Debian's
 # binutils-riscv64-unknown-elf and qemu-system-misc.
 set -eu
 here=$(cd "$(dirname "$0")" && pwd)

@@ -1,6 +1,6 @@
 # Hart 0 interrupts hart 1, ROUNDS times, and waits a turn each time: in WFI, with its own software
-# interrupt pending and not enabled. Hart 1 waits in WFI for each interrupt. They share no memory but
-# that of the device, so that the rows of each are a trace of one hart too.
+# interrupt pending and not enabled. Hart 1 waits in WFI for each interrupt. They share a device and
+# no memory, so that the rows of each are a trace of one hart too.
         .option norvc
         .equ    ROUNDS, 6
         .section .init
