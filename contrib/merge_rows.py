@@ -11,7 +11,7 @@ traces are named: all those of the first, then those of the next. Rows of a trac
 
 Each trace has the rows of one hart. Its number is HART, or stands in the column hart, which is
 added where there is none. The traces must have the same columns in the same order. A line for
-several ports keeps its rows together. A row whose valid is 0 and that has no time stays behind the
+several ports keeps its rows together. A row whose valid is 0 and that has no time stays after the
 one before it. TRACE may be packed (.gz, .zst); - is standard input. One line of each trace is held.
 Merge files: pipes from one simulation may wait for each other without end. Where a trace is refused
 what was written ends with a row that the judge refuses.

@@ -87,7 +87,7 @@ def rows_that_wait(log):
     converter = qemu_log.Converter(START, {}, 2, rows.append)
     qemu_log.Reader(converter).take(one)
     begun = one.count("Trace ") - one.count("Stopped execution")
-    check("rows behind a WFI", len(rows) == begun - 1 and not converter.harts[0].held, len(rows))
+    check("rows after a WFI", len(rows) == begun - 1 and not converter.harts[0].held, len(rows))
 
 
 def values_at_start(log):

@@ -17,7 +17,7 @@ use std::test::Fail;
 /// LR.D x12, (x13), at `CODE`.
 const LR: u64 = 0x1006_b62f;
 
-/// SD x11, 0(x10), behind it.
+/// SD x11, 0(x10), after it.
 const SD: u64 = 0x00b5_3023;
 
 const HEADER: &[u8] = b"insn,pc_rdata,mem_addr,mem_wmask,mem_wdata";
