@@ -168,7 +168,8 @@ class Count:
 
 def refuse_each(program, library, words, usual, count):
     """Refuses each call of a run in turn, alone and with all later ones."""
-    files = 0 if words[0] == "make" else 2
+    # an image that is refused is the only file that is opened
+    files = 0 if words[0] == "make" else 1 if usual[0] == 3 else 2
     for later in (False, True):
         call, was_made, not_read = 0, True, 0
         while was_made:
