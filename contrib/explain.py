@@ -6,14 +6,16 @@
 Runs the judge, prints its line, and where that is a difference: the last rows with address,
 disassembly, function and source line; the signal with both values and the bits that differ; the
 operands with the rows that last wrote them; the access to memory, why the hart traps there, and
-the row that last stored there; the registers. TRACE may be packed (.gz, .zst). Functions and lines
+the rows that last stored there; the registers. TRACE may be packed (.gz, .zst). Functions and lines
 need --elf, or an IMAGE that is an ELF file, and python3-pyelftools, disassembly a riscv objdump
 (binutils-riscv64-unknown-elf). OPTIONs are those of the judge; what traps is told by --misaligned,
---ad and --bits too.
+--ad and --bits too. With --harts the registers are those of the row's hart.
 
-What is not shown in the trace is not known here: it is said so. The trace is read once for the
-rows, and once more for each doubleword of memory that is looked for; no more than the last rows
-are held. The status is the judge's, or 70 where it gave no verdict.
+Which rows wrote the operands of the differing row is what the judge says with --origin. Where it
+does not know this word, or says nothing of a row, they are searched in the trace. What is not
+shown in the trace is not known here: it is said so. The trace is read once for the rows, and once
+more for each doubleword of memory that is looked for; no more than the last rows are held. The
+status is the judge's, or 70 where it gave no verdict.
 """
 import argparse
 import csv
@@ -37,6 +39,7 @@ UNPACK = {".gz": ["gzip", "-dc"], ".zst": ["zstd", "-dcq"]}
 ABI = ("zero ra sp gp tp t0 t1 t2 s0 s1 a0 a1 a2 a3 a4 a5 a6 a7 s2 s3 s4 s5 s6 s7 s8 s9 s10 s11 "
        "t3 t4 t5 t6").split()
 DIFFERS = re.compile(r"differs row (\d+): (\w+) expected (\S+) found (\S+)")
+ORIGIN = re.compile(r"origin (?:x(\d+)|byte (0x[0-9a-f]{16})) (?:row (\d+)|reset|image)")
 DEBIAN = "/usr/lib/python3/dist-packages"
 MASK = (1 << 64) - 1
 SATP = 0x180
@@ -45,7 +48,7 @@ WITH_AMOUNT = ("slli.uw", "rori", "roriw", "bclri", "bexti", "binvi", "bseti")
 READ = {
     "valid", "insn", "pc_rdata", "trap", "mode", "rs1_addr", "rs1_rdata", "rs2_addr", "rs2_rdata",
     "rd_wdata", "mem_addr", "mem_wdata", "mem_paddr", "csr_satp_wdata", "csr_mstatus_rdata", "time",
-    "cycle",
+    "cycle", "hart",
 }
 MEANING = {
     "valid": "a valid row after one that showed halt", "order": "the row's number",
@@ -207,6 +210,8 @@ def opened(path):
 class Row(NamedTuple):
     number: int
     line: int  # of the file
+    hart: int
+    before: int  # the number of its hart's row before it, 0 where there is none
     shown: dict  # from signal to number
     state: dict  # of the registers before it, each (value or None, the row that wrote it)
     satp: tuple  # (value or None, the row)
@@ -234,10 +239,21 @@ def lines_of(file):
             yield at, text
 
 
+class Hart:
+    """What the rows of a hart lead to: its registers, satp, and the number of its last row."""
+
+    def __init__(self, start):
+        self.state = {it: (start.get(f"x{it}", 0), 0) for it in range(32)}
+        self.satp = (start.get("csr_satp", 0), 0)
+        self.last = 0
+
+    def take(self, row):
+        self.state, self.satp, self.last = state_after(row), satp_after(row), row.number
+
+
 def rows_of(words, last):
-    """The rows from the first to number last, each with the registers before it."""
-    state = {it: (words.start.get(f"x{it}", 0), 0) for it in range(32)}
-    satp = (words.start.get("csr_satp", 0), 0)
+    """The rows from the first to number last, each with its hart's registers before it."""
+    harts = {it: Hart(start) for it, start in enumerate(words.start)}
     with opened(words.trace) as file:
         lines = lines_of(file)
         names = [it.strip(" \t").removeprefix("rvfi_") for it in fields_of(next(lines)[1])]
@@ -247,9 +263,11 @@ def rows_of(words, last):
             shown = {name: number(it) for column, name in columns
                      if (it := fields[column].strip(" \t"))}
             if shown.get("valid", 1) == 1 and "insn" in shown and "pc_rdata" in shown:
-                row = Row(count, at, shown, state, satp)
+                whose = shown.get("hart", 0) if words.harts > 1 else 0
+                hart = harts.setdefault(whose, Hart({}))
+                row = Row(count, at, whose, hart.last, shown, hart.state, hart.satp)
                 yield row
-                state, satp = state_after(row), satp_after(row)
+                hart.take(row)
             if count == last:
                 return
 
@@ -316,15 +334,14 @@ class Stored(NamedTuple):
     """Bytes of memory as the trace and the image have them."""
 
     value: int | None
-    row: int  # that stored last there; 0: the image
-    bytes: int  # how many of them it stored
+    rows: list  # that stored each byte last; 0: the image
     text: str
 
 
 def memory_at(words, address, size, before):
     """What stands at a physical address before a row: the image, and the stores of the rows."""
     memory = bytes_at(words.image, address, size)
-    known, last, count, hidden = list(memory), 0, size, 0
+    known, rows, hidden = list(memory), [0] * size, 0
     for row in rows_of(words, before - 1):
         stored = store_of(row)
         if stored is None:
@@ -333,15 +350,33 @@ def memory_at(words, address, size, before):
         if start is None:
             hidden += 1
             continue
-        touched = [it for it in range(size) if 0 <= address + it - start < length]
-        for it in touched:
-            shift = 8 * (address + it - start)
-            known[it] = None if data is None else data >> shift & 255
-        if touched:
-            last, count = row.number, len(touched)
+        for it in range(size):
+            if 0 <= (shift := address + it - start) < length:
+                known[it] = None if data is None else data >> 8 * shift & 255
+                rows[it] = row.number
     value = None if None in known else sum(it << 8 * at for at, it in enumerate(known))
     text = f"{hidden} stores do not show where they went" if hidden else ""
-    return Stored(value, last, count, text)
+    return Stored(value, rows, text)
+
+
+class Origins(NamedTuple):
+    """The rows that last wrote what the differing row read, as the judge says; 0: none did."""
+
+    registers: dict
+    bytes: dict  # by physical address
+
+
+def origins_in(lines):
+    """What the judge's lines of --origin say, or None where there is none."""
+    found = Origins({}, {})
+    for line in lines:
+        if (it := ORIGIN.fullmatch(line)) is None:
+            raise Refused(f"the judge printed {line[:60]!r}")
+        if it[1]:
+            found.registers[int(it[1])] = int(it[3] or 0)
+        else:
+            found.bytes[int(it[2], 16)] = int(it[3] or 0)
+    return found if lines else None
 
 
 # ---- names of places
@@ -423,9 +458,10 @@ class Places:
         line = ran.stdout.rstrip().split("\n")[-1].split("\t")
         return re.sub(r"\s*<.*?>|# .*", "", " ".join(line[2:])).strip() if len(line) > 2 else ""
 
-    def row(self, row, mark=" "):
+    def row(self, row, mark=" ", has_harts=False):
         bits = f"{row.bits:08x}" if row.bits & 3 == 3 else f"    {row.bits & 0xffff:04x}"
-        text = f"{mark} row {row.number:<6} 0x{row.pc:016x}  {bits}  "
+        hart = f"hart {row.hart}  " if has_harts else ""
+        text = f"{mark} row {row.number:<6} {hart}0x{row.pc:016x}  {bits}  "
         return f"{text}{self.disassembly(row.pc, row.bits):<28} {self.name(row.pc)}".rstrip()
 
 
@@ -446,12 +482,12 @@ def bit_manipulation_text(bits):
 class Explanation:
     """The parts of an explanation, in order: a title and lines each."""
 
-    def __init__(self, words, places, found, rows):
+    def __init__(self, words, places, found, rows, origins):
         self.words, self.places, self.parts = words, places, []
         self.signal, self.expected, self.found = found[2], number(found[3]), number(found[4])
-        self.row, self.rows = rows[-1], rows
-        self.by_number = {}
-        self.add("the last rows", [places.row(it, ">" if it is self.row else " ") for it in rows]
+        self.row, self.rows, self.origins = rows[-1], rows, origins
+        self.by_number = {it.number: it for it in rows}
+        self.add("the last rows", [self.line(it, ">" if it is self.row else " ") for it in rows]
                  + places.said)
         self.tell_signal()
         self.tell_instruction()
@@ -463,6 +499,9 @@ class Explanation:
     def add(self, title, lines):
         if lines:
             self.parts.append((title, lines))
+
+    def line(self, row, mark=" "):
+        return self.places.row(row, mark, self.words.harts > 1)
 
     def tell_signal(self):
         differing = self.expected ^ self.found
@@ -492,14 +531,21 @@ class Explanation:
 
     def tell_operands(self):
         lines = []
-        for name, register in zip(("rs1", "rs2"), registers_of(self.row.bits)):
+        shown = registers_of(self.row.bits)[:2]
+        for name, register in zip(("rs1", "rs2"), shown):
             if register:
                 lines.append(f"{name} {self.register(self.row, register, name)}")
+        for register in self.origins.registers if self.origins else ():
+            if register not in shown:
+                text = self.register(self.row, register)
+                lines.append(f"read by the instruction in memory: {text}")
         self.add("operands", lines)
 
     def register(self, row, register, name=None):
         """A register's value and where it was written."""
         value, writer = operand(row, register, name), row.state[register][1]
+        if self.origins and row is self.row:
+            writer = self.origins.registers.get(register, writer)
         shown = "not shown" if value is None else f"0x{value:016x}"
         text = f"{ABI[register]} (x{register}) = {shown}"
         if writer:
@@ -507,20 +553,25 @@ class Explanation:
         is_saved = self.words.start
         return f"{text}, {'as the saved state has it' if is_saved else 'never written before'}"
 
-    def written_in(self, count):
-        near = next((it for it in self.rows if it.number == count), None)
-        row = near or self.by_number.get(count)
-        if row is None:
-            row = self.by_number[count] = next(
+    def numbered(self, count):
+        """The row with a number."""
+        if count not in self.by_number:
+            self.by_number[count] = next(
                 it for it in rows_of(self.words, count) if it.number == count)
-        return f"written in row {count} at 0x{row.pc:x}: " \
+        return self.by_number[count]
+
+    def written_in(self, count):
+        row = self.numbered(count)
+        hart = f" of hart {row.hart}" if self.words.harts > 1 else ""
+        return f"written in row {count}{hart} at 0x{row.pc:x}: " \
                f"{self.places.disassembly(row.pc, row.bits) or hex(row.bits)}"
 
     def tell_path(self):
-        """Where the row is at another address or in another mode, the row before is looked at."""
-        if self.signal in ("pc_rdata", "mode", "intr", "order") and len(self.rows) > 1:
-            before = self.rows[-2]
-            self.add("the row before decides where the hart goes on", [self.places.row(before)])
+        """Where the row is at another address or in another mode, its hart's row before is looked
+        at."""
+        if self.signal in ("pc_rdata", "mode", "intr", "order") and self.row.before:
+            before = self.numbered(self.row.before)
+            self.add("the row before decides where the hart goes on", [self.line(before)])
             self.tell_access(before)
 
     def tell_access(self, row):
@@ -535,18 +586,42 @@ class Explanation:
             return
         lines = [f"address  0x{address:016x} = {ABI[access.base]} + {access.offset}"]
         physical = self.tell_place(row, access, address, lines)
+        is_loaded = access.kind not in ("store", "store-conditional")
         if physical is not None and access.kind != "store":
             stored = memory_at(self.words, physical, access.size, row.number)
+            if row is self.row and is_loaded:
+                stored = self.by_origin(stored, physical)
             value = "not known" if stored.value is None else f"0x{stored.value:0{2 * access.size}x}"
-            lines.append(f"memory   {value}, {self.stored_by(stored, access.size)}")
+            lines.append(f"memory   {value}, {self.stored_by(stored)}")
+        elif row is self.row and self.origins:
+            for address, count in self.origins.bytes.items():
+                where = self.written_in(count) if count else "as the image has it"
+                lines.append(f"memory   the byte at 0x{address:x} is {where}")
         self.add(f"access: {name}", lines)
 
-    def stored_by(self, stored, size):
-        if not stored.row:
-            where = "as the image has it, no row stored there"
-        else:
-            part = "" if stored.bytes == size else f"{stored.bytes} of its {size} bytes "
-            where = part + self.written_in(stored.row)
+    def by_origin(self, stored, physical):
+        """The same with the rows that the judge names."""
+        if not self.origins:
+            return stored
+        rows = [self.origins.bytes.get(physical + at, it) for at, it in enumerate(stored.rows)]
+        return stored._replace(rows=rows)
+
+    def stored_by(self, stored):
+        """Which rows stored bytes last, each run of bytes with its row."""
+        runs = []
+        for at, count in enumerate(stored.rows):
+            if runs and runs[-1][2] == count:
+                runs[-1][1] = at
+            else:
+                runs.append([at, at, count])
+        texts = []
+        for first, last, count in runs:
+            many = f"byte {first}" if first == last else f"bytes {first} to {last}"
+            where = self.written_in(count) if count else "as the image has it"
+            texts.append(where if len(runs) == 1 else f"{many} {where}")
+        if not any(stored.rows):
+            texts.append("no row stored there")
+        where = ", ".join(texts)
         return f"{where}; {stored.text}" if stored.text else where
 
     def tell_place(self, row, access, address, lines):
@@ -599,7 +674,7 @@ class Explanation:
             entry = stored.value
             flags = "".join(name if entry >> it & 1 else "-" for it, name in enumerate("VRWXUGAD"))
             lines.append(f"level {level}  entry at 0x{at:x} is 0x{entry:016x} {flags}, "
-                         f"{self.stored_by(stored, 8)}")
+                         f"{self.stored_by(stored)}")
             if fault := entry_fault(entry, level, row, access, self.words.ad == "set"):
                 lines.append(f"traps    {fault} (cause {cause})")
                 return None
@@ -681,16 +756,26 @@ def write_marker(wave, row):
 
 
 def judged(words):
-    """The judge's status and line."""
+    """The judge's status and lines, with --origin where it knows this word."""
+    for more in ([] if "--origin" in words.options else ["--origin"]), []:
+        status, said, told = run_judge(words, more)
+        if (status, said) != (2, "refused words") or not more:
+            break
+    if not 0 <= status <= 6:
+        raise Refused(f"the judge ended with status {status}: {told}")
+    return status, (said or told).split("\n")
+
+
+def run_judge(words, more):
+    """The judge's status, and what it printed and told."""
     with opened(words.trace) as source:
         is_packed = words.trace.endswith(tuple(UNPACK))
         trace = "/dev/stdin" if is_packed else words.trace
-        ran = subprocess.run([words.program, "judge", words.image, trace, *words.options],
-                             stdin=source if is_packed else subprocess.DEVNULL,
-                             stdout=subprocess.PIPE, stderr=subprocess.PIPE, text=True)
-    if not 0 <= ran.returncode <= 6:
-        raise Refused(f"the judge ended with status {ran.returncode}: {ran.stderr.strip()}")
-    return ran.returncode, ran.stdout.strip() or ran.stderr.strip()
+        ran = subprocess.run(
+            [words.program, "judge", words.image, trace, *words.options, *more],
+            stdin=source if is_packed else subprocess.DEVNULL,
+            stdout=subprocess.PIPE, stderr=subprocess.PIPE, text=True)
+    return ran.returncode, ran.stdout.strip(), ran.stderr.strip()
 
 
 def value_of(options, name):
@@ -728,6 +813,7 @@ def arguments(given):
     words.io = span(words.options, "io", None)
     for name, default in (("misaligned", "trap"), ("ad", "fault"), ("bits", "off")):
         setattr(words, name, value_of(words.options, name) or default)
+    words.harts = number(value_of(words.options, "harts") or "1")
     return words
 
 
@@ -738,16 +824,17 @@ def elf_of(image):
 
 
 def explain(words):
-    status, line = judged(words)
+    status, (line, *more) = judged(words)
     found = DIFFERS.fullmatch(line)
     if found is None:
-        print(line)
+        print("\n".join([line, *more]))
         return status
     words.start = registers_at(words.image)
     rows = deque(rows_of(words, int(found[1])), max(1, words.rows))
     if not rows or rows[-1].number != int(found[1]):
         raise Refused(f"row {found[1]} was not found in {words.trace}")
-    parts = Explanation(words, Places(words.elf or elf_of(words.image)), found, list(rows)).parts
+    places = Places(words.elf or elf_of(words.image))
+    parts = Explanation(words, places, found, list(rows), origins_in(more)).parts
     print(as_text(line, parts), end="")
     if words.html:
         Path(words.html).write_text(as_page(line, parts, words), encoding="utf-8")

@@ -8,19 +8,21 @@ BLOCK = 16  # bytes of a line of a saved state
 
 
 def registers_at(path):
-    """The registers of a saved state by the names of its lines; none of another image, as all are 0
-    at reset."""
-    found = {}
+    """The registers of each hart of a saved state by the names of its lines; none of another image, as
+    all are 0 at reset."""
+    harts = []
     with open(path, "rb") as file:
         if file.read(len(SAVED)) != SAVED:
-            return found
+            return harts
         for line in file:
             name, _, value = line.decode("latin-1").partition(" ")
             if name[0] == "@":
                 break
-            if re.fullmatch("x[0-9]+|csr_satp", name):
-                found[name] = int(value, 16)
-    return found
+            if name == "pc":
+                harts.append({})
+            elif re.fullmatch("x[0-9]+|csr_satp", name):
+                harts[-1][name] = int(value, 16)
+    return harts
 
 
 def bytes_at(path, address, size):

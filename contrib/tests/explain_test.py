@@ -1,6 +1,8 @@
 #!/usr/bin/env python3
 """Holds explain.py to stored texts: explain_test.py PROGRAM, the judge. With UPDATE in the
 environment it writes them anew. Each case alters the trace or the image of explain/ in one place.
+Where the judge does not know --origin or --harts yet, the interpreter of benchmarks/ stands for one
+that does.
 """
 import gzip
 import os
@@ -15,6 +17,7 @@ EXPLAIN = TESTS.parent / "explain.py"
 sys.path.insert(0, str(TESTS.parent))
 from qemu_log import image_bytes  # noqa: E402  # found by the line before
 from small_elf import small_elf  # noqa: E402
+INTERPRETER = TESTS.parents[1] / "benchmarks/interpreter/judge.py"
 IO = ["--io", "0x10000000:0x1000"]
 # By the stored text: the fields that are altered, by row and column; the bytes of the image; the
 # judge's options.
@@ -146,11 +149,81 @@ def try_state(program, folder):
             assert line in said, f"{line} is not in {said}"
 
 
+def knowing(program, folder, *words):
+    """The judge, or what stands for it where it does not know a word."""
+    image, trace = (TESTS / f"examples/add.{it}" for it in ("hex", "csv"))
+    ran = subprocess.run([program, "judge", image, trace, *words], capture_output=True, check=False)
+    if ran.returncode != 2:
+        return program
+    return stand_in(folder / "interpreter", f"exec '{sys.executable}' '{INTERPRETER}' \"$@\"")
+
+
+def stand_in(path, command):
+    """A judge that is a command of the shell."""
+    path.write_text(f"#!/bin/sh\n{command}\n")
+    path.chmod(0o755)
+    return str(path)
+
+
+def try_origin(program, folder):
+    """What the judge says with --origin stands in the place of what is searched; a judge that does
+    not know the word is asked without it."""
+    knows = knowing(program, folder, "--origin")
+    old = stand_in(folder / "old", f"""case "$*" in *--origin*) echo refused words; exit 2 ;; esac
+exec '{program}' "$@\"""")
+    for name in CASES:
+        for judge in (knows, old):
+            try_case(name, judge, folder)
+    # A load that traps, where trap is not shown: a row that writes nothing.
+    # auipc t0,0; addi t0,t0,32; csrw mtvec,t0; lw a0,1(zero); and at mtvec c.mv a1,a0
+    image = "@80000000 97 02 00 00 93 82 02 02 73 90 52 30 03 25 10 00\n@80000020 aa 85\n"
+    trace = ("insn,pc_rdata,rd_wdata\n0x297,0x80000000,\n0x2028293,0x80000004,\n"
+             "0x30529073,0x80000008,\n0x102503,0x8000000c,7\n0x85aa,0x80000020,7\n")
+    for judge, wanted in ((knows, "(x10) = 0x0000000000000007, never written before"),
+                          (old, "(x10) = 0x0000000000000007, written in row 4")):
+        said, _ = explained(judge, folder, image, trace, [])
+        assert said.startswith("differs row 5: rd_wdata") and wanted in said, said
+    bad = stand_in(folder / "bad", f"'{program}' judge \"$2\" \"$3\"; echo origin of it; exit 1")
+    ran = subprocess.run([sys.executable, EXPLAIN, "image.hex", "run.csv", "-p", bad], cwd=folder,
+                         capture_output=True, text=True, check=False)
+    assert ran.returncode == 70 and "the judge printed 'origin of it'" in ran.stderr, ran
+
+
+def try_bytes(program, folder):
+    """A word whose bytes come from the image and from a store."""
+    image, trace = ((TESTS / f"examples/lanes.{it}").read_text() for it in ("hex", "csv"))
+    for judge in (program, knowing(program, folder, "--origin")):
+        said, _ = explained(judge, folder, image, trace, [])
+        assert "memory   0xfe000000, bytes 0 to 2 as the image has it, byte 3 written in row 3 " \
+            "at 0x80000008: sb t1,3(t0)\n" in said, said
+
+
+def try_harts(program, folder):
+    """Each hart has its registers, and memory is that of all."""
+    judge = knowing(program, folder, "--harts", "2")
+    image, trace = ((TESTS / f"examples/harts.{it}").read_text() for it in ("hex", "csv"))
+    said, _ = explained(judge, folder, image, trace.replace(",7,7,80", ",7,6,80"), ["--harts", "2"])
+    for line in (
+            "differs row 10: rd_wdata expected 0x0000000000000007 found 0x0000000000000006",
+            "      row 9      hart 0  0x000000008000001c  0072a023  sw t2,0(t0)",
+            "    rs1 t0 (x5) = 0x0000000080001000, written in row 2 of hart 1 at 0x80000000: "
+            "auipc t0,0x1",
+            "    memory   0x00000007, written in row 9 of hart 0 at 0x8000001c: sw t2,0(t0)"):
+        assert line in said, f"{line} is not in {said}"
+    assert "t1 0000000000000001    t2 0000000000000000" in said, said
+    # The row before that decides is one of the same hart.
+    said, _ = explained(judge, folder, image, trace.replace("0x0,0x00700393,0x80000018",
+                                                            "0x0,0x00700393,0x8000000c"),
+                        ["--harts=2"])
+    assert "goes on\n      row 5      hart 0  0x0000000080000008  00030863  beqz" in said, said
+
+
 def main():
     program, failed = str(Path(sys.argv[1]).resolve()), 0
     with tempfile.TemporaryDirectory() as folder:
         for name, test in [*((it, try_case) for it in CASES), ("forms", try_forms),
-                           ("choices", try_choices), ("elf", try_elf), ("state", try_state)]:
+                           ("choices", try_choices), ("elf", try_elf), ("state", try_state),
+                           ("origin", try_origin), ("bytes", try_bytes), ("harts", try_harts)]:
             try:
                 if name in CASES:
                     test(name, program, Path(folder))

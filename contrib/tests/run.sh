@@ -385,7 +385,8 @@ play_bench() {
 # Unknown bits: those that nothing is to be known of are 0, others are refused, or left empty.
 test_unknown() {
     for case in '1 0 agrees 10' '2 0 refused trace: row 8: rs2_rdata not a number' \
-        '2 1 agrees 10' '3 0 refused trace: row 7: mem_rdata not a number'; do
+        '2 1 agrees 10' '3 0 refused trace: row 7: mem_rdata not a number' \
+        '4 0 refused trace: row 5: rd_wdata not a number'; do
         # shellcheck disable=SC2086  # the case's words
         set -- $case
         iverilog -g2012 -Pbench.UNKNOWN="$1" -Pbench.EMPTY="$2" -s bench -o "$folder/bench" \
