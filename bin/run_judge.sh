@@ -129,7 +129,7 @@ take_option() {
         --segment) check_range "$1" "$2" 1 1048576 ;;
         --window) check_range "$1" "$2" 1 1024 ;;
         --pc | --ram | --io | --max-image | --max-trace | \
-            --misaligned | --mtval | --ad | --reserve | --bits)
+            --misaligned | --mtval | --ad | --reserve | --bits | --harts)
             [ "$command" != make ] || { reason="$1 is no option of make"; return; }
             case $1 in
                 --max-image) check_range "$1" "$2" 1 1073741824 ;;
@@ -142,6 +142,7 @@ take_option() {
                 --ad) check_word "$1" "$2" fault set ;;
                 --reserve) check_block "$2" ;;
                 --bits) check_word "$1" "$2" on off ;;
+                --harts) check_range "$1" "$2" 1 8 ;;
             esac ;;
         *) reason="$1 is no option" ;;
     esac

@@ -5,13 +5,15 @@
 
 An agreement is worth what the trace shows. For all traces together: the instructions of the judge's
 table that retired, and those that never did; exceptions, interrupts, control and status registers,
-modes, page sizes, the sizes and alignments of accesses; columns that are never or partly filled.
+modes, harts, page sizes, the sizes and alignments of accesses; columns that are never or partly
+filled. Where the column hart is there each hart's rows are followed by themselves.
 The 40 instructions of bit manipulation (Zba, Zbb, Zbs) are of the table with --bits on, and where
 one of them retired.
 
 Then the lint: names that the judge does not know and passes over, rd_wdata left empty where rd is
-not x0, addresses without their 0x, rows out of order, a trace without a valid row. time and cycle
-are names of explain.py, and are no fault. With --lint alone these are told.
+not x0, addresses without their 0x, rows out of order, harts that the judge cannot have, a trace
+without a valid row. time and cycle are names of explain.py, and are no fault. With --lint alone
+these are told.
 
 A cause is known where mcause or scause is shown, or by the instruction; a page's size only where
 mem_paddr is shown, by the bits that translation changed. Traces may be packed (.gz, .zst). Memory
@@ -34,13 +36,14 @@ from pathlib import Path
 UNPACK = {".gz": ["gzip", "-dc"], ".zst": ["zstd", "-dcq"]}
 PLAIN = (
     "valid order intr pc_rdata mode ixl trap insn rs1_addr rs1_rdata rs2_addr rs2_rdata rd_addr "
-    "rd_wdata pc_wdata mem_addr mem_rmask mem_rdata mem_wmask mem_wdata mem_paddr halt").split()
+    "rd_wdata pc_wdata mem_addr mem_rmask mem_rdata mem_wmask mem_wdata mem_paddr halt hart").split()
 CSR_COLUMNS = (
     "mstatus misa medeleg mideleg mie mtvec mscratch mepc mcause mtval mip satp sstatus sie sip "
     "stvec sscratch sepc scause stval pmpcfg0 pmpcfg2").split()
 KNOWN = PLAIN + [f"csr_{it}_{part}" for it in CSR_COLUMNS
                  for part in ("rmask", "wmask", "rdata", "wdata")]
 OF_EXPLAIN = ("time", "cycle")
+MOST_HARTS = 8
 ADDRESSES = ("pc_rdata", "pc_wdata", "mem_addr", "mem_paddr")
 MODES = {0: "U", 1: "S", 3: "M"}
 EXCEPTIONS = {
@@ -237,16 +240,16 @@ class Cover:
         self.has_bits = has_bits
         self.rows = self.valid = 0
         self.counts = {it: Counter() for it in (
-            "instructions", "exceptions", "interrupts", "registers", "modes", "pages", "accesses",
-            "filled")}
+            "instructions", "exceptions", "interrupts", "registers", "modes", "harts", "pages",
+            "accesses", "filled")}
         self.present = Counter()  # columns, by the rows that have them
         self.faults = Counter()
         self.first = {}  # where each fault was first
-        self.trapped = None  # the row before, where it trapped
-        self.order = None
+        self.trapped = {}  # by hart the row before, where it trapped
+        self.orders = {}  # by hart
 
     def read(self, path):
-        self.trapped = self.order = None
+        self.trapped, self.orders = {}, {}
         with opened(path) as file:
             lines = ((at, it) for at, line in enumerate(file, 1)
                      if (it := line.decode("latin-1").rstrip("\r\n")))
@@ -266,8 +269,8 @@ class Cover:
                     self.take(path, at, names, fields)
                 except ValueError as fault:
                     raise Refused(f"{path}: line {at}: {fault}") from None
-            if self.trapped is not None:
-                self.count_exception(self.trapped, {})
+            for row in self.trapped.values():
+                self.count_exception(row, {})
             if self.valid == before:
                 self.fault(path, 1, "no valid row")
 
@@ -300,17 +303,19 @@ class Cover:
         self.valid += 1
         self.counts["filled"].update(row.keys())
         self.present.update(names)
+        if row.get("hart", 0) >= MOST_HARTS:
+            self.fault(path, at, f"hart is not 0 to {MOST_HARTS - 1}")
+            row["hart"] = MOST_HARTS - 1
         self.lint_row(path, at, row)
         self.count(row)
 
     def lint_row(self, path, at, row):
-        order, bits = row.get("order"), row.get("insn")
-        if order is not None:
-            if self.order is not None and order != self.order + 1 & (1 << 64) - 1:
-                self.fault(path, at, "order is not the next number")
-            self.order = order
-        elif self.order is not None:
-            self.order += 1
+        order, bits, hart = row.get("order"), row.get("insn"), row.get("hart", 0)
+        due = self.orders.get(hart)
+        if None not in (order, due) and order != due:
+            self.fault(path, at, "order is not the next number")
+        if order is not None or due is not None:
+            self.orders[hart] = (due if order is None else order) + 1 & (1 << 64) - 1
         if bits is not None and "rd_wdata" not in row and not row.get("trap") \
                 and writes_register(bits):
             self.fault(path, at, "rd_wdata is empty or missing where rd is not x0")
@@ -319,7 +324,12 @@ class Cover:
         bits, mode = row.get("insn"), row.get("mode")
         if mode is not None:
             self.counts["modes"][MODES.get(mode, str(mode))] += 1
-        before, self.trapped = self.trapped, row if row.get("trap") else None
+        hart = row.get("hart", 0)
+        if self.present["hart"]:
+            self.counts["harts"][str(hart)] += 1
+        before = self.trapped.pop(hart, None)
+        if row.get("trap"):
+            self.trapped[hart] = row
         if before is not None:
             self.count_exception(before, row)
         elif row.get("intr"):
@@ -401,7 +411,7 @@ class Cover:
 TITLES = {
     "instructions": "instructions that retired", "exceptions": "exceptions",
     "interrupts": "interrupts", "registers": "control and status registers that were accessed",
-    "modes": "modes", "pages": "sizes of pages, by what translation changed",
+    "modes": "modes", "harts": "harts", "pages": "sizes of pages, by what translation changed",
     "accesses": "accesses, bytes at address modulo 8",
 }
 
@@ -422,6 +432,8 @@ def as_text(report, is_lint):
     if not is_lint:
         yield f"{report['rows']} rows, {report['valid rows']} of them valid"
         for kind, title in TITLES.items():
+            if kind == "harts" and not report["seen"][kind]:
+                continue
             yield f"{title}:"
             yield from wrapped(f"{it} {count}" for it, count in report["seen"][kind].items())
             if left := report["never"].get(kind):

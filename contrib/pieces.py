@@ -42,7 +42,7 @@ from image_start import SAVED
 from port_rows import fields_of, names_in
 from regress import (
     CHILDREN, HERE, Refused, add_ways, check_program, check_ways, options_by_name, parallel_results,
-    positive, results_of, write_job,
+    positive, results_of, words_of, write_job,
 )
 
 AGREES, DIFFERS, REFUSED, NONE = "agrees", "differs", "refused", "no verdict"
@@ -216,8 +216,7 @@ def run_judge(piece, settings):
     """The judge's status, what it printed, where its state is unmet, and the number of valid rows."""
     options = {name: value for name, value in settings["options"].items()
                if name != "--pc" or not piece.number}
-    words = [settings["program"], "state", piece.image, "/dev/stdin",
-             *(f"{name}={value}" for name, value in options.items())]
+    words = [settings["program"], "state", piece.image, "/dev/stdin", *words_of(options)]
     with tempfile.TemporaryFile() as errors:
         child = CHILDREN.start(words, stdin=subprocess.PIPE, stdout=subprocess.PIPE, stderr=errors)
         timer = threading.Timer(settings["timeout"] or threading.TIMEOUT_MAX, CHILDREN.end, [child])
@@ -397,6 +396,8 @@ def prepared(words):
     program = str(Path(shutil.which(words.program) or words.program).resolve())
     check_program(program)
     given = {"--workers": "1"} | options_by_name(words.options, "after --")
+    if "--origin" in given:
+        raise Refused("--origin: a state has no origins; ask for them in the piece that differs")
     trace = os.path.abspath(words.trace)
     if os.path.getsize(trace) > most_bytes(given):
         raise Refused(f"{words.trace} has more bytes than --max-trace")

@@ -47,6 +47,7 @@ HERE = Path(__file__).resolve().parent
 UNPACK = {".csv": None, ".csv.gz": ["gzip", "-dc"], ".csv.zst": ["zstd", "-dcq"]}
 AGREES, DIFFERS, SHORT, REFUSED = "agrees", "differs", "short", "refused"
 COUNTED = {AGREES: "agree", DIFFERS: "differ", SHORT: "too short", REFUSED: "could not be judged"}
+FLAGS = ("--origin",)  # options of the judge that have no value
 TAIL = 1 << 18  # bytes at a trace's end in which its last row is looked for
 MOST_TASKS = 1000  # of an array job
 
@@ -84,17 +85,25 @@ def ending_of(name):
 
 
 def options_by_name(words, where):
-    """The judge's options as a table from name to value."""
+    """The judge's options as a table from name to value, which is None for one without."""
     given, words = {}, iter(words)
     for word in words:
         name, has_value, value = word.partition("=")
         if not name.startswith("--"):
             raise Refused(f"{where}: {word!r} where an option is awaited")
+        if name in FLAGS and not has_value:
+            given[name] = None
+            continue
         value = value if has_value else next(words, None)
         if value is None:
             raise Refused(f"{where}: {name} without a value")
         given[name] = value
     return given
+
+
+def words_of(options):
+    """The words of a table of options."""
+    return [name if value is None else f"{name}={value}" for name, value in options.items()]
 
 
 def wanted_lines(path):
@@ -140,7 +149,7 @@ def trace_at(path, name, top, given):
         image = image_for(base, top)
     except (Refused, OSError, UnicodeDecodeError) as fault:
         return Trace(name, str(path), fault=str(fault))
-    words = [f"{key}={value}" for key, value in options.items()]
+    words = words_of(options)
     elf = str(beside[".elf"]) if beside[".elf"].exists() else ""
     return Trace(name, str(path), str(image), words, wanted, elf)
 
@@ -308,9 +317,17 @@ def judged(trace, settings):
     return Result(trace.name, trace.path, kind, line, round(time.monotonic() - began, 3))
 
 
+def without_origins(said):
+    """A difference without the lines of --origin, which are for explain.py."""
+    line, *more = said.split("\n")
+    return line if all(it.startswith("origin ") for it in more) else said
+
+
 def verdict(trace, settings):
     status, said, told = run_judge(trace, settings["program"], settings["timeout"])
     line, told = said.removesuffix("\n"), told.strip().split("\n")[-1]
+    if status == 1:
+        line = without_origins(line)
     if status == 0 and (found := re.fullmatch(r"agrees (\d+)", line)):
         lacking = shortfall(trace, int(found[1]), settings["at_least"])
         return (SHORT, f"{line}, {lacking}") if lacking else (AGREES, line)

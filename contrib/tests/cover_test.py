@@ -80,6 +80,25 @@ def test_lint(folder):
         assert covered(folder, bad)[1].returncode == 2, bad
 
 
+def test_harts(folder):
+    """Each hart has an order and a trap of its own."""
+    report, ran = covered(folder, (TESTS / "examples" / "harts.csv").read_text())
+    assert ran.returncode == 0 and report["seen"]["harts"] == {"0": 5, "1": 5}, ran
+    assert "harts:\n    0 5, 1 5\n" in ran.stdout, ran.stdout
+    rows = ["0,0,0x73,0x80000000,3,1", "1,7,0x73,0x80000000,0,1", "0,1,0x13,0x80000040,3,0",
+            "1,8,0x13,0x80000040,3,0", ",2,0x13,0x80000044,3,0", "1,,0x13,0x80000044,3,0",
+            "1,10,0x13,0x80000048,3,0"]
+    text = "".join(f"{it}\n" for it in ["hart,order,insn,pc_rdata,mode,trap", *rows])
+    report, ran = covered(folder, text)
+    assert ran.returncode == 0, ran.stdout
+    assert report["seen"]["exceptions"] == {"call from M": 1, "call from U": 1}, report["seen"]
+    assert faults(folder, text.replace("1,10,", "1,11,")) == {"order is not the next number": 1}
+    assert faults(folder, text.replace("\n1,", "\n8,")) == {"hart is not 0 to 7": 4}
+    assert faults(folder, text.replace("hart,", "hurt,")).keys() == {
+        "the judge does not know the column hurt, the nearest is hart",
+        "order is not the next number"}
+
+
 def test_bits(folder):
     """Two instructions of bit manipulation that retire, and one that traps."""
     words = [0x08A5863B, 0x60259693, 0x0805C53B]  # add.uw a2,a1,a0; cpop a3,a1; zext.h a0,a1

@@ -82,6 +82,7 @@ def test_verdicts(it):
                             "lanes: differs row 4: rd_wdata expected 0xfffffffffe000000 "
                             "found 0x0000000000fe0000")
     assert it.said.index("that did not agree") < it.said.rindex("lanes:"), "failures come last"
+    assert it.said.count("registers before the row") == 2, "differences are explained"
 
 
 def test_folder_without_a_trace(it):
@@ -199,6 +200,23 @@ def test_options(it):
     it.run("--", "--segment", "7", "--workers=1").wants(0, counts(1))
     (it.path / "a.options").write_text("workers\n")
     it.run().wants(2, "a: a.options: 'workers' where an option is awaited")
+
+
+def test_origin(it):
+    """An option without a value; the lines that it adds are for the explanation."""
+    it.odd_judge()
+    it.add("a.csv")
+    it.add("b.csv")
+    it.does("a", "case $* in *--origin) ;; *) exit 1 ;; esac; "
+                 "echo 'differs row 1: rd_wdata expected 0x1 found 0x0'; "
+                 "echo 'origin x1 reset'; echo 'origin byte 0x0000000080000000 row 7'; exit 1")
+    it.does("b", "echo 'differs row 1: rd_wdata expected 0x1 found 0x0'; echo 'more'; exit 1")
+    it.run("--explain", "0", "--", "--ad", "set", "--origin")
+    it.wants(2, counts(differ=1, refused=1), "a: differs row 1: rd_wdata expected 0x1 found 0x0")
+    (it.path / "a.options").write_text("--origin --bits on")
+    it.run("--explain", "0").wants(2, counts(agree=0, refused=2))
+    (it.path / "a.options").write_text("--bits on --origin")
+    it.run("--explain", "0").wants(2, counts(differ=1, refused=1))
 
 
 def test_expect(it):

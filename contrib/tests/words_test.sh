@@ -21,8 +21,13 @@ cp i ./-i
 # shellcheck disable=SC2034  # run_judge.sh reads it
 usage_file=$bin/usage.txt
 
+# Whether the judge knows several harts; run.sh says where it does not.
+"$program" judge i t --harts 1 >said 2>/dev/null
+[ $? -eq 2 ] && knows_harts=0 || knows_harts=1
+
 # A line is a list of words.
 while read -r line; do
+    case $knows_harts$line in 0*--harts*) continue ;; esac
     # shellcheck disable=SC2086
     set -- $line
     "$program" "$@" >said 2>/dev/null
@@ -111,6 +116,16 @@ judge i t --bits on
 judge i t --bits off
 judge i t --bits yes
 judge i t --misaligned done --mtval zero --ad set --reserve 8 --bits on
+judge i t --harts 1
+judge i t --harts 8
+judge i t --harts=2 --bits on
+judge i t --harts 0x8
+judge i t --harts 0
+judge i t --harts 9
+judge i t --harts x
+judge i t --harts=
+judge i t --harts
+judge i t --harts 1 --harts 1
 judge i t --workers 0
 judge i t --workers 64
 judge i t --workers 65
@@ -139,6 +154,8 @@ state i t --max-image 0
 state i t --max-trace 1
 state i t --misaligned done --mtval zero --ad set --reserve 8 --bits on
 state i t --misaligned DONE
+state i t --harts 2
+state i t --harts 9
 state i t --workers 2 --segment 1 --window 1
 state i t --workers 65
 state i t --pc 0 --pc 0
@@ -156,6 +173,7 @@ make 7 10 --mtval value
 make 7 10 --ad fault
 make 7 10 --reserve 64
 make 7 10 --bits off
+make 7 10 --harts 1
 make 7 10 --workers 2
 make 7 10 --workers 2 --workers 2
 LISTS
