@@ -36,7 +36,8 @@ from pathlib import Path
 UNPACK = {".gz": ["gzip", "-dc"], ".zst": ["zstd", "-dcq"]}
 PLAIN = (
     "valid order intr pc_rdata mode ixl trap insn rs1_addr rs1_rdata rs2_addr rs2_rdata rd_addr "
-    "rd_wdata pc_wdata mem_addr mem_rmask mem_rdata mem_wmask mem_wdata mem_paddr halt hart").split()
+    "rd_wdata pc_wdata mem_addr mem_rmask mem_rdata mem_wmask mem_wdata mem_paddr halt "
+    "hart").split()
 CSR_COLUMNS = (
     "mstatus misa medeleg mideleg mie mtvec mscratch mepc mcause mtval mip satp sstatus sie sip "
     "stvec sscratch sepc scause stval pmpcfg0 pmpcfg2").split()

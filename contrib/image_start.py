@@ -8,8 +8,8 @@ BLOCK = 16  # bytes of a line of a saved state
 
 
 def registers_at(path):
-    """The registers of each hart of a saved state by the names of its lines; none of another image, as
-    all are 0 at reset."""
+    """The registers of each hart of a saved state by the names of its lines; none of another image,
+    as all are 0 at reset."""
     harts = []
     with open(path, "rb") as file:
         if file.read(len(SAVED)) != SAVED:

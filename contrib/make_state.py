@@ -1,8 +1,9 @@
 #!/usr/bin/env python3
 """Makes the text of a saved state, from which the judge begins.
 
-    make_state.py [IMAGE] [--set NAME=VALUE].. [--blob ADDRESS=FILE].. [--pc A] [-o FILE]
-    rvjudge judge FILE TRACE
+    make_state.py [IMAGE] [--set NAME=VALUE].. [--blob ADDRESS=FILE].. [--pc A] [--harts N]
+                  [-o FILE]
+    rvjudge judge FILE TRACE [--harts N]
 
 For a run that does not begin at reset: after a boot ROM, at the checkpoint of an emulator, in the
 middle of a test. IMAGE is an ELF file, Verilog text, or a saved state, whose parts are then replaced.
@@ -20,6 +21,9 @@ What is not set is as at reset, or as in the saved state. Bits 35:32 of mstatus,
 2, are added where they are 0. --blob puts the bytes of a file into memory, over what is there. Of
 these options each may stand several times, and a later one counts. A value that the judge's hart
 cannot have is refused here, as the judge would refuse it.
+
+Several harts: with --harts N, or where IMAGE is a saved state of N harts. --set sets a part of all of
+them, and --set H:NAME=VALUE of hart H alone; --pc is that of all.
 """
 import argparse
 import re
@@ -46,6 +50,8 @@ CSRS = {
     "pmpcfg0": 0x9F9F9F9F9F9F9F9F, "pmpcfg2": 0x9F9F9F9F9F9F9F9F,
     **{f"pmpaddr{it}": (1 << 54) - 1 for it in range(16)},
 }
+HARTS = re.compile(rb"harts ([2-8])\n")
+MOST_HARTS = 8
 MODES, FLAGS = {"M": 3, "S": 1, "U": 0}, ("00", "01", "10", "11")
 
 
@@ -115,22 +121,18 @@ class Memory:
                         yield f"@{page_number * PAGE + at:016x} {block.hex()}\n"
 
 
-class State:
-    """The parts of a state by the names of its lines."""
+class Hart:
+    """The parts of a hart by the names of their lines."""
 
-    def __init__(self, memory):
-        self.memory = memory
+    def __init__(self):
         self.parts = {"pc": RESET_PC, "mode": 3, "order": None, "flags": "00", "reserved": None}
         self.parts |= {f"x{it}": 0 for it in range(1, 32)}
         self.parts |= {f"csr_{it}": 0 for it in CSRS} | {"csr_mstatus": XLENS}
 
     def lines(self):
-        yield SAVED.decode()
         for name, value in self.parts.items():
             is_text = name in ("mode", "flags")
             yield f"{name} {value}\n" if is_text else as_line(name, value)
-        yield from self.memory.lines()
-        yield "end\n"
 
     def set(self, name, text):
         """Sets a part to what a word says."""
@@ -156,6 +158,34 @@ class State:
         if fault := fault_of(name, value):
             raise Refused(f"{name} cannot be 0x{value:x}: {fault}")
         self.parts[f"csr_{name}"] = value
+
+
+class State:
+    """The harts of a state, and the memory that they share."""
+
+    def __init__(self, memory, count):
+        self.memory = memory
+        self.harts = [Hart() for _ in range(count)]
+
+    def lines(self):
+        yield SAVED.decode()
+        if len(self.harts) > 1:
+            yield f"harts {len(self.harts)}\n"
+        for hart in self.harts:
+            yield from hart.lines()
+        yield from self.memory.lines()
+        yield "end\n"
+
+    def set(self, name, text):
+        """Sets a part of all harts, or of the one whose number and a colon stand before its name."""
+        number_text, colon, part = name.rpartition(":")
+        if not colon:
+            for hart in self.harts:
+                hart.set(name, text)
+        elif not number_text.isdecimal() or int(number_text) >= len(self.harts):
+            raise Refused(f"{name}: hart {number_text} is not there: give --harts")
+        else:
+            self.harts[int(number_text)].set(part, text)
 
 
 def special_value(name, text):
@@ -196,6 +226,15 @@ def fault_of(name, value):
 # ---- images
 
 
+def harts_in(path):
+    """The number of harts of a saved state, or None of another image."""
+    with open(path, "rb") as file:
+        if file.read(len(SAVED)) != SAVED:
+            return None
+        found = HARTS.fullmatch(file.readline(80))
+    return int(found[1]) if found else 1
+
+
 def take_image(state, path):
     """Takes memory, and what else an image says, into a state."""
     with open(path, "rb") as file:
@@ -213,7 +252,8 @@ def take_elf(state, path, data):
     if not elf_image.is_executable(data):
         raise Refused(f"{path}: it is no executable of 64 bits for RISC-V")
     try:
-        state.parts["pc"] = elf_image.entry_point(data)
+        for hart in state.harts:
+            hart.parts["pc"] = elf_image.entry_point(data)
         for address, part in elf_image.segments(data):
             state.memory.put(address, part)
     except struct.error:
@@ -221,22 +261,23 @@ def take_elf(state, path, data):
 
 
 def take_state(state, path, lines):
-    """Takes the lines of a saved state."""
-    parts = [*state.parts]
-    for at, line in enumerate(lines[1:]):
+    """Takes the lines of a saved state of as many harts."""
+    first = 1 if len(state.harts) == 1 else 2  # the first line of hart 0
+    parts = [(hart, name) for hart in state.harts for name in hart.parts]
+    for at, line in enumerate(lines[first:]):
         name, _, value = line.partition(" ")
         try:
             if line == "end" and at >= len(parts):
                 return
-            if at < len(parts) and name == parts[at]:
+            if at < len(parts) and name == parts[at][1]:
                 is_text = name in ("mode", "flags") or value == "none"
-                state.set(name, value if is_text else f"0x{value}")
+                parts[at][0].set(name, value if is_text else f"0x{value}")
             elif at >= len(parts) and name.startswith("@"):
                 state.memory.put(int(name[1:], 16), bytes.fromhex(value))
             else:
                 raise Refused("another line stands there in a saved state")
         except (Refused, ValueError) as fault:
-            raise Refused(f"{path}: line {at + 2}: {fault}") from None
+            raise Refused(f"{path}: line {at + first + 1}: {fault}") from None
     raise Refused(f"{path}: it has no end")
 
 
@@ -258,11 +299,13 @@ def take_text(state, path, text):
 
 
 def command_lines(values, pc, trace):
-    """The commands by which a trace is judged whose hart began with these values; the image's name is
-    left to the reader, and that of a trace that has none."""
-    words = " ".join(f"--set {name}=0x{value:x}" for name, value in values.items())
-    yield f"    contrib/make_state.py IMAGE --pc 0x{pc:x} {words} -o start.rvstate"
-    yield f"    bin/rvjudge judge start.rvstate {trace or 'TRACE'}"
+    """The commands by which a trace is judged whose harts began with these values, a table for
+    each; the image's name is left to the reader, and that of a trace that has none."""
+    many = f" --harts {len(values)}" if len(values) > 1 else ""
+    words = [f"--set {f'{at}:' if many else ''}{name}=0x{value:x}"
+             for at, table in enumerate(values) for name, value in table.items()]
+    yield f"    contrib/make_state.py IMAGE{many} --pc 0x{pc:x} {' '.join(words)} -o start.rvstate"
+    yield f"    bin/rvjudge judge start.rvstate {trace or 'TRACE'}{many}"
 
 
 def assignment(text):
@@ -279,8 +322,10 @@ def arguments():
     add = parser.add_argument
     add("image", nargs="?", metavar="IMAGE", help="an ELF file, Verilog text, or a saved state")
     add("-o", metavar="FILE", help="where to write (default: standard output)")
-    add("--set", action="append", default=[], type=assignment, metavar="NAME=VALUE",
-        help="a part of the state")
+    add("--set", action="append", default=[], type=assignment, metavar="[H:]NAME=VALUE",
+        help="a part of the state, of all harts or of hart H")
+    add("--harts", type=int, choices=range(1, MOST_HARTS + 1), metavar="N",
+        help="the harts, 1 to 8 (default: those of a saved state, else 1)")
     add("--blob", action="append", default=[], type=assignment, metavar="ADDRESS=FILE",
         help="a file whose bytes stand from an address on")
     add("--pc", metavar="A", help="the address of the next instruction")
@@ -292,7 +337,10 @@ def arguments():
 def make(words):
     """The state that the words say."""
     base, _, size = words.ram.partition(":")
-    state = State(Memory(number(base), number(size)))
+    given = harts_in(words.image) if words.image else None
+    if None not in (given, words.harts) and given != words.harts:
+        raise Refused(f"{words.image}: it is a state of {given} harts, and not of {words.harts}")
+    state = State(Memory(number(base), number(size)), given or words.harts or 1)
     if words.image:
         take_image(state, words.image)
     for address, path in words.blob:

@@ -16,8 +16,7 @@ one before it. TRACE may be packed (.gz, .zst); - is standard input. One line of
 Merge files: pipes from one simulation may wait for each other without end. Where a trace is refused
 what was written ends with a row that the judge refuses.
 
-The judge does not know several harts yet: it passes over the column hart, and takes all rows for
-those of one hart.
+Judge what is merged with --harts, which is more than the greatest number of a hart.
 """
 import argparse
 import csv
@@ -32,8 +31,8 @@ from contextlib import suppress
 UNPACK = {".gz": ["gzip", "-dc"], ".zst": ["zstd", "-dcq"]}
 INSN = re.compile(r"insn(|_[0-3])")
 NUMBER = re.compile(r"[ \t]*(0[xX][0-9a-fA-F]{1,40}|[0-9]{1,40})[ \t]*", re.ASCII)
+MOST_HARTS = 8
 SAME_PORT = {"": "_0", "_0": ""}
-NOT_YET = "the judge does not know several harts yet, and passes over the column hart"
 
 
 class Refused(Exception):
@@ -235,7 +234,10 @@ def run(words):
     for trace in traces:
         hart = "" if trace.hart is None else f" of hart {trace.hart}"
         print(f"merge_rows.py: {trace.path}: {trace.rows} {kind}{hart}", file=sys.stderr)
-    print(f"merge_rows.py: {NOT_YET}", file=sys.stderr)
+    if harts := [it.hart for it in traces if it.hart is not None]:
+        count = max(harts) + 1
+        fit = f"judge with --harts {count}" if count <= MOST_HARTS else "the judge has at most 8"
+        print(f"merge_rows.py: {count} harts: {fit}", file=sys.stderr)
 
 
 def main():

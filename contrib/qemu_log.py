@@ -31,8 +31,7 @@ with these: make_state.py makes the state.
 Several harts: --harts N reads the log of -smp N with -accel tcg,thread=single, under which qemu
 runs one hart at a time, and with exec in -d. The column hart names the hart of each row. Rows stand
 in the order in which qemu carried them out, which is the order of memory; those of a turn, a tenth
-of a second, wait until the harts before it go on. The judge does not know several harts yet: it
-passes over the column, and takes all rows for those of one hart.
+of a second, wait until the harts before it go on. Judge with --harts N too.
 """
 import argparse
 import re
@@ -394,7 +393,7 @@ class Converter:
             yield f"{bits} instructions of bit manipulation: judge with {BITS}"
         if len(self.harts) > 1:
             yield from (f"hart {it.number} has no row" for it in self.harts if not it.rows)
-            yield "the judge does not know several harts yet, and passes over the column hart"
+            yield f"{len(self.harts)} harts: judge with --harts {len(self.harts)}"
 
     def choices(self):
         """The judge's options that fit qemu, and what it carried out."""
@@ -667,15 +666,10 @@ def tell(converter, words):
     """Says on standard error what there is to say of a log that was read."""
     for text in converter.tell():
         print(f"qemu_log.py: {text}", file=sys.stderr)
-    for hart in converter.harts:
-        found = hart.set_at_start()
-        if found and words.harts > 1:
-            values = " ".join(f"{name}=0x{value:x}" for name, value in found.items())
-            print(f"qemu_log.py: set before the first row of hart {hart.number}: {values}",
-                  file=sys.stderr)
-        elif found:
-            print("qemu_log.py: registers are set before the first row; to begin with them:",
-                  *make_state.command_lines(found, words.pc, words.o), sep="\n", file=sys.stderr)
+    found = [it.set_at_start() for it in converter.harts]
+    if any(found):
+        print("qemu_log.py: registers are set before the first row; to begin with them:",
+              *make_state.command_lines(found, words.pc, words.o), sep="\n", file=sys.stderr)
     if words.choices:
         print(f"qemu_log.py: the judge's options that fit qemu: {converter.choices()}",
               file=sys.stderr)

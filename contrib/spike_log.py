@@ -318,7 +318,7 @@ def convert(log, words, out):
         print(f"spike_log.py: {text}", file=sys.stderr)
     if found := converter.set_at_start():
         print("spike_log.py: registers are set before the first row; to begin with them:",
-              *make_state.command_lines(found, words.pc, words.o), sep="\n", file=sys.stderr)
+              *make_state.command_lines([found], words.pc, words.o), sep="\n", file=sys.stderr)
 
 
 def main():

@@ -1,8 +1,9 @@
 #!/usr/bin/env python3
-"""Tries what reads and writes rows of several harts: harts_test.py.
+"""Tries what reads and writes rows of several harts: harts_test.py [PROGRAM].
 
-The log of qemu is that of harts.s with two harts, stored. What is merged is made here, and cut out
-of the rows of that log.
+The log of qemu is that of harts.s with two harts, stored, and harts.hex is its image. What is
+merged is made here, and cut out of the rows of that log. Where PROGRAM is given, a judge that knows
+--harts, it judges them: whole, altered, and in pieces.
 """
 import gzip
 import subprocess
@@ -15,11 +16,12 @@ CONTRIB = TESTS.parent
 sys.path.insert(0, str(CONTRIB))
 import qemu_log  # noqa: E402  # found by the line before
 
-LOG = TESTS / "qemu" / "harts.log.gz"
+LOG, IMAGE = (TESTS / "qemu" / it for it in ("harts.log.gz", "harts.hex"))
+IO = ["--io", "0x100000:0xff01000"]
 MERGE = CONTRIB / "merge_rows.py"
 START = 0x80000000
 ORDER = "187 rows of 2 harts in 27 turns: 6 SC stored, 3 failed\n"
-NOT_YET = "the judge does not know several harts yet"
+ROWS = 187
 faults = []
 
 
@@ -44,7 +46,8 @@ def log_to_rows(folder):
     """The log as rows, whose order is that of one memory."""
     log, out = gzip.decompress(LOG.read_bytes()).decode("latin-1"), folder / "qemu.csv"
     ran = run(CONTRIB / "qemu_log.py", "--harts", 2, "-o", out, text=log)
-    check("qemu_log.py --harts 2", ran.returncode == 0 and NOT_YET in ran.stderr, ran.stderr)
+    check("qemu_log.py --harts 2", ran.returncode == 0
+          and "2 harts: judge with --harts 2\n" in ran.stderr, ran.stderr)
     check("qemu_log.py --harts 2: its header", out.read_text().startswith("hart,intr,pc_rdata,"))
     ran = run(TESTS / "memory_order.py", out)
     check("the order of qemu's rows", ran.stdout == ORDER, ran.stdout + ran.stderr)
@@ -91,10 +94,11 @@ def rows_that_wait(log):
 
 
 def values_at_start(log):
-    """What the boot ROM left is told of each hart; no state of several harts can be made yet."""
+    """What the boot ROM left is told of each hart, by the command that makes the state."""
     ran = run(CONTRIB / "qemu_log.py", "--harts", 2, "--pc", "0x80000034", text=log)
-    check("what is set at the start", "set before the first row of hart 1: x5=" in ran.stderr
-          and "make_state" not in ran.stderr, ran.stderr)
+    check("what is set at the start", "/make_state.py IMAGE --harts 2 --pc 0x80000034 --set 0:x5="
+          in ran.stderr and "--set 1:x5=" in ran.stderr
+          and " judge start.rvstate TRACE --harts 2\n" in ran.stderr, ran.stderr)
 
 
 def merged_again(folder, out):
@@ -108,7 +112,8 @@ def merged_again(folder, out):
                        if it.startswith((f"0x{hart},", "hart,")))
         path.write_bytes(gzip.compress(text.encode()) if hart else text.encode())
     ran = run(MERGE, *two, "-o", folder / "merged.csv")
-    check("merge_rows.py", ran.returncode == 0 and NOT_YET in ran.stderr, ran.stderr)
+    check("merge_rows.py", ran.returncode == 0
+          and "2 harts: judge with --harts 2\n" in ran.stderr, ran.stderr)
     check("merged rows", (folder / "merged.csv").read_text() == whole.read_text())
     ran = run(MERGE, two[1], "-", text=two[0].read_text())
     check("merged from standard input", ran.stdout == whole.read_text(), ran.stderr)
@@ -220,7 +225,133 @@ def faults_of_files(folder):
     first.write_bytes(b"hart,insn,time\n0,\xff,2\n")
     refused("bytes that are no text", "a.csv: 'utf-8' codec", run(MERGE, first, second))
     ran = run(MERGE, "--help")
-    check("--help", ran.returncode == 0 and "does not know several harts yet" in ran.stdout)
+    check("--help", ran.returncode == 0 and "--harts" in ran.stdout)
+
+
+class Judge:
+    """The judge, with the words that the stored run needs."""
+
+    def __init__(self, program, folder):
+        self.program, self.folder = program, folder
+
+    def said(self, image, rows, *words, command="judge"):
+        """What it prints of rows, the header among them."""
+        trace = self.folder / "judged.csv"
+        trace.write_text("".join(f"{it}\n" for it in rows))
+        return self.of_file(image, trace, *words, command=command)
+
+    def of_file(self, image, trace, *words, command="judge"):
+        ran = subprocess.run([self.program, command, image, trace, *words], capture_output=True,
+                             text=True)
+        return ran.stdout.removesuffix("\n")
+
+    def wants(self, name, wanted, image, rows, *words):
+        found = self.said(image, rows, *words)
+        check(f"the judge, {name}", found == wanted, f"{found!r}, wanted {wanted!r}")
+
+
+def altered(rows, row, **fields):
+    """Rows with other fields in one of them."""
+    names, texts = rows[0].split(","), rows[row].split(",")
+    for name, text in fields.items():
+        texts[names.index(name)] = text
+    return [*rows[:row], ",".join(texts), *rows[row + 1:]]
+
+
+def found_rows(rows, hart, insn):
+    """The numbers of the rows of a hart that carry out an instruction."""
+    names = rows[0].split(",")
+    fields = ([*zip(names, it.split(","))] for it in rows[1:])
+    return [at for at, it in enumerate(fields, 1)
+            if ("hart", f"0x{hart:x}") in it and ("insn", insn) in it]
+
+
+def judged(judge, out):
+    """The run in qemu, whole and with altered rows."""
+    rows, two = out.read_text().splitlines(), ["--harts", "2", *IO]
+    judge.wants("whole", f"agrees {ROWS}", IMAGE, rows, *two)
+    judge.wants("more harts than rows have", f"agrees {ROWS}", IMAGE, rows, "--harts", "8", *IO)
+    judge.wants("one block of 8 bytes", f"agrees {ROWS}", IMAGE, rows, *two, "--reserve", "8")
+    first = next(at for at, it in enumerate(rows) if it.startswith("0x1,"))
+    judge.wants("one hart", f"refused trace: row {first}: hart not there", IMAGE, rows, *IO)
+    judge.wants("a hart that is not there", "refused trace: row 60: hart not there", IMAGE,
+                altered(rows, 60, hart="2"), *two)
+    failed = found_rows(rows, 1, "0x186423af")[0]
+    judge.wants("an SC that must fail", f"differs row {failed}: rd_wdata expected "
+                "0x0000000000000001 found 0x0000000000000000", IMAGE,
+                altered(rows, failed, rd_wdata="0x0"), *two)
+    load = found_rows(rows, 1, "0x4a283")[0]
+    judge.wants("a count that another hart has raised", f"differs row {load}: rd_wdata expected "
+                "0x0000000000000003 found 0x0000000000000002", IMAGE,
+                altered(rows, load, rd_wdata="0x2"), *two)
+    wrong = judge.said(IMAGE, [rows[0], *sorted(rows[1:], key=lambda it: it[:3])], *two)
+    check("the judge, one hart after the other", wrong.startswith("differs row "), wrong)
+
+
+def judged_starts(judge, log):
+    """A run that begins with what is set in each hart, by the commands that are named."""
+    start, trace = judge.folder / "start.rvstate", judge.folder / "late.csv"
+    ran = run(CONTRIB / "qemu_log.py", "--harts", 2, "--pc", "0x80000034", "-o", trace, text=log)
+    words = next(it for it in ran.stderr.splitlines() if "make_state.py IMAGE" in it).split()
+    ran = run(CONTRIB / "make_state.py", IMAGE, *words[2:-1], start)
+    check("make_state.py --harts 2", ran.returncode == 0, ran.stderr)
+    count = trace.read_text().count("\n") - 1
+    found = judge.of_file(start, trace, "--harts", "2", *IO)
+    check("the judge, from a state of two harts", found == f"agrees {count}", found)
+    header = judge.folder / "header.csv"
+    header.write_text("insn,pc_rdata\n")
+    found = judge.of_file(start, header, "--harts", "2", command="state")
+    check("the state, written again", f"{found}\n" == start.read_text(), found[:400])
+
+
+def judged_pieces(judge, out):
+    """The run in two pieces, from a state of two harts."""
+    rows, two, state = out.read_text().splitlines(), ["--harts", "2", *IO], judge.folder / "a.rvstate"
+    text = judge.said(IMAGE, rows[:91], *two, command="state")
+    state.write_text(f"{text}\n")
+    check("a state of two harts", text.startswith("rvstate 1\nharts 2\npc "), text[:80])
+    judge.wants("from the middle", f"agrees {ROWS - 90}", state, [rows[0], *rows[91:]], *two)
+    judge.wants("from the middle, as one hart", "refused image: wrong number of harts", state,
+                [rows[0], *rows[91:]], *IO)
+    ran = run(CONTRIB / "make_state.py", state)
+    check("make_state.py, the state of the judge", ran.stdout == f"{text}\n", ran.stderr)
+    ran = run(CONTRIB / "make_state.py", state, "--set", "1:a0=5", "--set", "s1=6")
+    changed = [it for it, other in zip(ran.stdout.split("\n"), text.split("\n")) if it != other]
+    check("make_state.py, parts of harts", changed == [
+        "x9 0000000000000006", "x9 0000000000000006", "x10 0000000000000005"], changed)
+    pieces = run(CONTRIB / "pieces.py", IMAGE, out, "-p", judge.program, "--at", f"90={state}",
+                 "--", *two)
+    check("pieces.py", pieces.stdout.endswith(f"\nagrees {ROWS}\n"), pieces)
+
+
+def judged_examples(judge):
+    """The example of the documents, and a store that stands where it retired."""
+    examples = TESTS / "examples"
+    rows = (examples / "harts.csv").read_text().splitlines()
+    judge.wants("harts.csv", "agrees 10", examples / "harts.hex", rows, "--harts", "2")
+    store = next(at for at, it in enumerate(rows) if ",0x0072a023," in it)
+    early = [*rows[:store - 1], rows[store], rows[store - 1], *rows[store + 1:]]
+    judge.wants("a store that stands too early", "differs row 9: rd_wdata expected "
+                "0x0000000000000007 found 0x0000000000000000", examples / "harts.hex", early,
+                "--harts", "2")
+
+
+def faults_of_states(folder):
+    """States of several harts that cannot be made."""
+    tool, state = CONTRIB / "make_state.py", folder / "two.rvstate"
+    ran = run(tool, "--harts", 2, "--set", "0:mode=S", "-o", state)
+    check("make_state.py --harts 2", ran.returncode == 0
+          and state.read_text().startswith("rvstate 1\nharts 2\npc 0000000080000000\nmode 1\n")
+          and state.read_text().count("\nmode 3\n") == 1, ran.stderr)
+    refused("a state of another number of harts", "a state of 2 harts, and not of 3",
+            run(tool, state, "--harts", 3))
+    refused("a hart that is not in the state", "hart 2 is not there", run(tool, state, "--set",
+                                                                         "2:a0=1"))
+    refused("one hart, and another is named", "hart 1 is not there", run(tool, "--set", "1:a0=1"))
+    one = run(tool).stdout
+    check("one hart", run(tool, "--harts", 1).stdout == one and "harts" not in one)
+    state.write_text(state.read_text().replace("mode 3", "mood 3"))
+    refused("a line that is none of a state", "line 79: another line", run(tool, state))
 
 
 def main():
@@ -235,6 +366,13 @@ def main():
         merged_again(folder, out)
         merged(folder)
         faults_of_files(folder)
+        faults_of_states(folder)
+        if len(sys.argv) > 1:
+            judge = Judge(str(Path(sys.argv[1]).resolve()), folder)
+            judged(judge, out)
+            judged_starts(judge, log)
+            judged_pieces(judge, out)
+            judged_examples(judge)
     return 1 if faults else 0
 
 
