@@ -1,9 +1,10 @@
 #!/usr/bin/env python3
-"""Holds the documents to the judge: documents.py PROGRAM.
+"""Holds the documents to the judge: documents.py PROGRAM [WORD..].
 
-A line of a document that is indented by four blanks, begins with bin/rvjudge judge and names files
-in folders is run, in the top folder, and the line after it must be what the judge prints. Each
-image and trace in examples/ must be named. After a paragraph that ends in `FILE`: the whole text
+A line of a document that is indented by four blanks, begins with bin/rvjudge judge, or with
+bin/rvjudge-unproved, and names files in folders is run, in the top folder, and the line after it
+must be what the judge prints. Lines with one of the WORDs, which the judge does not know, are left
+out. Each image and trace in examples/ must be named. After a paragraph that ends in `FILE`: the whole text
 of that file must stand, indented by four blanks. Prints how many lines were run; the status is 1
 where anything is not so.
 """
@@ -13,7 +14,7 @@ from pathlib import Path
 
 TOP = Path(__file__).resolve().parents[2]
 DOCUMENTS = ("README.md", "docs/TRACES.md", "contrib/README.md")
-COMMAND = "    bin/rvjudge judge "
+COMMANDS = ("    bin/rvjudge judge ", "    bin/rvjudge-unproved judge ")
 EXAMPLES = "contrib/tests/examples"
 
 
@@ -21,7 +22,7 @@ def runs(text):
     """The words of each command and the line that stands after it."""
     lines = text.split("\n")
     return [(line.split()[1:], after.strip()) for line, after in zip(lines, lines[1:])
-            if line.startswith(COMMAND) and all("/" in word for word in line.split()[2:4])]
+            if line.startswith(COMMANDS) and all("/" in word for word in line.split()[2:4])]
 
 
 def shown_files(text):
@@ -33,10 +34,10 @@ def shown_files(text):
             yield file, "".join(line[4:] + "\n" for line in block.split("\n"))
 
 
-def faults(program, name):
+def faults(program, name, unknown):
     """What does not hold in a document, and how many lines were run in it."""
     text, found = (TOP / name).read_text(encoding="utf-8"), []
-    commands = runs(text)
+    commands = [it for it in runs(text) if unknown.isdisjoint(it[0])]
     for words, wanted in commands:
         ran = subprocess.run([program, *words], cwd=TOP, capture_output=True, text=True)
         if ran.stdout != wanted + "\n":
@@ -51,7 +52,7 @@ def faults(program, name):
 def main():
     program, found, count = str(Path(sys.argv[1]).resolve()), [], 0
     for name in DOCUMENTS:
-        these, ran = faults(program, name)
+        these, ran = faults(program, name, {*sys.argv[2:]})
         found, count = found + these, count + ran
     said = "".join((TOP / name).read_text(encoding="utf-8") for name in DOCUMENTS)
     for path in sorted((TOP / EXAMPLES).iterdir()):

@@ -9,6 +9,9 @@ program=$(readlink -f "${1:-$contrib/../bin/rvjudge}")
 folder=$(mktemp -d) || exit 1
 trap 'rm -rf "$folder"' EXIT
 failed=0 left_out=
+# Whether the judge knows several harts.
+"$program" judge "$tests/examples/harts.hex" "$tests/examples/harts.csv" --harts 2 >/dev/null 2>&1
+[ $? -eq 2 ] && knows_harts='' || knows_harts=1
 
 fail() {
     echo "contrib: FAILED: $*" >&2
@@ -53,6 +56,11 @@ expect() {
     shift 2
     found=$("$program" judge "$@")
     [ "$found" = "$wanted" ] || fail "$name: '$found', wanted '$wanted'"
+}
+
+# The judge's words for so many harts; none where it does not know several.
+for_harts() {
+    [ -z "$knows_harts" ] || echo "--harts $1"
 }
 
 # A name, what standard error is to have, and a command that must fail.
@@ -172,6 +180,9 @@ test_qemu_harts() {
             *" rows of $harts harts in "*": $((3 * harts)) SC stored, "*) ;;
             *) fail "harts.s, $harts harts: '$found'" ;;
         esac
+        [ -z "$knows_harts" ] || expect "harts.s, $harts harts, judged" \
+            "agrees $(($(wc -l <"$out") - 1))" "$folder/harts.elf" "$out" --harts $harts \
+            --io 0x100000:0xff01000
         grep -q "^0x0,.*,0xa,$(printf '0x%x' $((3 * harts)))," "$out" ||
             fail "harts.s, $harts harts: another count than $((3 * harts))"
     done
@@ -182,7 +193,8 @@ test_qemu_harts() {
     test_qemu_interrupts
 }
 
-# A hart that interrupts another: they share no memory, so that the rows of each agree alone.
+# A hart that interrupts another: they share no memory, so that the rows of each agree alone, without
+# the column of harts.
 test_qemu_interrupts() {
     sh "$tests/qemu/harts.sh" "$folder" 2 interrupts.s || fail 'interrupts.s: no run in qemu'
     python3 "$contrib/qemu_log.py" --harts 2 "$folder/harts.log" -o "$out" 2>/dev/null ||
@@ -192,12 +204,15 @@ test_qemu_interrupts() {
     # Six, but for those that come while hart 1 has not had its turn yet.
     grep -q '^0x1,0x1,' "$out" || fail 'interrupts.s: no interrupt'
     for hart in 0 1; do
-        grep -e '^hart,' -e "^0x$hart," "$out" >"$folder/alone.csv"
+        grep -e '^hart,' -e "^0x$hart," "$out" | cut -d , -f 2- >"$folder/alone.csv"
         rows=$(($(wc -l <"$folder/alone.csv") - 1))
         [ "$rows" -gt 40 ] || fail "interrupts.s: $rows rows of hart $hart"
         expect "interrupts.s, hart $hart" "agrees $rows" "$folder/harts.elf" "$folder/alone.csv" \
             --io 0x100000:0xff01000
     done
+    [ -z "$knows_harts" ] || expect 'interrupts.s, both harts' \
+        "agrees $(($(wc -l <"$out") - 1))" "$folder/harts.elf" "$out" --harts 2 \
+        --io 0x100000:0xff01000
 }
 
 # What qemu chose otherwise than the judge does by default, under the options that qemu_log.py names.
@@ -293,7 +308,9 @@ begin() {
 
 # The writer at an RVFI port of so many instructions a cycle.
 judge_bench() {
-    expect "$1" 'agrees 10' "$tests/rvfi/image.hex" "$folder/bench.csv"
+    name_of_bench=$1
+    shift
+    expect "$name_of_bench" 'agrees 10' "$tests/rvfi/image.hex" "$folder/bench.csv" "$@"
 }
 
 # The same with one line for all ports: bench.csv has the rows of rows.csv, and valid before each.
@@ -309,15 +326,23 @@ judge_lines() {
 # Two cores that wrote first.csv and second.csv, merged by their time: a name, and the hart of each
 # row.
 judge_pair() {
+    pair=$1
     for core in first second; do
-        expect "$1, the $core core" 'agrees 10' "$tests/rvfi/image.hex" "$folder/$core.csv"
+        # shellcheck disable=SC2046  # words
+        expect "$pair, the $core core" 'agrees 10' "$tests/rvfi/image.hex" "$folder/$core.csv" \
+            $(for_harts 2)
     done
-    python3 "$contrib/merge_rows.py" "$folder/first.csv" "$folder/second.csv" 2>"$folder/said" |
-        python3 "$contrib/port_rows.py" -o "$folder/pair.csv" 2>/dev/null
-    grep -q 'second.csv: .* of hart 1$' "$folder/said" || fail "$1: $(cat "$folder/said")"
+    python3 "$contrib/merge_rows.py" "$folder/first.csv" "$folder/second.csv" -o "$folder/both.csv" \
+        2>"$folder/said"
+    grep -q 'second.csv: .* of hart 1$' "$folder/said" || fail "$pair: $(cat "$folder/said")"
+    python3 "$contrib/port_rows.py" "$folder/both.csv" -o "$folder/pair.csv" 2>/dev/null
+    for merged in both pair; do
+        [ -z "$knows_harts" ] || expect "$pair, $merged" 'agrees 20' "$tests/rvfi/image.hex" \
+            "$folder/$merged.csv" --harts 2
+    done
     found=$(awk -F , 'NR == 1 { for (i = 1; i <= NF; i++) if ($i == "hart") column = i }
         NR > 1 { printf "%s", substr($column, 3) }' "$folder/pair.csv")
-    [ "$found" = "$2" ] || fail "$1: rows of the harts $found, wanted $2"
+    [ "$found" = "$2" ] || fail "$pair: rows of the harts $found, wanted $2"
 }
 
 # The numbers of harts: a column more, and nothing else changes.
@@ -328,7 +353,8 @@ test_hart_column() {
         play_bench "$1" "$2"
         cp "$folder/bench.csv" "$folder/rows.csv"
         play_bench "$1" "$2" -Pbench.HART="$3" -Pbench.TIME=1
-        judge_bench "iverilog, hart $3"
+        # shellcheck disable=SC2046  # words
+        judge_bench "iverilog, hart $3" $(for_harts $(($3 + 1)))
         awk -F , -v OFS= 'NR == 1 { for (i = 1; i <= NF; i++) if ($i ~ /^(hart|time)/) skip[i] = 1 }
             { for (i = 1; i <= NF; i++) $i = i in skip ? "" : (i > 1 ? "," : "") $i; print }' \
             "$folder/bench.csv" | cmp - "$folder/rows.csv" ||
@@ -632,7 +658,10 @@ test_install() {
 }
 
 if can_run 'the documents' python3; then
-    python3 "$tests/documents.py" "$program" || fail "the documents"
+    [ -n "$knows_harts" ] ||
+        leave_out 'the documents: commands of several harts, as the judge does not know --harts'
+    python3 "$tests/documents.py" "$program" "$([ -n "$knows_harts" ] || echo --harts)" ||
+        fail "the documents"
 fi
 if can_run 'regress.py' python3 gzip; then
     python3 "$tests/regress_test.py" "$program" || fail "regress.py"
@@ -649,7 +678,12 @@ can_run 'a run in qemu' python3 riscv64-unknown-elf-gcc riscv64-unknown-elf-objc
     qemu-system-riscv64 && has_version 'a run in qemu' qemu-system-riscv64 'version 7\.' &&
     test_qemu && test_qemu_choices && test_qemu_bits && test_qemu_rom
 if can_run 'rows of several harts' python3; then
-    python3 "$tests/harts_test.py" || fail "rows of several harts"
+    if [ -n "$knows_harts" ]; then
+        python3 "$tests/harts_test.py" "$program" || fail "rows of several harts"
+    else
+        leave_out 'judged rows of several harts, as the judge does not know --harts'
+        python3 "$tests/harts_test.py" || fail "rows of several harts"
+    fi
 fi
 can_run 'several harts in qemu' python3 riscv64-unknown-elf-as riscv64-unknown-elf-ld timeout \
     qemu-system-riscv64 && has_version 'several harts in qemu' qemu-system-riscv64 'version 7\.' &&
@@ -682,6 +716,7 @@ can_run 'rvfi_csv.sv in Verilator' verilator make g++ python3 &&
 can_run 'regress.py with GNU parallel' parallel
 can_run 'regress.py with .csv.zst' zstd
 if can_run 'what bin/ tells' pgrep; then
+    [ -n "$knows_harts" ] || leave_out 'the words of --harts, as the judge does not know it'
     sh "$tests/words_test.sh" "$program" || fail "what bin/ tells"
 fi
 can_run 'the installed files' make python3 git && test_install
