@@ -5,8 +5,8 @@
 # to the judge, and nothing of it is kept. The run ends after ROWS rows, or where ROWS is 0 or not
 # given, at U-Boot's prompt. The judge is PROGRAM, or bin/rvjudge.
 #
-# Where KEEP names a folder it gets the image (boot.hex), the trace (boot.csv), the judge's options
-# (boot.options) and what the firmware wrote to its serial port (boot.serial): for
+# Where KEEP names a folder it gets the image (boot.rvstate), the trace (boot.csv), the judge's
+# options (boot.options) and what the firmware wrote to its serial port (boot.serial): for
 # contrib/explain.py, with ROWS not much above the row that differs. Each run is the same.
 #
 # The status is the judge's; 69 where a package is missing; 68 where the run did not begin, or ended
@@ -22,9 +22,9 @@ uboot=/usr/lib/u-boot/qemu-riscv64_smode/u-boot.bin
 # nanoseconds: that makes runs repeat, and U-Boot's two seconds before the prompt short.
 cpu=rv64,f=off,d=off,h=off,v=off,sstc=off,zba=off,zbb=off,zbc=off,zbs=off,pmu-num=29
 memory=0x80000000:0x4000000
-# The judge has a page more, for the stub. Below it are the devices, from the first that is used on.
-stub=0x7ffff000
-options="--pc $stub --ram $stub:0x4001000 --io 0x100000:0x7feff000"
+start=0x80000000
+# Below RAM are the devices, from the first that is used on.
+options="--ram $memory --io 0x100000:0x7ff00000"
 
 case $rows in
 -h | --help)
@@ -86,14 +86,10 @@ rows_of_log() {
     python3 "$contrib/qemu_log.py" 2>>"$folder/said" || : >"$folder/not_whole"
 }
 
-# The trace from the log: the rows of the stub, and then those of qemu.
+# The trace from the log: its header, and as many rows as are wanted.
 trace() {
-    cat "$folder/head" - <&3 | rows_of_log | {
-        IFS= read -r header
-        printf '%s\n' "$header"
-        cat "$folder/stub.csv"
-        if [ "$rows" -gt 0 ]; then head -n "$rows"; else cat; fi
-    }
+    cat "$folder/head" - <&3 | rows_of_log |
+        if [ "$rows" -gt 0 ]; then head -n $((rows + 1)); else cat; fi
 }
 
 keep_copy() {
@@ -102,7 +98,7 @@ keep_copy() {
 
 judge() {
     # shellcheck disable=SC2086  # words
-    trace | keep_copy | "$program" judge "$folder/boot.hex" /dev/stdin $options
+    trace | keep_copy | "$program" judge "$folder/boot.rvstate" /dev/stdin $options
 }
 
 mkfifo "$folder/log" || exit 68
@@ -117,8 +113,11 @@ exec 3<"$folder/log"
 python3 "$boot/memory_image.py" "$folder/control" --ram $memory -o "$folder/boot.hex" ||
     fail 'qemu did not begin'
 exec 4<&-
-python3 "$boot/make_stub.py" "$folder/boot.hex" "$folder/stub.csv" --at $stub \
-    <&3 >"$folder/head" || fail 'the firmware did not begin'
+python3 "$boot/first_state.py" "$folder/words" --pc $start <&3 >"$folder/head" 2>>"$folder/said" ||
+    fail 'the firmware did not begin'
+# shellcheck disable=SC2046  # words
+python3 "$contrib/make_state.py" "$folder/boot.hex" --ram $memory --pc $start \
+    $(cat "$folder/words") -o "$folder/boot.rvstate" 2>>"$folder/said" || fail 'there is no start'
 [ "$rows" -gt 0 ] || end_at_prompt &
 judge >"$folder/verdict" &
 judge=$!
@@ -126,16 +125,15 @@ exec 3<&-
 wait $judge
 status=$?
 if [ -n "${KEEP:-}" ]; then
-    cp "$folder/boot.hex" "$KEEP/"
+    cp "$folder/boot.rvstate" "$KEEP/"
     cp "$folder/serial" "$KEEP/boot.serial"
     echo "$options" >"$KEEP/boot.options"
 fi
 verdict=$(cat "$folder/verdict")
 [ -z "$verdict" ] || echo "$verdict"
 if [ $status -eq 0 ]; then
-    stub_rows=$(wc -l <"$folder/stub.csv")
     if [ "$rows" -gt 0 ]; then
-        [ "${verdict#agrees }" -ge $((rows + stub_rows)) ] || fail "the run ended before $rows rows"
+        [ "${verdict#agrees }" -ge "$rows" ] || fail "the run ended before $rows rows"
     elif [ -e "$folder/not_whole" ] || ! is_at_prompt; then
         fail "the run ended before U-Boot's prompt"
     fi

@@ -1,5 +1,5 @@
 #!/usr/bin/env python3
-"""Tries what boot/boot.sh is made of: boot_test.py PROGRAM. The status is 1 where it failed."""
+"""Tries what boot/boot.sh is made of: boot_test.py. The status is 1 where it failed."""
 import os
 import shutil
 import subprocess
@@ -13,7 +13,6 @@ sys.path[:0] = [str(CONTRIB), str(BOOT)]
 import memory_image  # noqa: E402  # found by the line before
 import qemu_log  # noqa: E402
 
-OPTIONS = "--pc", "0x7ffff000", "--ram", "0x7ffff000:0x2000"
 FULL = {it: 0x8000_0000_0000_0000 | 0x0123_4567_89AB * it for it in range(1, 32)}
 failed = []
 
@@ -23,49 +22,43 @@ def expect(name, found, wanted):
         failed.append(f"{name}: {found!r}, wanted {wanted!r}")
 
 
-def log_of(registers, pc=0x80000000):
+def log_of(registers, pc=0x80000000, mstatus=0xA00000000, mip=0x80):
     """A log as qemu writes it: a state in the boot ROM, and the one with which firmware begins."""
     text = "IN: \n0x0000000000001014:  00028067          jr                      t0\n\n"
     for at, values in ((0x1014, {}), (pc, registers)):
-        text += f" pc       {at:016x}\n mstatus  0000000a00000000\n"
+        text += f" pc       {at:016x}\n mhartid  {0:016x}\n mstatus  {mstatus:016x}\n"
+        text += f" mip      {mip:016x}\n mcause   {0:016x}\n"
         for name in range(32):
             text += f" x{name}/r    {values.get(name, 0):016x}" + "\n" * (name % 4 == 3)
     return text
 
 
-def make_stub(folder, log, *words):
-    """The status of make_stub.py, what it passes on, and what it says."""
-    (folder / "boot.hex").write_text("@80000000\n00\n", encoding="ascii")
-    ran = subprocess.run([sys.executable, BOOT / "make_stub.py", folder / "boot.hex",
-                          folder / "stub.csv", *words],
+def first_state(folder, log, *words):
+    """The status of first_state.py, what it passes on, and what it says."""
+    ran = subprocess.run([sys.executable, BOOT / "first_state.py", folder / "words", *words],
                          input=log, capture_output=True, text=True, check=False)
     return ran.returncode, ran.stdout, ran.stderr.strip()
 
 
-def verdict(program, folder):
-    """What the judge says of the stub's rows."""
-    trace = folder / "boot.csv"
-    header = ",".join(qemu_log.COLUMNS)
-    trace.write_text(header + "\n" + (folder / "stub.csv").read_text(encoding="ascii"),
-                     encoding="ascii")
-    ran = subprocess.run([program, "judge", folder / "boot.hex", trace, *OPTIONS],
-                         capture_output=True, text=True, check=False)
-    return ran.stdout.strip()
+def start(folder, *words):
+    """The lines of the state that is made, which differ from those at reset."""
+    def lines(more):
+        ran = subprocess.run([sys.executable, CONTRIB / "make_state.py", *words, *more],
+                             capture_output=True, text=True, check=False)
+        return ran.stdout.splitlines() or [ran.stderr.strip()]
+    return sorted({*lines((folder / "words").read_text(encoding="ascii").split())} - {*lines([])})
 
 
-def try_stub(program, folder):
-    for name, registers, rows in (("all registers", FULL, 63), ("no register", {}, 1),
-                                  ("a few registers", {5: 1 << 31, 11: 0x83E00000}, 5)):
+def try_start(folder):
+    for name, registers in (("all registers", FULL), ("no register", {}),
+                            ("a few registers", {5: 1 << 31, 11: 0x83E00000})):
         log = log_of(registers)
-        expect(name, make_stub(folder, log), (0, log, ""))
-        expect(name, verdict(program, folder), f"agrees {rows}")
-    make_stub(folder, log_of(FULL))
-    image = folder / "boot.hex"
-    image.write_text(image.read_text(encoding="ascii").replace(
-        FULL[31].to_bytes(8, "little").hex(" "), FULL[30].to_bytes(8, "little").hex(" ")),
-        encoding="ascii")
-    expect("a register with another value", verdict(program, folder),
-           f"differs row 62: rd_wdata expected 0x{FULL[30]:016x} found 0x{FULL[31]:016x}")
+        expect(name, first_state(folder, log), (0, log, ""))
+        expect(name, start(folder), sorted(f"x{it} {value:016x}" for it, value in registers.items()))
+    log = log_of({10: 1}, 0x80200000, 0xA00001800, 0xA2)
+    expect("other registers", first_state(folder, log, "--pc", "0x80200000"), (0, log, ""))
+    expect("other registers", start(folder, "--pc", "0x80200000"), [
+        "csr_mip 0000000000000022", "csr_mstatus 0000000a00001800", "x10 0000000000000001"])
 
 
 def try_refusals(folder):
@@ -75,10 +68,8 @@ def try_refusals(folder):
             ("another start", log, ("--pc", "0x80200000"), "the log ends before 0x80200000"),
             ("no start", log * 2000, ("--pc", "0x4"), "the boot ROM does not lead to 0x4"),
             ("a register is missing", log.replace(" x7/r ", " y7/r "), (),
-             "the log shows a state without all registers"),
-            ("a stub far away", log, ("--at", "0x70000000"),
-             "0x80000000 is too far from 0x700000f8 for a jump")):
-        expect(name, make_stub(folder, text, *words), (1, "", f"make_stub.py: {wanted}"))
+             "the log shows a state without all registers")):
+        expect(name, first_state(folder, text, *words), (1, "", f"first_state.py: {wanted}"))
 
 
 def try_image(folder):
@@ -111,10 +102,9 @@ def try_statuses(folder):
 
 
 def main():
-    program = str(Path(sys.argv[1]).resolve())
     with tempfile.TemporaryDirectory() as name:
         folder = Path(name)
-        try_stub(program, folder)
+        try_start(folder)
         try_refusals(folder)
         try_image(folder)
         try_statuses(folder)

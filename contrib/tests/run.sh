@@ -277,13 +277,13 @@ test_boot() {
         leave_out "firmware in qemu: $(cat "$folder/said")"
         return
     fi
-    [ "$found" = 'agrees 200007' ] || fail "firmware in qemu: '$found': $(cat "$folder/said")"
-    printf '%s\n' '#!/bin/sh' 'shift 2' "exec '$program' judge '$folder/none.hex' \"\$@\"" \
+    [ "$found" = 'agrees 200000' ] || fail "firmware in qemu: '$found': $(cat "$folder/said")"
+    printf '%s\n' '#!/bin/sh' 'shift 2' "exec '$program' judge '$folder/none.rvstate' \"\$@\"" \
         >"$folder/other"
-    : >"$folder/none.hex"
+    python3 "$contrib/make_state.py" -o "$folder/none.rvstate"
     chmod +x "$folder/other"
     found=$(timeout 300 sh "$contrib/boot/boot.sh" 0 "$folder/other" 2>"$folder/said")
-    status=$? wanted='differs row 1: trap expected 0x0000000000000001 found 0x0000000000000000'
+    status=$? wanted='differs row 1: insn expected 0x0000000000000000 found 0x0000000000050433'
     [ "$status $found" = "1 $wanted" ] || fail "firmware without an image: $status '$found'"
 }
 
@@ -689,7 +689,7 @@ can_run 'several harts in qemu' python3 riscv64-unknown-elf-as riscv64-unknown-e
     qemu-system-riscv64 && has_version 'several harts in qemu' qemu-system-riscv64 'version 7\.' &&
     test_qemu_harts
 if can_run 'the start of firmware' python3; then
-    python3 "$tests/boot_test.py" "$program" || fail "the start of firmware"
+    python3 "$tests/boot_test.py" || fail "the start of firmware"
 fi
 can_run 'firmware in qemu' python3 qemu-system-riscv64 mkfifo timeout &&
     has_version 'firmware in qemu' qemu-system-riscv64 'version 7\.' && test_boot
@@ -718,6 +718,9 @@ can_run 'regress.py with .csv.zst' zstd
 if can_run 'what bin/ tells' pgrep; then
     [ -n "$knows_harts" ] || leave_out 'the words of --harts, as the judge does not know it'
     sh "$tests/words_test.sh" "$program" || fail "what bin/ tells"
+fi
+if can_run 'the progress line' python3; then
+    python3 "$tests/progress_test.py" || fail "the progress line"
 fi
 can_run 'the installed files' make python3 git && test_install
 [ "$failed" -eq 0 ] && echo "contrib: ok"
