@@ -33,7 +33,7 @@ import sys
 import tempfile
 import threading
 import time
-from concurrent.futures import ThreadPoolExecutor, as_completed
+from concurrent.futures import ThreadPoolExecutor
 from itertools import chain
 from pathlib import Path
 from typing import NamedTuple
@@ -41,8 +41,8 @@ from typing import NamedTuple
 from image_start import SAVED
 from port_rows import fields_of, names_in
 from regress import (
-    CHILDREN, HERE, Refused, add_ways, check_program, check_ways, options_by_name, parallel_results,
-    positive, results_of, words_of, write_job,
+    CHILDREN, HERE, Refused, add_ways, check_program, check_ways, done_in_turn, options_by_name,
+    parallel_results, positive, results_of, words_of, write_job,
 )
 
 AGREES, DIFFERS, REFUSED, NONE = "agrees", "differs", "refused", "no verdict"
@@ -307,8 +307,7 @@ def run_here(pieces, settings, jobs):
     pool = ThreadPoolExecutor(max_workers=jobs)
     try:
         tasks = [pool.submit(judged, piece, settings) for piece in pieces]
-        for task in as_completed(tasks):
-            yield task.result()
+        yield from done_in_turn(tasks)
     finally:
         CHILDREN.end_all()
         pool.shutdown(cancel_futures=True)

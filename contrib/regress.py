@@ -29,6 +29,7 @@ On several machines, which must see the same files at the same paths:
 import argparse
 import json
 import os
+import queue
 import re
 import shlex
 import shutil
@@ -38,7 +39,7 @@ import sys
 import tempfile
 import threading
 import time
-from concurrent.futures import ThreadPoolExecutor, as_completed
+from concurrent.futures import ThreadPoolExecutor
 from pathlib import Path
 from typing import NamedTuple
 from xml.sax.saxutils import escape, quoteattr
@@ -232,6 +233,39 @@ class Children:
 
 
 CHILDREN = Children()
+NAP = 0.5  # seconds: a signal that comes right before a wait is heeded after so long
+
+
+def taken(items):
+    """The next item of a queue. A wait without an end may not heed a signal that comes before it."""
+    while True:
+        try:
+            return items.get(timeout=NAP)
+        except queue.Empty:
+            continue
+
+
+def done_in_turn(tasks):
+    """What tasks give, as they are done."""
+    done = queue.SimpleQueue()
+    for task in tasks:
+        task.add_done_callback(done.put)
+    for _ in tasks:
+        yield taken(done).result()
+
+
+def lines_in_turn(file):
+    """The lines of a pipe, as they come."""
+    lines = queue.SimpleQueue()
+
+    def read():
+        for line in file:
+            lines.put(line)
+        lines.put(None)
+
+    threading.Thread(target=read, daemon=True).start()
+    while (line := taken(lines)) is not None:
+        yield line
 
 
 def last_row_halts(path):
@@ -363,8 +397,7 @@ def run_here(traces, settings, jobs):
     pool = ThreadPoolExecutor(max_workers=jobs)
     try:
         tasks = [pool.submit(judged, trace, settings) for trace in traces]
-        for task in as_completed(tasks):
-            yield task.result()
+        yield from done_in_turn(tasks)
     finally:
         CHILDREN.end_all()
         pool.shutdown(cancel_futures=True)
@@ -418,7 +451,7 @@ def parallel_results(script, path, count, words, kind):
     try:
         child.stdin.write("".join(f"{it}\n" for it in range(count)).encode())
         child.stdin.close()
-        yield from results_in(child.stdout, kind)
+        yield from results_in(lines_in_turn(child.stdout), kind)
     finally:
         if child.poll() is None:
             child.send_signal(signal.SIGTERM)  # the second, in end, makes it end its jobs
@@ -509,7 +542,7 @@ def explained(trace, program):
     child = CHILDREN.start(words, stdin=subprocess.DEVNULL, stdout=subprocess.PIPE,
                            stderr=subprocess.STDOUT)
     try:
-        return child.communicate()[0].decode("utf-8", "replace")
+        return b"".join(lines_in_turn(child.stdout)).decode("utf-8", "replace")
     finally:
         CHILDREN.end(child)
 

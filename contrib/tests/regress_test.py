@@ -264,16 +264,19 @@ def test_no_orphan(it):
     child = subprocess.Popen(it.command("-j", "3"), stdout=subprocess.PIPE, stderr=subprocess.PIPE,
                              env=os.environ | {"TMPDIR": str(temporary)})
     until = time.monotonic() + 120
-    # A shell that forks is there twice for a moment.
-    while len(found := sleepers(it)) != 3 and time.monotonic() < until:
-        time.sleep(0.1)
-    assert len(found) == 3, found
-    child.send_signal(signal.SIGTERM)
-    status = child.wait(timeout=120)
-    time.sleep(0.3)
-    left = sleepers(it)
-    for number in left:
-        os.kill(number, signal.SIGKILL)
+    try:
+        # A shell that forks is there twice for a moment.
+        while len(found := sleepers(it)) != 3 and time.monotonic() < until:
+            time.sleep(0.1)
+        assert len(found) == 3, found
+        child.send_signal(signal.SIGTERM)
+        status = child.wait(timeout=120)
+        time.sleep(0.3)
+        left = sleepers(it)
+    finally:
+        child.kill()
+        for number in sleepers(it):
+            os.killpg(number, signal.SIGKILL)
     assert not left, f"{len(left)} children are left"
     assert status not in (0, 1), f"status {status}"
     assert not [*temporary.iterdir()], "a file is left"
