@@ -9,6 +9,9 @@
 # options (boot.options) and what the firmware wrote to its serial port (boot.serial): for
 # contrib/explain.py, with ROWS not much above the row that differs. Each run is the same.
 #
+# Where KERNEL names a file qemu loads it in U-Boot's place. The run then ends where the machine is
+# turned off, after a line of the serial port that begins with LAST; linux.sh makes such a kernel.
+#
 # The status is the judge's; 69 where a package is missing; 68 where the run did not begin, or ended
 # too early.
 set -u
@@ -17,7 +20,8 @@ contrib=$(dirname "$boot")
 rows=${1:-0}
 program=${2:-$contrib/../bin/rvjudge}
 opensbi=/usr/lib/riscv64-linux-gnu/opensbi/generic/fw_jump.bin
-uboot=/usr/lib/u-boot/qemu-riscv64_smode/u-boot.bin
+kernel=${KERNEL:-/usr/lib/u-boot/qemu-riscv64_smode/u-boot.bin}
+last=${LAST:-=> }
 # The machine: one hart that has what the judge's has, and 64 MiB. Each instruction takes 2^10
 # nanoseconds: that makes runs repeat, and U-Boot's two seconds before the prompt short.
 cpu=rv64,f=off,d=off,h=off,v=off,sstc=off,zba=off,zbb=off,zbc=off,zbs=off,pmu-num=29
@@ -38,12 +42,16 @@ case $rows in
 esac
 missing=
 [ -r "$opensbi" ] || missing="$missing opensbi"
-[ -r "$uboot" ] || missing="$missing u-boot-qemu"
+[ -n "${KERNEL:-}" ] || [ -r "$kernel" ] || missing="$missing u-boot-qemu"
 command -v qemu-system-riscv64 >/dev/null || missing="$missing qemu-system-misc"
 command -v python3 >/dev/null || missing="$missing python3"
 if [ -n "$missing" ]; then
     echo "boot.sh: packages are missing:$missing" >&2
     exit 69
+fi
+if [ ! -r "$kernel" ]; then
+    echo "boot.sh: $kernel cannot be read" >&2
+    exit 68
 fi
 
 folder=$(mktemp -d) || exit 68
@@ -67,14 +75,15 @@ fail() {
     exit 68
 }
 
-is_at_prompt() {
-    grep -q '^=> ' "$folder/serial" 2>/dev/null
+is_at_last() {
+    grep -q "^$last" "$folder/serial" 2>/dev/null
 }
 
-# Ends qemu at the prompt. It must not hold the log open: qemu would wait for it to read.
+# Ends qemu at U-Boot's prompt. It must not hold the log open: qemu would wait for it to read.
 end_at_prompt() {
     exec 3<&-
-    until is_at_prompt; do
+    [ -z "${KERNEL:-}" ] || return
+    until is_at_last; do
         sleep 1
         kill -0 "$qemu" 2>/dev/null || return
     done
@@ -104,7 +113,7 @@ judge() {
 mkfifo "$folder/log" || exit 68
 # It is opened for both at first, so that a qemu that fails leaves nothing waiting for it.
 exec 4<>"$folder/log"
-qemu-system-riscv64 -M virt -cpu $cpu -m 64M -bios $opensbi -kernel $uboot \
+qemu-system-riscv64 -M virt -cpu $cpu -m 64M -bios $opensbi -kernel "$kernel" \
     -icount shift=10 -seed 1 -display none -monitor none -serial "file:$folder/serial" \
     -S -qmp "unix:$folder/control,server=on,wait=off" \
     -singlestep -d in_asm,cpu,exec,int,nochain -D "$folder/log" 2>"$folder/said" 4<&- &
@@ -134,8 +143,8 @@ verdict=$(cat "$folder/verdict")
 if [ $status -eq 0 ]; then
     if [ "$rows" -gt 0 ]; then
         [ "${verdict#agrees }" -ge "$rows" ] || fail "the run ended before $rows rows"
-    elif [ -e "$folder/not_whole" ] || ! is_at_prompt; then
-        fail "the run ended before U-Boot's prompt"
+    elif [ -e "$folder/not_whole" ] || ! is_at_last; then
+        fail "the run ended before the line '$last'"
     fi
 fi
 exit $status
