@@ -234,6 +234,20 @@ def opened(path):
             raise Refused(f"{path}: it could not be unpacked")
 
 
+def names_in(header):
+    """The names of the columns in a trace's first line."""
+    return [it.strip(" \t").removeprefix("rvfi_")
+            for it in next(csv.reader([header.removeprefix("\xef\xbb\xbf")]))]
+
+
+def unknown_names(names):
+    """The names that the judge does not know, each with the nearest that it knows."""
+    for name in names:
+        if name not in KNOWN and name not in OF_EXPLAIN:
+            near = difflib.get_close_matches(name.lower(), KNOWN, 1, 0.6)
+            yield f"{name}, the nearest is {near[0]}" if near else name
+
+
 class Cover:
     """What the rows of all traces exercised. has_bits: the table is that of --bits on."""
 
@@ -257,8 +271,7 @@ class Cover:
             _, header = next(lines, (0, None))
             if header is None:
                 raise Refused(f"{path}: there is no header")
-            names = [it.strip(" \t").removeprefix("rvfi_")
-                     for it in next(csv.reader([header.removeprefix("\xef\xbb\xbf")]))]
+            names = names_in(header)
             self.lint_names(path, names)
             before = self.valid
             for at, line in lines:
@@ -280,11 +293,8 @@ class Cover:
         self.first.setdefault(text, f"{path}: line {line}")
 
     def lint_names(self, path, names):
-        for name in names:
-            if name not in KNOWN and name not in OF_EXPLAIN:
-                near = difflib.get_close_matches(name.lower(), KNOWN, 1, 0.6)
-                hint = f", the nearest is {near[0]}" if near else ""
-                self.fault(path, 1, f"the judge does not know the column {name}{hint}")
+        for text in unknown_names(names):
+            self.fault(path, 1, f"the judge does not know the column {text}")
         for name in ("insn", "pc_rdata"):
             if name not in names:
                 self.fault(path, 1, f"the column {name}, which is needed, is missing")

@@ -15,7 +15,8 @@ Each NAME.csv, NAME.csv.gz and NAME.csv.zst in the folders and below them is jud
 
 One line is printed for each trace as it is done. Those that did not agree are printed again at the
 end, the first differences explained; the last line counts them all. An agreement of fewer rows than
---at-least, or of another number than NAME.expect has, is too short. A file that no verdict was
+--at-least, or of another number than NAME.expect has, is too short, and with --lint one whose trace
+has a column that the judge does not know: a wrong name checks nothing. A file that no verdict was
 reached on could not be judged, and so could a NAME.expect whose trace is missing.
 
 Status: 0 where each trace agrees, 1 where any differs, 2 where any is too short or could not be
@@ -43,6 +44,8 @@ from concurrent.futures import ThreadPoolExecutor
 from pathlib import Path
 from typing import NamedTuple
 from xml.sax.saxutils import escape, quoteattr
+
+import cover
 
 HERE = Path(__file__).resolve().parent
 UNPACK = {".csv": None, ".csv.gz": ["gzip", "-dc"], ".csv.zst": ["zstd", "-dcq"]}
@@ -291,6 +294,23 @@ def last_row_halts(path):
     return False
 
 
+def unknown_column(path):
+    """A column that the judge does not know, whatever its port, or an empty text."""
+    unpack = UNPACK[ending_of(path)]
+    with open(path, "rb") as file:
+        child = CHILDREN.start(unpack, stdin=file, stdout=subprocess.PIPE) if unpack else None
+        source = child.stdout if child else file
+        try:
+            line = next((it for it in source if it.strip(b"\r\n")), b"")
+        finally:
+            if child:
+                CHILDREN.end(child)
+    names = cover.names_in(line.decode("latin-1").rstrip("\r\n"))
+    if any(re.fullmatch("insn_[0-3]", it) for it in names):
+        names = [re.sub("_[0-3]$", "", it) for it in names]
+    return next(cover.unknown_names(names), "")
+
+
 def shortfall(trace, rows, at_least):
     """What an agreement of so many rows lacks, or an empty text."""
     if rows < at_least and not any(isinstance(it, int) for it in trace.wanted):
@@ -364,6 +384,8 @@ def verdict(trace, settings):
         line = without_origins(line)
     if status == 0 and (found := re.fullmatch(r"agrees (\d+)", line)):
         lacking = shortfall(trace, int(found[1]), settings["at_least"])
+        if not lacking and settings["lint"] and (name := unknown_column(trace.path)):
+            lacking = f"but the judge does not know the column {name}"
         return (SHORT, f"{line}, {lacking}") if lacking else (AGREES, line)
     if status == 1 and re.fullmatch(r"differs row \d+: \w+ expected \S+ found \S+", line):
         return DIFFERS, line
@@ -583,7 +605,7 @@ def arguments(words):
     parser = argparse.ArgumentParser(
         prog="regress.py", description=first, epilog=rest, allow_abbrev=False,
         formatter_class=argparse.RawDescriptionHelpFormatter,
-        usage="regress.py FOLDER.. [-p PROGRAM] [-j N] [--at-least N] [--timeout S] [--explain N]"
+        usage="regress.py FOLDER.. [-p PROGRAM] [-j N] [--at-least N] [--lint] [--timeout S] [--explain N]"
               " [--junit FILE] [--json FILE] [--with parallel|slurm] [-- OPTION..]")
     add = parser.add_argument
     add("folders", nargs="*", metavar="FOLDER")
@@ -593,6 +615,8 @@ def arguments(words):
         help="traces that are judged at once (default: as many as there are processors)")
     add("--at-least", type=int, default=1, metavar="N",
         help="fewest valid rows that an agreement must have (default 1)")
+    add("--lint", action="store_true",
+        help="an agreement with a column that the judge does not know, and passes over, is too short")
     add("--timeout", type=float, default=0, metavar="S", help="most seconds of a trace")
     add("--explain", type=int, default=3, metavar="N",
         help="differences that are explained at the end (default 3)")
@@ -636,7 +660,8 @@ def run(words):
     check_program(program)
     given = {"--workers": "1"} | options_by_name(words.options, "after --")
     traces = traces_in(words.folders, given)
-    settings = {"program": program, "timeout": words.timeout, "at_least": words.at_least}
+    settings = {"program": program, "timeout": words.timeout, "at_least": words.at_least,
+                "lint": words.lint}
     if words.way == "slurm":
         return write_slurm(traces, settings, words)
     if words.way == "parallel":

@@ -10,7 +10,8 @@
 # contrib/explain.py, with ROWS not much above the row that differs. Each run is the same.
 #
 # Where KERNEL names a file qemu loads it in U-Boot's place. The run then ends where the machine is
-# turned off, after a line of the serial port that begins with LAST; linux.sh makes such a kernel.
+# turned off, after a line of the serial port that begins with LAST; linux.sh makes such a kernel. It
+# is judged as qemu does where the standards leave a choice.
 #
 # The status is the judge's; 69 where a package is missing; 68 where the run did not begin, or ended
 # too early.
@@ -28,7 +29,7 @@ cpu=rv64,f=off,d=off,h=off,v=off,sstc=off,zba=off,zbb=off,zbc=off,zbs=off,pmu-nu
 memory=0x80000000:0x4000000
 start=0x80000000
 # Below RAM are the devices, from the first that is used on.
-options="--ram $memory --io 0x100000:0x7ff00000"
+options="--ram $memory --io 0x100000:0x7ff00000${KERNEL:+ --misaligned done --ad set}"
 
 case $rows in
 -h | --help)

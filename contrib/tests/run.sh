@@ -377,6 +377,11 @@ test_iverilog() {
             fail "rvfi_csv.sv, one line for $ports ports: $(cat "$folder/said")"
         judge_lines "iverilog, one line for $ports ports"
     done
+    iverilog -g2012 -s structs -o "$folder/structs" "$tests/rvfi/structs.sv" \
+        "$tests/rvfi/bench.sv" "$contrib/rvfi_csv.sv" 2>/dev/null
+    rm -f "$folder/bench.csv"
+    (cd "$folder" && vvp -n structs >/dev/null 2>&1)
+    judge_bench 'iverilog, a port of structs'
     iverilog -g2012 -s all -o "$folder/all" "$tests/rvfi/all.sv" "$contrib/rvfi_csv.sv" 2>/dev/null
     vvp -n "$folder/all" "+rvfi_csv=$folder/all.csv" 2>/dev/null
     expect_columns 'rvfi_csv.sv with every column' "$folder/all.csv" 109
