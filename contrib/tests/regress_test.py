@@ -225,14 +225,14 @@ def test_lint(it):
         it.add(name, "misaligned.csv")
         path = it.path / name
         text = b"insn,pc_rdata,rd_data,time\n0x297,0x80000000,5,7\n"
-        text += b"".join(b"0x6f,0x80000004,,%d\n" % at ** 9 for at in range(20000))
+        text += b"".join(b"0x6f,0x80000004,,%d\n" % at ** 9 for at in range(3000))
         path.write_bytes(gzip.compress(text) if name.endswith(".gz") else text)
         (it.path / f"{name[0]}.hex").write_text("@80000000 97 02 00 00 6f 00 00 00\n")
     it.add("c.csv").write_text("insn,pc_rdata,insn_1,rvfi_pc_rdata_1,valid_1,rd_addr_1\n"
                                "0x297,0x80000000,,,0,\n")
     shutil.copy(it.path / "a.hex", it.path / "c.hex")
     it.run().wants(0, counts(3))
-    said = "agrees 20001, but the judge does not know the column rd_data, the nearest is rd_wdata"
+    said = "agrees 3001, but the judge does not know the column rd_data, the nearest is rd_wdata"
     it.run("--lint").wants(2, counts(1, short=2), f"a: {said}", f"b: {said}", "c: agrees 1")
 
 
