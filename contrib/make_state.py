@@ -177,7 +177,7 @@ class State:
         yield "end\n"
 
     def set(self, name, text):
-        """Sets a part of all harts, or of the one whose number and a colon stand before its name."""
+        """Sets a part of all harts, or of the one whose number stands before a colon."""
         number_text, colon, part = name.rpartition(":")
         if not colon:
             for hart in self.harts:

@@ -240,7 +240,7 @@ NAP = 0.5  # seconds: a signal that comes right before a wait is heeded after so
 
 
 def taken(items):
-    """The next item of a queue. A wait without an end may not heed a signal that comes before it."""
+    """The next item of a queue. A wait without an end may not heed a signal right before it."""
     while True:
         try:
             return items.get(timeout=NAP)
@@ -605,8 +605,8 @@ def arguments(words):
     parser = argparse.ArgumentParser(
         prog="regress.py", description=first, epilog=rest, allow_abbrev=False,
         formatter_class=argparse.RawDescriptionHelpFormatter,
-        usage="regress.py FOLDER.. [-p PROGRAM] [-j N] [--at-least N] [--lint] [--timeout S] [--explain N]"
-              " [--junit FILE] [--json FILE] [--with parallel|slurm] [-- OPTION..]")
+        usage="regress.py FOLDER.. [-p PROGRAM] [-j N] [--at-least N] [--timeout S] [--explain N]"
+              " [--lint] [--junit FILE] [--json FILE] [--with parallel|slurm] [-- OPTION..]")
     add = parser.add_argument
     add("folders", nargs="*", metavar="FOLDER")
     add("-p", "--program", default=str(HERE.parent / "bin/rvjudge"), metavar="PROGRAM",
@@ -616,7 +616,7 @@ def arguments(words):
     add("--at-least", type=int, default=1, metavar="N",
         help="fewest valid rows that an agreement must have (default 1)")
     add("--lint", action="store_true",
-        help="an agreement with a column that the judge does not know, and passes over, is too short")
+        help="an agreement with a column that the judge does not know is too short")
     add("--timeout", type=float, default=0, metavar="S", help="most seconds of a trace")
     add("--explain", type=int, default=3, metavar="N",
         help="differences that are explained at the end (default 3)")

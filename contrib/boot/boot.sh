@@ -10,8 +10,8 @@
 # contrib/explain.py, with ROWS not much above the row that differs. Each run is the same.
 #
 # Where KERNEL names a file qemu loads it in U-Boot's place. The run then ends where the machine is
-# turned off, after a line of the serial port that begins with LAST; linux.sh makes such a kernel. It
-# is judged as qemu does where the standards leave a choice.
+# turned off, after a line of the serial port that begins with LAST; linux.sh makes such a kernel.
+# It is judged as qemu does where the standards leave a choice.
 #
 # The status is the judge's; 69 where a package is missing; 68 where the run did not begin, or ended
 # too early.

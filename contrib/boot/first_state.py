@@ -6,9 +6,9 @@
 
 The judge's hart begins with registers that are 0. qemu's comes to the firmware out of its boot ROM,
 which has set a0 to the hart's number, a1 to the device tree, and others besides. Reads the log of
-qemu up to the state at the firmware's first address (--pc), and passes on to standard output what it
-has read. WORDS gets a word --set=NAME=VALUE for each register that is not as at reset. At the end of
-a whole log qemu_log.py tells the same; this tells it at once, for a run that is judged live.
+qemu up to the state at the firmware's first address (--pc), and passes on to standard output what
+it has read. WORDS gets a word --set=NAME=VALUE for each register that is not as at reset. At the
+end of a whole log qemu_log.py tells the same; this tells it at once, for a run that is judged live.
 """
 import argparse
 import os

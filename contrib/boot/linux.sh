@@ -25,7 +25,8 @@ case ${1:-} in
 esac
 missing=
 [ -r "$source" ] || missing="$missing linux-source-6.1"
-for tool in ${cross}gcc:gcc-riscv64-linux-gnu flex:flex bison:bison bc:bc make:make gcc:gcc xz:xz-utils; do
+for tool in ${cross}gcc:gcc-riscv64-linux-gnu flex:flex bison:bison bc:bc make:make gcc:gcc \
+    xz:xz-utils; do
     command -v "${tool%:*}" >/dev/null || missing="$missing ${tool#*:}"
 done
 if [ -n "$missing" ]; then
@@ -44,9 +45,9 @@ unpack() {
     rm -rf "$tree" "$tree.part" && mkdir "$tree.part" &&
         tar -xJf "$source" -C "$tree.part" --strip-components=1 &&
         sed -i -e 's/^\tset_satp_mode();$/\tdisable_pgtable_l5();\n\tdisable_pgtable_l4();/' \
-            -e 's/^static __init void set_satp_mode(void)$/static __init __maybe_unused void set_satp_mode(void)/' \
+            -e 's/^static __init void set_satp_mode(void)$/__maybe_unused &/' \
             "$tree.part/arch/riscv/mm/init.c" &&
-        grep -q '__maybe_unused void set_satp_mode' "$tree.part/arch/riscv/mm/init.c" &&
+        grep -q '^__maybe_unused static __init void set_satp_mode' "$tree.part/arch/riscv/mm/init.c" &&
         mv "$tree.part" "$tree"
 }
 

@@ -54,7 +54,8 @@ def try_start(folder):
                             ("a few registers", {5: 1 << 31, 11: 0x83E00000})):
         log = log_of(registers)
         expect(name, first_state(folder, log), (0, log, ""))
-        expect(name, start(folder), sorted(f"x{it} {value:016x}" for it, value in registers.items()))
+        lines = sorted(f"x{it} {value:016x}" for it, value in registers.items())
+        expect(name, start(folder), lines)
     log = log_of({10: 1}, 0x80200000, 0xA00001800, 0xA2)
     expect("other registers", first_state(folder, log, "--pc", "0x80200000"), (0, log, ""))
     expect("other registers", start(folder, "--pc", "0x80200000"), [

@@ -4,9 +4,9 @@
 A line of a document that is indented by four blanks, begins with bin/rvjudge judge, or with
 bin/rvjudge-unproved, and names files in folders is run, in the top folder, and the line after it
 must be what the judge prints. Lines with one of the WORDs, which the judge does not know, are left
-out. Each image and trace in examples/ must be named. After a paragraph that ends in `FILE`: the whole text
-of that file must stand, indented by four blanks. Prints how many lines were run; the status is 1
-where anything is not so.
+out. Each image and trace in examples/ must be named. After a paragraph that ends in `FILE`: the
+whole text of that file must stand, indented by four blanks. Prints how many lines were run; the
+status is 1 where anything is not so.
 """
 import subprocess
 import sys

@@ -306,7 +306,8 @@ def judged_starts(judge, log):
 
 def judged_pieces(judge, out):
     """The run in two pieces, from a state of two harts."""
-    rows, two, state = out.read_text().splitlines(), ["--harts", "2", *IO], judge.folder / "a.rvstate"
+    rows, two = out.read_text().splitlines(), ["--harts", "2", *IO]
+    state = judge.folder / "a.rvstate"
     text = judge.said(IMAGE, rows[:91], *two, command="state")
     state.write_text(f"{text}\n")
     check("a state of two harts", text.startswith("rvstate 1\nharts 2\npc "), text[:80])

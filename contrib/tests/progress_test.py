@@ -1,6 +1,7 @@
 #!/usr/bin/env python3
 """Tries the progress line of bin/rvjudge: progress_test.py. The judge is a stand-in that reads its
-trace slowly, and standard error is a terminal that is made here, or a pipe. Status 1 where it failed.
+trace slowly, and standard error is a terminal that is made here, or a pipe. Status 1 where it
+failed.
 """
 import os
 import pty
