@@ -1,8 +1,8 @@
 #!/bin/sh
 # Linux from its source to a verdict, live: linux.sh FOLDER [ROWS] [PROGRAM].
 #
-# Builds Linux 6.1 of Debian's package linux-source-6.1 in FOLDER, which takes 2 GB and some ten
-# minutes and is done once; then boot.sh judges its run on OpenSBI. linux/config beside this file is
+# Builds Linux 6.1 of Debian's package linux-source-6.1 in FOLDER, which takes 1.5 GB and some
+# minutes, and is done once; then boot.sh judges its run on OpenSBI. linux/config beside this file is
 # all that the kernel has, linux/init.S its only program, which tells that it runs and turns the
 # machine off. The kernel is told to keep to Sv39: by itself it tries Sv57 and Sv48, which qemu has
 # and the judge's hart does not. ROWS, PROGRAM, KEEP and the status are as boot.sh has them.

@@ -242,6 +242,13 @@ def test_long_trace(it):
     assert it.wants_verdict().startswith(f"differs row {2 * quarter + 2}: pc_rdata"), it.said
 
 
+def test_origin(it):
+    """state has no origins, and so no piece has."""
+    it.write()
+    it.run(options=["--origin"]).wants(2)
+    assert "--origin: a state has no origins" in it.said, it.said
+
+
 def test_slurm(it):
     """Each task of the array by hand."""
     it.write()
