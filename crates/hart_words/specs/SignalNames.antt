@@ -4,7 +4,7 @@ use Rattle.hart_words.specs.declared.signal.Signal.{Signal}
 use Rattle.hart_words.specs.declared.signal.Signal.TheVariants.{Valid, Order, Intr, PcRdata, Mode, Ixl, Trap, Insn}
 use Rattle.hart_words.specs.declared.signal.Signal.TheVariants.{Rs1Addr, Rs1Rdata, Rs2Addr, Rs2Rdata, RdAddr, RdWdata}
 use Rattle.hart_words.specs.declared.signal.Signal.TheVariants.{PcWdata, MemAddr, MemRmask, MemRdata, MemWmask}
-use Rattle.hart_words.specs.declared.signal.Signal.TheVariants.{MemWdata, MemPaddr, Halt, Csr}
+use Rattle.hart_words.specs.declared.signal.Signal.TheVariants.{MemWdata, MemPaddr, Halt, Hart, Csr}
 use Rattle.hart_words.specs.declared.signal.CsrName.{CsrName}
 use Rattle.hart_words.specs.declared.signal.CsrName.TheVariants.{Mstatus, Misa, Medeleg, Mideleg, Mie, Mtvec, Mscratch}
 use Rattle.hart_words.specs.declared.signal.CsrName.TheVariants.{Mepc, Mcause, Mtval, Mip, Satp, Sstatus, Sie, Sip}
@@ -72,6 +72,7 @@ stem_of MemWmask = codes "mem_wmask"
 stem_of MemWdata = codes "mem_wdata"
 stem_of MemPaddr = codes "mem_paddr"
 stem_of Halt = codes "halt"
+stem_of Hart = codes "hart"
 stem_of (Csr csr side) = csr_name_of csr
 
 unfoldable pub suffix_of : Signal → List ℕ

@@ -5,7 +5,7 @@ use Rattle.hart_words.specs.declared.signal.Signal.{Signal}
 use Rattle.hart_words.specs.declared.signal.Signal.TheVariants.{Valid, Order, Intr, PcRdata, Mode, Ixl, Trap, Insn}
 use Rattle.hart_words.specs.declared.signal.Signal.TheVariants.{Rs1Addr, Rs1Rdata, Rs2Addr, Rs2Rdata, RdAddr, RdWdata}
 use Rattle.hart_words.specs.declared.signal.Signal.TheVariants.{PcWdata, MemAddr, MemRmask, MemRdata, MemWmask}
-use Rattle.hart_words.specs.declared.signal.Signal.TheVariants.{MemWdata, MemPaddr, Halt, Csr}
+use Rattle.hart_words.specs.declared.signal.Signal.TheVariants.{MemWdata, MemPaddr, Halt, Hart, Csr}
 use Rattle.hart_words.specs.declared.signal.CsrName.{CsrName}
 use Rattle.hart_words.specs.declared.signal.CsrName.TheVariants.{Mstatus, Misa, Medeleg, Mideleg, Mie, Mtvec, Mscratch}
 use Rattle.hart_words.specs.declared.signal.CsrName.TheVariants.{Mepc, Mcause, Mtval, Mip, Satp, Sstatus, Sie, Sip}
@@ -74,11 +74,12 @@ index_of MemWmask = 18
 index_of MemWdata = 19
 index_of MemPaddr = 20
 index_of Halt = 21
-index_of (Csr csr side) = 22 + 4 * csr_index_of csr + side_index_of side
+index_of Hart = 22
+index_of (Csr csr side) = 23 + 4 * csr_index_of csr + side_index_of side
 
 -- the same, but for a register where the registers begin
 abbrev pub plain_index_of : Signal → ℕ
-plain_index_of (Csr csr side) = 22
+plain_index_of (Csr csr side) = 23
 plain_index_of signal = index_of signal
 
 -- the signal's line in the table

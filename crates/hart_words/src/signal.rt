@@ -6,7 +6,7 @@ ghost use Rattle.std.specs.Str.{bytes_eq};
 ghost use Rattle.hart_words.specs.Signals.{csr_index_of, signal_entry_of, index_of, plain_index_of, side_index_of, width_of};
 ghost use Rattle.hart_words.specs.SignalNames.{csr_name_of, name_of, prefix_of, side_name_of, stem_of, suffix_of};
 
-/// A column of a trace. All are RVFI's but `MemPaddr`, which is this judge's own.
+/// A column of a trace. All are RVFI's but `MemPaddr` and `Hart`, which are this judge's own.
 #[derive(Clone, Copy, Debug, PartialEq, Eq)]
 pub enum Signal {
     Valid,
@@ -31,6 +31,8 @@ pub enum Signal {
     MemWdata,
     MemPaddr,
     Halt,
+    /// The number of the hart whose row it is.
+    Hart,
     /// A side of a control and status register.
     Csr(CsrName, CsrSide),
 }
@@ -95,8 +97,9 @@ macro_rules! entries {
     };
 }
 
-/// All signals, each at its index: in the order of comparison, in which `halt` is passed over.
-pub const SIGNALS: [SignalEntry; 110] = entries![
+/// All signals, each at its index: in the order of comparison, in which `halt` and `hart` are
+/// passed over.
+pub const SIGNALS: [SignalEntry; 111] = entries![
     Signal::Valid => 1,
     Signal::Order => 64,
     Signal::Intr => 1,
@@ -119,6 +122,7 @@ pub const SIGNALS: [SignalEntry; 110] = entries![
     Signal::MemWdata => 64,
     Signal::MemPaddr => 64,
     Signal::Halt => 1,
+    Signal::Hart => 64,
     Signal::Csr(CsrName::Mstatus, CsrSide::Rmask) => 64,
     Signal::Csr(CsrName::Mstatus, CsrSide::Wmask) => 64,
     Signal::Csr(CsrName::Mstatus, CsrSide::Rdata) => 64,
@@ -213,10 +217,10 @@ impl Signal {
     /// Where the signal stands among all signals, from 0.
     pub fn index(self) -> u8
         ensures value { result ≡ index_of self }
-        ensures below { result < 110 }
+        ensures below { result < 111 }
     {
         match self {
-            Signal::Csr(csr, side) => 22 + 4 * csr.index() + side.index(),
+            Signal::Csr(csr, side) => 23 + 4 * csr.index() + side.index(),
             plain => plain.plain_index(),
         }
     }
@@ -249,7 +253,8 @@ impl Signal {
             Signal::MemWdata => 19,
             Signal::MemPaddr => 20,
             Signal::Halt => 21,
-            Signal::Csr(_, _) => 22,
+            Signal::Hart => 22,
+            Signal::Csr(_, _) => 23,
         }
     }
 
@@ -326,6 +331,7 @@ impl Signal {
             Signal::MemWdata => "mem_wdata",
             Signal::MemPaddr => "mem_paddr",
             Signal::Halt => "halt",
+            Signal::Hart => "hart",
             Signal::Csr(csr, _) => csr.name(),
         }
     }

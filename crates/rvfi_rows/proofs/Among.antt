@@ -1,7 +1,7 @@
 -- Rows show none but the signals of their columns.
 use Rattle.std.proofs.Common.{◌≡◌, ◌∙◌, sym, ap, refl, subst, ℕ, ◌==◌, ◌||◌, Bool, true, false, not, List, [], ◌∷◌}
 use Rattle.std.proofs.Common.{◌++◌, ◌+◌, ◌<◌, get_or, length, take, Option, Some, None, Result, Ok, Err}
-use Rattle.std.specs.Prelude.{if◌then◌else◌, slice_index}
+use Rattle.std.specs.Prelude.{if◌then◌else◌, nat_lt, slice_index}
 use Rattle.std.specs.Option.{option_or}
 use Rattle.std.specs.Int.{bit_at}
 use Rattle.std.proofs.lemmas.Bool.{eqb-true, or_parts}
@@ -14,14 +14,14 @@ use Rattle.hart_words.specs.Signals.{Shown, index_of}
 use Rattle.hart_words.specs.Results.{◌>>=◌, ◌>>◌, refuse_if}
 use Rattle.rvfi_rows.specs.declared.column.Column.{Column}
 use Rattle.rvfi_rows.specs.declared.fault.RowFault.{RowFault}
-use Rattle.rvfi_rows.specs.declared.fault.RowFault.TheVariants.{FieldCount}
+use Rattle.rvfi_rows.specs.declared.fault.RowFault.TheVariants.{FieldCount, NoHart}
 use Rattle.rvfi_rows.specs.declared.row.Row.{Row}
 use Rattle.rvfi_rows.specs.Cells.{AreOf, is_among, shown_in, values_at, values_of, with_bits}
-use Rattle.rvfi_rows.specs.Columns.{ColumnList, port_columns}
+use Rattle.rvfi_rows.specs.Columns.{ColumnList, TraceColumns, port_columns}
 use Rattle.rvfi_rows.specs.Kept.{HasSignalsOf}
 use Rattle.rvfi_rows.specs.Ports.{port_number}
-use Rattle.rvfi_rows.specs.Rows.{alone, cell_of, cells_of, field_shown, is_invalid, nothing, row_from, row_of_fields}
-use Rattle.rvfi_rows.specs.Rows.{shown_then, signals_of, valid_of}
+use Rattle.rvfi_rows.specs.Rows.{alone, cell_of, cells_of, field_shown, hart_of, is_invalid, nothing, row_at_port}
+use Rattle.rvfi_rows.specs.Rows.{row_from, row_of_fields, row_of_present, shown_then, signals_of, valid_of}
 use Rattle.rvfi_rows.proofs.Values.{shows_kept}
 
 -- it shows nothing of a signal, where it is read
@@ -72,8 +72,8 @@ lacks_valid signal (Ok value) cells lacks = by (is_invalid value) cells lacks
 
 lacks_row : (signal : Signal) (columns : ColumnList) (has : Bool) (fields : List (List ℕ)) (port : ℕ)
     → is_among (signals_of (port_columns port columns)) signal ≡ false
-    → LacksRow signal (row_of_fields columns has fields port)
-unfolding row_of_fields row_from
+    → LacksRow signal (row_at_port columns has fields port)
+unfolding row_at_port row_from
 lacks_row signal columns true fields port none = tt
 lacks_row signal columns false fields port none =
     let mine = port_columns port columns in
@@ -107,7 +107,7 @@ port_signals port (Some column ∷ columns) signal among =
 -- a row that is shown shows none but these signals, among which are those of the columns
 pub are_of : (row : Row) (columns : ColumnList) (has : Bool) (fields : List (List ℕ)) (port : ℕ)
     (signals : List Signal) → HasSignalsOf columns signals
-    → Ok (Some (shown_in row)) ≡ row_of_fields columns has fields port → AreOf signals row.shown
+    → Ok (Some (shown_in row)) ≡ row_at_port columns has fields port → AreOf signals row.shown
 unfolding shown_in
 are_of row columns has fields port signals all is = record {
   below = row.within;
@@ -133,12 +133,50 @@ are_of row columns has fields port signals all is = record {
 -- so it is what is kept of it
 pub kept_shown : (row : Row) (bits : ℕ) (columns : ColumnList) (has : Bool) (fields : List (List ℕ)) (port : ℕ)
     (signals : List Signal) → HasSignalsOf columns signals
-    → bits ≡ row.shown → Ok (Some (shown_in row)) ≡ row_of_fields columns has fields port
+    → bits ≡ row.shown → Ok (Some (shown_in row)) ≡ row_at_port columns has fields port
     → Ok (Some (with_bits bits (values_of signals (values_at row.values signals))))
-    ≡ row_of_fields columns has fields port
+    ≡ row_at_port columns has fields port
 kept_shown row bits columns has fields port signals all same is =
     rw same (ap (λ (shown : Shown). Ok (Some shown)) (shows_kept row signals
     (are_of row columns has fields port signals all is)) ∙ is)
+
+-- ---- whether its hart is there
+
+with_present : (columns : TraceColumns) (has : Bool) (fields : List (List ℕ)) (port : ℕ) (shown : Shown) (is_there : Bool)
+    → Ok (Some shown) ≡ row_at_port columns.named has fields port → nat_lt (hart_of shown) columns.harts ≡ is_there
+    → row_of_fields columns has fields port ≡ (if is_there then Ok (Some shown) else Err NoHart)
+unfolding row_of_fields
+with_present columns has fields port shown is_there is there =
+    ap (λ (row : Result (Option Shown) RowFault). row >>= λ found. row_of_present columns.harts found) (sym is)
+    ∙ ap (λ (t : Bool). if t then Ok (Some shown) else Err NoHart) there
+
+pub kept_present : (row : Row) (bits : ℕ) (columns : TraceColumns) (has : Bool) (fields : List (List ℕ)) (port : ℕ)
+    (signals : List Signal) → HasSignalsOf columns.named signals
+    → bits ≡ row.shown → Ok (Some (shown_in row)) ≡ row_at_port columns.named has fields port
+    → nat_lt (hart_of (shown_in row)) columns.harts ≡ true
+    → Ok (Some (with_bits bits (values_of signals (values_at row.values signals))))
+    ≡ row_of_fields columns has fields port
+kept_present row bits columns has fields port signals all same is there =
+    kept_shown row bits columns.named has fields port signals all same is ∙ sym is
+    ∙ sym (with_present columns has fields port (shown_in row) true is there)
+
+pub kept_absent : (row : Row) (columns : TraceColumns) (has : Bool) (fields : List (List ℕ)) (port : ℕ)
+    → Ok (Some (shown_in row)) ≡ row_at_port columns.named has fields port
+    → nat_lt (hart_of (shown_in row)) columns.harts ≡ false → Err NoHart ≡ row_of_fields columns has fields port
+kept_absent row columns has fields port is there =
+    sym (with_present columns has fields port (shown_in row) false is there)
+
+pub kept_invalid : (columns : TraceColumns) (has : Bool) (fields : List (List ℕ)) (port : ℕ)
+    → Ok None ≡ row_at_port columns.named has fields port → Ok None ≡ row_of_fields columns has fields port
+unfolding row_of_fields
+kept_invalid columns has fields port is =
+    ap (λ (row : Result (Option Shown) RowFault). row >>= λ found. row_of_present columns.harts found) is
+
+pub kept_refused : (columns : TraceColumns) (has : Bool) (fields : List (List ℕ)) (port : ℕ) (fault : RowFault)
+    → Err fault ≡ row_at_port columns.named has fields port → Err fault ≡ row_of_fields columns has fields port
+unfolding row_of_fields
+kept_refused columns has fields port fault is =
+    ap (λ (row : Result (Option Shown) RowFault). row >>= λ found. row_of_present columns.harts found) is
 
 -- ---- the signals of one column more
 

@@ -81,12 +81,12 @@ by_bits row (entry ∷ entries) from all =
     first true false csr at all = absurd cc
     first false there csr at all = absurd cc
 
-pub shows_some : (row : Row) → not (row.shown / 2 ^ 22 == 0) ≡ shows_csr (shown_in row)
+pub shows_some : (row : Row) → not (row.shown / 2 ^ 23 == 0) ≡ shows_csr (shown_in row)
 unfolding shows_csr
-shows_some row = bits_above row.shown 22 88 row.within ∙ sym (by_bits row (drop 22 SIGNALS) 22 refl)
+shows_some row = bits_above row.shown 23 88 row.within ∙ sym (by_bits row (drop 23 SIGNALS) 23 refl)
 
 -- no bit above those of the signals is ever set
-pub stays_within : (shown index : ℕ) → shown < 2 ^ 110 → index < 110 → bit_or shown (1 * 2 ^ index % 2 ^ 128) < 2 ^ 110
+pub stays_within : (shown index : ℕ) → shown < 2 ^ 111 → index < 111 → bit_or shown (1 * 2 ^ index % 2 ^ 128) < 2 ^ 111
 stays_within shown index within below =
-    let bit = pow-lt {i = index} {j = 110} below in
-    or_lt 110 shown _ within (omega arith)
+    let bit = pow-lt {i = index} {j = 111} below in
+    or_lt 111 shown _ within (omega arith)

@@ -3,7 +3,7 @@ use Rattle.std.proofs.Common.{◌≡◌, ◌∙◌, ap, sym, ℕ, List, [], ◌�
 use Rattle.csv_line.specs.declared.line_reader.LineRead.{LineRead}
 use Rattle.csv_line.specs.Next.{ReadsNext}
 use Rattle.csv_line.specs.Fields.{fields_of_line, has_return_in}
-use Rattle.rvfi_rows.specs.Columns.{ColumnList}
+use Rattle.rvfi_rows.specs.Columns.{TraceColumns}
 use Rattle.rvfi_rows.specs.Rows.{RowReading, rows_of, rows_of_fields, rows_of_line}
 use Rattle.rvfi_rows.proofs.Steps.{rows-of_line}
 
@@ -26,7 +26,7 @@ reads_first (line ∷ lines) before read left fields reads =
       fields_are = reads.fields_are;
     }
 
-pub lines-next : (columns : ColumnList) {lines left fields : List (List ℕ)} {read : LineRead}
+pub lines-next : (columns : TraceColumns) {lines left fields : List (List ℕ)} {read : LineRead}
     (done : List RowReading) {now whole : List RowReading} → ReadsFirst lines read left fields
     → now ≡ done ++ rows_of_fields columns read.has_return fields → done ++ rows_of columns lines ≡ whole
     → now ++ rows_of columns left ≡ whole

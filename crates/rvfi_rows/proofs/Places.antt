@@ -5,7 +5,7 @@ use Rattle.std.proofs.lemmas.List.Elements.{All-head, All-same, All-tail}
 use Rattle.std.proofs.lemmas.Option.{slice_get-map, slice_get-get_or}
 use Rattle.rvfi_rows.specs.declared.segment.Segment.{Segment}
 use Rattle.rvfi_rows.specs.declared.unread.PlaceRead.{PlaceRead}
-use Rattle.rvfi_rows.specs.Columns.{ColumnList}
+use Rattle.rvfi_rows.specs.Columns.{TraceColumns}
 use Rattle.rvfi_rows.specs.Readings.{readings_in}
 use Rattle.rvfi_rows.specs.Rows.{rows_of}
 use Rattle.rvfi_rows.specs.Segments.{ReadsPlace, segment_lines}
@@ -33,7 +33,7 @@ reads_place now before one d within same reads =
     reads.reads _ (ap (λ segments. slice_get segments one.place) (sym same) ∙ lines_at now one.place d within)
 
 -- a segment was read at its place
-pub reads_at : (segments : List Segment) (one : PlaceRead) (d : Segment) {columns : ColumnList}
+pub reads_at : (segments : List Segment) (one : PlaceRead) (d : Segment) {columns : TraceColumns}
     → one.place < length segments → one.read.columns ≡ columns
     → readings_in one.read.rows ≡ rows_of columns (slice_index_or segments one.place d).lines
     → ReadsPlace (map segment_lines segments) one

@@ -15,7 +15,7 @@ use Rattle.rvfi_rows.specs.declared.column.Port.{Port}
 use Rattle.rvfi_rows.specs.declared.column.Port.TheVariants.{Zero, One, Two, Three}
 use Rattle.rvfi_rows.specs.declared.port_columns.PortColumns.{PortColumns}
 use Rattle.rvfi_rows.specs.declared.segment.Segment.{Segment}
-use Rattle.rvfi_rows.specs.Columns.{ColumnList, highest_port, port_or_zero, ports_of}
+use Rattle.rvfi_rows.specs.Columns.{ColumnList, TraceColumns, highest_port, port_or_zero, ports_of}
 use Rattle.rvfi_rows.specs.Ports.{port_number}
 use Rattle.rvfi_rows.specs.Rows.{RowReading, row_of_line, rows_of, rows_of_line}
 use Rattle.rvfi_rows.specs.Segments.{line_count_of, row_count_of, segment_lines}
@@ -99,7 +99,7 @@ rows-next f port old before row is one so_far =
 
 -- ---- the rows of lines
 
-pub rows_append : (columns : ColumnList) (lines more : List (List ℕ))
+pub rows_append : (columns : TraceColumns) (lines more : List (List ℕ))
     → rows_of columns (lines ++ more) ≡ rows_of columns lines ++ rows_of columns more
 unfolding rows_of
 rows_append columns [] more = refl
@@ -108,36 +108,36 @@ rows_append columns (line ∷ lines) more =
     ∙ sym (append_assoc (rows_of_line columns line) (rows_of columns lines) (rows_of columns more))
 
 -- as many as the ports for each line
-pub rows_length : (columns : ColumnList) (lines : List (List ℕ))
-    → length (rows_of columns lines) ≡ ports_of columns * length lines
+pub rows_length : (columns : TraceColumns) (lines : List (List ℕ))
+    → length (rows_of columns lines) ≡ ports_of columns.named * length lines
 unfolding rows_of
 rows_length columns [] = omega arith
 rows_length columns (line ∷ lines) =
     length-append (rows_of_line columns line) (rows_of columns lines)
-    ∙ ap (λ n. n + length (rows_of columns lines)) (length-map-range_with_len (row_of_line columns line) 0 (ports_of columns))
-    ∙ ap (λ n. ports_of columns + n) (rows_length columns lines)
-    ∙ more (ports_of columns) (length lines)
+    ∙ ap (λ n. n + length (rows_of columns lines)) (length-map-range_with_len (row_of_line columns line) 0 (ports_of columns.named))
+    ∙ ap (λ n. ports_of columns.named + n) (rows_length columns lines)
+    ∙ more (ports_of columns.named) (length lines)
   where
     more : (ports count : ℕ) → ports + ports * count ≡ ports * suc count
     more ports count = grind arith
 
 -- four a line at most
-pub rows_few : (columns : ColumnList) (segments : List Segment)
+pub rows_few : (columns : TraceColumns) (segments : List Segment)
     → row_count_of columns segments ≤ 4 * line_count_of segments
 unfolding row_count_of
-rows_few columns segments = by (ports_of columns) (line_count_of segments) (omega (arith, highest_below columns))
+rows_few columns segments = by (ports_of columns.named) (line_count_of segments) (omega (arith, highest_below columns.named))
   where
     by : (ports lines : ℕ) → ports ≤ 4 → ports * lines ≤ 4 * lines
     by ports lines few = mul-le ports lines 4 lines few (omega arith)
 
 -- the rows of the lines of segments
-pub rows_counted : (columns : ColumnList) (segments : List Segment)
+pub rows_counted : (columns : TraceColumns) (segments : List Segment)
     → length (rows_of columns (flat_map segment_lines segments)) ≡ row_count_of columns segments
 unfolding row_count_of
 rows_counted columns segments = rows_length columns (flat_map segment_lines segments)
 
 -- of one segment and others
-pub count-cons : (columns : ColumnList) (segment : Segment) (segments : List Segment)
+pub count-cons : (columns : TraceColumns) (segment : Segment) (segments : List Segment)
     → row_count_of columns (segment ∷ segments)
     ≡ length (rows_of columns segment.lines) + row_count_of columns segments
 count-cons columns segment segments =
@@ -148,7 +148,7 @@ count-cons columns segment segments =
     ∙ ap (λ n. length (rows_of columns segment.lines) + n) (rows_counted columns segments)
 
 -- of some segments and others
-pub count-append : (columns : ColumnList) (segments more : List Segment)
+pub count-append : (columns : TraceColumns) (segments more : List Segment)
     → row_count_of columns (segments ++ more) ≡ row_count_of columns segments + row_count_of columns more
 count-append columns segments more =
     sym (rows_counted columns (segments ++ more))

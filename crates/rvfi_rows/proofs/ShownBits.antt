@@ -70,7 +70,7 @@ cell_after shown values index value other within few = elim (eqb_tells other ind
   | inr differs ↦ rw differs.0 (cell_other shown values index value other few differs.1)
 ]
 
-pub shows_more : (row now : Row) (signal : Signal) {index : ℕ} (value : ℕ) → index ≡ index_of signal → index < 110
+pub shows_more : (row now : Row) (signal : Signal) {index : ℕ} (value : ℕ) → index ≡ index_of signal → index < 111
     → now.shown ≡ bit_or row.shown (1 * 2 ^ index % 2 ^ 128) → now.values ≡ slice_set row.values index value
     → shown_in now ≡ with_shown (shown_in row) signal value
 unfolding shown_in

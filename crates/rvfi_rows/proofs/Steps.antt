@@ -15,7 +15,8 @@ use Rattle.std.specs.Option.{option_or}
 use Rattle.csv_line.specs.Fields.{fields_of_line, has_return_in}
 use Rattle.rvfi_rows.specs.declared.column.Column.{Column}
 use Rattle.rvfi_rows.specs.declared.column.PlacedColumn.{PlacedColumn}
-use Rattle.rvfi_rows.specs.Columns.{ColumnList, column_if_of, first_repeated, port_columns, port_numbers, stands_in}
+use Rattle.rvfi_rows.specs.Columns.{ColumnList, TraceColumns, column_if_of, first_repeated, port_columns}
+use Rattle.rvfi_rows.specs.Columns.{port_numbers, stands_in}
 use Rattle.rvfi_rows.specs.Placed.{cell_at, cells_at, field_shown_at, placed_from, row_at, valid_among, valid_at}
 use Rattle.rvfi_rows.specs.Rows.{RowReading, alone, cell_of, cells_of, field_shown, is_valid_column, nothing}
 use Rattle.rvfi_rows.specs.Rows.{row_of_fields, row_of_line, rows_of_fields, rows_of_line, shown_then, valid_of}
@@ -322,15 +323,15 @@ placed-next columns port i d before lt is so_far =
 
 -- ---- the rows of a line
 
-pub of_line : (columns : ColumnList) (line : List ℕ) (has : Bool) (fields : List (List ℕ)) (port : ℕ)
+pub of_line : (columns : TraceColumns) (line : List ℕ) (has : Bool) (fields : List (List ℕ)) (port : ℕ)
     → has ≡ has_return_in line → fields ≡ fields_of_line line
     → row_of_fields columns has fields port ≡ row_of_line columns line port
 unfolding row_of_line
 of_line columns line has fields port is are = rw (is, are) refl
 
-pub rows-of_line : (columns : ColumnList) (line : List ℕ) (has : Bool) (fields : List (List ℕ))
+pub rows-of_line : (columns : TraceColumns) (line : List ℕ) (has : Bool) (fields : List (List ℕ))
     → has ≡ has_return_in line → fields ≡ fields_of_line line
     → rows_of_fields columns has fields ≡ rows_of_line columns line
 rows-of_line columns line has fields is are =
-    ap (λ (row : ℕ → RowReading). map row (port_numbers columns))
+    ap (λ (row : ℕ → RowReading). map row (port_numbers columns.named))
     (fun_ext (λ port. of_line columns line has fields port is are))

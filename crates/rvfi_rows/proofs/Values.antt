@@ -14,7 +14,7 @@ use Rattle.hart_words.specs.declared.signal.Signal.{Signal}
 use Rattle.hart_words.specs.declared.signal.Signal.TheVariants.{Valid, Order, Intr, PcRdata, Mode, Ixl, Trap, Insn}
 use Rattle.hart_words.specs.declared.signal.Signal.TheVariants.{Rs1Addr, Rs1Rdata, Rs2Addr, Rs2Rdata, RdAddr, RdWdata}
 use Rattle.hart_words.specs.declared.signal.Signal.TheVariants.{PcWdata, MemAddr, MemRmask, MemRdata, MemWmask}
-use Rattle.hart_words.specs.declared.signal.Signal.TheVariants.{MemWdata, MemPaddr, Halt, Csr}
+use Rattle.hart_words.specs.declared.signal.Signal.TheVariants.{MemWdata, MemPaddr, Halt, Hart, Csr}
 use Rattle.hart_words.specs.declared.signal.CsrName.{CsrName}
 use Rattle.hart_words.specs.declared.signal.CsrName.TheVariants.{Mstatus, Misa, Medeleg, Mideleg, Mie, Mtvec, Mscratch}
 use Rattle.hart_words.specs.declared.signal.CsrName.TheVariants.{Mepc, Mcause, Mtval, Mip, Satp, Sstatus, Sie, Sip}
@@ -27,7 +27,7 @@ use Rattle.rvfi_rows.specs.Cells.{AreOf, is_among, shown_in, values_at, values_o
 use Rattle.rvfi_rows.specs.Rows.{alone}
 use Rattle.rvfi_rows.proofs.ShownBits.{cell_in}
 
--- ---- every index is below 110
+-- ---- every index is below 111
 
 side_below : (side : CsrSide) → side_index_of side < 4
 side_below Rmask = lit< tt
@@ -59,7 +59,7 @@ csr_below Stval = lit< tt
 csr_below Pmpcfg0 = lit< tt
 csr_below Pmpcfg2 = lit< tt
 
-pub index_below : (signal : Signal) → index_of signal < 110
+pub index_below : (signal : Signal) → index_of signal < 111
 index_below Valid = lit< tt
 index_below Order = lit< tt
 index_below Intr = lit< tt
@@ -82,6 +82,7 @@ index_below MemWmask = lit< tt
 index_below MemWdata = lit< tt
 index_below MemPaddr = lit< tt
 index_below Halt = lit< tt
+index_below Hart = lit< tt
 index_below (Csr csr side) = omega (arith, csr_below csr, side_below side)
 
 -- ---- values that are put at the signals' indices
@@ -121,7 +122,7 @@ set_then list index value other within = elim (eqb_tells other index) [
   | inr differs ↦ rw differs.0 (ap Some (get_or-set_other list index other value 0 differs.1))
 ]
 
-pub placed_at : (signals : List Signal) (values list : List ℕ) (signal : Signal) → length list ≡ 110
+pub placed_at : (signals : List Signal) (values list : List ℕ) (signal : Signal) → length list ≡ 111
     → Some (slice_index (placed signals values list) (index_of signal))
     ≡ option_or (values_of signals values signal) (Some (slice_index list (index_of signal)))
 unfolding placed values_of

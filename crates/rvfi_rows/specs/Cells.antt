@@ -33,6 +33,6 @@ is_among signals signal = list_any (λ other. index_of signal == index_of other)
 
 -- no bits are set but those of the signals
 pub record AreOf (signals : List Signal) (bits : ℕ) : Type 0 where
-  pub below : bits < 2 ^ 110
+  pub below : bits < 2 ^ 111
   pub theirs : (signal : Signal) → bit_at bits (index_of signal) ≡ 1 → is_among signals signal ≡ true
   deriving IsProp as AreOf-prop

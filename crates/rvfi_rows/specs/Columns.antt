@@ -22,6 +22,11 @@ use Rattle.rvfi_rows.specs.Ports.{has_suffix, is_column, port_number}
 abbrev pub ColumnList : Type 0
 ColumnList = List (Option Column)
 
+-- the columns of a trace, and of how many harts it is
+pub record TraceColumns : Type 0 where
+  pub named : ColumnList
+  pub harts : ℕ
+
 -- a name less one `rvfi_` at its front
 unfoldable pub less_prefix : List ℕ → List ℕ
 less_prefix name = if starts_with nat_eq name (codes "rvfi_") then drop 5 name else name

@@ -1,6 +1,6 @@
 -- The rows of a trace, as its lines show them.
 use Rattle.std.specs.Prelude.{◌≡◌, ℕ, Bool, true, false, ◌==◌, ◌&&◌, not, List, [], ◌∷◌, ◌++◌, length, map, Option, Some}
-use Rattle.std.specs.Prelude.{None, Result, Ok, Err, if◌then◌else◌}
+use Rattle.std.specs.Prelude.{None, Result, Ok, Err, if◌then◌else◌, nat_lt, unwrap_or}
 use Rattle.std.specs.List.{list_any}
 use Rattle.std.specs.Option.{is_some, option_or}
 use Rattle.hart_words.specs.Numbers.{number_within}
@@ -8,14 +8,14 @@ use Rattle.hart_words.specs.Signals.{Shown, index_of, width_of}
 use Rattle.hart_words.specs.declared.numbers.NumberFault.{NumberFault}
 use Rattle.hart_words.specs.declared.numbers.NumberFault.TheVariants as number
 use Rattle.hart_words.specs.declared.signal.Signal.{Signal}
-use Rattle.hart_words.specs.declared.signal.Signal.TheVariants.{Valid, Insn, PcRdata, Csr}
+use Rattle.hart_words.specs.declared.signal.Signal.TheVariants.{Valid, Insn, PcRdata, Hart, Csr}
 use Rattle.hart_words.specs.declared.signal.TheConstants.{SIGNALS}
 use Rattle.csv_line.specs.Fields.{fields_of_line, has_return_in}
 use Rattle.hart_words.specs.Results.{◌>>=◌, ◌>>◌, refuse_if}
 use Rattle.rvfi_rows.specs.declared.column.Column.{Column}
-use Rattle.rvfi_rows.specs.Columns.{ColumnList, port_columns, port_numbers}
+use Rattle.rvfi_rows.specs.Columns.{ColumnList, TraceColumns, port_columns, port_numbers}
 use Rattle.rvfi_rows.specs.declared.fault.RowFault.{RowFault}
-use Rattle.rvfi_rows.specs.declared.fault.RowFault.TheVariants.{StrayReturn, FieldCount, Empty, NotNumber, TooWide}
+use Rattle.rvfi_rows.specs.declared.fault.RowFault.TheVariants.{StrayReturn, FieldCount, Empty, NoHart, NotNumber, TooWide}
 use Rattle.rvfi_rows.specs.declared.fault.RowError.{RowError}
 use Rattle.rvfi_rows.specs.declared.fault.RowError.TheVariants as errors
 
@@ -94,6 +94,10 @@ abbrev pub is_invalid : Option ℕ → Bool
 is_invalid None = false
 is_invalid (Some value) = value == 0
 
+-- the number of the hart whose row it is: 0 where the row names none
+abbrev pub hart_of : Shown → ℕ
+hart_of shown = unwrap_or (shown Hart) 0
+
 -- the row of fields that are as many as the columns; none where it is not valid, and then no other
 -- field is looked at
 unfoldable pub row_from : ColumnList → List (List ℕ) → Result (Option Shown) RowFault
@@ -101,16 +105,26 @@ row_from columns fields = do
   valid ← valid_of columns fields
   if is_invalid valid then Ok None else (cells_of columns fields >>= λ row. Ok (Some row))
 
--- the row of a port from a line's fields, or its first fault, where a carriage return stands in the line or not: the
--- faults of the whole line are of each port, and all else is of the port's own columns
-unfoldable pub row_of_fields : ColumnList → Bool → List (List ℕ) → ℕ → Result (Option Shown) RowFault
-row_of_fields columns has_return fields port = do
+-- what a line's fields show of the row of a port, or its first fault, where a carriage return stands in the line or
+-- not: the faults of the whole line are of each port, and all else is of the port's own columns
+unfoldable pub row_at_port : ColumnList → Bool → List (List ℕ) → ℕ → Result (Option Shown) RowFault
+row_at_port columns has_return fields port = do
   refuse_if has_return StrayReturn
   refuse_if (not (length fields == length columns)) FieldCount
   row_from (port_columns port columns) fields
 
+-- a valid row is of one of so many harts
+abbrev pub row_of_present : ℕ → Option Shown → Result (Option Shown) RowFault
+row_of_present harts None = Ok None
+row_of_present harts (Some shown) = if nat_lt (hart_of shown) harts then Ok (Some shown) else Err NoHart
+
+-- the row of a port from a line's fields, or its first fault: last, that its hart is not there
+unfoldable pub row_of_fields : TraceColumns → Bool → List (List ℕ) → ℕ → Result (Option Shown) RowFault
+row_of_fields columns has_return fields port =
+    row_at_port columns.named has_return fields port >>= λ row. row_of_present columns.harts row
+
 -- the row of a port on a line
-unfoldable pub row_of_line : ColumnList → List ℕ → ℕ → Result (Option Shown) RowFault
+unfoldable pub row_of_line : TraceColumns → List ℕ → ℕ → Result (Option Shown) RowFault
 row_of_line columns line port = row_of_fields columns (has_return_in line) (fields_of_line line) port
 
 -- the fault that an error stands for
@@ -133,15 +147,15 @@ abbrev pub RowReading : Type 0
 RowReading = Result (Option Shown) RowFault
 
 -- the rows of a line's fields, one for each port, in the order of the ports
-abbrev pub rows_of_fields : ColumnList → Bool → List (List ℕ) → List RowReading
-rows_of_fields columns has_return fields = map (row_of_fields columns has_return fields) (port_numbers columns)
+abbrev pub rows_of_fields : TraceColumns → Bool → List (List ℕ) → List RowReading
+rows_of_fields columns has_return fields = map (row_of_fields columns has_return fields) (port_numbers columns.named)
 
 -- the rows of a line
-abbrev pub rows_of_line : ColumnList → List ℕ → List RowReading
-rows_of_line columns line = map (row_of_line columns line) (port_numbers columns)
+abbrev pub rows_of_line : TraceColumns → List ℕ → List RowReading
+rows_of_line columns line = map (row_of_line columns line) (port_numbers columns.named)
 
 -- the rows of lines under these columns, line after line. Whatever is said of the rows of a trace is said of this list
-unfoldable pub rows_of : ColumnList → List (List ℕ) → List RowReading
+unfoldable pub rows_of : TraceColumns → List (List ℕ) → List RowReading
 rows_of columns [] = []
 rows_of columns (line ∷ lines) = rows_of_line columns line ++ rows_of columns lines
 

@@ -1,9 +1,9 @@
 -- What lines read as, once they were read.
 use Rattle.std.specs.Prelude.{◌≡◌, Option, Some, None}
 use Rattle.rvfi_rows.specs.declared.rows_read.RowsRead.{RowsRead}
-use Rattle.rvfi_rows.specs.Columns.{ColumnList}
+use Rattle.rvfi_rows.specs.Columns.{TraceColumns}
 
 -- lines were read under these columns
-abbrev pub WasReadUnder : ColumnList → Option RowsRead → Type 0
+abbrev pub WasReadUnder : TraceColumns → Option RowsRead → Type 0
 WasReadUnder columns None = ⊥
 WasReadUnder columns (Some read) = read.columns ≡ columns

@@ -5,7 +5,7 @@ ghost use Rattle.hart_words.specs.Results.{Gives, result_view};
 ghost use Rattle.rvfi_rows.specs.Cells.{shown_in};
 ghost use Rattle.rvfi_rows.specs.Columns.{ports_of};
 ghost use Rattle.rvfi_rows.specs.Placed.{cells_at, row_at, valid_among, valid_at};
-ghost use Rattle.rvfi_rows.specs.Rows.{cell_of, is_needed, row_fault, row_of_fields, row_of_line, shown_if, value_or_fault};
+ghost use Rattle.rvfi_rows.specs.Rows.{cell_of, is_needed, row_at_port, row_fault, row_of_fields, row_of_line, row_of_present, shown_if, value_or_fault};
 
 use crate::column::{Column, PlacedColumn};
 use crate::columns::Columns;
@@ -23,31 +23,66 @@ use std::alloc::Global;
 ///
 /// The faults, the first that holds: a carriage return stands in the line; the fields are not as
 /// many as the columns; the port's `valid` is no number or too wide; and for the port's known
-/// columns from the left, `insn` or `pc_rdata` is empty, or the field is no number or too wide.
+/// columns from the left, `insn` or `pc_rdata` is empty, or the field is no number or too wide; and
+/// the row is of a hart that is not there, whose number is not below `harts`. A row that names no
+/// hart is that of hart 0.
 pub fn read_row(
     alloc: Global,
     columns: &Columns,
     line: &[u8],
     port: u32,
+    harts: u32,
 ) -> Result<Option<Row>, RowError>
-    requires { port < ports_of columns.now }
-    ensures { Gives row_fault (option_map shown_in) result (row_of_line columns.now line.now port) }
+    requires { port < ports_of columns.now.named }
+    ensures { Gives row_fault (option_map shown_in) result
+        (row_of_line (record { named = columns.now.named; harts = harts }) line.now port) }
 {
     let fields = line_fields(alloc, line)?;
     let has_return = has_carriage_return(line);
-    Ok(row_of_fields(columns, has_return, &fields, port)?)
+    Ok(row_of_fields(columns, has_return, &fields, port, harts)?)
 }
 
-/// The row of a port from a line's fields.
+/// The row of a port from a line's fields, of a trace of so many harts.
+#[tactic(auto, unfolding(crate::specs::Rows::row_of_fields))]
 fn row_of_fields(
     columns: &Columns,
     has_return: bool,
     fields: &Fields,
     port: u32,
+    harts: u32,
 ) -> Result<Option<Row>, RowFault>
-    requires { port < ports_of columns.now }
+    requires { port < ports_of columns.now.named }
+    ensures { result_view (option_map shown_in) result ≡ row_of_fields
+        (record { named = columns.now.named; harts = harts }) has_return fields.now port }
+{
+    match row_at_port(columns, has_return, fields, port)? {
+        None => Ok(None),
+        Some(row) => present(row, harts),
+    }
+}
+
+/// The row, where its hart is one of so many.
+fn present(row: Row, harts: u32) -> Result<Option<Row>, RowFault>
     ensures { result_view (option_map shown_in) result
-        ≡ row_of_fields columns.now has_return fields.now port }
+        ≡ row_of_present harts (Some (shown_in row)) }
+{
+    if row.is_of(harts) {
+        Ok(Some(row))
+    } else {
+        Err(RowFault::NoHart)
+    }
+}
+
+/// What a line's fields show of the row of a port.
+fn row_at_port(
+    columns: &Columns,
+    has_return: bool,
+    fields: &Fields,
+    port: u32,
+) -> Result<Option<Row>, RowFault>
+    requires { port < ports_of columns.now.named }
+    ensures { result_view (option_map shown_in) result
+        ≡ row_at_port columns.now.named has_return fields.now port }
 {
     let mut row = Row::empty();
     if fill_row(columns, has_return, fields, port, &mut row)? {
@@ -57,8 +92,9 @@ fn row_of_fields(
     }
 }
 
-/// Has `row` show what the fields of a line show of a port's row, and says whether that is valid.
-#[tactic(auto, using(crate::proofs::Steps::row_placed), unfolding(crate::specs::Rows::row_of_fields))]
+/// Has `row` show what the fields of a line show of a port's row, and says whether that is valid;
+/// its hart is not looked at.
+#[tactic(auto, using(crate::proofs::Steps::row_placed), unfolding(crate::specs::Rows::row_at_port))]
 pub(crate) fn fill_row(
     columns: &Columns,
     has_return: bool,
@@ -66,9 +102,9 @@ pub(crate) fn fill_row(
     port: u32,
     row: &mut Row,
 ) -> Result<bool, RowFault>
-    requires { port < ports_of columns.now }
+    requires { port < ports_of columns.now.named }
     ensures { result_view (shown_if (shown_in row.new)) result
-        ≡ row_of_fields columns.now has_return fields.now port }
+        ≡ row_at_port columns.now.named has_return fields.now port }
 {
     if has_return {
         return Err(RowFault::StrayReturn);

@@ -1,6 +1,6 @@
 //! What steps by rows: a hart without its memory.
 
-ghost use Rattle.std.specs.Prelude.{◌≡◌, ℕ, [], Decides, IfOk, OnErr};
+ghost use Rattle.std.specs.Prelude.{◌≡◌, ℕ, [], Decides, IfOk, OnErr, OnOk};
 ghost use Rattle.hart_words.specs.Actions.{Performs};
 ghost use Rattle.rvfi_rows.specs.Cells.{shown_in};
 ghost use Rattle.rvfi_rows.specs.Meanings.{Meaning};
@@ -26,6 +26,21 @@ pub trait CoreStep<M: PhysMem>: Sized {
             (record { next = self.new; expected = now.expected }) [] now.seen [] now.wrote
             (M.bytes mem.old) (M.bytes mem.new)) }
         ensures err { OnErr result ((self.new ≡ self.old) × (M.bytes mem.new ≡ M.bytes mem.old)) }
+        ensures sound { is_sound self.new }
+        ensures map { meaning.map_of self.new ≡ meaning.map_of self.old }
+        ensures choices { meaning.choices_of self.new ≡ meaning.choices_of self.old }
+        ensures ram { M.ram mem.new ≡ M.ram mem.old };
+
+    /// The same, where what a step gives is put in place of what an earlier one gave: it is large,
+    /// and who steps by many rows keeps one. Without memory it stays.
+    fn step_into(&mut self, mem: &mut M, row: &Row, stepped: &mut Stepped) -> Result<(), NoMemory>
+        requires sound { is_sound self.old }
+        requires ram { M.ram mem.old ≡ (meaning.map_of self.old).ram }
+        ensures stepped { OnOk result (Performs (meaning.stepped self.old (shown_in row.now))
+            (record { next = self.new; expected = stepped.new.expected }) [] stepped.new.seen []
+            stepped.new.wrote (M.bytes mem.old) (M.bytes mem.new)) }
+        ensures err { OnErr result ((self.new ≡ self.old) × (M.bytes mem.new ≡ M.bytes mem.old)) }
+        ensures kept { OnErr result (stepped.new ≡ stepped.old) }
         ensures sound { is_sound self.new }
         ensures map { meaning.map_of self.new ≡ meaning.map_of self.old }
         ensures choices { meaning.choices_of self.new ≡ meaning.choices_of self.old }

@@ -30,7 +30,7 @@ pub enum HeaderError {
 }
 
 /// What is wrong with a row: of the whole line first, then of its port's column `valid`, then of its
-/// port's known columns from the left.
+/// port's known columns from the left, and last of its hart.
 #[derive(Clone, Copy, Debug, PartialEq, Eq, Error)]
 pub enum RowFault {
     #[error("a carriage return stands inside the row")]
@@ -46,6 +46,9 @@ pub enum RowFault {
     /// The number needs more bits than the column has.
     #[error("a column has too wide a number")]
     TooWide(Column),
+    /// The trace is of fewer harts.
+    #[error("the row is of a hart that is not there")]
+    NoHart,
 }
 
 #[derive(Debug, Drop, Error)]

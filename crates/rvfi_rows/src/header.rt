@@ -1,6 +1,6 @@
 //! The columns that a header names.
 
-ghost use Rattle.std.specs.Prelude.{◌≡◌, ◌≤◌, ◌*◌, ◌-◌, ℕ, List, [], find, length, map, not, option_map, take};
+ghost use Rattle.std.specs.Prelude.{◌≡◌, ◌≤◌, ◌*◌, ◌-◌, ℕ, List, [], IfOk, find, length, map, not, option_map, take};
 ghost use Rattle.std.specs.Str.{bytes_eq};
 ghost use Rattle.hart_words.specs.SignalNames.{name_of};
 ghost use Rattle.hart_words.specs.Results.{Gives};
@@ -17,13 +17,15 @@ use std::alloc::Global;
 
 /// The columns that the fields of `line` name, as RVFI's description names its signals. A name may
 /// begin with `rvfi_`, which is dropped once, and end in `_0` to `_3`, which is its port; it is of
-/// port 0 where it does not. A name that is not known is passed over.
+/// port 0 where it does not. A name that is not known is passed over. The trace is of one hart,
+/// until `Columns::with_harts` says another number.
 ///
 /// The faults, the first that holds: a carriage return stands in the line; a column stands twice;
 /// and for each port in order, `insn` is missing, `pc_rdata` is missing.
 #[tactic(auto, unfolding(crate::specs::Columns::header_columns))]
 pub fn read_header(alloc: Global, line: &[u8]) -> Result<Columns, HeaderError>
-    ensures { Gives header_fault (λ columns. columns) result (header_columns line.now) }
+    ensures named { Gives header_fault (λ columns. columns.named) result (header_columns line.now) }
+    ensures one_hart { IfOk result (λ columns. columns.harts ≡ 1) }
 {
     if has_carriage_return(line) {
         return Err(HeaderError::Fault(HeaderFault::StrayReturn));
@@ -78,7 +80,7 @@ fn repeated_column(columns: &[Option<Column>]) -> Option<Column>
 
 /// The first column that a port needs, and that is missing.
 fn missing_column(columns: &Columns) -> Option<Column>
-    ensures { result ≡ missing_column columns.now }
+    ensures { result ≡ missing_column columns.now.named }
 {
     let needed = first_of(&NEEDED, 2 * columns.ports() as usize);
     missing_among(columns.as_slice(), needed)
@@ -104,7 +106,9 @@ fn missing_among(columns: &[Option<Column>], needed: &[Column]) -> Option<Column
 
 /// What each field names.
 fn columns_named(alloc: Global, fields: &Fields) -> Result<Columns, HeaderError>
-    ensures { Gives header_fault (λ columns. columns) result (Ok (map column_of fields.now)) }
+    ensures named { Gives header_fault (λ columns. columns.named) result
+        (Ok (map column_of fields.now)) }
+    ensures one_hart { IfOk result (λ columns. columns.harts ≡ 1) }
 {
     let mut columns = Vec::new(alloc);
     for index in 0..fields.len() {
@@ -112,7 +116,7 @@ fn columns_named(alloc: Global, fields: &Fields) -> Result<Columns, HeaderError>
             columns.push(column_named(field))?;
         }
     }
-    Ok(Columns::of(alloc, columns)?)
+    Ok(Columns::of(alloc, columns, 1)?)
 }
 
 /// The column that a header's field names.

@@ -1,6 +1,6 @@
 //! What a row of a trace shows.
 
-ghost use Rattle.std.specs.Prelude.{◌≡◌, ◌≤◌, ◌<◌, ◌+◌, ◌++◌, ◌^◌, Some, length, map, slice_index, vec_capacity, vec_len};
+ghost use Rattle.std.specs.Prelude.{◌≡◌, ◌≤◌, ◌<◌, ◌+◌, ◌++◌, ◌^◌, Some, length, map, nat_lt, slice_index, vec_capacity, vec_len};
 
 use crate::cells::cell;
 use crate::column::Column;
@@ -8,7 +8,7 @@ use crate::fault::RowFault;
 use hart_words::Signal;
 
 /// The index of the first signal that is a column of a control and status register.
-pub const FIRST_CSR: usize = 22;
+pub const FIRST_CSR: usize = 23;
 
 /// What a valid row shows: a value for each signal that it shows. It takes no memory beyond itself.
 #[derive(Debug, Drop)]
@@ -16,14 +16,14 @@ pub struct Row {
     /// A bit for each signal, at its index: whether the row shows it.
     shown: u128,
     /// The values of the signals that are shown, each at its index.
-    values: [u64; 110],
-    ghost full: { length values ≡ 110 },
-    ghost within: { shown < 2 ^ 110 },
+    values: [u64; 111],
+    ghost full: { length values ≡ 111 },
+    ghost within: { shown < 2 ^ 111 },
 }
 
 impl Row {
     ghost use Rattle.rvfi_rows.specs.Cells.{AreOf, shown_in, values_at, values_of, with_bits};
-    ghost use Rattle.rvfi_rows.specs.Rows.{Adds, field_shown, nothing, shows_csr, with_shown};
+    ghost use Rattle.rvfi_rows.specs.Rows.{Adds, field_shown, hart_of, nothing, shows_csr, with_shown};
 
     /// A row that shows nothing.
     pub fn empty() -> Row
@@ -31,7 +31,7 @@ impl Row {
     {
         Row {
             shown: 0,
-            values: [0; 110],
+            values: [0; 111],
         }
     }
 
@@ -45,6 +45,20 @@ impl Row {
         } else {
             None
         }
+    }
+
+    /// The number of the hart whose row it is: 0 where the row names none.
+    pub fn hart(&self) -> u64
+        ensures { result ≡ hart_of (shown_in self.now) }
+    {
+        self.shown(Signal::Hart).unwrap_or(0)
+    }
+
+    /// Whether its hart is one of so many.
+    pub(crate) fn is_of(&self, harts: u32) -> bool
+        ensures { result ≡ nat_lt (hart_of (shown_in self.now)) harts }
+    {
+        self.hart() < u64::from(harts)
     }
 
     /// Whether the row shows any column of a control and status register.

@@ -11,6 +11,7 @@ ghost use Rattle.rvfi_rows.specs.Kept.{HasSignalsOf, ShowsOnly, kept_reading};
 use crate::cells::fill_row;
 use crate::column::Column;
 use crate::columns::Columns;
+use crate::fault::RowFault;
 use crate::reading::{Kept, Reading};
 use crate::row::Row;
 use csv_line::Fields;
@@ -50,7 +51,7 @@ impl Rows {
         lines: usize,
     ) -> Result<Rows, NoMemory>
         ensures none { IfOk result (λ rows. readings_in rows ≡ []) }
-        ensures signals { IfOk result (λ rows. HasSignalsOf columns.now rows.signals.items) }
+        ensures signals { IfOk result (λ rows. HasSignalsOf columns.now.named rows.signals.items) }
     {
         let Rows { rows, values, .. } = self;
         let mut rows = rows;
@@ -78,7 +79,7 @@ impl Rows {
         fields: &Fields,
         row: &mut Row,
     ) -> Result<(), NoMemory>
-        requires { HasSignalsOf columns.now self.old.signals.items }
+        requires { HasSignalsOf columns.now.named self.old.signals.items }
         ensures pushed { OnOk result (readings_in self.new
             ≡ readings_in self.old ++ rows_of_fields columns.now has_return fields.now) }
         ensures signals { self.new.signals.items ≡ self.old.signals.items }
@@ -159,15 +160,21 @@ fn part(values: &[u64], start: usize, count: usize) -> &[u64]
 
 /// What is kept of the row of a port from a line's fields; its values stand in `row`.
 fn kept_of(columns: &Columns, has_return: bool, fields: &Fields, port: u32, row: &mut Row) -> Kept
-    requires { port < ports_of columns.now }
-    ensures reading { (signals : List Signal) → HasSignalsOf columns.now signals
+    requires { port < ports_of columns.now.named }
+    ensures reading { (signals : List Signal) → HasSignalsOf columns.now.named signals
         → kept_reading signals result (values_at row.new.values signals)
         ≡ row_of_fields columns.now has_return fields.now port }
-    ensures theirs { (signals : List Signal) → HasSignalsOf columns.now signals
+    ensures theirs { (signals : List Signal) → HasSignalsOf columns.now.named signals
         → ShowsOnly signals result }
 {
     match fill_row(columns, has_return, fields, port, row) {
-        Ok(true) => Kept::Shown(row.bits()),
+        Ok(true) => {
+            if row.is_of(columns.harts()) {
+                Kept::Shown(row.bits())
+            } else {
+                Kept::Refused(RowFault::NoHart)
+            }
+        }
         Ok(false) => Kept::Invalid,
         Err(fault) => Kept::Refused(fault),
     }

@@ -15,7 +15,7 @@ fn header_fault(alloc: Global, line: &[u8]) -> Option<HeaderFault> {
 }
 
 fn row_fault(alloc: Global, columns: &Columns, line: &[u8]) -> Option<RowFault> {
-    match read_row(alloc, columns, line, 0) {
+    match read_row(alloc, columns, line, 0, 1) {
         Err(RowError::Fault(fault)) => Some(fault),
         _ => None,
     }
@@ -45,6 +45,7 @@ fn reads_rows(rt: HostRuntime) -> Result<(), Fail> {
         &columns,
         b"1,,0X00000093,0x80000000,x y z,3 ,18446744073709551615,",
         0,
+        1,
     )?
     .ok_or("the row is valid")?;
     may_be_shared(&row);
@@ -57,7 +58,7 @@ fn reads_rows(rt: HostRuntime) -> Result<(), Fail> {
     assert_eq!(rt; row.shown(Signal::Halt), None);
     assert_eq!(rt; row.shown(Signal::Trap), None);
     // Nothing but the number of fields counts in a row that is not valid.
-    assert!(rt; read_row(alloc, &columns, b"0x0,,,one,,9,-,2", 0)?.is_none());
+    assert!(rt; read_row(alloc, &columns, b"0x0,,,one,,9,-,2", 0, 1)?.is_none());
     Ok(())
 }
 
@@ -106,6 +107,45 @@ fn keeps_rows(rt: HostRuntime) -> Result<(), Fail> {
     Ok(())
 }
 
+/// The hart of a row is the one that it names, or the first; one that is not there is the last of
+/// the row's faults, by its port's own column.
+#[test]
+fn reads_harts(rt: HostRuntime) -> Result<(), Fail> {
+    let alloc = rt.alloc();
+    let columns = read_header(alloc, b"valid,hart,insn,pc_rdata,hart_1,insn_1,pc_rdata_1")?;
+    let columns = columns.with_harts(2);
+    assert_eq!(rt; columns.harts(), 2);
+    let mut lines = Lines::new(alloc);
+    lines.push(b"1,1,0x13,4,,0x13,4")?;
+    lines.push(b"1,,0x13,4,2,0x13,4")?;
+    lines.push(b"0,9,0x13,4,1,0x13,4")?;
+    lines.push(b"1,255,0x13,4,3,0x13,")?;
+    lines.push(b"1,y,0x13,4,x,0x13,4")?;
+    let rows = read_rows(alloc, &columns, &lines)?;
+    let mut row = Row::empty();
+    for (place, hart) in [(0, 1), (1, 0), (2, 0), (5, 1)] {
+        assert_eq!(rt; rows.get(place, &mut row), Some(Reading::Valid));
+        assert_eq!(rt; row.hart(), hart);
+    }
+    assert_eq!(rt; rows.get(4, &mut row), Some(Reading::Invalid));
+    let hart = Column {
+        signal: Signal::Hart,
+        port: Port::Zero,
+    };
+    for (place, fault) in [
+        (3, RowFault::NoHart),
+        (6, RowFault::NoHart),
+        (7, RowFault::Empty(second(Signal::PcRdata))),
+        (8, RowFault::NotNumber(hart)),
+        (9, RowFault::NotNumber(second(Signal::Hart))),
+    ] {
+        assert_eq!(rt; rows.get(place, &mut row), Some(Reading::Refused(fault)));
+    }
+    let one = read_row(alloc, &columns, b"1,1,0x13,4,,0x13,4", 0, 1);
+    assert!(rt; matches!(one, Err(RowError::Fault(RowFault::NoHart))));
+    Ok(())
+}
+
 /// How the row of a port on a line reads: what it shows of `insn`, where it is valid.
 fn insn_at(
     alloc: Global,
@@ -116,7 +156,7 @@ fn insn_at(
     if columns.ports() <= port {
         return Ok(None);
     }
-    match read_row(alloc, columns, line, port) {
+    match read_row(alloc, columns, line, port, 1) {
         Err(RowError::Fault(fault)) => Err(fault),
         Ok(Some(row)) => Ok(row.shown(Signal::Insn)),
         Ok(None) | Err(RowError::NoMemory) => Ok(None),
@@ -298,7 +338,7 @@ fn reads_in_the_memory_of_others(rt: HostRuntime) -> Result<(), Fail> {
 fn reads_registers_and_masks(rt: HostRuntime) -> Result<(), Fail> {
     let alloc = rt.alloc();
     let columns = read_header(alloc, b"mem_wmask,pc_rdata,rvfi_rs1_addr,insn")?;
-    let row = read_row(alloc, &columns, b"255,0,0x1f,0", 0)?.ok_or("the row is valid")?;
+    let row = read_row(alloc, &columns, b"255,0,0x1f,0", 0, 1)?.ok_or("the row is valid")?;
     assert_eq!(rt; row.shown(Signal::Rs1Addr), Some(31));
     assert_eq!(rt; row.shown(Signal::MemWmask), Some(0xff));
     assert_eq!(rt; row.shown(Signal::MemRmask), None);
@@ -327,17 +367,19 @@ fn reads_registers_of_control(rt: HostRuntime) -> Result<(), Fail> {
     )?;
     let mepc = Signal::Csr(CsrName::Mepc, CsrSide::Rdata);
     let satp = Signal::Csr(CsrName::Satp, CsrSide::Wdata);
-    let row = read_row(alloc, &columns, b"1,0xffffffffffffffff,1,2,,x", 0)?.ok_or("it is valid")?;
+    let row = read_row(alloc, &columns, b"1,0xffffffffffffffff,1,2,,x", 0, 1)?.ok_or(
+        "it is valid",
+    )?;
     assert_eq!(rt; row.shown(mepc), Some(u64::MAX));
     assert_eq!(rt; row.shown(satp), Some(1));
     assert!(rt; row.shows_csr());
     assert_eq!(rt; row.shown(Signal::Csr(CsrName::Sip, CsrSide::Wmask)), None);
-    let row = read_row(alloc, &columns, b"1,,,2,0,x", 0)?.ok_or("it is valid")?;
+    let row = read_row(alloc, &columns, b"1,,,2,0,x", 0, 1)?.ok_or("it is valid")?;
     assert_eq!(rt;
         row.shown(Signal::Csr(CsrName::Sip, CsrSide::Wmask)),
         Some(0)
     );
-    let row = read_row(alloc, &columns, b"1,,,2,,0", 0)?.ok_or("it is valid")?;
+    let row = read_row(alloc, &columns, b"1,,,2,,0", 0, 1)?.ok_or("it is valid")?;
     assert!(rt; !row.shows_csr());
     assert_eq!(rt; row.shown(satp), None);
     assert_eq!(rt;

@@ -10,11 +10,11 @@ returns-in_err-row_of_fields c =
     c.from_residual-in_err-row_of_fields.ensures.1 in
     rw (p.1, p.2)
     (sym
-    (of_line c.args.columns.now c.args.line.now c.has_carriage_return-has_return.result c.in_ok-fields.fields
+    (of_line (record { named = c.args.columns.now.named; harts = c.args.harts }) c.args.line.now c.has_carriage_return-has_return.result c.in_ok-fields.fields
     c.args.port c.has_carriage_return-has_return.ensures c.in_ok-fields.ensures) ∙ sym c.in_err-row_of_fields.ensures)
 
 pub returns : goal.returns
 returns c =
     sym
-    (of_line c.args.columns.now c.args.line.now c.has_carriage_return-has_return.result c.in_ok-fields.fields
+    (of_line (record { named = c.args.columns.now.named; harts = c.args.harts }) c.args.line.now c.has_carriage_return-has_return.result c.in_ok-fields.fields
     c.args.port c.has_carriage_return-has_return.ensures c.in_ok-fields.ensures) ∙ sym c.in_ok-row_of_fields.ensures

@@ -10,10 +10,10 @@ returns-clause-number c =
     c.len.ensures ∙ c.self.inside.ports.ok.0
     ∙ known_many c.self.inside.ports.items (ports_of columns) (λ port. placed_from 0 (port_columns port columns))
     c.self.invariant
-    ∙ ap ports_of c.self.view_is
+    ∙ ap (λ columns. ports_of columns.named) c.self.view_is
 
 pub returns-clause-at_most_4 : goal.returns-clause-at_most_4
-returns-clause-at_most_4 c = omega (arith, returns-clause-number c, highest_below c.args.self.now)
+returns-clause-at_most_4 c = omega (arith, returns-clause-number c, highest_below c.args.self.now.named)
 
 pub overflow_cast-result : goal.overflow_cast-result
-overflow_cast-result c = omega (arith, returns-clause-number c, highest_below c.args.self.now)
+overflow_cast-result c = omega (arith, returns-clause-number c, highest_below c.args.self.now.named)

@@ -8,8 +8,8 @@ use Rattle.rvfi_rows.proofs.rows.Rows.push_line.Goals as goal
 pub loop-port-preserved : goal.loop-port-preserved
 loop-port-preserved c =
     let signals = c.loop-port.self.signals.items in
-    let has : HasSignalsOf c.args.columns.now signals =
-    subst (HasSignalsOf c.args.columns.now) (sym c.loop-port.invariant.signals) c.requires in
+    let has : HasSignalsOf c.args.columns.now.named signals =
+    subst (HasSignalsOf c.args.columns.now.named) (sym c.loop-port.invariant.signals) c.requires in
     record {
       signals = c.push.ensures.signals ∙ c.loop-port.invariant.signals;
       rows =
@@ -21,4 +21,4 @@ loop-port-preserved c =
 pub push-requires : goal.push-requires
 push-requires c =
     c.kept_of-kept.ensures.theirs c.loop-port.self.signals.items
-    (subst (HasSignalsOf c.args.columns.now) (sym c.loop-port.invariant.signals) c.requires)
+    (subst (HasSignalsOf c.args.columns.now.named) (sym c.loop-port.invariant.signals) c.requires)
