@@ -1,7 +1,6 @@
 -- The step of a set, by the step of a hart and what the others lose.
 use Rattle.std.proofs.Common.{◌≡◌, ℕ, List, [], ◌∷◌, map, length, refl, sym, ap, ◌∙◌, subst, arith, Option, Some}
-use Rattle.std.proofs.Common.{◌<◌, None, Result, Ok, get_or}
-use Rattle.std.specs.Prelude.{IfOk}
+use Rattle.std.proofs.Common.{◌<◌, None, get_or}
 use Rattle.std.proofs.Math.ListN.{set}
 use Rattle.std.proofs.lemmas.Option.{get_or_from_slice_get, slice_get-get_or}
 use Rattle.std.specs.List.{All, slice_get}
@@ -13,8 +12,6 @@ use Rattle.hart_words.specs.Memory.{Bytes, after_writes}
 use Rattle.hart_words.specs.Actions.{Action, Performs, Run, pure}
 use Rattle.hart_words.specs.Signals.{Shown}
 use Rattle.hart_words.proofs.Runs.{Performs-pure}
-use Rattle.hart_words.specs.declared.fault.NoMemory.{NoMemory}
-use Rattle.rvfi_rows.specs.declared.expected.Stepped.{Stepped}
 use Rattle.rvfi_rows.specs.declared.expected.Expected.{Expected}
 use Rattle.rvfi_rows.specs.declared.expected.Expected.TheVariants.{Halted}
 use Rattle.rvfi_rows.specs.Meanings.{Gave, Meaning, lost_by}
@@ -174,13 +171,6 @@ gone_after meaning number next cores after told writes same below gone =
     ∙ gone_from_set (lost_by meaning told) number next next cores
     ∙ ap (λ w. gone_on (lost_by meaning w) number next cores) same
 
--- a fact of the value of a call that returned it
-pub ok_has : {X E : Type 0} (P : X → Type 0) {result : Result X E} {x : X} → result ≡ Ok x → P x → IfOk result P
-ok_has {X} {E} P is holds = let Q : Result X E → Type 0 = λ r. IfOk r P in subst Q (sym is) holds
-
-pub of_ok : {X E : Type 0} (P : X → Type 0) {result : Result X E} {x : X} → result ≡ Ok x → IfOk result P → P x
-of_ok {X} {E} P is holds = let Q : Result X E → Type 0 = λ r. IfOk r P in subst Q is holds
-
 -- the hart of a number has what all have
 pub has_of : {C : Type 0} (P : C → Type 0) (number : ℕ) (core : C) (cores : List C) → slice_get cores number ≡ Some core
     → number < length cores → All P cores → P core
@@ -189,25 +179,17 @@ has_of P number core cores there below all =
 
 -- the call stepped the hart of the number, and then the others lost
 pub stepped_there : {C : Type 0} (meaning : Meaning C) (cores after : List C) (shown : Shown) (number : ℕ)
-    (core next : C) (before now last : Bytes) {result : Result Stepped NoMemory} {done : Stepped}
-    → slice_get cores number ≡ Some core → result ≡ Ok done
-    → IfOk result (λ s. Performs (meaning.stepped core shown) (record { next = next; expected = s.expected }) []
-    s.seen [] s.wrote before now) → after ≡ gone_on (lost_by meaning done.wrote) number next cores → last ≡ now
-    → IfOk result (λ s. Performs (step_of_hart meaning cores shown number)
-    (record { next = after; expected = s.expected }) [] s.seen [] s.wrote before last)
-stepped_there {C} meaning cores after shown number core next before now last {result} {done} there is ran gone same =
-    let Ran : Stepped → Type 0 = λ s.
-    Performs (meaning.stepped core shown) (record { next = next; expected = s.expected }) [] s.seen [] s.wrote before
-    now in
-    let Gone : Stepped → Type 0 = λ s.
-    Performs (step_of_hart meaning cores shown number) (record { next = after; expected = s.expected }) [] s.seen []
-    s.wrote before last in
+    (core next : C) (expected : Expected) {seen : List Read} {wrote : List Write} {before now last : Bytes}
+    → slice_get cores number ≡ Some core
+    → Performs (meaning.stepped core shown) (record { next = next; expected = expected }) [] seen [] wrote before now
+    → after ≡ gone_on (lost_by meaning wrote) number next cores → last ≡ now
+    → Performs (step_of_hart meaning cores shown number) (record { next = after; expected = expected }) [] seen []
+    wrote before last
+stepped_there meaning cores after shown number core next expected {seen} {wrote} {before} there ran gone same =
     let P : Bytes → Type 0 = λ bytes.
-    Performs (step_of_hart meaning cores shown number) (record { next = after; expected = done.expected }) [] done.seen
-    [] done.wrote before bytes in
-    ok_has Gone is
-    (subst P (sym same)
-    (went_on meaning cores after shown number core next done.expected there (of_ok Ran is ran) gone))
+    Performs (step_of_hart meaning cores shown number) (record { next = after; expected = expected }) [] seen [] wrote
+    before bytes in
+    subst P (sym same) (went_on meaning cores after shown number core next expected there ran gone)
 
 -- the call took the state of the hart of the number from the row, and then the others lost
 pub taken_there : {C : Type 0} (meaning : Meaning C) (cores after : List C) (shown : Shown) (number : ℕ)

@@ -8,6 +8,7 @@ use Rattle.hart_words.specs.Actions.{Action, Run, pure}
 use Rattle.hart_words.specs.Signals.{Shown}
 use Rattle.rvfi_rows.specs.declared.expected.Expected.TheVariants.{Halted}
 use Rattle.rvfi_rows.specs.Meanings.{Gave, Meaning, lost_by}
+use Rattle.rvfi_rows.specs.Rows.{hart_of}
 
 -- all that a run did, its writes too, is made into another value
 unfoldable pub concluded : {A B : Type 0} → (Run A → B) → Action A → Action B
@@ -18,10 +19,6 @@ concluded f action = record {
       λ one other agree. ap (λ done. record { value = f done; reads = done.reads; wrote = done.wrote })
       (action.framed one other agree);
 }
-
--- the number of the row's hart. Rows name none yet, and all are of the first; where they do, this alone is another
-abbrev pub hart_of : Shown → ℕ
-hart_of shown = 0
 
 -- the harts after the one of a number went on: that one in its next state, each other one after its loss
 unfoldable pub gone_on : {C : Type 0} → (C → C) → ℕ → C → List C → List C

@@ -4,7 +4,7 @@
 //! the harts after it: the row's hart stepped over the memory, and each other one lost its
 //! reservation where a byte of RAM that was written lies in its block (`specs/Sets.antt`, after the
 //! Unprivileged ISA's chapter "A Extension for Atomic Instructions"). What a hart is, the type of
-//! the harts says (`CoreStep`). Nothing uses a set yet.
+//! the harts says (`CoreStep`).
 #![tactic(auto)]
 
 pub mod laws;

@@ -4,7 +4,7 @@ ghost use Rattle.std.specs.Prelude.{◌≡◌, ◌≤◌, ◌<◌, ◌++◌, [],
 ghost use Rattle.hart_words.specs.Actions.{Performs};
 ghost use Rattle.rvfi_rows.specs.Cells.{shown_in};
 ghost use Rattle.rvfi_rows.specs.Meanings.{lost_by};
-ghost use Rattle.hart_set.specs.Sets.{gone_on, hart_of, is_plain_for_set, step_of_hart, step_of_set, taken_of_hart, taken_of_set};
+ghost use Rattle.hart_set.specs.Sets.{gone_on, is_plain_for_set, step_of_hart, step_of_set, taken_of_hart, taken_of_set};
 ghost use Rattle.hart_set.specs.Calls.{CanStep, IsDone};
 
 use hart_words::{NoMemory, PhysMem, Write, Wrote};
@@ -55,18 +55,44 @@ impl<C: CoreStep<M> + Drop, M: PhysMem + Drop> HartSet<C, M> {
             ≡ map C.meaning.choices_of self.old.cores.items }
         ensures ram { M.ram self.new.mem ≡ M.ram self.old.mem }
     {
-        self.step_hart(hart_of(row), row)
+        let mut stepped = Stepped::halted();
+        match self.step_into(row, &mut stepped) {
+            Ok(()) => Ok(stepped),
+            Err(NoMemory) => Err(NoMemory),
+        }
+    }
+
+    /// The same, where what a step gives is put in place of what an earlier one gave. Without
+    /// memory it stays.
+    pub fn step_into(&mut self, row: &Row, stepped: &mut Stepped) -> Result<(), NoMemory>
+        requires can { CanStep C.meaning C.is_sound (M.ram self.old.mem) self.old.cores.items }
+        ensures stepped { OnOk result (Performs
+            (step_of_set C.meaning self.old.cores.items (shown_in row.now))
+            (record { next = self.new.cores.items; expected = stepped.new.expected }) []
+            stepped.new.seen [] stepped.new.wrote (M.bytes self.old.mem) (M.bytes self.new.mem)) }
+        ensures err { OnErr result ((self.new.cores.items ≡ self.old.cores.items)
+            × (M.bytes self.new.mem ≡ M.bytes self.old.mem)) }
+        ensures kept { OnErr result (stepped.new ≡ stepped.old) }
+        ensures can { CanStep C.meaning C.is_sound (M.ram self.new.mem) self.new.cores.items }
+        ensures maps { map C.meaning.map_of self.new.cores.items
+            ≡ map C.meaning.map_of self.old.cores.items }
+        ensures choices { map C.meaning.choices_of self.new.cores.items
+            ≡ map C.meaning.choices_of self.old.cores.items }
+        ensures ram { M.ram self.new.mem ≡ M.ram self.old.mem }
+    {
+        self.step_hart(row.hart() as usize, row, stepped)
     }
 
     /// The same of the hart of a number.
-    fn step_hart(&mut self, number: usize, row: &Row) -> Result<Stepped, NoMemory>
+    fn step_hart(&mut self, number: usize, row: &Row, stepped: &mut Stepped) -> Result<(), NoMemory>
         requires can { CanStep C.meaning C.is_sound (M.ram self.old.mem) self.old.cores.items }
-        ensures stepped { IfOk result (λ now. Performs
+        ensures stepped { OnOk result (Performs
             (step_of_hart C.meaning self.old.cores.items (shown_in row.now) number)
-            (record { next = self.new.cores.items; expected = now.expected }) [] now.seen []
-            now.wrote (M.bytes self.old.mem) (M.bytes self.new.mem)) }
+            (record { next = self.new.cores.items; expected = stepped.new.expected }) []
+            stepped.new.seen [] stepped.new.wrote (M.bytes self.old.mem) (M.bytes self.new.mem)) }
         ensures err { OnErr result ((self.new.cores.items ≡ self.old.cores.items)
             × (M.bytes self.new.mem ≡ M.bytes self.old.mem)) }
+        ensures kept { OnErr result (stepped.new ≡ stepped.old) }
         ensures can { CanStep C.meaning C.is_sound (M.ram self.new.mem) self.new.cores.items }
         ensures maps { map C.meaning.map_of self.new.cores.items
             ≡ map C.meaning.map_of self.old.cores.items }
@@ -75,15 +101,12 @@ impl<C: CoreStep<M> + Drop, M: PhysMem + Drop> HartSet<C, M> {
         ensures ram { M.ram self.new.mem ≡ M.ram self.old.mem }
     {
         if self.is_absent(number) {
-            return Ok(Stepped::halted());
+            *stepped = Stepped::halted();
+            return Ok(());
         }
-        let done = self.cores[number].step(&mut self.mem, row);
-        let stepped = match &done {
-            Err(NoMemory) => return Err(NoMemory),
-            Ok(stepped) => stepped,
-        };
+        self.cores[number].step_into(&mut self.mem, row, stepped)?;
         self.lose_beside(number, stepped.wrote.as_slice());
-        done
+        Ok(())
     }
 
     /// Whether a valid row is plain for its hart: it shows all that its instruction changes. No row
@@ -91,7 +114,7 @@ impl<C: CoreStep<M> + Drop, M: PhysMem + Drop> HartSet<C, M> {
     pub fn is_plain(&self, row: &Row) -> bool
         ensures { result ≡ is_plain_for_set C.meaning self.now.cores.items (shown_in row.now) }
     {
-        match self.cores.get(hart_of(row)) {
+        match self.cores.get(row.hart() as usize) {
             None => false,
             Some(core) => core.is_plain(row),
         }
@@ -114,7 +137,7 @@ impl<C: CoreStep<M> + Drop, M: PhysMem + Drop> HartSet<C, M> {
             ≡ map C.meaning.choices_of self.old.cores.items }
         ensures ram { M.ram self.new.mem ≡ M.ram self.old.mem }
     {
-        self.take_hart_shown(hart_of(row), row)
+        self.take_hart_shown(row.hart() as usize, row)
     }
 
     /// The same of the hart of a number.
@@ -161,14 +184,31 @@ impl<C: CoreStep<M> + Drop, M: PhysMem + Drop> HartSet<C, M> {
         ensures bytes { IfOk result (λ other. M.bytes other.mem ≡ M.bytes self.now.mem) }
         ensures ram { IfOk result (λ other. M.ram other.mem ≡ M.ram self.now.mem) }
     {
+        Ok(HartSet {
+            cores: self.copy_cores()?,
+            mem: self.mem.copy()?,
+        })
+    }
+
+    /// Takes the harts of another set, and keeps the memory. Without memory nothing changes.
+    pub fn take_cores(&mut self, other: &Self) -> Result<(), NoMemory>
+        ensures cores { OnOk result (self.new.cores.items ≡ other.now.cores.items) }
+        ensures err { OnErr result (self.new ≡ self.old) }
+        ensures mem { self.new.mem ≡ self.old.mem }
+    {
+        self.cores = other.copy_cores()?;
+        Ok(())
+    }
+
+    /// The same harts again.
+    fn copy_cores(&self) -> Result<Vec<C>, NoMemory>
+        ensures { IfOk result (λ cores. cores.items ≡ self.now.cores.items) }
+    {
         let mut cores = Vec::new(*self.cores.allocator());
         for core in &self.cores {
             cores.push(core.copy()?)?;
         }
-        Ok(HartSet {
-            cores,
-            mem: self.mem.copy()?,
-        })
+        Ok(cores)
     }
 
     /// Whether no hart has a number.
@@ -201,11 +241,4 @@ impl<C: CoreStep<M> + Drop, M: PhysMem + Drop> HartSet<C, M> {
             core.lose(write.pa, write.len);
         }
     }
-}
-
-/// The number of the row's hart. Rows name none yet, and all are of the first.
-fn hart_of(_row: &Row) -> usize
-    ensures { result ≡ hart_of (shown_in _row.now) }
-{
-    0
 }

@@ -1,8 +1,10 @@
 -- A step keeps the choices of an implementation.
 use Rattle.std.proofs.Common.{◌≡◌, ℕ, Bool, true, false, Option, Some, None, Ok, Err, Result, refl, ap, ◌∙◌}
 use Rattle.std.proofs.Common.{inl, inr, if◌then◌else◌}
-use Rattle.std.specs.Prelude.{IfOk, OnErr, not, []}
+use Rattle.std.specs.Prelude.{IfOk, OnErr, OnOk, not, List, []}
 use Rattle.std.proofs.lemmas.Bool.{cases_Bool}
+use Rattle.hart_words.specs.declared.accesses.Read.{Read}
+use Rattle.hart_words.specs.declared.accesses.Write.{Write}
 use Rattle.hart_words.specs.declared.privilege.Mode.{Mode}
 use Rattle.hart_words.specs.Memory.{Bytes}
 use Rattle.hart_words.specs.Signals.{Shown}
@@ -20,6 +22,7 @@ use Rattle.rv_integer.specs.declared.int_result.SystemRequest.TheVariants as sys
 use Rattle.rv_integer.specs.Results.{result_of}
 use Rattle.mem_access.specs.Accesses.{Exception}
 use Rattle.mem_access.proofs.Grants.{then_gives}
+use Rattle.rvfi_rows.specs.declared.expected.Expected.{Expected}
 use Rattle.rvfi_rows.specs.declared.expected.Stepped.{Stepped}
 use Rattle.hart_step.specs.declared.state.Core.{Core}
 use Rattle.hart_step.specs.declared.choices.RowChoices.{RowChoices}
@@ -161,3 +164,12 @@ pub call_keeps : (core next : Core) (shown : Shown) (result : Result Stepped NoM
 call_keeps core next shown (Ok done) before now ran unchanged =
     ap (λ g. g.next.choices) ran.value_is ∙ next_keeps core shown before
 call_keeps core next shown (Err lacking) before now ran unchanged = ap (λ k. k.choices) unchanged.0
+
+-- and one that puts what the step gave in place of what an earlier one gave
+pub put_keeps : {X : Type 0} (core next : Core) (shown : Shown) (expected : Expected) (seen : List Read)
+    (wrote : List Write) (result : Result X NoMemory) (before now : Bytes)
+    → OnOk result (Performs (step_of core shown) (record { next = next; expected = expected }) [] seen [] wrote before
+    now) → OnErr result ((next ≡ core) × (now ≡ before)) → next.choices ≡ core.choices
+put_keeps core next shown expected seen wrote (Ok done) before now ran unchanged =
+    ap (λ g. g.next.choices) ran.value_is ∙ next_keeps core shown before
+put_keeps core next shown expected seen wrote (Err lacking) before now ran unchanged = ap (λ k. k.choices) unchanged.0

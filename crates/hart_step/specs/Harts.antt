@@ -6,6 +6,7 @@ use Rattle.hart_words.specs.Registers.{register_of}
 use Rattle.csr_file.specs.declared.stored_csr.StoredCsr.{StoredCsr}
 use Rattle.csr_file.specs.Registers.{at}
 use Rattle.hart_step.specs.declared.hart.Hart.{Hart}
+use Rattle.hart_step.specs.declared.state.Core.{Core}
 use Rattle.hart_step.specs.Cores.{IsSound}
 use Rattle.hart_step.specs.Rows.{HartState}
 
@@ -18,10 +19,14 @@ pub record CanStep {M : Type 0} (ram_of : M → Span) (hart : Hart M) : Type 0 w
   pub sound : IsSound hart.core
   pub ram : ram_of hart.mem ≡ hart.core.map.ram
 
--- the registers of a state hold words, and its memory bytes: so it is with every hart
+-- the registers of a hart hold words: so it is with every hart
+pub record CoreHoldsWords (core : Core) : Type 0 where
+  pub pc : core.pc < 2 ^ 64
+  pub registers : (number : ℕ) → register_of core.registers number < 2 ^ 64
+  pub csrs : (stored : StoredCsr) → at core.csrs stored < 2 ^ 64
+  pub configurations : All (λ entry. entry.cfg < 2 ^ 8) core.csrs.entries
+
+-- and its memory holds bytes
 pub record HoldsWords (state : HartState) : Type 0 where
-  pub pc : state.core.pc < 2 ^ 64
-  pub registers : (number : ℕ) → register_of state.core.registers number < 2 ^ 64
-  pub csrs : (stored : StoredCsr) → at state.core.csrs stored < 2 ^ 64
-  pub configurations : All (λ entry. entry.cfg < 2 ^ 8) state.core.csrs.entries
+  pub core : CoreHoldsWords state.core
   pub bytes : (address : ℕ) → state.bytes address < 2 ^ 8

@@ -15,3 +15,4 @@ pub mod ProtectionLaws
 pub mod TranslationLaws
 pub mod TakenRows
 pub mod Meanings
+pub mod HartSets

@@ -17,6 +17,10 @@ impl<M: PhysMem> CoreStep<M> for Core {
         Core::step(self, mem, row)
     }
 
+    fn step_into(&mut self, mem: &mut M, row: &Row, stepped: &mut Stepped) -> Result<(), NoMemory> {
+        Core::step_into(self, mem, row, stepped)
+    }
+
     fn lose(&mut self, pa: u64, len: u8) {
         self.reservation.lose(pa, len);
     }

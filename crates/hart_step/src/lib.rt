@@ -18,6 +18,7 @@ mod core_step;
 mod csr_access;
 mod execution;
 mod hart;
+mod harts;
 mod instruction;
 pub mod laws;
 mod memory;
@@ -35,6 +36,7 @@ pub mod translation_laws;
 mod words;
 
 pub use hart::Hart;
+pub use harts::Harts;
 pub use parts::CoreParts;
 pub use state::Core;
-pub use words::hold_words;
+pub use words::{hold_words, set_holds_words};

@@ -2,9 +2,12 @@
 
 ghost use Rattle.std.specs.Prelude.{◌<◌, ◌^◌};
 ghost use Rattle.std.specs.List.{All};
-ghost use Rattle.hart_step.specs.Harts.{HoldsWords, state_of};
+ghost use Rattle.hart_step.specs.Harts.{CoreHoldsWords, HoldsWords, state_of};
+ghost use Rattle.hart_step.specs.HartSets.{SetHoldsWords, set_state_of};
 
 use crate::hart::Hart;
+use crate::harts::Harts;
+use crate::state::Core;
 use hart_words::{PhysMem, PmpEntry};
 
 /// Tells a proof that a hart's values are words, and its memory's bytes. Their types say so, but a
@@ -12,10 +15,31 @@ use hart_words::{PhysMem, PmpEntry};
 pub fn hold_words<M: PhysMem + Drop>(hart: &Hart<M>)
     ensures { HoldsWords (state_of M.bytes hart.now) }
 {
-    is_word(hart.core.pc);
-    are_words(&hart.core.registers.values);
-    are_words(&hart.core.csrs.values);
-    are_bytes(&hart.core.csrs.entries);
+    core_holds_words(&hart.core);
+}
+
+/// The same of harts that share a memory.
+pub fn set_holds_words<M: PhysMem + Drop>(set: &Harts<M>)
+    ensures { SetHoldsWords (set_state_of M.bytes set.now) }
+{
+    hold_core_words(&set.cores);
+}
+
+fn hold_core_words(cores: &[Core])
+    ensures { All CoreHoldsWords cores.now }
+{
+    for core in cores {
+        core_holds_words(core);
+    }
+}
+
+fn core_holds_words(core: &Core)
+    ensures { CoreHoldsWords core.now }
+{
+    is_word(core.pc);
+    are_words(&core.registers.values);
+    are_words(&core.csrs.values);
+    are_bytes(&core.csrs.entries);
 }
 
 fn is_word(value: u64)

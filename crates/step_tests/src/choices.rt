@@ -72,7 +72,7 @@ const AMOADD: u64 = 0x00b5_362f;
 /// A row that shows nothing of use.
 fn blank(alloc: Global) -> Result<Row, Fail> {
     let columns = read_header(alloc, b"insn,pc_rdata")?;
-    Ok(read_row(alloc, &columns, b"0,0", 0)?.ok_or("the row is valid")?)
+    Ok(read_row(alloc, &columns, b"0,0", 0, 1)?.ok_or("the row is valid")?)
 }
 
 /// Three pages of RAM.

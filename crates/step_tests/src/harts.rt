@@ -24,7 +24,7 @@ const HEADER: &[u8] = b"insn,pc_rdata,mem_addr,mem_wmask,mem_wdata";
 
 fn row_of(alloc: Global, line: &[u8]) -> Result<Row, Fail> {
     let columns = read_header(alloc, HEADER)?;
-    let row = read_row(alloc, &columns, line, 0)?.ok_or("the row is valid")?;
+    let row = read_row(alloc, &columns, line, 0, 1)?.ok_or("the row is valid")?;
     Ok(row)
 }
 

@@ -126,7 +126,7 @@ fn outcome_of(
     let mut mem = memory_with(alloc, map.ram, instruction)?;
     put(&mut mem, &map.ram, HANDLER, 4, NOP)?;
     let columns = read_header(alloc, HEADER)?;
-    let row = read_row(alloc, &columns, line, 0)?.ok_or("the row is valid")?;
+    let row = read_row(alloc, &columns, line, 0, 1)?.ok_or("the row is valid")?;
     let mut hart = hart_in(mem, map, mode, writes)?;
     let step = hart.step(&row)?;
     let outcome = match step.expected {
@@ -399,8 +399,8 @@ fn entered_second(alloc: Global, first: u64, line: &[u8]) -> Result<Entered, Fai
     ];
     let mut hart = hart_in(mem, map, User, &writes)?;
     let columns = read_header(alloc, HEADER)?;
-    let blank = read_row(alloc, &columns, BLANK, 0)?.ok_or("the row is valid")?;
-    let row = read_row(alloc, &columns, line, 0)?.ok_or("the row is valid")?;
+    let blank = read_row(alloc, &columns, BLANK, 0, 1)?.ok_or("the row is valid")?;
+    let row = read_row(alloc, &columns, line, 0, 1)?.ok_or("the row is valid")?;
     let _first = hart.step(&blank)?;
     let step = hart.step(&row)?;
     match step.expected {

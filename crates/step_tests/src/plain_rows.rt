@@ -27,7 +27,7 @@ const MPRV_IN_S: u64 = 1 << 17 | 1 << 11;
 
 fn row_of(alloc: Global, line: &[u8]) -> Result<Row, Fail> {
     let columns = read_header(alloc, HEADER)?;
-    let row = read_row(alloc, &columns, line, 0)?.ok_or("the row is valid")?;
+    let row = read_row(alloc, &columns, line, 0, 1)?.ok_or("the row is valid")?;
     Ok(row)
 }
 

@@ -36,7 +36,7 @@ pub(crate) fn ram_and_devices() -> Result<Map, Fail> {
 
 fn row_of(alloc: Global, line: &[u8]) -> Result<Row, Fail> {
     let columns = read_header(alloc, HEADER)?;
-    let row = read_row(alloc, &columns, line, 0)?.ok_or("the row is valid")?;
+    let row = read_row(alloc, &columns, line, 0, 1)?.ok_or("the row is valid")?;
     Ok(row)
 }
 

@@ -1,13 +1,7 @@
-use Rattle.csr_file.specs.Registers.{at, stored_index_of}
-use Rattle.hart_step.proofs.WordLists.{register_is_word, value_is_word}
 use Rattle.hart_step.proofs.words.hold_words.Goals as goal
 
 pub returns : goal.returns
-unfolding at
 returns g c = record {
-  pc = c.is_word.ensures;
-  registers = λ number. register_is_word c.args.hart.now.core.registers c.are_words.ensures number;
-  csrs = λ stored. value_is_word c.args.hart.now.core.csrs.values c.are_words-2.ensures (stored_index_of stored);
-  configurations = c.are_bytes.ensures;
+  core = c.core_holds_words.ensures;
   bytes = λ address. g.met.M.PhysMem.bytes_are_bytes c.args.hart.now.mem address;
 }

@@ -22,10 +22,9 @@ returns-clause-stepped g c =
     let there = found_at set.cores.items number c.index_mut.result.now below c.index_mut.ensures.value in
     let after = c.lose_beside.new.self in
     stepped_there m set.cores.items after.cores.items (shown_in c.args.row.now) number c.index_mut.result.now
-    c.step-done.new.self (g.M.PhysMem.bytes set.mem) (g.M.PhysMem.bytes c.step-done.new.mem)
-    (g.M.PhysMem.bytes after.mem) there c.in-Ok.is c.step-done.ensures.stepped
-    (gone_after m number c.step-done.new.self set.cores.items after.cores.items c.as_slice.result.now
-    c.in-Ok.stepped.wrote c.as_slice.ensures below c.lose_beside.ensures.cores)
+    c.step_into.new.self c.step_into.new.stepped.expected there c.in_ok-step_into.ensures.stepped
+    (gone_after m number c.step_into.new.self set.cores.items after.cores.items c.as_slice.result.now
+    c.step_into.new.stepped.wrote c.as_slice.ensures below c.lose_beside.ensures.cores)
     (ap g.M.PhysMem.bytes c.lose_beside.ensures.mem)
 
 pub returns-clause-can : goal.returns-clause-can
@@ -37,12 +36,12 @@ returns-clause-can g c =
     let there = found_at set.cores.items number c.index_mut.result.now below c.index_mut.ensures.value in
     let after = c.lose_beside.new.self in
     can_go_on m g.C.CoreStep.is_sound (g.M.PhysMem.ram set.mem) (g.M.PhysMem.ram after.mem) number
-    c.index_mut.result.now c.step-done.new.self set.cores.items after.cores.items c.in-Ok.stepped.wrote
-    g.met.C.CoreStep.stays_sound g.met.C.CoreStep.keeps_map there c.step-done.ensures.sound c.step-done.ensures.map
+    c.index_mut.result.now c.step_into.new.self set.cores.items after.cores.items c.step_into.new.stepped.wrote
+    g.met.C.CoreStep.stays_sound g.met.C.CoreStep.keeps_map there c.step_into.ensures.sound c.step_into.ensures.map
     (has_of (λ k. g.M.PhysMem.ram set.mem ≡ (m.map_of k).ram) number c.index_mut.result.now set.cores.items there below
-    c.requires.can.maps) (ap g.M.PhysMem.ram c.lose_beside.ensures.mem ∙ c.step-done.ensures.ram)
-    (gone_after m number c.step-done.new.self set.cores.items after.cores.items c.as_slice.result.now
-    c.in-Ok.stepped.wrote c.as_slice.ensures below c.lose_beside.ensures.cores) c.requires.can
+    c.requires.can.maps) (ap g.M.PhysMem.ram c.lose_beside.ensures.mem ∙ c.step_into.ensures.ram)
+    (gone_after m number c.step_into.new.self set.cores.items after.cores.items c.as_slice.result.now
+    c.step_into.new.stepped.wrote c.as_slice.ensures below c.lose_beside.ensures.cores) c.requires.can
 
 pub returns-clause-maps : goal.returns-clause-maps
 returns-clause-maps g c =
@@ -52,10 +51,10 @@ returns-clause-maps g c =
     let below : number < length set.cores.items = present number (length set.cores.items) c.if-is_absent.ensures.1 in
     let there = found_at set.cores.items number c.index_mut.result.now below c.index_mut.ensures.value in
     let after = c.lose_beside.new.self in
-    maps_stay m m.map_of number c.index_mut.result.now c.step-done.new.self set.cores.items after.cores.items
-    c.in-Ok.stepped.wrote g.met.C.CoreStep.keeps_map there c.step-done.ensures.map
-    (gone_after m number c.step-done.new.self set.cores.items after.cores.items c.as_slice.result.now
-    c.in-Ok.stepped.wrote c.as_slice.ensures below c.lose_beside.ensures.cores)
+    maps_stay m m.map_of number c.index_mut.result.now c.step_into.new.self set.cores.items after.cores.items
+    c.step_into.new.stepped.wrote g.met.C.CoreStep.keeps_map there c.step_into.ensures.map
+    (gone_after m number c.step_into.new.self set.cores.items after.cores.items c.as_slice.result.now
+    c.step_into.new.stepped.wrote c.as_slice.ensures below c.lose_beside.ensures.cores)
 
 pub returns-clause-choices : goal.returns-clause-choices
 returns-clause-choices g c =
@@ -65,7 +64,7 @@ returns-clause-choices g c =
     let below : number < length set.cores.items = present number (length set.cores.items) c.if-is_absent.ensures.1 in
     let there = found_at set.cores.items number c.index_mut.result.now below c.index_mut.ensures.value in
     let after = c.lose_beside.new.self in
-    maps_stay m m.choices_of number c.index_mut.result.now c.step-done.new.self set.cores.items after.cores.items
-    c.in-Ok.stepped.wrote g.met.C.CoreStep.keeps_choices there c.step-done.ensures.choices
-    (gone_after m number c.step-done.new.self set.cores.items after.cores.items c.as_slice.result.now
-    c.in-Ok.stepped.wrote c.as_slice.ensures below c.lose_beside.ensures.cores)
+    maps_stay m m.choices_of number c.index_mut.result.now c.step_into.new.self set.cores.items after.cores.items
+    c.step_into.new.stepped.wrote g.met.C.CoreStep.keeps_choices there c.step_into.ensures.choices
+    (gone_after m number c.step_into.new.self set.cores.items after.cores.items c.as_slice.result.now
+    c.step_into.new.stepped.wrote c.as_slice.ensures below c.lose_beside.ensures.cores)

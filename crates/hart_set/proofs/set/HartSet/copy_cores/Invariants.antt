@@ -1,5 +1,5 @@
 use Rattle.std.proofs.Common.{◌≡◌, take}
-use Rattle.hart_set.proofs.set.HartSet.copy.Given as goal
+use Rattle.hart_set.proofs.set.HartSet.copy_cores.Given as goal
 
 -- the first harts are there again
 abbrev pub invariant-loop-core : goal.invariant-loop-core
