@@ -9,6 +9,7 @@ use Rattle.std.proofs.lemmas.Bool.Decides.{eqb_tells}
 use Rattle.std.proofs.Math.Seq.{drop-cons}
 use Rattle.std.proofs.Math.ListN.{drop_of_length-le}
 use Rattle.hart_words.specs.declared.signal.Signal.{Signal}
+use Rattle.hart_words.specs.declared.signal.Signal.TheVariants.{Halt, Hart, Valid}
 use Rattle.hart_words.specs.declared.signal.SignalEntry.{SignalEntry}
 use Rattle.hart_words.specs.declared.signal.Difference.{Difference}
 use Rattle.hart_words.specs.declared.signal.TheConstants.{SIGNALS}
@@ -61,6 +62,36 @@ written_out retired shown found (entry ∷ entries) =
     written_out retired shown (option_or found (signal_difference retired shown entry.signal)) entries
     ∙ sym (regroup found (signal_difference retired shown entry.signal) (first_among retired shown entries))
 
+-- ---- signals of which nothing is wanted
+
+none_wanted : (signal : Signal) (found : Option ℕ) → difference_between signal found None ≡ None
+none_wanted signal None = refl
+none_wanted signal (Some found) = refl
+
+free : (retired : Retired) (shown : Shown) (signal : Signal) → expected_signal retired shown signal ≡ None
+    → signal_difference retired shown signal ≡ None
+unfolding signal_difference
+free retired shown signal is = rw is (none_wanted signal (shown signal))
+
+-- nothing is wanted of the first of these signals, and of the last two
+pub none_of_valid : (retired : Retired) (shown : Shown) → signal_difference retired shown Valid ≡ None
+unfolding expected_signal
+none_of_valid retired shown = free retired shown Valid refl
+
+none_of_halt : (retired : Retired) (shown : Shown) → signal_difference retired shown Halt ≡ None
+unfolding expected_signal
+none_of_halt retired shown = free retired shown Halt refl
+
+none_of_hart : (retired : Retired) (shown : Shown) → signal_difference retired shown Hart ≡ None
+unfolding expected_signal
+none_of_hart retired shown = free retired shown Hart refl
+
+pub none_at_end : (retired : Retired) (shown : Shown) (found : Option Difference)
+    → found ≡ option_or (option_or found (signal_difference retired shown Halt)) (signal_difference retired shown Hart)
+none_at_end retired shown found =
+    rw (none_of_halt retired shown, none_of_hart retired shown)
+    (nothing_more found ∙ nothing_more (option_or found None))
+
 -- ---- entries that no row shows
 
 in_parts : (retired : Retired) (shown : Shown) (front back : List SignalEntry)
@@ -103,19 +134,19 @@ none_shown retired shown (entry ∷ entries) none all =
     (none_shown retired shown entries here.1 here.2)
 
 pub without_csrs : (retired : Retired) (shown : Shown) → shows_csr shown ≡ false
-    → first_among retired shown (take 22 SIGNALS) ≡ first_among retired shown SIGNALS
+    → first_among retired shown (take 23 SIGNALS) ≡ first_among retired shown SIGNALS
 unfolding shows_csr
 without_csrs retired shown none =
-    let rest : first_among retired shown (drop 22 SIGNALS) ≡ None =
-    none_shown retired shown (drop 22 SIGNALS) none refl in
-    nothing_more (first_among retired shown (take 22 SIGNALS))
-    ∙ ap (option_or (first_among retired shown (take 22 SIGNALS))) (sym rest)
-    ∙ sym (in_parts retired shown (take 22 SIGNALS) (drop 22 SIGNALS))
+    let rest : first_among retired shown (drop 23 SIGNALS) ≡ None =
+    none_shown retired shown (drop 23 SIGNALS) none refl in
+    nothing_more (first_among retired shown (take 23 SIGNALS))
+    ∙ ap (option_or (first_among retired shown (take 23 SIGNALS))) (sym rest)
+    ∙ sym (in_parts retired shown (take 23 SIGNALS) (drop 23 SIGNALS))
 
 pub with_csrs : (retired : Retired) (shown : Shown)
-    → option_or (first_among retired shown (take 22 SIGNALS)) (first_among retired shown (drop 22 SIGNALS))
+    → option_or (first_among retired shown (take 23 SIGNALS)) (first_among retired shown (drop 23 SIGNALS))
     ≡ first_among retired shown SIGNALS
-with_csrs retired shown = sym (in_parts retired shown (take 22 SIGNALS) (drop 22 SIGNALS))
+with_csrs retired shown = sym (in_parts retired shown (take 23 SIGNALS) (drop 23 SIGNALS))
 
 -- ---- what a difference is of
 

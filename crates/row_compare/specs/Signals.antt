@@ -11,7 +11,7 @@ use Rattle.hart_words.specs.declared.signal.Signal.{Signal}
 use Rattle.hart_words.specs.declared.signal.Signal.TheVariants.{Valid, Order, Intr, PcRdata, Mode, Ixl, Trap, Insn}
 use Rattle.hart_words.specs.declared.signal.Signal.TheVariants.{Rs1Addr, Rs1Rdata, Rs2Addr, Rs2Rdata, RdAddr, RdWdata}
 use Rattle.hart_words.specs.declared.signal.Signal.TheVariants.{PcWdata, MemAddr, MemRmask, MemRdata, MemWmask}
-use Rattle.hart_words.specs.declared.signal.Signal.TheVariants.{MemWdata, MemPaddr, Halt, Csr}
+use Rattle.hart_words.specs.declared.signal.Signal.TheVariants.{MemWdata, MemPaddr, Halt, Hart, Csr}
 use Rattle.hart_words.specs.declared.signal.CsrSide.TheVariants.{Rmask, Wmask, Rdata, Wdata}
 use Rattle.hart_words.specs.Signals.{Shown}
 use Rattle.csr_file.specs.Values.{shown_csr}
@@ -78,6 +78,7 @@ expected_signal retired shown MemWmask =
 expected_signal retired shown MemWdata = with_access retired (λ access. expected_write access (shown MemAddr))
 expected_signal retired shown MemPaddr = with_access retired (λ access. expected_physical access (shown MemAddr))
 expected_signal retired shown Halt = None
+expected_signal retired shown Hart = None
 expected_signal retired shown (Csr name Rmask) = None
 expected_signal retired shown (Csr name Wmask) = None
 expected_signal retired shown (Csr name Rdata) =

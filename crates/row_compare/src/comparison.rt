@@ -40,13 +40,12 @@ fn retired_difference(retired: &Retired, row: &Row) -> Option<Difference>
     }
 }
 
-/// The signals before those of registers, in the table's order. Each is written out, so that the
-/// compiler sees which one it is.
+/// The signals before those of registers, in the table's order, but for `valid`, `halt` and `hart`,
+/// of which nothing is ever wanted. Each is written out, so that the compiler sees which one it is.
 fn plain_difference(retired: &Retired, row: &Row) -> Option<Difference>
     ensures { result ≡ first_among retired.now (shown_in row.now) (take FIRST_CSR SIGNALS) }
 {
-    signal_difference(retired, row, Signal::Valid)
-        .or(signal_difference(retired, row, Signal::Order))
+    signal_difference(retired, row, Signal::Order)
         .or(signal_difference(retired, row, Signal::Intr))
         .or(signal_difference(retired, row, Signal::PcRdata))
         .or(signal_difference(retired, row, Signal::Mode))
@@ -66,7 +65,6 @@ fn plain_difference(retired: &Retired, row: &Row) -> Option<Difference>
         .or(signal_difference(retired, row, Signal::MemWmask))
         .or(signal_difference(retired, row, Signal::MemWdata))
         .or(signal_difference(retired, row, Signal::MemPaddr))
-        .or(signal_difference(retired, row, Signal::Halt))
 }
 
 /// The first of the entries whose signal differs.

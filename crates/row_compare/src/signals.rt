@@ -26,7 +26,7 @@ pub fn expected_signal(retired: &Retired, row: &Row, signal: Signal) -> Option<E
     let access = access_in(&retired.effects);
     let address = row.shown(Signal::MemAddr);
     match signal {
-        Signal::Valid | Signal::Halt => None,
+        Signal::Valid | Signal::Halt | Signal::Hart => None,
         Signal::Order => where_known(retired.order),
         Signal::Intr if retired.lacks_interrupt => whole(0),
         Signal::Intr => None,

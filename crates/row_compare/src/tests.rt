@@ -20,7 +20,7 @@ fn difference_in(
     let header = format!(in alloc; "insn,pc_rdata,{columns}")?;
     let line = format!(in alloc; "0x13,0x80000000,{fields}")?;
     let columns = read_header(alloc, header.as_bytes())?;
-    let row = read_row(alloc, &columns, line.as_bytes(), 0)?.ok_or("the row is valid")?;
+    let row = read_row(alloc, &columns, line.as_bytes(), 0, 1)?.ok_or("the row is valid")?;
     Ok(first_difference(expected, &row))
 }
 
@@ -553,7 +553,7 @@ fn order_of_signals(rt: HostRuntime) -> Result<(), Fail> {
             line = format!(in alloc; "{line}{value},")?;
         }
         let columns = read_header(alloc, header.as_bytes())?;
-        let row = read_row(alloc, &columns, line.as_bytes(), 0)?.ok_or("the row is valid")?;
+        let row = read_row(alloc, &columns, line.as_bytes(), 0, 1)?.ok_or("the row is valid")?;
         let (signal, expected_value, found) = ORDERED[first];
         let difference = Difference {
             signal,

@@ -1,14 +1,14 @@
-use Rattle.std.proofs.Common.{None, take}
+use Rattle.std.proofs.Common.{None, take, ◌∙◌}
 use Rattle.hart_words.specs.declared.signal.TheConstants.{SIGNALS}
 use Rattle.rvfi_rows.specs.Cells.{shown_in}
-use Rattle.row_compare.proofs.Among.{written_out}
+use Rattle.row_compare.proofs.Among.{none_at_end, none_of_valid, written_out}
 use Rattle.row_compare.proofs.comparison.plain_difference.Goals as goal
 
 pub returns : goal.returns
 returns c =
+    let retired = c.args.retired.now in
+    let shown = shown_in c.args.row.now in
     rw (
-      c.or-21.ensures,
-      c.or-20.ensures,
       c.or-19.ensures,
       c.or-18.ensures,
       c.or-17.ensures,
@@ -50,7 +50,6 @@ returns c =
       c.signal_difference-18.ensures,
       c.signal_difference-19.ensures,
       c.signal_difference-20.ensures,
-      c.signal_difference-21.ensures,
-      c.signal_difference-22.ensures,
     )
-    (written_out c.args.retired.now (shown_in c.args.row.now) None (take 22 SIGNALS)))
+    (none_at_end retired shown _
+    ∙ rw (none_of_valid retired shown) at (written_out retired shown None (take 23 SIGNALS))))
