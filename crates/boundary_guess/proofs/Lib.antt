@@ -12,6 +12,7 @@ pub mod StoreBytes
 pub mod TwoPages
 pub mod ShownStores
 pub mod PlainTruth
+pub mod ShownWrites
 pub mod TrueRows
 pub mod ShownWords
 pub mod CsrWords
@@ -19,4 +20,5 @@ pub mod CoreWords
 pub mod ResultWords
 pub mod StepWords
 pub mod SaneSteps
+pub mod SetRows
 pub mod TrueGuesses

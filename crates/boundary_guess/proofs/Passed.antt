@@ -1,7 +1,7 @@
 -- Guesses after one row and one segment more.
 use Rattle.std.proofs.Common.{◌≡◌, ℕ, zero, suc, ◌+◌, ◌≤◌, ◌==◌, List, [], ◌∷◌, ◌++◌, length, drop, map, slice_get}
 use Rattle.std.proofs.Common.{option_map, Some, Bool, true, false, if◌then◌else◌, refl, sym, ap, ◌∙◌, arith, add-one}
-use Rattle.std.proofs.Common.{append_assoc}
+use Rattle.std.proofs.Common.{append_assoc, subst}
 use Rattle.std.proofs.lemmas.List.{drop_all, length-map, map-append}
 use Rattle.std.proofs.lemmas.List.Elements.{All-append, All-cons, All-nil}
 use Rattle.std.proofs.lemmas.Option.{slice_get-map}
@@ -10,11 +10,15 @@ use Rattle.hart_words.specs.declared.span.Span.{Span}
 use Rattle.hart_words.specs.Memory.{Bytes}
 use Rattle.rvfi_rows.specs.declared.segment.Segment.{Segment}
 use Rattle.rvfi_rows.specs.Segments.{segment_lines}
-use Rattle.rvfi_rows.specs.Columns.{ColumnList}
+use Rattle.rvfi_rows.specs.Columns.{TraceColumns}
 use Rattle.rvfi_rows.specs.Rows.{RowReading, rows_of}
-use Rattle.hart_step.specs.declared.hart.Hart.{Hart}
-use Rattle.hart_step.specs.Rows.{HartState}
-use Rattle.boundary_guess.specs.Guesses.{CanStep, PassesReading, guess_after, guesses_of, state_of}
+use Rattle.hart_set.specs.declared.set.HartSet.{HartSet}
+use Rattle.hart_set.specs.Calls.{CanStep}
+use Rattle.hart_step.specs.declared.state.Core.{Core}
+use Rattle.hart_step.specs.Cores.{IsSound}
+use Rattle.hart_step.specs.HartSets.{SetState}
+use Rattle.hart_step.specs.Meanings.{core_meaning}
+use Rattle.boundary_guess.specs.Guesses.{SetCanStep, PassesReading, guess_after, guesses_of, set_state_of}
 
 drop_from : {A : Type 0} (xs : List A) (i : ℕ) (x : A) → Some x ≡ slice_get xs i → drop i xs ≡ x ∷ drop (suc i) xs
 drop_from [] i x is = absurd cc
@@ -25,7 +29,7 @@ drop_found : {A : Type 0} (xs : List A) (i : ℕ) (x : A) → Some x ≡ slice_g
 drop_found xs i x is = rw add-one (drop_from xs i x is)
 
 -- a row is passed
-pub row_turn : (before now : HartState) (rows : List RowReading) (place : ℕ) {row : RowReading} {whole : HartState}
+pub row_turn : (before now : SetState) (rows : List RowReading) (place : ℕ) {row : RowReading} {whole : SetState}
     {goes_on : Bool} → Some row ≡ slice_get rows place → goes_on ≡ true → PassesReading before row goes_on now
     → guess_after before (drop place rows) ≡ whole → guess_after now (drop (place + 1) rows) ≡ whole
 row_turn before now rows place {row} here is passes so_far =
@@ -33,7 +37,7 @@ row_turn before now rows place {row} here is passes so_far =
     ∙ sym (ap (λ rest. guess_after before rest) (drop_found rows place row here)) ∙ so_far
 
 -- a row ends the guess
-pub row_stops : (before now : HartState) (rows : List RowReading) (place : ℕ) {row : RowReading} {whole : HartState}
+pub row_stops : (before now : SetState) (rows : List RowReading) (place : ℕ) {row : RowReading} {whole : SetState}
     {goes_on : Bool} → Some row ≡ slice_get rows place → goes_on ≡ false → PassesReading before row goes_on now
     → guess_after before (drop place rows) ≡ whole → now ≡ whole
 row_stops before now rows place {row} here is passes so_far =
@@ -41,15 +45,15 @@ row_stops before now rows place {row} here is passes so_far =
     ∙ sym (ap (λ rest. guess_after before rest) (drop_found rows place row here)) ∙ so_far
 
 -- no row is left
-pub rows_end : (state : HartState) (rows : List RowReading) (place : ℕ) (whole : HartState) → length rows ≤ place
+pub rows_end : (state : SetState) (rows : List RowReading) (place : ℕ) (whole : SetState) → length rows ≤ place
     → guess_after state (drop place rows) ≡ whole → state ≡ whole
 unfolding guess_after
 rows_end state rows place whole past so_far =
     sym (ap (λ rest. guess_after state rest) (drop_all place rows past)) ∙ so_far
 
 -- a segment is passed
-pub segment_turn : (columns : ColumnList) (before : HartState) (segments : List (List (List ℕ))) (index : ℕ)
-    (done : List HartState) {now : HartState} {lines : List (List ℕ)} {whole : List HartState}
+pub segment_turn : (columns : TraceColumns) (before : SetState) (segments : List (List (List ℕ))) (index : ℕ)
+    (done : List SetState) {now : SetState} {lines : List (List ℕ)} {whole : List SetState}
     → Some lines ≡ slice_get segments index → now ≡ guess_after before (rows_of columns lines)
     → done ++ guesses_of before columns (drop index segments) ≡ whole
     → (done ++ before ∷ []) ++ guesses_of now columns (drop (index + 1) segments) ≡ whole
@@ -67,8 +71,8 @@ last_of (x ∷ []) zero all = (x, refl)
 last_of (x ∷ y ∷ xs) zero all = absurd (omega (arith, all))
 last_of (x ∷ xs) (suc index) all = last_of xs index (omega (arith, all))
 
-pub segments_end : (columns : ColumnList) (state : HartState) (segments : List (List (List ℕ))) (index : ℕ)
-    (done whole : List HartState) → length segments ≡ index + 1
+pub segments_end : (columns : TraceColumns) (state : SetState) (segments : List (List (List ℕ))) (index : ℕ)
+    (done whole : List SetState) → length segments ≡ index + 1
     → done ++ guesses_of state columns (drop index segments) ≡ whole → done ++ state ∷ [] ≡ whole
 unfolding guesses_of
 segments_end columns state segments index done whole all so_far =
@@ -82,64 +86,63 @@ lines_at segments index segment here =
 
 -- ---- the same of harts: what is kept is a copy, and a copy of that goes on
 
-pub same_state : {M : Type 0} (bytes : M → Bytes) (one other : Hart M) → one.core ≡ other.core
-    → bytes one.mem ≡ bytes other.mem → state_of bytes one ≡ state_of bytes other
-same_state bytes one other core mem = rw (core, mem) refl
+pub same_state : {M : Type 0} (bytes : M → Bytes) (one other : HartSet Core M) → one.cores.items ≡ other.cores.items
+    → bytes one.mem ≡ bytes other.mem → set_state_of bytes one ≡ set_state_of bytes other
+same_state bytes one other cores mem = rw (cores, mem) refl
 
-pub can_copy : {M : Type 0} (ram : M → Span) (hart other : Hart M) → other.core ≡ hart.core
-    → ram other.mem ≡ ram hart.mem → CanStep ram hart → CanStep ram other
-can_copy ram hart other core mem can = record {
-  sound = rw core can.sound;
-  ram = mem ∙ can.ram ∙ sym (ap (λ core. core.map.ram) core);
-}
+pub can_copy : {M : Type 0} (ram : M → Span) (harts other : HartSet Core M) → other.cores.items ≡ harts.cores.items
+    → ram other.mem ≡ ram harts.mem → SetCanStep ram harts → SetCanStep ram other
+can_copy ram harts other cores mem can =
+    let P : Span → List Core → Type 0 = λ span items. CanStep core_meaning IsSound span items in
+    subst (λ span. P span other.cores.items) (sym mem) (subst (λ items. P (ram harts.mem) items) (sym cores) can)
 
-kept_last : {M : Type 0} (bytes : M → Bytes) (items : List (Hart M)) (kept : Hart M)
-    → map (state_of bytes) (items ++ kept ∷ []) ≡ map (state_of bytes) items ++ state_of bytes kept ∷ []
-kept_last bytes items kept = map-append (state_of bytes) items (kept ∷ [])
+kept_last : {M : Type 0} (bytes : M → Bytes) (items : List (HartSet Core M)) (kept : HartSet Core M)
+    → map (set_state_of bytes) (items ++ kept ∷ []) ≡ map (set_state_of bytes) items ++ set_state_of bytes kept ∷ []
+kept_last bytes items kept = map-append (set_state_of bytes) items (kept ∷ [])
 
--- a turn of the loop keeps a copy of the hart before a segment, and passes its rows
-pub record PassesSegment {M : Type 0} (bytes : M → Bytes) (columns : ColumnList) (segments : List Segment) (index : ℕ)
-    (before kept now : Hart M) : Type 0 where
+-- a turn of the loop keeps a copy of the harts before a segment, and passes its rows
+pub record PassesSegment {M : Type 0} (bytes : M → Bytes) (columns : TraceColumns) (segments : List Segment) (index : ℕ)
+    (before kept now : HartSet Core M) : Type 0 where
   pub segment : Segment
   pub segment_is : slice_get segments index ≡ Some segment
-  pub copied : state_of bytes kept ≡ state_of bytes before
-  pub passed : state_of bytes now ≡ guess_after (state_of bytes before) (rows_of columns segment.lines)
+  pub copied : set_state_of bytes kept ≡ set_state_of bytes before
+  pub passed : set_state_of bytes now ≡ guess_after (set_state_of bytes before) (rows_of columns segment.lines)
 
-pub hart_turn : {M : Type 0} {bytes : M → Bytes} {columns : ColumnList} {segments : List Segment} {index : ℕ}
-    {before kept now : Hart M} (items : List (Hart M)) {whole : List HartState}
+pub set_turn : {M : Type 0} {bytes : M → Bytes} {columns : TraceColumns} {segments : List Segment} {index : ℕ}
+    {before kept now : HartSet Core M} (items : List (HartSet Core M)) {whole : List SetState}
     → PassesSegment bytes columns segments index before kept now
-    → map (state_of bytes) items ++ guesses_of (state_of bytes before) columns (drop index (map segment_lines segments))
-    ≡ whole
-    → map (state_of bytes) (items ++ kept ∷ [])
-    ++ guesses_of (state_of bytes now) columns (drop (index + 1) (map segment_lines segments)) ≡ whole
-hart_turn {bytes} {columns} {segments} {index} {before} {kept} {now} items turn so_far =
-    let left = guesses_of (state_of bytes now) columns (drop (index + 1) (map segment_lines segments)) in
+    → map (set_state_of bytes) items
+    ++ guesses_of (set_state_of bytes before) columns (drop index (map segment_lines segments)) ≡ whole
+    → map (set_state_of bytes) (items ++ kept ∷ [])
+    ++ guesses_of (set_state_of bytes now) columns (drop (index + 1) (map segment_lines segments)) ≡ whole
+set_turn {bytes} {columns} {segments} {index} {before} {kept} {now} items turn so_far =
+    let left = guesses_of (set_state_of bytes now) columns (drop (index + 1) (map segment_lines segments)) in
     ap (λ done. done ++ left) (kept_last bytes items kept)
-    ∙ ap (λ state. (map (state_of bytes) items ++ state ∷ []) ++ left) turn.copied
-    ∙ segment_turn columns (state_of bytes before) (map segment_lines segments) index (map (state_of bytes) items)
-    (lines_at segments index turn.segment turn.segment_is) turn.passed so_far
+    ∙ ap (λ state. (map (set_state_of bytes) items ++ state ∷ []) ++ left) turn.copied
+    ∙ segment_turn columns (set_state_of bytes before) (map segment_lines segments) index
+    (map (set_state_of bytes) items) (lines_at segments index turn.segment turn.segment_is) turn.passed so_far
 
--- where one segment is left, a copy of the hart before it is kept
+-- where one segment is left, a copy of the harts before it is kept
 pub record EndsAtSegment {M : Type 0} (bytes : M → Bytes) (segments : List Segment) (index : ℕ)
-    (before kept : Hart M) : Type 0 where
+    (before kept : HartSet Core M) : Type 0 where
   pub one_left : length segments ≡ index + 1
-  pub copied : state_of bytes kept ≡ state_of bytes before
+  pub copied : set_state_of bytes kept ≡ set_state_of bytes before
 
-pub hart_end : {M : Type 0} {bytes : M → Bytes} {segments : List Segment} {index : ℕ} {before kept : Hart M}
-    (columns : ColumnList) (items : List (Hart M)) {whole : List HartState}
+pub set_end : {M : Type 0} {bytes : M → Bytes} {segments : List Segment} {index : ℕ} {before kept : HartSet Core M}
+    (columns : TraceColumns) (items : List (HartSet Core M)) {whole : List SetState}
     → EndsAtSegment bytes segments index before kept
-    → map (state_of bytes) items ++ guesses_of (state_of bytes before) columns (drop index (map segment_lines segments))
-    ≡ whole
-    → map (state_of bytes) (items ++ kept ∷ []) ≡ whole
-hart_end {bytes} {segments} {index} {before} {kept} columns items {whole} ends so_far =
+    → map (set_state_of bytes) items
+    ++ guesses_of (set_state_of bytes before) columns (drop index (map segment_lines segments)) ≡ whole
+    → map (set_state_of bytes) (items ++ kept ∷ []) ≡ whole
+set_end {bytes} {segments} {index} {before} {kept} columns items {whole} ends so_far =
     kept_last bytes items kept
-    ∙ ap (λ state. map (state_of bytes) items ++ state ∷ []) ends.copied
-    ∙ segments_end columns (state_of bytes before) (map segment_lines segments) index (map (state_of bytes) items) whole
-    (length-map segments segment_lines ∙ ends.one_left) so_far
+    ∙ ap (λ state. map (set_state_of bytes) items ++ state ∷ []) ends.copied
+    ∙ segments_end columns (set_state_of bytes before) (map segment_lines segments) index
+    (map (set_state_of bytes) items) whole (length-map segments segment_lines ∙ ends.one_left) so_far
 
-pub no_segment : {M : Type 0} (bytes : M → Bytes) (columns : ColumnList) (segments : List Segment) (state : HartState)
-    (items : List (Hart M)) → items ≡ [] → length segments ≡ 0
-    → map (state_of bytes) items ≡ guesses_of state columns (map segment_lines segments)
+pub no_segment : {M : Type 0} (bytes : M → Bytes) (columns : TraceColumns) (segments : List Segment) (state : SetState)
+    (items : List (HartSet Core M)) → items ≡ [] → length segments ≡ 0
+    → map (set_state_of bytes) items ≡ guesses_of state columns (map segment_lines segments)
 unfolding guesses_of
 no_segment bytes columns [] state items none empty = rw none refl
 no_segment bytes columns (segment ∷ segments) state items none empty = absurd (omega (arith, empty))

@@ -15,11 +15,11 @@ use Rattle.hart_words.specs.Signals.{Shown, index_of, signal_entry_of, width_of}
 use Rattle.hart_words.proofs.SignalTable.{width_in}
 use Rattle.csv_line.specs.Fields.{fields_of_line, has_return_in}
 use Rattle.rvfi_rows.specs.declared.column.Column.{Column}
-use Rattle.rvfi_rows.specs.Columns.{ColumnList, port_columns, port_numbers}
+use Rattle.rvfi_rows.specs.Columns.{ColumnList, TraceColumns, port_columns, port_numbers}
 use Rattle.rvfi_rows.specs.declared.fault.RowFault.{RowFault}
-use Rattle.rvfi_rows.specs.Rows.{RowReading, alone, cell_of, cells_of, field_shown, is_invalid, is_needed, row_from}
-use Rattle.rvfi_rows.specs.Rows.{row_of_fields, row_of_line, rows_of, rows_of_line, shown_then, valid_of}
-use Rattle.rvfi_rows.specs.Rows.{value_or_fault}
+use Rattle.rvfi_rows.specs.Rows.{RowReading, alone, cell_of, cells_of, field_shown, hart_of, is_invalid, is_needed}
+use Rattle.rvfi_rows.specs.Rows.{row_at_port, row_from, row_of_fields, row_of_line, row_of_present, rows_of}
+use Rattle.rvfi_rows.specs.Rows.{rows_of_line, shown_then, valid_of, value_or_fault}
 use Rattle.boundary_guess.proofs.Compared.{ShowsWords}
 
 -- a value, where there is one, is a word
@@ -126,11 +126,29 @@ fields_by true many columns fields one other = tt
 fields_by false true columns fields one other = tt
 fields_by false false columns fields one other = from_words columns fields
 
-row_words : (columns : ColumnList) (line : List ℕ) (port : ℕ) → ReadsWords (row_of_line columns line port)
+port_words : (columns : ColumnList) (has_return : Bool) (fields : List (List ℕ)) (port : ℕ)
+    → ReadsWords (row_at_port columns has_return fields port)
+unfolding row_at_port
+port_words columns has_return fields port =
+    fields_by has_return (not (length fields == length columns)) (port_columns port columns) fields _ _
+
+there_by : (is_there : Bool) (shown : Shown) (fault : RowFault) → ShowsWords shown
+    → ReadsWords (if is_there then Ok (Some shown) else Err fault)
+there_by true shown fault words = words
+there_by false shown fault words = tt
+
+present_words : (harts : ℕ) (reading : RowReading) → ReadsWords reading
+    → ReadsWords (reading >>= λ row. row_of_present harts row)
+present_words harts (Err fault) words = tt
+present_words harts (Ok None) words = tt
+present_words harts (Ok (Some shown)) words = there_by (nat_lt (hart_of shown) harts) shown _ words
+
+row_words : (columns : TraceColumns) (line : List ℕ) (port : ℕ) → ReadsWords (row_of_line columns line port)
 unfolding row_of_line row_of_fields
 row_words columns line port =
-    fields_by (has_return_in line) (not (length (fields_of_line line) == length columns)) (port_columns port columns)
-    (fields_of_line line) _ _
+    present_words columns.harts
+    (row_at_port columns.named (has_return_in line) (fields_of_line line) port)
+    (port_words columns.named (has_return_in line) (fields_of_line line) port)
 
 -- so do all rows
 unfoldable pub AllReadWords : List RowReading → Type 0
@@ -143,15 +161,15 @@ all_append [] more words others = others
 all_append (reading ∷ rows) more words others = (words.0, all_append rows more words.1 others)
 
 -- those of a line's ports
-line_words : (columns : ColumnList) (line : List ℕ) (ports : List ℕ)
+line_words : (columns : TraceColumns) (line : List ℕ) (ports : List ℕ)
     → AllReadWords (map (row_of_line columns line) ports)
 unfolding AllReadWords
 line_words columns line [] = tt
 line_words columns line (port ∷ ports) = (row_words columns line port, line_words columns line ports)
 
-pub rows_words : (columns : ColumnList) (lines : List (List ℕ)) → AllReadWords (rows_of columns lines)
+pub rows_words : (columns : TraceColumns) (lines : List (List ℕ)) → AllReadWords (rows_of columns lines)
 unfolding AllReadWords rows_of
 rows_words columns [] = tt
 rows_words columns (line ∷ lines) =
-    all_append (rows_of_line columns line) (rows_of columns lines) (line_words columns line (port_numbers columns))
-    (rows_words columns lines)
+    all_append (rows_of_line columns line) (rows_of columns lines)
+    (line_words columns line (port_numbers columns.named)) (rows_words columns lines)

@@ -2,73 +2,50 @@
 use Rattle.std.proofs.Common.{◌≡◌, ℕ, zero, suc, ◌-◌, ◌^◌, ◌<◌, ◌==◌, Bool, true, false, if◌then◌else◌, List, [], ◌∷◌}
 use Rattle.std.proofs.Common.{◌++◌, map, Some, None, Ok, Err, refl, ap, ◌∙◌, subst, lit<}
 use Rattle.std.specs.Prelude.{All, replicate, slice_index}
-use Rattle.std.proofs.lemmas.List.{map-append}
 use Rattle.std.proofs.lemmas.List.Concat.{flat_map-cons}
-use Rattle.std.proofs.lemmas.List.Elements.{All-replicate}
+use Rattle.std.proofs.lemmas.List.Elements.{All-cons, All-head, All-nil, All-replicate, All-tail, All-weaker}
 use Rattle.hart_words.specs.declared.map.Map.{Map}
 use Rattle.hart_words.specs.declared.choices.Choices.{Choices}
 use Rattle.hart_words.specs.Memory.{Bytes}
 use Rattle.hart_words.specs.Registers.{register_of, registers_at_reset}
-use Rattle.hart_words.specs.Signals.{Shown}
 use Rattle.csr_file.specs.declared.stored_csr.StoredCsr.{StoredCsr}
 use Rattle.csr_file.specs.declared.stored_csr.StoredCsr.TheVariants.{Mstatus, Medeleg, Mideleg, Mie, Mtvec, Mcounteren}
 use Rattle.csr_file.specs.declared.stored_csr.StoredCsr.TheVariants.{Menvcfg, Mcountinhibit, Mscratch, Mepc, Mcause}
 use Rattle.csr_file.specs.declared.stored_csr.StoredCsr.TheVariants.{Mtval, Mip, Stvec, Scounteren, Senvcfg, Sscratch}
 use Rattle.csr_file.specs.declared.stored_csr.StoredCsr.TheVariants.{Sepc, Scause, Stval, Satp}
 use Rattle.csr_file.specs.Registers.{at, csrs_at_reset, no_entry}
-use Rattle.rvfi_rows.specs.Columns.{ColumnList}
+use Rattle.rvfi_rows.specs.Columns.{TraceColumns}
 use Rattle.rvfi_rows.specs.Rows.{RowReading, rows_of}
 use Rattle.rvfi_rows.proofs.PortRows.{rows_append}
 use Rattle.hart_step.specs.Cores.{IsSound, core_at_reset}
-use Rattle.hart_step.specs.Rows.{HartState, after_row}
-use Rattle.hart_step.specs.Steps.{step_of}
+use Rattle.hart_step.specs.declared.state.Core.{Core}
+use Rattle.hart_step.specs.HartSets.{SetHoldsWords, SetState, set_after_row}
+use Rattle.hart_step.specs.Harts.{CoreHoldsWords}
 use Rattle.boundary_guess.specs.Cuts.{lines_of_pieces}
 use Rattle.boundary_guess.specs.Guesses.{guess_after, guesses_of}
-use Rattle.boundary_guess.specs.Truth.{Agree, ShowChanges, StaysSound, true_state_after, state_at_reset}
-use Rattle.hart_step.specs.Harts.{HoldsWords}
-use Rattle.boundary_guess.specs.Truth.{true_starts}
-use Rattle.boundary_guess.proofs.Compared.{ShowsWords}
+use Rattle.boundary_guess.specs.Truth.{Agree, SetNoMarks, ShowChanges, StaysSound, true_starts, true_state_after}
+use Rattle.boundary_guess.specs.Truth.{state_at_reset}
 use Rattle.boundary_guess.proofs.CoreWords.{IsSane}
-use Rattle.boundary_guess.proofs.Actions.{AreBytes, written_bytes}
-use Rattle.hart_step.proofs.KeptChoices.{next_keeps}
-use Rattle.boundary_guess.proofs.NoSets.{SetsNone}
-use Rattle.boundary_guess.proofs.PlainTruth.{IsInRange}
-use Rattle.boundary_guess.proofs.SaneSteps.{next_sane}
+use Rattle.boundary_guess.proofs.SetRows.{IsSaneState, row_is_true, row_keeps_no_marks, row_keeps_sane}
 use Rattle.boundary_guess.proofs.ShownWords.{AllReadWords, rows_words}
-use Rattle.boundary_guess.proofs.TrueRows.{IsReady, row_is_true}
-
--- a state is sound, and holds words
-pub record IsSaneState (state : HartState) : Type 0 where
-  pub core : IsSane state.core
-  pub bytes : AreBytes state.bytes
-
-row_keeps : (state : HartState) (shown : Shown) → IsSaneState state → ShowsWords shown
-    → IsSaneState (after_row state shown)
-row_keeps state shown sane words = record {
-  core = next_sane state.core shown state.bytes sane.core words sane.bytes;
-  bytes = written_bytes ((step_of state.core shown).run state.bytes).wrote state.bytes sane.bytes;
-}
-
-in_range : (state : HartState) → IsSaneState state → IsInRange state.core
-in_range state sane = record { even = sane.core.sound.even; pc = sane.core.pc; registers = sane.core.registers }
 
 -- ---- rows
 
--- they keep the choices of the implementation
-pub rows_keep : (rows : List RowReading) (state : HartState)
-    → (true_state_after state rows).core.choices ≡ state.core.choices
+-- A and D that are clear stay page faults
+pub rows_keep : (rows : List RowReading) (state : SetState) → SetNoMarks state.core
+    → SetNoMarks (true_state_after state rows).core
 unfolding true_state_after
-rows_keep [] state = refl
-rows_keep (Err fault ∷ rows) state = refl
-rows_keep (Ok None ∷ rows) state = rows_keep rows state
-rows_keep (Ok (Some shown) ∷ rows) state =
-    rows_keep rows (after_row state shown) ∙ next_keeps state.core shown state.bytes
+rows_keep [] state faults = faults
+rows_keep (Err fault ∷ rows) state faults = faults
+rows_keep (Ok None ∷ rows) state faults = rows_keep rows state faults
+rows_keep (Ok (Some shown) ∷ rows) state faults =
+    rows_keep rows (set_after_row state shown) (row_keeps_no_marks state shown faults)
 
-pub record IsGuessedRightly (state : HartState) (rows : List RowReading) : Type 0 where
+pub record IsGuessedRightly (state : SetState) (rows : List RowReading) : Type 0 where
   pub guess : guess_after state rows ≡ true_state_after state rows
   pub sane : IsSaneState (true_state_after state rows)
 
-rows_true : (rows : List RowReading) (state : HartState) → IsSaneState state → SetsNone state.core.choices
+rows_true : (rows : List RowReading) (state : SetState) → IsSaneState state → SetNoMarks state.core
     → AllReadWords rows → Agree state rows → ShowChanges rows → IsGuessedRightly state rows
 unfolding guess_after true_state_after Agree ShowChanges AllReadWords
 rows_true [] state sane faults words agree show = record { guess = refl; sane = sane }
@@ -77,23 +54,22 @@ rows_true (Ok None ∷ rows) state sane faults words agree show =
     let more = rows_true rows state sane faults words.1 agree show in
     record { guess = more.guess; sane = more.sane }
 rows_true (Ok (Some shown) ∷ rows) state sane faults words agree show =
-    let next = row_keeps state shown sane words.0 in
-    let ready : IsReady state = record { bytes = sane.bytes; faults = faults } in
-    let right = row_is_true state shown ready (in_range (after_row state shown) next) show.0 words.0 agree.0 in
-    let kept = ap (λ choices. choices.marks) (next_keeps state.core shown state.bytes) in
-    let more = rows_true rows (after_row state shown) next (kept ∙ faults) words.1 agree.1 show.1 in
+    let next = row_keeps_sane state shown sane words.0 in
+    let right = row_is_true state shown sane faults show.0 words.0 agree.0 in
+    let more =
+    rows_true rows (set_after_row state shown) next (row_keeps_no_marks state shown faults) words.1 agree.1 show.1 in
     record { guess = ap (λ s. guess_after s rows) right ∙ more.guess; sane = more.sane }
 
 -- ---- rows before others
 
-pub agree_parts : (front back : List RowReading) (state : HartState) → Agree state (front ++ back)
+pub agree_parts : (front back : List RowReading) (state : SetState) → Agree state (front ++ back)
     → Agree state front × Agree (true_state_after state front) back
 unfolding Agree true_state_after
 agree_parts [] back state agree = (tt, agree)
 agree_parts (Err fault ∷ front) back state agree = absurd agree
 agree_parts (Ok None ∷ front) back state agree = agree_parts front back state agree
 agree_parts (Ok (Some shown) ∷ front) back state agree =
-    let more = agree_parts front back (after_row state shown) agree.1 in
+    let more = agree_parts front back (set_after_row state shown) agree.1 in
     ((agree.0, more.0), more.1)
 
 show_parts : (front back : List RowReading) → ShowChanges (front ++ back) → ShowChanges front × ShowChanges back
@@ -107,15 +83,15 @@ show_parts (Ok (Some shown) ∷ front) back show =
 
 -- ---- segments
 
-rows_split : (columns : ColumnList) (lines : List (List ℕ)) (segments : List (List (List ℕ)))
+rows_split : (columns : TraceColumns) (lines : List (List ℕ)) (segments : List (List (List ℕ)))
     → rows_of columns (lines_of_pieces (lines ∷ segments)) ≡ rows_of columns lines
     ++ rows_of columns (lines_of_pieces segments)
 rows_split columns lines segments =
     ap (rows_of columns) (flat_map-cons (λ (piece : List (List ℕ)). piece) lines segments)
     ∙ rows_append columns lines (lines_of_pieces segments)
 
-segments_true : (segments : List (List (List ℕ))) (last : List (List ℕ)) (columns : ColumnList) (state : HartState)
-    → IsSaneState state → SetsNone state.core.choices
+segments_true : (segments : List (List (List ℕ))) (last : List (List ℕ)) (columns : TraceColumns) (state : SetState)
+    → IsSaneState state → SetNoMarks state.core
     → Agree state (rows_of columns (lines_of_pieces segments))
     → ShowChanges (rows_of columns (lines_of_pieces segments))
     → guesses_of state columns (segments ++ last ∷ []) ≡ true_starts state columns (segments ++ last ∷ [])
@@ -127,49 +103,54 @@ segments_true (lines ∷ segments) last columns state sane faults agree show =
     let agreed = agree_parts rows later state (subst (Agree state) (rows_split columns lines segments) agree) in
     let showed = show_parts rows later (subst ShowChanges (rows_split columns lines segments) show) in
     let here = rows_true rows state sane faults (rows_words columns lines) agreed.0 showed.0 in
-    let kept = ap (λ choices. choices.marks) (rows_keep rows state) in
     ap (λ next. state ∷ guesses_of next columns (segments ++ last ∷ [])) here.guess
     ∙ ap (λ more. state ∷ more)
-    (segments_true segments last columns (true_state_after state rows) here.sane (kept ∙ faults) agreed.1 showed.1)
+    (segments_true segments last columns (true_state_after state rows) here.sane (rows_keep rows state faults) agreed.1
+    showed.1)
 
 -- ---- states
 
-sane_by : (state : HartState) → IsSound state.core → HoldsWords state → IsSaneState state
-sane_by state sound words = record {
-  core =
-      record {
-        sound =
-            sound;
-        pc =
-            words.pc;
-        registers =
-            words.registers;
-        csrs = record { values = words.csrs; configurations = words.configurations };
-      };
-  bytes = words.bytes;
+core_sane : (core : Core) → IsSound core → CoreHoldsWords core → IsSane core
+core_sane core sound words = record {
+  sound = sound;
+  pc = words.pc;
+  registers = words.registers;
+  csrs = record { values = words.csrs; configurations = words.configurations };
 }
 
-states_sane : (rows : List RowReading) (state : HartState) → IsSaneState state → AllReadWords rows
+cores_sane : (cores : List Core) → All IsSound cores → All CoreHoldsWords cores → All IsSane cores
+cores_sane [] sound words = All-nil IsSane
+cores_sane (core ∷ cores) sound words =
+    All-cons IsSane core cores
+    (core_sane core (All-head IsSound core cores sound) (All-head CoreHoldsWords core cores words))
+    (cores_sane cores (All-tail IsSound core cores sound) (All-tail CoreHoldsWords core cores words))
+
+sane_by : (state : SetState) → All IsSound state.core → SetHoldsWords state → IsSaneState state
+sane_by state sound words =
+    record { cores = cores_sane state.core sound words.cores; bytes = words.bytes }
+
+states_sane : (rows : List RowReading) (state : SetState) → IsSaneState state → AllReadWords rows
     → IsSaneState (true_state_after state rows)
 unfolding true_state_after AllReadWords
 states_sane [] state sane words = sane
 states_sane (Err fault ∷ rows) state sane words = sane
 states_sane (Ok None ∷ rows) state sane words = states_sane rows state sane words.1
 states_sane (Ok (Some shown) ∷ rows) state sane words =
-    states_sane rows (after_row state shown) (row_keeps state shown sane words.0) words.1
+    states_sane rows (set_after_row state shown) (row_keeps_sane state shown sane words.0) words.1
 
-words_by : (state : HartState) → IsSaneState state → HoldsWords state
-words_by state sane =
-    record {
-      pc =
-          sane.core.pc;
-      registers =
-          sane.core.registers;
-      csrs =
-          sane.core.csrs.values;
-      configurations = sane.core.csrs.configurations;
-      bytes = sane.bytes;
-    }
+core_words : (core : Core) → IsSane core → CoreHoldsWords core
+core_words core sane = record {
+  pc = sane.pc;
+  registers = sane.registers;
+  csrs = sane.csrs.values;
+  configurations = sane.csrs.configurations;
+}
+
+words_by : (state : SetState) → IsSaneState state → SetHoldsWords state
+words_by state sane = record {
+  cores = All-weaker IsSane CoreHoldsWords core_words state.core sane.cores;
+  bytes = sane.bytes;
+}
 
 zeros : (count i : ℕ) → slice_index (replicate count 0) i < 2 ^ 64
 zeros zero i = lit< tt
@@ -212,37 +193,46 @@ reset_configurations : All (λ entry. entry.cfg < 256) csrs_at_reset.entries
 unfolding csrs_at_reset
 reset_configurations = All-replicate (λ entry. entry.cfg < 256) 16 no_entry (lit< tt)
 
-pub reset_holds : (pc : ℕ) (map : Map) (choices : Choices) (bytes : Bytes) → pc < 2 ^ 64
-    → ((address : ℕ) → bytes address < 2 ^ 8) → HoldsWords (state_at_reset pc map choices bytes)
+core_at_reset_holds : (pc : ℕ) (map : Map) (choices : Choices) → pc < 2 ^ 64
+    → CoreHoldsWords (core_at_reset pc map choices)
 unfolding core_at_reset
-reset_holds pc map choices bytes small are =
-    record {
-      pc =
-          small;
-      registers = reset_registers;
-      csrs = reset_csrs;
-      configurations = reset_configurations;
-      bytes = are;
-    }
+core_at_reset_holds pc map choices small = record {
+  pc = small;
+  registers = reset_registers;
+  csrs = reset_csrs;
+  configurations = reset_configurations;
+}
 
-pub rows_stay : (state : HartState) (columns : ColumnList) (lines : List (List ℕ)) → IsSound state.core
-    → HoldsWords state → StaysSound state (rows_of columns lines)
+pub reset_holds : (harts pc : ℕ) (map : Map) (choices : Choices) (bytes : Bytes) → pc < 2 ^ 64
+    → ((address : ℕ) → bytes address < 2 ^ 8) → SetHoldsWords (state_at_reset harts pc map choices bytes)
+reset_holds harts pc map choices bytes small are = record {
+  cores =
+      All-replicate CoreHoldsWords harts (core_at_reset pc map choices) (core_at_reset_holds pc map choices small);
+  bytes = are;
+}
+
+pub rows_stay : (state : SetState) (columns : TraceColumns) (lines : List (List ℕ)) → All IsSound state.core
+    → SetHoldsWords state → StaysSound state (rows_of columns lines)
 rows_stay state columns lines sound words =
+    let last = true_state_after state (rows_of columns lines) in
     let after = states_sane (rows_of columns lines) state (sane_by state sound words) (rows_words columns lines) in
-    record { sound = after.core.sound; words = words_by (true_state_after state (rows_of columns lines)) after }
+    record {
+      sound = All-weaker IsSane IsSound (λ core sane. sane.sound) last.core after.cores;
+      words = words_by last after;
+    }
 
 -- ---- the law
 
-pub rows_guessed : (state : HartState) (columns : ColumnList) (lines : List (List ℕ)) → IsSound state.core
-    → HoldsWords state → SetsNone state.core.choices
+pub rows_guessed : (state : SetState) (columns : TraceColumns) (lines : List (List ℕ)) → All IsSound state.core
+    → SetHoldsWords state → SetNoMarks state.core
     → Agree state (rows_of columns lines) → ShowChanges (rows_of columns lines)
     → guess_after state (rows_of columns lines) ≡ true_state_after state (rows_of columns lines)
 rows_guessed state columns lines sound words faults agree show =
     (rows_true (rows_of columns lines) state (sane_by state sound words) faults (rows_words columns lines) agree
     show).guess
 
-pub segments_guessed : (state : HartState) (columns : ColumnList) (segments : List (List (List ℕ)))
-    (last : List (List ℕ)) → IsSound state.core → HoldsWords state → SetsNone state.core.choices
+pub segments_guessed : (state : SetState) (columns : TraceColumns) (segments : List (List (List ℕ)))
+    (last : List (List ℕ)) → All IsSound state.core → SetHoldsWords state → SetNoMarks state.core
     → Agree state (rows_of columns (lines_of_pieces segments))
     → ShowChanges (rows_of columns (lines_of_pieces segments))
     → guesses_of state columns (segments ++ last ∷ []) ≡ true_starts state columns (segments ++ last ∷ [])

@@ -1,5 +1,5 @@
--- A guess after a row that agrees, and shows its changes, is the true state.
-use Rattle.std.proofs.Common.{◌≡◌, ℕ, Bool, true, false, not, ◌&&◌, Option, None, if◌then◌else◌, refl, sym, ap, ◌∙◌}
+-- A plain row that agrees, and shows its changes, shows its hart and what it stored as they are after the step.
+use Rattle.std.proofs.Common.{◌≡◌, ℕ, Bool, true, false, not, ◌&&◌, Option, None, refl, sym, ap, ◌∙◌}
 use Rattle.std.proofs.Common.{subst}
 use Rattle.std.specs.Option.{is_some}
 use Rattle.hart_words.specs.declared.signal.Signal.TheVariants.{Intr, PcRdata}
@@ -7,25 +7,28 @@ use Rattle.hart_words.specs.Memory.{Bytes, after_writes}
 use Rattle.hart_words.specs.Signals.{Shown}
 use Rattle.rvfi_rows.specs.declared.expected.Expected.TheVariants as expected
 use Rattle.rvfi_rows.specs.declared.expected.Retired.{Retired as Retirement}
+use Rattle.rvfi_rows.specs.Meanings.{lost_by}
 use Rattle.row_compare.specs.Difference.{difference_of}
 use Rattle.row_compare.proofs.Among.{agrees_in_all}
 use Rattle.hart_step.specs.declared.state.Core.{Core}
 use Rattle.hart_step.specs.Choices.{asks_interrupt, pending_lines_of, shows}
 use Rattle.hart_step.specs.Instructions.{InstructionRun, instruction_run}
-use Rattle.hart_step.specs.Laws.{enters_interrupt}
-use Rattle.hart_step.specs.PlainRows.{is_plain}
-use Rattle.hart_step.specs.Rows.{HartState, after_row}
+use Rattle.hart_step.specs.Laws.{enters_interrupt, next_of}
+use Rattle.hart_step.specs.Meanings.{core_meaning}
+use Rattle.hart_step.specs.PlainRows.{core_shown, is_plain, memory_shown}
+use Rattle.hart_step.specs.TakenRows.{writes_shown}
 use Rattle.hart_step.specs.Steps.{before_instruction, core_after_count, effects_of, expected_of, core_after_run}
 use Rattle.hart_step.specs.Steps.{insn_of, interrupt_of, lacks_interrupt, step_of}
 use Rattle.hart_step.proofs.Phases.{begun_kept, expected_running, next_running, wrote_running}
-use Rattle.boundary_guess.specs.Guesses.{guess_after_row, state_shown}
+use Rattle.hart_step.proofs.LostAlike.{loses_alike}
 use Rattle.boundary_guess.specs.Truth.{ShowsChanges}
 use Rattle.boundary_guess.proofs.Compared.{RowAgrees, ShowsWords}
 use Rattle.boundary_guess.proofs.Actions.{AreBytes}
 use Rattle.hart_step.proofs.KeptChoices.{begun_keeps}
 use Rattle.boundary_guess.proofs.NoSets.{SetsNone}
 use Rattle.boundary_guess.proofs.PlainSteps.{Runs, ran_runs}
-use Rattle.boundary_guess.proofs.PlainTruth.{IsInRange, IsRunOf, plain_facts, ran_true}
+use Rattle.boundary_guess.proofs.PlainTruth.{IsInRange, IsRunOf, IsShownRightly, plain_facts, ran_true}
+use Rattle.boundary_guess.proofs.ShownWrites.{shown_left}
 
 -- no interrupt is entered before a plain row
 never_asked : (intr : Option ℕ) (more : Bool) (pick : Bool) → shows intr 1 ≡ false
@@ -67,22 +70,23 @@ agrees_so core shown bytes runs words none =
     agrees_in_all (retirement core shown done) shown (sym (ap (λ e. difference_of e shown) is) ∙ none) in
     record { words = words; none_differs = none_differs }
 
-same_states : (one other : HartState) → one.core ≡ other.core → one.bytes ≡ other.bytes → one ≡ other
-same_states one other core bytes =
-    ap (λ c. record { core = c; bytes = one.bytes }) core ∙ ap (λ b. record { core = other.core; bytes = b }) bytes
+-- what a plain row shows of its hart is true: the hart after it, and the bytes that the step puts into any memory
+pub record IsShownTruly (core : Core) (shown : Shown) (bytes : Bytes) : Type 0 where
+  pub core_is : core_shown core shown ≡ next_of core shown bytes
+  pub bytes_are : (memory : Bytes)
+      → memory_shown core shown memory ≡ after_writes ((step_of core shown).run bytes).wrote memory
 
--- each address of a state's memory holds a byte, and no access of its hart sets an entry of a page table
-pub record IsReady (state : HartState) : Type 0 where
-  pub bytes : AreBytes state.bytes
-  pub faults : SetsNone state.core.choices
+-- each address of memory holds a byte, and no access of the hart sets an entry of a page table; its state after the row
+-- is in range
+pub record IsReady (core : Core) (shown : Shown) (bytes : Bytes) : Type 0 where
+  pub are : AreBytes bytes
+  pub faults : SetsNone core.choices
+  pub in_range : IsInRange (next_of core shown bytes)
 
-plain_row_is_true : (state : HartState) (shown : Shown) → is_plain state.core shown ≡ true → IsReady state
-    → IsInRange (after_row state shown).core → ShowsChanges shown → ShowsWords shown
-    → difference_of ((step_of state.core shown).run state.bytes).value.expected shown ≡ None
-    → state_shown state shown ≡ after_row state shown
-plain_row_is_true state shown is ready range shows words agrees =
-    let core = state.core in
-    let bytes = state.bytes in
+pub plain_row_is_true : (core : Core) (shown : Shown) (bytes : Bytes) → is_plain core shown ≡ true
+    → IsReady core shown bytes → ShowsChanges shown → ShowsWords shown
+    → difference_of ((step_of core shown).run bytes).value.expected shown ≡ None → IsShownTruly core shown bytes
+plain_row_is_true core shown bytes is ready shows words agrees =
     let plain = plain_facts core shown is in
     let begins = begun_kept core shown (none_entered core shown plain.intr) in
     let run = (instruction_run (before_instruction core shown) shown).run bytes in
@@ -93,24 +97,22 @@ plain_row_is_true state shown is ready range shows words agrees =
     ap (λ choices. choices.marks) (begun_keeps core shown) ∙ ready.faults in
     let P : Core → Type 0 = λ k. Runs k done.executed done.core run.wrote in
     let did : IsRunOf core shown (retirement core shown done) done.executed done.core run.wrote = record {
-      runs = subst P begins (ran_runs (before_instruction core shown) shown bytes faults ready.bytes);
+      runs = subst P begins (ran_runs (before_instruction core shown) shown bytes faults ready.are);
       insn = refl;
       effects = ap (λ k. effects_of k done.core done.executed) begins;
-      in_range = subst IsInRange next range;
+      in_range = subst IsInRange next ready.in_range;
     } in
-    let right =
-    ran_true bytes done.executed plain shows (agrees_so core shown bytes plain.runs words agrees) did in
-    same_states (state_shown state shown) (after_row state shown) (right.core_is ∙ sym next)
-    (right.bytes_are ∙ ap (λ w. after_writes w bytes) (sym wrote))
+    let right : (memory : Bytes) → IsShownRightly core shown memory done run.wrote =
+    λ memory. ran_true memory done.executed plain shows (agrees_so core shown bytes plain.runs words agrees) did in
+    record {
+      core_is = (right bytes).core_is ∙ sym next;
+      bytes_are = λ memory. (right memory).bytes_are ∙ ap (λ w. after_writes w memory) (sym wrote);
+    }
 
-pub row_is_true : (state : HartState) (shown : Shown) → IsReady state → IsInRange (after_row state shown).core
-    → ShowsChanges shown → ShowsWords shown
-    → difference_of ((step_of state.core shown).run state.bytes).value.expected shown ≡ None
-    → guess_after_row state shown ≡ after_row state shown
-unfolding guess_after_row
-row_is_true state shown ready range shows words agrees = by (is_plain state.core shown) refl
-  where
-    by : (plain : Bool) → is_plain state.core shown ≡ plain
-        → (if plain then state_shown state shown else after_row state shown) ≡ after_row state shown
-    by true is = plain_row_is_true state shown is ready range shows words agrees
-    by false is = refl
+-- and so what the others lose is the same
+pub lost_truly : (core : Core) (shown : Shown) (bytes : Bytes) (other : Core) → IsShownTruly core shown bytes
+    → lost_by core_meaning (writes_shown core shown) other
+    ≡ lost_by core_meaning ((step_of core shown).run bytes).wrote other
+lost_truly core shown bytes other right =
+    loses_alike other (writes_shown core shown) ((step_of core shown).run bytes).wrote
+    (λ memory. shown_left core shown memory ∙ right.bytes_are memory)

@@ -1,14 +1,14 @@
 //! The guesses of a run of compiled code, beside the hart that is stepped.
 
 ghost use Rattle.std.specs.Prelude.{◌≡◌, IfOk};
-ghost use Rattle.hart_step.specs.Cores.{IsSound};
-ghost use Rattle.hart_step.specs.Harts.{CanStep};
+ghost use Rattle.hart_step.specs.HartSets.{SetCanStep};
 ghost use Rattle.page_layers.specs.Memories.{layered_ram};
 
 use super::*;
 use crate::compiled::IMAGE;
 use crate::tests::{put_line, write};
-use hart_step::{Core, Hart};
+use hart_set::HartSet;
+use hart_step::{Core, Harts};
 use hart_words::{Choices, Map, Signal, Span};
 use image_text::read_image;
 use line_text::Lines;
@@ -170,47 +170,56 @@ fn image(alloc: Global, ram: Span) -> Result<PageImage, Fail>
     Ok(image)
 }
 
+/// One hart at reset over the program.
+fn start<'a>(alloc: Global, map: Map, image: &'a PageImage) -> Result<Harts<Layered<'a>>, Fail>
+    requires { image.now.ram ≡ map.ram }
+    ensures { IfOk result (λ harts. SetCanStep layered_ram harts) }
+{
+    let core = Core::reset(CODE, map, Choices::plain());
+    Ok(HartSet::reset(alloc, core, 1, Layered::over(alloc, image))?)
+}
+
 /// A row by which a hart does what it does by itself.
 fn blank_row(alloc: Global) -> Result<Row, Fail> {
     let columns = read_header(alloc, b"insn,pc_rdata")?;
-    let row = read_row(alloc, &columns, b"0,0", 0)?.ok_or("the row is valid")?;
+    let row = read_row(alloc, &columns, b"0,0", 0, 1)?.ok_or("the row is valid")?;
     Ok(row)
 }
 
-/// Steps a hart so many times: what it did.
-fn run(alloc: Global, hart: &mut Hart<Layered>, count: usize) -> Result<Vec<Retirement>, Fail>
-    requires { CanStep layered_ram hart.old }
-    ensures { CanStep layered_ram hart.new }
+/// Steps the first hart so many times: what it did.
+fn run(alloc: Global, harts: &mut Harts<Layered>, count: usize) -> Result<Vec<Retirement>, Fail>
+    requires { SetCanStep layered_ram harts.old }
+    ensures { SetCanStep layered_ram harts.new }
 {
     let row = blank_row(alloc)?;
     let mut run = Vec::new(alloc);
     'rows: for _ in 0..count {
-        let stepped = hart.step(&row)?;
+        let stepped = harts.step(&row)?;
         run.push(Retirement::of(&stepped)?)?;
     }
     Ok(run)
 }
 
-/// All of both harts is the same.
-fn hold_same(rt: &impl Abort, found: &Hart<Layered>, wanted: &Hart<Layered>, place: usize) {
+/// All of both is the same.
+fn hold_same(rt: &impl Abort, found: &Harts<Layered>, wanted: &Harts<Layered>, place: usize) {
     assert!(rt; found.same_but_memory(wanted), "{place}");
     assert!(rt; found.mem.same_as(&wanted.mem), "{place}");
 }
 
-/// Each guess is the hart that was stepped by all rows before, of which each segment has so many.
+/// Each guess is the hart as it was stepped by all rows before, of which each segment has so many.
 fn hold_true(
     rt: &impl Abort,
     alloc: Global,
-    start: &Hart<Layered>,
-    found: &[Hart<Layered>],
+    start: &Harts<Layered>,
+    found: &[Harts<Layered>],
     length: usize,
 ) -> Result<(), Fail>
-    requires { CanStep layered_ram start.now }
+    requires { SetCanStep layered_ram start.now }
 {
-    let mut hart = start.copy()?;
+    let mut harts = start.copy()?;
     'found: for place in 0..found.len() {
-        hold_same(rt, &found[place], &hart, place);
-        run(alloc, &mut hart, length)?;
+        hold_same(rt, &found[place], &harts, place);
+        run(alloc, &mut harts, length)?;
     }
     Ok(())
 }
@@ -229,7 +238,7 @@ fn guesses_compiled_code(rt: HostRuntime) -> Result<(), Fail> {
     let alloc = rt.alloc();
     let map = map()?;
     let image = image(alloc, map.ram)?;
-    let start = Hart::reset(Layered::over(alloc, &image), CODE, map, Choices::plain());
+    let start = start(alloc, map, &image)?;
     let run = run(alloc, &mut start.copy()?, ROWS)?;
     // So many rows are 16-bit instructions, store, and are of the A extension.
     let counts = (
@@ -260,16 +269,16 @@ fn guesses_of_bare_rows(rt: HostRuntime) -> Result<(), Fail> {
     let alloc = rt.alloc();
     let map = map()?;
     let image = image(alloc, map.ram)?;
-    let start = Hart::reset(Layered::over(alloc, &image), CODE, map, Choices::plain());
+    let start = start(alloc, map, &image)?;
     let signals = [Signal::Insn, Signal::PcRdata];
     let lines = lines_of(alloc, &run(alloc, &mut start.copy()?, ROWS)?, &signals)?;
     let columns = columns_of(alloc, &signals)?;
-    let mut trapped = start.copy()?;
-    trapped.core.pc = 0;
-    trapped.core.trapped_last = true;
+    let mut core = Core::reset(0, map, Choices::plain());
+    core.trapped_last = true;
     // mcause has an instruction access fault, and MPP of mstatus M.
-    write(&mut trapped.core, 0x342, 1)?;
-    write(&mut trapped.core, 0x300, 3 << 11)?;
+    write(&mut core, 0x342, 1)?;
+    write(&mut core, 0x300, 3 << 11)?;
+    let trapped = HartSet::reset(alloc, core, 1, Layered::over(alloc, &image))?;
     for (length, count) in LENGTHS {
         let found = guesses(alloc, &start, &columns, &cut(alloc, &lines, length)?)?;
         assert_eq!(rt; found.len(), count);
@@ -287,11 +296,11 @@ fn guesses_of_bare_rows(rt: HostRuntime) -> Result<(), Fail> {
 /// The guess after one row that shows these signals.
 fn guess_after<'a>(
     alloc: Global,
-    start: &Hart<Layered<'a>>,
+    start: &Harts<Layered<'a>>,
     row: &Retirement,
     signals: &[Signal],
-) -> Result<Hart<Layered<'a>>, Fail>
-    requires { CanStep layered_ram start.now }
+) -> Result<Harts<Layered<'a>>, Fail>
+    requires { SetCanStep layered_ram start.now }
 {
     let mut lines = Lines::new(alloc);
     put_row(alloc, &mut lines, row, signals)?;
@@ -302,9 +311,7 @@ fn guess_after<'a>(
 
 /// The state after a row of the program that does not show this signal, which is not of a store: an
 /// atomic one is stepped, of another the register stays, or the hart goes on after the instruction.
-fn leave_out(core: &mut Core, before: &Core, row: &Retirement, left_out: Signal)
-    requires { IsSound core.old }
-{
+fn leave_out(core: &mut Core, before: &Core, row: &Retirement, left_out: Signal) {
     if row.is_atomic() {
         return;
     }
@@ -323,11 +330,11 @@ fn guesses_one_row_more(rt: HostRuntime) -> Result<(), Fail> {
     let alloc = rt.alloc();
     let map = map()?;
     let image = image(alloc, map.ram)?;
-    let mut hart = Hart::reset(Layered::over(alloc, &image), CODE, map, Choices::plain());
+    let mut harts = start(alloc, map, &image)?;
     let row = blank_row(alloc)?;
     'rows: for place in 0..ROWS {
-        let before = hart.copy()?;
-        let stepped = hart.step(&row)?;
+        let before = harts.copy()?;
+        let stepped = harts.step(&row)?;
         if place % 7 != 0 {
             continue;
         }
@@ -335,8 +342,13 @@ fn guesses_one_row_more(rt: HostRuntime) -> Result<(), Fail> {
         for left_out in [Signal::RdAddr, Signal::RdWdata, Signal::PcWdata] {
             let signals = changes_without(alloc, &[left_out])?;
             let found = guess_after(alloc, &before, &retirement, &signals)?;
-            let mut wanted = hart.copy()?;
-            leave_out(&mut wanted.core, &before.core, &retirement, left_out);
+            let mut wanted = harts.copy()?;
+            leave_out(
+                wanted.cores.get_mut(0).ok_or("a hart")?,
+                before.cores.get(0).ok_or("a hart")?,
+                &retirement,
+                left_out,
+            );
             hold_same(&rt, &found, &wanted, place);
         }
     }

@@ -1,18 +1,17 @@
 //! What holds of the pieces that lines are cut into, and of the guesses.
 
 ghost use Rattle.std.specs.Prelude.{◌≡◌, ◌<◌, ◌^◌, ℕ, List, [], ◌∷◌, ◌++◌};
+ghost use Rattle.std.specs.List.{All};
 ghost use Rattle.hart_words.specs.declared.choices.Choices.{Choices};
 ghost use Rattle.hart_words.specs.declared.map.Map.{Map};
-ghost use Rattle.hart_words.specs.declared.options.Marks.TheVariants.{Fault};
 ghost use Rattle.hart_words.specs.Memory.{Bytes};
-ghost use Rattle.rvfi_rows.specs.Columns.{ColumnList};
+ghost use Rattle.rvfi_rows.specs.Columns.{TraceColumns};
 ghost use Rattle.rvfi_rows.specs.Rows.{rows_of};
 ghost use Rattle.hart_step.specs.Cores.{IsSound};
-ghost use Rattle.hart_step.specs.Rows.{HartState};
+ghost use Rattle.hart_step.specs.HartSets.{SetHoldsWords, SetState};
 ghost use Rattle.boundary_guess.specs.Cuts.{AreOfLength, cut_of, lines_of_pieces};
 ghost use Rattle.boundary_guess.specs.Guesses.{guess_after, guesses_of};
-ghost use Rattle.boundary_guess.specs.Truth.{Agree, ShowChanges, StaysSound, true_state_after, state_at_reset, true_starts};
-ghost use Rattle.hart_step.specs.Harts.{HoldsWords};
+ghost use Rattle.boundary_guess.specs.Truth.{Agree, SetNoMarks, ShowChanges, StaysSound, true_state_after, state_at_reset, true_starts};
 
 /// The pieces, in order, are the lines. Each has k lines but the last, which has one at least and
 /// k at most.
@@ -23,29 +22,29 @@ pub fn pieces_are_the_lines()
         AreOfLength k (cut_of k lines) }
 {}
 
-/// The values of a hart at reset are words, and over a memory of bytes the steps by a trace's rows
-/// keep that, and keep its state sound, whatever the implementation chooses.
+/// The values of harts at reset are words, and over a memory of bytes the steps by a trace's rows
+/// keep that, and keep each hart sound, whatever the implementation chooses.
 pub fn states_hold_words()
-    ensures reset { (pc : ℕ) (map : Map) (choices : Choices) (bytes : Bytes) → pc < 2 ^ 64
+    ensures reset { (harts pc : ℕ) (map : Map) (choices : Choices) (bytes : Bytes) → pc < 2 ^ 64
         → ((address : ℕ) → bytes address < 2 ^ 8)
-        → HoldsWords (state_at_reset pc map choices bytes) }
-    ensures rows { (state : HartState) (columns : ColumnList) (lines : List (List ℕ))
-        → IsSound state.core → HoldsWords state → StaysSound state (rows_of columns lines) }
+        → SetHoldsWords (state_at_reset harts pc map choices bytes) }
+    ensures rows { (state : SetState) (columns : TraceColumns) (lines : List (List ℕ))
+        → All IsSound state.core → SetHoldsWords state → StaysSound state (rows_of columns lines) }
 {}
 
-/// Where A and D that are clear are page faults, rows agree with the hart, and each valid one shows
+/// Where A and D that are clear are page faults, rows agree with the harts, and each valid one shows
 /// `insn`, `trap`, `rd_addr`, `rd_wdata` and `pc_wdata`, the guess after them is the true state;
 /// and where the rows of all segments but the last are such, the guess before each segment is.
-/// Where the hart sets A and D itself, no row shows the entries that it sets.
+/// Where a hart sets A and D itself, no row shows the entries that it sets.
 pub fn guesses_are_true_where_rows_show_changes()
-    ensures rows { (state : HartState) (columns : ColumnList) (lines : List (List ℕ))
-        → IsSound state.core → HoldsWords state → state.core.choices.marks ≡ Fault
+    ensures rows { (state : SetState) (columns : TraceColumns) (lines : List (List ℕ))
+        → All IsSound state.core → SetHoldsWords state → SetNoMarks state.core
         → Agree state (rows_of columns lines) → ShowChanges (rows_of columns lines)
         → guess_after state (rows_of columns lines)
         ≡ true_state_after state (rows_of columns lines) }
-    ensures segments { (state : HartState) (columns : ColumnList)
+    ensures segments { (state : SetState) (columns : TraceColumns)
         (segments : List (List (List ℕ))) (last : List (List ℕ))
-        → IsSound state.core → HoldsWords state → state.core.choices.marks ≡ Fault
+        → All IsSound state.core → SetHoldsWords state → SetNoMarks state.core
         → Agree state (rows_of columns (lines_of_pieces segments))
         → ShowChanges (rows_of columns (lines_of_pieces segments))
         → guesses_of state columns (segments ++ last ∷ [])

@@ -1,11 +1,12 @@
 ghost use Rattle.std.specs.Prelude.{◌≡◌, IfOk, IsTrue};
 ghost use Rattle.std.specs.List.{All};
 ghost use Rattle.hart_step.specs.Cores.{IsSound};
+ghost use Rattle.hart_step.specs.HartSets.{SetCanStep};
 ghost use Rattle.line_text.specs.Lines.{IsLine};
-ghost use Rattle.boundary_guess.specs.Guesses.{CanStep};
 
 use super::*;
-use hart_step::{Core, Hart};
+use hart_set::HartSet;
+use hart_step::{Core, Harts};
 use hart_words::{Choices, Map, Mode, PhysMem, Span};
 use line_text::Lines;
 use page_layers::MapMem;
@@ -80,14 +81,14 @@ fn put(mem: &mut MapMem, ram: &Span, pa: u64, len: u8, value: u64) -> Result<(),
     Ok(())
 }
 
-/// The number at `DATA`.
-fn number_at_data(hart: &Hart<MapMem>) -> Result<u64, Fail>
-    requires ram { hart.now.mem.ram ≡ hart.now.core.map.ram }
+/// The number at `DATA`, in a memory of this RAM.
+fn number_at_data(mem: &MapMem, ram: &Span) -> Result<u64, Fail>
+    requires ram { mem.now.ram ≡ ram.now }
 {
-    if !hart.core.map.ram.is_place(DATA, 8) {
+    if !ram.is_place(DATA, 8) {
         return Err(Fail::from("no place of RAM"));
     }
-    Ok(hart.mem.read(DATA, 8))
+    Ok(mem.read(DATA, 8))
 }
 
 /// A memory with the program, and `HELD` at `DATA`.
@@ -102,16 +103,28 @@ fn memory(alloc: Global, ram: Span) -> Result<MapMem, Fail>
     Ok(mem)
 }
 
-/// The hart before the first row, with `DATA` in x10.
-fn start(alloc: Global) -> Result<Hart<MapMem>, Fail>
-    ensures sound { IfOk result (λ hart. IsSound hart.core) }
-    ensures ram { IfOk result (λ hart. hart.mem.ram ≡ hart.core.map.ram) }
-{
+fn map() -> Result<Map, Fail> {
     let ram = Span::new(CODE, 0x2000).ok_or("no range")?;
-    let map = Map::new(ram, None).ok_or("no map")?;
-    let mut hart = Hart::reset(memory(alloc, map.ram)?, CODE, map, Choices::plain());
-    hart.core.registers.set(10, DATA);
-    Ok(hart)
+    Ok(Map::new(ram, None).ok_or("no map")?)
+}
+
+/// The hart before the first row, with `DATA` in x10.
+fn first_core(map: Map) -> Core
+    ensures sound { IsSound result }
+    ensures map { result.map ≡ map }
+{
+    let mut core = Core::reset(CODE, map, Choices::plain());
+    core.registers.set(10, DATA);
+    core
+}
+
+/// That hart alone, over the program.
+fn start(alloc: Global) -> Result<Harts<MapMem>, Fail>
+    ensures { IfOk result (λ harts. SetCanStep (λ mem. mem.ram) harts) }
+{
+    let map = map()?;
+    let mem = memory(alloc, map.ram)?;
+    Ok(HartSet::reset(alloc, first_core(map), 1, mem)?)
 }
 
 /// Writes a register of control as M does.
@@ -127,46 +140,46 @@ pub(crate) fn write(core: &mut Core, address: u16, value: u64) -> Result<(), Fai
 
 /// That hart in S, with satp's MODE at Sv39: it can fetch nothing, and each step traps to address
 /// 0.
-fn translating_hart(alloc: Global) -> Result<Hart<MapMem>, Fail>
-    ensures sound { IfOk result (λ hart. IsSound hart.core) }
-    ensures ram { IfOk result (λ hart. hart.mem.ram ≡ hart.core.map.ram) }
+fn translating_hart(alloc: Global) -> Result<Harts<MapMem>, Fail>
+    ensures { IfOk result (λ harts. SetCanStep (λ mem. mem.ram) harts) }
 {
-    let mut hart = start(alloc)?;
-    write(&mut hart.core, 0x180, 8 << 60)?;
-    hart.core.mode = Mode::Supervisor;
-    Ok(hart)
+    let map = map()?;
+    let mem = memory(alloc, map.ram)?;
+    let mut core = first_core(map);
+    write(&mut core, 0x180, 8 << 60)?;
+    core.mode = Mode::Supervisor;
+    Ok(HartSet::reset(alloc, core, 1, mem)?)
 }
 
 /// The numbers in pc, in x1, in x2 and at `DATA`.
 type Numbers = (u64, u64, u64, u64);
 
-fn numbers(hart: &Hart<MapMem>) -> Result<Numbers, Fail>
-    requires ram { hart.now.mem.ram ≡ hart.now.core.map.ram }
+/// Those of the first hart.
+fn numbers(harts: &Harts<MapMem>) -> Result<Numbers, Fail>
+    requires { SetCanStep (λ mem. mem.ram) harts.now }
 {
-    let registers = &hart.core.registers;
+    let core = &harts.cores[0];
     Ok((
-        hart.core.pc,
-        registers.get(1),
-        registers.get(2),
-        number_at_data(hart)?,
+        core.pc,
+        core.registers.get(1),
+        core.registers.get(2),
+        number_at_data(&harts.mem, &core.map.ram)?,
     ))
 }
 
-/// Steps a hart by the rows, one after another.
+/// Steps harts by the rows, one after another.
 fn follow(
     alloc: Global,
-    hart: &mut Hart<MapMem>,
+    harts: &mut Harts<MapMem>,
     columns: &Columns,
     lines: &[&[u8]],
 ) -> Result<(), Fail>
-    requires sound { IsSound hart.old.core }
-    requires ram { hart.old.mem.ram ≡ hart.old.core.map.ram }
-    ensures sound { IsSound hart.new.core }
-    ensures ram { hart.new.mem.ram ≡ hart.new.core.map.ram }
+    requires { SetCanStep (λ mem. mem.ram) harts.old }
+    ensures { SetCanStep (λ mem. mem.ram) harts.new }
 {
     'rows: for line in lines {
-        let row = read_row(alloc, columns, *line, 0)?.ok_or("the row is valid")?;
-        hart.step(&row)?;
+        let row = read_row(alloc, columns, *line, 0, 1)?.ok_or("the row is valid")?;
+        harts.step(&row)?;
     }
     Ok(())
 }
@@ -224,16 +237,16 @@ fn cuts_lines(rt: HostRuntime) -> Result<(), Fail> {
 
 const BEGIN: Numbers = (CODE, 0, 0, HELD);
 
-/// The lines of segments, and the numbers of the hart before each.
+/// The lines of segments, and the numbers before each.
 type Case<'a> = (&'a [&'a [&'a [u8]]], &'a [Numbers]);
 
-/// The harts have these numbers.
-fn hold_numbers(rt: &impl Abort, harts: &[Hart<MapMem>], wanted: &[Numbers]) -> Result<(), Fail>
-    requires { All (CanStep (λ mem. mem.ram)) harts.now }
+/// The guesses have these numbers.
+fn hold_numbers(rt: &impl Abort, guesses: &[Harts<MapMem>], wanted: &[Numbers]) -> Result<(), Fail>
+    requires { All (SetCanStep (λ mem. mem.ram)) guesses.now }
 {
-    assert_eq!(rt; harts.len(), wanted.len());
-    for index in 0..harts.len() {
-        let found = numbers(&harts[index])?;
+    assert_eq!(rt; guesses.len(), wanted.len());
+    for index in 0..guesses.len() {
+        let found = numbers(&guesses[index])?;
         assert_eq!(rt; Some(&found), wanted.get(index), "before segment {index}");
     }
     Ok(())
@@ -292,19 +305,19 @@ fn guesses_states(rt: HostRuntime) -> Result<(), Fail> {
 fn guesses_as_steps_lead(rt: HostRuntime) -> Result<(), Fail> {
     let alloc = rt.alloc();
     let columns = read_header(alloc, HEADER)?;
-    let mut hart = start(alloc)?;
+    let mut harts = start(alloc)?;
     let segments = segments_of(alloc, &[&[FIRST], &[STORE, LAST], &[]])?;
-    let found = guesses(alloc, &hart, &columns, &segments)?;
+    let found = guesses(alloc, &harts, &columns, &segments)?;
     let rows: [&[&[u8]]; 3] = [&[], &[FIRST], &[STORE, LAST]];
     assert_eq!(rt; found.len(), rows.len());
     'found: for index in 0..found.len() {
         let lines = rows.get(index).ok_or("as many")?;
-        follow(alloc, &mut hart, &columns, *lines)?;
+        follow(alloc, &mut harts, &columns, *lines)?;
         let guess = &found[index];
-        assert!(rt; guess.same_but_memory(&hart));
-        assert_eq!(rt; numbers(guess)?, numbers(&hart)?);
+        assert!(rt; guess.same_but_memory(&harts));
+        assert_eq!(rt; numbers(guess)?, numbers(&harts)?);
     }
-    assert_eq!(rt; numbers(&hart)?, (CODE + 12, 5, 6, 5));
+    assert_eq!(rt; numbers(&harts)?, (CODE + 12, 5, 6, 5));
     Ok(())
 }
 
@@ -312,12 +325,12 @@ fn guesses_as_steps_lead(rt: HostRuntime) -> Result<(), Fail> {
 const PHYSICAL: &[u8] = b"valid,insn,pc_rdata,pc_wdata,mem_addr,mem_paddr,mem_wmask,mem_wdata";
 
 /// The numbers after one row.
-fn numbers_after(alloc: Global, hart: &Hart<MapMem>, row: &[u8]) -> Result<Numbers, Fail>
-    requires { CanStep (λ mem. mem.ram) hart.now }
+fn numbers_after(alloc: Global, harts: &Harts<MapMem>, row: &[u8]) -> Result<Numbers, Fail>
+    requires { SetCanStep (λ mem. mem.ram) harts.now }
 {
     let columns = read_header(alloc, PHYSICAL)?;
     let segments = segments_of(alloc, &[&[row], &[]])?;
-    let found = guesses(alloc, hart, &columns, &segments)?;
+    let found = guesses(alloc, harts, &columns, &segments)?;
     if found.len() != 2 {
         return Err(Fail::from("two guesses"));
     }
@@ -359,6 +372,75 @@ fn guesses_stores_at_the_end_of_a_page(rt: HostRuntime) -> Result<(), Fail> {
         assert_eq!(rt; numbers_after(alloc, &here, row)?, taken);
         let wanted = if is_taken { taken } else { (0, 0, 0, HELD) };
         assert_eq!(rt; numbers_after(alloc, &there, row)?, wanted);
+    }
+    Ok(())
+}
+
+/// LR.D x12, (x10).
+const RESERVE: u64 = 0x1005_362f;
+
+const RESERVING: &[u8] = b"1,0x1005362f,0x80000000,,,,,,";
+
+/// Two harts before the store, each of which has reserved the 64 bytes from `DATA` on.
+fn two_harts(alloc: Global) -> Result<Harts<MapMem>, Fail>
+    ensures { IfOk result (λ harts. SetCanStep (λ mem. mem.ram) harts) }
+{
+    let map = map()?;
+    let mut mem = memory(alloc, map.ram)?;
+    put(&mut mem, &map.ram, CODE, 4, RESERVE)?;
+    let columns = read_header(alloc, HEADER)?;
+    let row = read_row(alloc, &columns, RESERVING, 0, 1)?.ok_or("the row is valid")?;
+    let mut core = first_core(map);
+    core.step(&mut mem, &row)?;
+    Ok(HartSet::reset(alloc, core, 2, mem)?)
+}
+
+/// These columns show the hart too.
+const OF_HARTS: &[u8] = b"hart,insn,pc_rdata,pc_wdata,mem_addr,mem_wmask,mem_wdata";
+
+/// Whether the guess after one row has a reservation of each of the two harts.
+fn reserved_after(alloc: Global, harts: &Harts<MapMem>, row: &[u8]) -> Result<(bool, bool), Fail>
+    requires { SetCanStep (λ mem. mem.ram) harts.now }
+{
+    let columns = read_header(alloc, OF_HARTS)?.with_harts(2);
+    let segments = segments_of(alloc, &[&[row], &[]])?;
+    let found = guesses(alloc, harts, &columns, &segments)?;
+    let guess = found.get(1).ok_or("two guesses")?;
+    let one = guess.cores.get(0).ok_or("two harts")?;
+    let other = guess.cores.get(1).ok_or("two harts")?;
+    Ok((
+        one.reservation.block.is_some(),
+        other.reservation.block.is_some(),
+    ))
+}
+
+/// In a guess a store takes the reservation of the other hart where it writes in its block, whether
+/// the row shows the store or is stepped. Its own hart keeps what it reserved.
+#[test]
+fn guesses_what_the_other_hart_loses(rt: HostRuntime) -> Result<(), Fail> {
+    let alloc = rt.alloc();
+    let rows: [(&[u8], (bool, bool)); 5] = [
+        (
+            b"0,0x00153023,0x80000004,0x80000008,0x80001000,0xff,0",
+            (true, false),
+        ),
+        (
+            b"1,0x00153023,0x80000004,0x80000008,0x80001000,0xff,0",
+            (false, true),
+        ),
+        (
+            b"1,0x00153023,0x80000004,0x80000008,0x80001038,0x01,0",
+            (false, true),
+        ),
+        (
+            b"1,0x00153023,0x80000004,0x80000008,0x80001040,0xff,0",
+            (true, true),
+        ),
+        (b"1,0x00153023,0x80000004,0x80000008,,,", (false, true)),
+    ];
+    let harts = two_harts(alloc)?;
+    for (row, reserved) in rows {
+        assert_eq!(rt; reserved_after(alloc, &harts, row)?, reserved);
     }
     Ok(())
 }

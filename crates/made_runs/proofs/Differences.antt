@@ -8,7 +8,7 @@ use Rattle.hart_words.specs.declared.signal.Signal.{Signal}
 use Rattle.hart_words.specs.declared.signal.Signal.TheVariants.{Valid, Order, Intr, PcRdata, Mode, Ixl, Trap, Insn}
 use Rattle.hart_words.specs.declared.signal.Signal.TheVariants.{Rs1Addr, Rs1Rdata, Rs2Addr, Rs2Rdata, RdAddr, RdWdata}
 use Rattle.hart_words.specs.declared.signal.Signal.TheVariants.{PcWdata, MemAddr, MemRmask, MemRdata, MemWmask}
-use Rattle.hart_words.specs.declared.signal.Signal.TheVariants.{MemWdata, MemPaddr, Halt, Csr}
+use Rattle.hart_words.specs.declared.signal.Signal.TheVariants.{MemWdata, MemPaddr, Halt, Hart, Csr}
 use Rattle.hart_words.specs.declared.signal.SignalEntry.{SignalEntry}
 use Rattle.hart_words.specs.Signals.{Shown}
 use Rattle.rvfi_rows.specs.declared.expected.Retired.{Retired}
@@ -88,6 +88,7 @@ done_agrees retired effects row is memory MemWmask = memory.write_mask
 done_agrees retired effects row is memory MemWdata = memory.written
 done_agrees retired effects row is memory MemPaddr = memory.physical
 done_agrees retired effects row is memory Halt = refl
+done_agrees retired effects row is memory Hart = refl
 done_agrees retired effects row is memory (Csr name side) = refl
 
 -- without an access nothing is written

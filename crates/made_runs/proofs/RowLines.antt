@@ -13,13 +13,13 @@ use Rattle.hart_words.specs.declared.signal.Signal.TheVariants.{MemAddr, MemRmas
 use Rattle.hart_words.specs.declared.signal.Signal.TheVariants.{MemPaddr, Csr}
 use Rattle.csv_line.specs.Fields.{fields_of_line}
 use Rattle.rvfi_rows.specs.Columns.{ColumnList, highest_port, port_numbers}
-use Rattle.rvfi_rows.specs.Rows.{RowReading, alone, cell_of, cells_of, field_shown, nothing, row_from, row_of_fields}
-use Rattle.rvfi_rows.specs.Rows.{row_of_line, rows_of, shown_then, valid_of}
+use Rattle.rvfi_rows.specs.Rows.{RowReading, alone, cell_of, cells_of, field_shown, nothing, row_at_port, row_from}
+use Rattle.rvfi_rows.specs.Rows.{row_of_fields, row_of_line, rows_of, shown_then, valid_of}
 use Rattle.trace_maker.specs.declared.made_row.MadeRow.{MadeRow}
 use Rattle.trace_maker.specs.Rows.{first_row, made_row, turn_place, turn_of, turn_row, x1_after, x3_after}
 use Rattle.trace_maker.specs.Texts.{fields_of, hexadecimal}
 use Rattle.made_runs.specs.Lines.{made_lines, row_line}
-use Rattle.made_runs.specs.Shows.{made_columns, made_readings, only_column, shown_of}
+use Rattle.made_runs.specs.Shows.{made_columns, made_readings, only_column, shown_of, trace_columns}
 use Rattle.made_runs.proofs.Judged.{x1_small, x3_small}
 use Rattle.made_runs.proofs.Numerals.{IsNumeralOf, decimal_is, hexadecimal_is}
 use Rattle.made_runs.proofs.PlainLines.{AreFields, fields_back, line_bytes, no_return}
@@ -261,18 +261,18 @@ row_cells row is are =
 
 -- the row that the fields show
 row_shown : (row : MadeRow) → cells_of made_columns (fields_of row) ≡ Ok (shown_of row)
-    → row_of_fields made_columns false (fields_of row) 0 ≡ Ok (Some (shown_of row))
-unfolding row_of_fields row_from valid_of
+    → row_of_fields trace_columns false (fields_of row) 0 ≡ Ok (Some (shown_of row))
+unfolding row_of_fields row_at_port row_from valid_of
 row_shown row cells = rw cells refl
 
-row_back : (row : MadeRow) → RowFits row → row_of_line made_columns (row_line row) 0 ≡ Ok (Some (shown_of row))
+row_back : (row : MadeRow) → RowFits row → row_of_line trace_columns (row_line row) 0 ≡ Ok (Some (shown_of row))
 unfolding row_of_line
 row_back row is =
     let are = row_fields row is in
     let others = others_are row are in
-    ap (λ (return : Bool). row_of_fields made_columns return (fields_of_line (row_line row)) 0)
+    ap (λ (return : Bool). row_of_fields trace_columns return (fields_of_line (row_line row)) 0)
     (no_return (row_line row) (line_bytes (decimal row.order) (others_of row) are.order.is_field others))
-    ∙ ap (λ (fields : List (List ℕ)). row_of_fields made_columns false fields 0)
+    ∙ ap (λ (fields : List (List ℕ)). row_of_fields trace_columns false fields 0)
     (fields_back (decimal row.order) (others_of row) are.order.is_field others)
     ∙ row_shown row (row_cells row is are ∙ ap (λ (shown : Shown). Ok shown) (shown_is row))
 
@@ -282,19 +282,19 @@ unfolding highest_port
 only_port = refl
 
 rows_from : (number order rows : ℕ) → order + rows ≤ 2 ^ 64
-    → rows_of made_columns (map row_line (map (made_row number) (range_with_len order rows)))
+    → rows_of trace_columns (map row_line (map (made_row number) (range_with_len order rows)))
     ≡ map (λ row. Ok (Some (shown_of row))) (map (made_row number) (range_with_len order rows))
 unfolding rows_of
 rows_from number order zero small = refl
 rows_from number order (suc rows) small =
     let line = row_line (made_row number order) in
-    let rest = rows_of made_columns (map row_line (map (made_row number) (range_with_len (order + 1) rows))) in
-    ap (λ ports. map (row_of_line made_columns line) ports ++ rest) only_port
+    let rest = rows_of trace_columns (map row_line (map (made_row number) (range_with_len (order + 1) rows))) in
+    ap (λ ports. map (row_of_line trace_columns line) ports ++ rest) only_port
     ∙ ap (λ (reading : RowReading). reading ∷ rest)
     (row_back (made_row number order) (row_fits number order (omega arith)))
     ∙ ap (λ (readings : List RowReading). Ok (Some (shown_of (made_row number order))) ∷ readings)
     (rows_from number (order + 1) rows (omega arith))
 
 pub rows_back : (number rows : ℕ) → rows ≤ 2 ^ 64
-    → rows_of made_columns (made_lines number rows) ≡ made_readings number rows
+    → rows_of trace_columns (made_lines number rows) ≡ made_readings number rows
 rows_back number rows small = rows_from number 0 rows (omega arith)

@@ -13,7 +13,7 @@ use Rattle.trace_lines.specs.Lines.{file_lines}
 use Rattle.trace_maker.specs.Texts.{made_trace}
 use Rattle.made_runs.specs.Images.{IsMadeImage}
 use Rattle.made_runs.specs.Lines.{made_left, made_lines}
-use Rattle.made_runs.specs.Shows.{header_line, made_columns, made_readings}
+use Rattle.made_runs.specs.Shows.{header_line, made_columns, made_readings, trace_columns}
 use Rattle.made_runs.specs.States.{HasImage, IsMadeMap}
 
 -- the hart, by the choices that stand where none is said, agrees with so many rows, each of them valid, from reset on
@@ -43,13 +43,13 @@ MadeTraceIsShort number rows = rows ≤ 2 ^ 64 → length (made_trace number row
 -- the rows' lines show the rows' values
 abbrev pub MadeLinesReadBack : (number rows : ℕ) → Type 0
 MadeLinesReadBack number rows =
-    rows ≤ 2 ^ 64 → rows_of made_columns (made_lines number rows) ≡ made_readings number rows
+    rows ≤ 2 ^ 64 → rows_of trace_columns (made_lines number rows) ≡ made_readings number rows
 
 -- the verdict of such a hart on lines of a made trace, from reset on over the bytes of an image
 abbrev pub verdict_on_lines : Map → (ℕ → Option ℕ) → List (List ℕ) → Verdict
 verdict_on_lines map image lines =
     let memory : Bytes = λ address. unwrap_or (image address) 0 in
-    let readings = rows_of made_columns lines in
+    let readings = rows_of trace_columns lines in
     (judgement_of by_hart (core_at_reset 0x80000000 map plain_choices) readings memory).verdict
 
 -- from the two texts to the verdict: the image, the header and the rows after it

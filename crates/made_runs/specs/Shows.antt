@@ -7,7 +7,7 @@ use Rattle.hart_words.specs.declared.signal.Signal.TheVariants.{MemPaddr}
 use Rattle.hart_words.specs.Signals.{Shown}
 use Rattle.rvfi_rows.specs.declared.column.Column.{Column}
 use Rattle.rvfi_rows.specs.declared.column.Port.TheVariants.{Zero}
-use Rattle.rvfi_rows.specs.Columns.{ColumnList}
+use Rattle.rvfi_rows.specs.Columns.{ColumnList, TraceColumns}
 use Rattle.rvfi_rows.specs.Rows.{RowReading}
 use Rattle.trace_maker.specs.declared.made_row.MadeRow.{MadeRow}
 use Rattle.trace_maker.specs.Texts.{made_rows}
@@ -48,3 +48,7 @@ made_columns =
     map only_column
     (Order ∷ Insn ∷ Trap ∷ PcRdata ∷ PcWdata ∷ RdAddr ∷ RdWdata
     ∷ MemAddr ∷ MemRmask ∷ MemWmask ∷ MemRdata ∷ MemWdata ∷ MemPaddr ∷ [])
+
+-- the columns of a made trace, which is of one hart
+abbrev pub trace_columns : TraceColumns
+trace_columns = record { named = made_columns; harts = 1 }

@@ -6,17 +6,16 @@ use Rattle.hart_words.specs.Memory.{Bytes, after_writes}
 use Rattle.rvfi_rows.specs.declared.verdict.Verdict.{Verdict}
 use Rattle.rvfi_rows.specs.declared.verdict.Verdict.TheVariants.{Agrees}
 use Rattle.rvfi_rows.specs.Rows.{RowReading}
-use Rattle.hart_step.specs.declared.hart.Hart.{Hart}
+use Rattle.hart_set.specs.declared.set.HartSet.{HartSet}
 use Rattle.hart_step.specs.declared.state.Core.{Core}
-use Rattle.hart_step.specs.Harts.{state_of}
-use Rattle.hart_step.specs.Rows.{HartState}
+use Rattle.hart_step.specs.HartSets.{SetState, set_state_of}
 use Rattle.read_footprint.specs.declared.footprint.Footprint.{Footprint}
 use Rattle.read_footprint.specs.Footprints.{Accesses, footprint_of, is_written, writes_of}
 use Rattle.read_footprint.specs.Sets.{IsFootprintOf, has_written}
 use Rattle.read_footprint.proofs.Agreement.{written_in_parts}
 use Rattle.read_footprint.proofs.Entries.{all_agree}
 use Rattle.segment_judge.specs.declared.judged.Judged.{Judged}
-use Rattle.segment_judge.specs.Judgements.{Judgement, by_hart}
+use Rattle.segment_judge.specs.Judgements.{Judgement, by_set}
 use Rattle.segment_judge.specs.Laws.{bytes_after_judgement, judgement_from}
 use Rattle.segment_judge.specs.Judged.{IsJudgement, HoldsInOtherMemories}
 use Rattle.segment_judge.proofs.Framed.{framed}
@@ -36,17 +35,17 @@ bytes_turn start before now accesses more so_far is =
         ap (λ rest. x.wrote ++ rest) (writes_joined xs ys) ∙ sym (append_assoc x.wrote (writes_of xs) (writes_of ys))
 
 -- the state after a judgement, by its end and what was touched
-abbrev end_with : Option Core → HartState → List Accesses → Option HartState
+abbrev end_with : Option (List Core) → SetState → List Accesses → Option SetState
 end_with end start accesses =
     option_map (λ core. record { core = core; bytes = after_writes (writes_of accesses) start.bytes }) end
 
-abbrev judgement_at : Verdict → Option Core → List Accesses → Judgement Core
+abbrev judgement_at : Verdict → Option (List Core) → List Accesses → Judgement (List Core)
 judgement_at verdict end accesses = record { verdict = verdict; end = end; accesses = accesses }
 
 -- a row ended it
-pub ended : {M : Type 0} (bytes_of : M → Bytes) (start : HartState) (rows : List RowReading) (verdict : Verdict)
+pub ended : {M : Type 0} (bytes_of : M → Bytes) (start : SetState) (rows : List RowReading) (verdict : Verdict)
     (accesses : List Accesses) (footprint : Footprint)
-    → judgement_at verdict None accesses ≡ judgement_from by_hart start rows → IsFootprintOf footprint accesses
+    → judgement_at verdict None accesses ≡ judgement_from by_set start rows → IsFootprintOf footprint accesses
     → IsJudgement bytes_of start rows (record { verdict = verdict; end = None; footprint = footprint })
 ended bytes_of start rows verdict accesses footprint whole is = record {
   verdict = ap (λ judgement. judgement.verdict) whole;
@@ -55,13 +54,13 @@ ended bytes_of start rows verdict accesses footprint whole is = record {
 }
 
 -- all rows agreed
-pub agreed : {M : Type 0} (bytes_of : M → Bytes) (start : HartState) (rows : List RowReading) (hart : Hart M)
+pub agreed : {M : Type 0} (bytes_of : M → Bytes) (start : SetState) (rows : List RowReading) (set : HartSet Core M)
     {count valid : ℕ} {accesses : List Accesses} {footprint : Footprint}
-    → judgement_at (Agrees count valid) (Some hart.core) accesses ≡ judgement_from by_hart start rows
-    → bytes_of hart.mem ≡ after_writes (writes_of accesses) start.bytes → IsFootprintOf footprint accesses
-    → IsJudgement bytes_of start rows (record { verdict = Agrees count valid; end = Some hart; footprint = footprint })
-agreed bytes_of start rows hart {count} {valid} {accesses} {footprint} whole bytes is =
-    let here : Some (state_of bytes_of hart) ≡ end_with (Some hart.core) start accesses = rw bytes refl in
+    → judgement_at (Agrees count valid) (Some set.cores.items) accesses ≡ judgement_from by_set start rows
+    → bytes_of set.mem ≡ after_writes (writes_of accesses) start.bytes → IsFootprintOf footprint accesses
+    → IsJudgement bytes_of start rows (record { verdict = Agrees count valid; end = Some set; footprint = footprint })
+agreed bytes_of start rows set {count} {valid} {accesses} {footprint} whole bytes is =
+    let here : Some (set_state_of bytes_of set) ≡ end_with (Some set.cores.items) start accesses = rw bytes refl in
     record {
       verdict = ap (λ judgement. judgement.verdict) whole;
       end = here ∙ ap (λ judgement. end_with judgement.end start judgement.accesses) whole;
@@ -74,36 +73,36 @@ mapped_twice f g None = refl
 mapped_twice f g (Some a) = refl
 
 -- a state over another memory, with the bytes of a set as they are in it
-abbrev over : (ℕ → Bool) → Bytes → HartState → HartState
+abbrev over : (ℕ → Bool) → Bytes → SetState → SetState
 over is_moved other state =
     record { core = state.core; bytes = λ address. if is_moved address then state.bytes address else other address }
 
 -- the judgement stands over each memory that agrees on what was read
-pub stands : {M : Type 0} (bytes_of : M → Bytes) (start : HartState) (rows : List RowReading) (judged : Judged M)
+pub stands : {M : Type 0} (bytes_of : M → Bytes) (start : SetState) (rows : List RowReading) (judged : Judged M)
     → IsJudgement bytes_of start rows judged → HoldsInOtherMemories bytes_of start rows judged
 stands bytes_of start rows judged is other same =
-    let judgement = judgement_from by_hart start rows in
+    let judgement = judgement_from by_set start rows in
     let agrees =
     all_agree start.bytes other (footprint_of judgement.accesses)
     (λ address among. same address (is.footprint.read address ∙ among)) in
-    let frame = framed by_hart start.core rows start.bytes other agrees in
-    let moves : (ℕ → Bool) → Option HartState =
-    λ is_moved. option_map (λ hart. over is_moved other (state_of bytes_of hart)) judged.end in
+    let frame = framed by_set start.core rows start.bytes other agrees in
+    let moves : (ℕ → Bool) → Option SetState =
+    λ is_moved. option_map (λ set. over is_moved other (set_state_of bytes_of set)) judged.end in
     let goes : is_written (writes_of judgement.accesses) ≡ has_written judged.footprint =
     fun_ext (λ address. sym (is.footprint.wrote address)) in
     record {
-      verdict = ap (λ (judgement : Judgement Core). judgement.verdict) frame.same ∙ sym is.verdict;
+      verdict = ap (λ (judgement : Judgement (List Core)). judgement.verdict) frame.same ∙ sym is.verdict;
       end =
-          ap (λ (judgement : Judgement Core). end_with judgement.end (record { core = start.core; bytes = other })
-          judgement.accesses) frame.same
+          ap (λ (judgement : Judgement (List Core)). end_with judgement.end
+          (record { core = start.core; bytes = other }) judgement.accesses) frame.same
           ∙ ap (λ bytes. end_over bytes judgement.end) frame.moves
           ∙ sym
           (mapped_twice (over (is_written (writes_of judgement.accesses)) other)
           (λ core. record { core = core; bytes = bytes_after_judgement judgement start.bytes }) judgement.end)
           ∙ ap (option_map (over (is_written (writes_of judgement.accesses)) other)) (sym is.end)
-          ∙ mapped_twice (over (is_written (writes_of judgement.accesses)) other) (state_of bytes_of) judged.end
+          ∙ mapped_twice (over (is_written (writes_of judgement.accesses)) other) (set_state_of bytes_of) judged.end
           ∙ ap moves goes;
     }
   where
-    end_over : Bytes → Option Core → Option HartState
+    end_over : Bytes → Option (List Core) → Option SetState
     end_over bytes end = option_map (λ core. record { core = core; bytes = bytes }) end

@@ -5,4 +5,6 @@ pub mod Within
 pub mod Progressed
 pub mod Ends
 pub mod Maps
+pub mod SetSteps
+pub mod Alone
 pub mod RamAlone

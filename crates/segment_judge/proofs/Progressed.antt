@@ -3,7 +3,6 @@ use Rattle.std.proofs.Common.{◌≡◌, ◌+◌, All, List, [], ◌∷◌, ◌+
 use Rattle.std.proofs.Common.{subst, append-nil, arith}
 use Rattle.hart_words.specs.declared.accesses.Read.{Read}
 use Rattle.hart_words.specs.declared.accesses.Write.{Write}
-use Rattle.hart_words.specs.declared.map.Map.{Map}
 use Rattle.hart_words.specs.declared.span.Span.{Span}
 use Rattle.hart_words.specs.declared.signal.Difference.{Difference}
 use Rattle.hart_words.specs.Actions.{Performs}
@@ -14,9 +13,7 @@ use Rattle.rvfi_rows.specs.declared.fault.RowFault.{RowFault}
 use Rattle.rvfi_rows.specs.declared.row_counts.RowCounts.{RowCounts}
 use Rattle.rvfi_rows.specs.declared.verdict.Verdict.{Verdict}
 use Rattle.rvfi_rows.specs.declared.verdict.Verdict.TheVariants.{Differs, Refused}
-use Rattle.hart_step.specs.Cores.{IsSound}
-use Rattle.hart_step.specs.Harts.{state_of}
-use Rattle.hart_step.specs.Steps.{step_of}
+use Rattle.hart_step.specs.HartSets.{SetCanStep, set_state_of, set_step_of}
 use Rattle.row_compare.specs.Difference.{difference_of}
 use Rattle.read_footprint.specs.Footprints.{Accesses}
 use Rattle.read_footprint.specs.Sets.{IsFootprintOf, LiesInRam}
@@ -56,8 +53,9 @@ judges_invalid bytes_of before counts accesses rows valid =
 -- a valid row was stepped, and what it touched was added
 pub record Stepped {M : Type 0} (bytes_of : M → Bytes) (before now : Progress M) (shown : Shown) (expected : Expected)
     (seen : List Read) (wrote : List Write) : Type 0 where
-  pub done : Performs (step_of before.hart.core shown) (record { next = now.hart.core; expected = expected }) [] seen
-      [] wrote (bytes_of before.hart.mem) (bytes_of now.hart.mem)
+  pub done : Performs (set_step_of before.harts.cores.items shown)
+      (record { next = now.harts.cores.items; expected = expected }) [] seen [] wrote (bytes_of before.harts.mem)
+      (bytes_of now.harts.mem)
   pub added : (rows : List Accesses) → IsFootprintOf before.footprint rows
       → IsFootprintOf now.footprint (rows ++ record { reads = seen; wrote = wrote } ∷ [])
   pub rows : now.counts.rows ≡ before.counts.rows + 1
@@ -66,12 +64,12 @@ following : {M : Type 0} (bytes_of : M → Bytes) (before now : Progress M) {sho
     {seen : List Read} {wrote : List Write} (accesses : List Accesses)
     → Stepped bytes_of before now shown expected seen wrote
     → after_valid (standing bytes_of before accesses) shown now.counts.valid
-    ≡ standing bytes_of now (accesses ++ accesses_at (state_of bytes_of before.hart) (Ok (Some shown)))
-following bytes_of before now {shown} {expected} {seen} {wrote} accesses step_of =
+    ≡ standing bytes_of now (accesses ++ accesses_at (set_state_of bytes_of before.harts) (Ok (Some shown)))
+following bytes_of before now {shown} {expected} {seen} {wrote} accesses stepped =
     rw (
-      step_of.rows,
-      performed_state (state_of bytes_of before.hart) shown now.hart.core expected seen wrote
-          (bytes_of now.hart.mem) step_of.done,
+      stepped.rows,
+      performed_state (set_state_of bytes_of before.harts) shown now.harts.cores.items expected seen wrote
+          (bytes_of now.harts.mem) stepped.done,
     ) refl
 
 judges_by : {M : Type 0} (bytes_of : M → Bytes) (before now : Progress M) {shown : Shown} {expected : Expected}
@@ -80,25 +78,31 @@ judges_by : {M : Type 0} (bytes_of : M → Bytes) (before now : Progress M) {sho
     → RowGives (standing bytes_of before accesses) (Ok (Some shown)) end
     (after_valid (standing bytes_of before accesses) shown now.counts.valid)
     → JudgesRow bytes_of before now (Ok (Some shown)) end accesses
-judges_by bytes_of before now {shown} {expected} {seen} {wrote} accesses end step_of gives =
-    let state = state_of bytes_of before.hart in
+judges_by bytes_of before now {shown} {expected} {seen} {wrote} accesses end stepped gives =
+    let state = set_state_of bytes_of before.harts in
     let touches =
-    performed_touched state shown now.hart.core expected seen wrote (bytes_of now.hart.mem) step_of.done in
+    performed_touched state shown now.harts.cores.items expected seen wrote (bytes_of now.harts.mem) stepped.done in
     record {
       gives =
           subst (RowGives (standing bytes_of before accesses) (Ok (Some shown)) end)
-          (following bytes_of before now accesses step_of) gives;
+          (following bytes_of before now accesses stepped) gives;
       footprint =
           λ is. subst (λ more. IsFootprintOf now.footprint (accesses ++ more)) (sym touches)
-          (step_of.added accesses is);
+          (stepped.added accesses is);
       bytes =
-          step_of.done.bytes_are ∙ ap (λ writes. after_writes writes (bytes_of before.hart.mem)) (sym (append-nil _));
+          stepped.done.bytes_are
+          ∙ ap (λ writes. after_writes writes (bytes_of before.harts.mem)) (sym (append-nil _));
     }
+
+-- what the row's hart does
+abbrev expected_by : {M : Type 0} → (M → Bytes) → Progress M → Shown → Expected
+expected_by bytes_of before shown =
+    ((set_step_of before.harts.cores.items shown).run (bytes_of before.harts.mem)).value.expected
 
 expected_is : {M : Type 0} (bytes_of : M → Bytes) (before now : Progress M) {shown : Shown} {expected : Expected}
     {seen : List Read} {wrote : List Write} → Stepped bytes_of before now shown expected seen wrote
-    → expected ≡ ((step_of before.hart.core shown).run (bytes_of before.hart.mem)).value.expected
-expected_is bytes_of before now step_of = ap (λ gave. gave.expected) step_of.done.value_is
+    → expected ≡ expected_by bytes_of before shown
+expected_is bytes_of before now stepped = ap (λ gave. gave.expected) stepped.done.value_is
 
 pub judges_agreed : {M : Type 0} (bytes_of : M → Bytes) (before now : Progress M) {shown : Shown}
     {expected : Expected} {seen : List Read} {wrote : List Write} (accesses : List Accesses)
@@ -106,8 +110,7 @@ pub judges_agreed : {M : Type 0} (bytes_of : M → Bytes) (before now : Progress
     → difference_of expected shown ≡ None → JudgesRow bytes_of before now (Ok (Some shown)) None accesses
 judges_agreed bytes_of before now {shown} accesses done valid agrees =
     let start = standing bytes_of before accesses in
-    let none : difference_of ((step_of before.hart.core shown).run (bytes_of before.hart.mem)).value.expected shown
-    ≡ None =
+    let none : difference_of (expected_by bytes_of before shown) shown ≡ None =
     ap (λ did. difference_of did shown) (sym (expected_is bytes_of before now done)) ∙ agrees in
     judges_by bytes_of before now accesses None done
     (subst (λ count. RowGives start (Ok (Some shown)) None (after_valid start shown count)) (sym valid)
@@ -119,24 +122,19 @@ pub judges_differing : {M : Type 0} (bytes_of : M → Bytes) (before now : Progr
     → JudgesRow bytes_of before now (Ok (Some shown)) (Some (Differs now.counts.rows difference)) accesses
 judges_differing bytes_of before now {shown} accesses {difference} done differs =
     let start = standing bytes_of before accesses in
-    let some : difference_of ((step_of before.hart.core shown).run (bytes_of before.hart.mem)).value.expected shown
-    ≡ Some difference =
+    let some : difference_of (expected_by bytes_of before shown) shown ≡ Some difference =
     ap (λ did. difference_of did shown) (sym (expected_is bytes_of before now done)) ∙ differs in
     judges_by bytes_of before now accesses (Some (Differs now.counts.rows difference)) done
     (rw done.rows (differing_gives start shown difference some))
 
 -- the next row may be judged too
 pub still_judges : {M : Type 0} {before now : Progress M} {seen : List Read} {wrote : List Write} (ram_of : M → Span)
-    → CanJudge ram_of before → IsSound now.hart.core → now.hart.core.map ≡ before.hart.core.map
-    → ram_of now.hart.mem ≡ ram_of before.hart.mem → IsAdded before.footprint now.footprint seen wrote
-    → All (ReadLies before.hart.core.map.ram) seen → All (WriteLies before.hart.core.map.ram) wrote
-    → CanJudge ram_of now
-still_judges {before = before} {now} ram_of can sound map ram added reads_in writes_in =
-    let same : before.hart.core.map.ram ≡ ram_of now.hart.mem = sym (ram ∙ can.can_step.ram) in
-    record {
-      can_step = record { sound = sound; ram = ram ∙ can.can_step.ram ∙ sym (ap (λ (map : Map). map.ram) map) };
-      within =
-          subst (λ span. LiesInRam span now.footprint) same
-          (within_added before.hart.core.map.ram added reads_in writes_in
-          (subst (λ span. LiesInRam span before.footprint) can.can_step.ram can.within));
-    }
+    → CanJudge ram_of before → SetCanStep ram_of now.harts → ram_of now.harts.mem ≡ ram_of before.harts.mem
+    → IsAdded before.footprint now.footprint seen wrote → All (ReadLies (ram_of before.harts.mem)) seen
+    → All (WriteLies (ram_of before.harts.mem)) wrote → CanJudge ram_of now
+still_judges {before = before} {now} ram_of can can_step ram added reads_in writes_in = record {
+  can_step = can_step;
+  within =
+      subst (λ span. LiesInRam span now.footprint) (sym ram)
+      (within_added (ram_of before.harts.mem) added reads_in writes_in can.within);
+}

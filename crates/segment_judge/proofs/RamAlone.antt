@@ -3,7 +3,6 @@ use Rattle.std.proofs.Common.{◌≡◌, ℕ, inl, inr, true, List, [], ◌∷�
 use Rattle.std.proofs.lemmas.Bool.{and_parts, or_cases}
 use Rattle.std.proofs.lemmas.List.Concat.{flat_map-cons}
 use Rattle.std.proofs.lemmas.List.Elements.{All-append, All-cons, All-head, All-nil, All-tail}
-use Rattle.hart_words.specs.declared.map.Map.{Map}
 use Rattle.hart_words.specs.declared.signal.Difference.{Difference}
 use Rattle.hart_words.specs.declared.span.Span.{Span}
 use Rattle.hart_words.specs.Actions.{mapped}
@@ -12,47 +11,49 @@ use Rattle.hart_words.specs.Signals.{Shown}
 use Rattle.hart_words.specs.Spans.{is_in}
 use Rattle.rvfi_rows.specs.Rows.{RowReading}
 use Rattle.hart_step.specs.declared.state.Core.{Core}
-use Rattle.hart_step.specs.Rows.{HartState}
+use Rattle.hart_step.specs.HartSets.{SetState}
 use Rattle.read_footprint.specs.declared.footprint.Footprint.{Footprint}
 use Rattle.read_footprint.specs.Footprints.{Accesses, footprint_of, writes_of}
 use Rattle.read_footprint.specs.Sets.{IsFootprintOf, LiesInRam, has_address}
 use Rattle.read_footprint.proofs.Rows.{footprint_joined, one_row_read}
 use Rattle.segment_judge.specs.declared.judged.Judged.{Judged}
-use Rattle.segment_judge.specs.Judgements.{Judgement, by_difference, by_hart, judgement_of, accesses_by}
+use Rattle.segment_judge.specs.Judgements.{Judgement, by_difference, by_set, judgement_of, accesses_by}
 use Rattle.segment_judge.specs.Laws.{judgement_from}
-use Rattle.segment_judge.specs.Ram.{FootprintLiesInRam, IsInRam, TouchesRamAlone}
-use Rattle.segment_judge.proofs.Maps.{map_stays}
-use Rattle.segment_judge.proofs.Within.{WriteLies, read_in, reads_lie, writes_lie, written_in}
+use Rattle.segment_judge.specs.Ram.{FootprintLiesInRam, HaveRam, IsInRam, TouchesRamAlone}
+use Rattle.segment_judge.proofs.SetSteps.{row_keeps_ram, row_lies}
+use Rattle.segment_judge.proofs.Within.{WriteLies, read_in, written_in}
 
 -- a row, and the others after it
-row_and_others : (ram : Span) (difference : Option Difference) (accesses : Accesses) (rest : Judgement Core)
+row_and_others : (ram : Span) (difference : Option Difference) (accesses : Accesses) (rest : Judgement (List Core))
     → IsInRam ram accesses → All (IsInRam ram) rest.accesses
     → All (IsInRam ram) (by_difference difference accesses rest).accesses
 row_and_others ram (Some difference) accesses rest here later =
     All-cons (IsInRam ram) accesses [] here (All-nil (IsInRam ram))
 row_and_others ram None accesses rest here later = All-cons (IsInRam ram) accesses rest.accesses here later
 
-row_in_ram : (core : Core) (shown : Shown) (bytes : Bytes)
-    → IsInRam core.map.ram (accesses_by ((by_hart core shown).run bytes))
-unfolding by_hart mapped
-row_in_ram core shown bytes = record { reads = reads_lie core shown bytes; writes = writes_lie core shown bytes }
+judged_in_ram : (ram : Span) (cores : List Core) (shown : Shown) (bytes : Bytes) → HaveRam ram cores
+    → IsInRam ram (accesses_by ((by_set cores shown).run bytes))
+unfolding by_set mapped
+judged_in_ram ram cores shown bytes all =
+    let lies = row_lies ram cores shown bytes all in record { reads = lies.reads; writes = lies.writes }
 
-same_map : (core : Core) (shown : Shown) (bytes : Bytes) → ((by_hart core shown).run bytes).value.next.map ≡ core.map
-unfolding by_hart mapped
-same_map core shown bytes = map_stays core shown bytes
+judged_keeps_ram : (ram : Span) (cores : List Core) (shown : Shown) (bytes : Bytes) → HaveRam ram cores
+    → HaveRam ram ((by_set cores shown).run bytes).value.next
+unfolding by_set mapped
+judged_keeps_ram ram cores shown bytes all = row_keeps_ram ram cores shown bytes all
 
-pub touches_ram_alone : (rows : List RowReading) (core : Core) (bytes : Bytes) → TouchesRamAlone core rows bytes
+pub touches_ram_alone : (rows : List RowReading) (ram : Span) (cores : List Core) (bytes : Bytes)
+    → TouchesRamAlone ram cores rows bytes
 unfolding judgement_of
-touches_ram_alone [] core bytes = All-nil (IsInRam core.map.ram)
-touches_ram_alone (Err fault ∷ rows) core bytes = All-nil (IsInRam core.map.ram)
-touches_ram_alone (Ok None ∷ rows) core bytes = touches_ram_alone rows core bytes
-touches_ram_alone (Ok (Some shown) ∷ rows) core bytes =
-    let run = (by_hart core shown).run bytes in
+touches_ram_alone [] ram cores bytes all = All-nil (IsInRam ram)
+touches_ram_alone (Err fault ∷ rows) ram cores bytes all = All-nil (IsInRam ram)
+touches_ram_alone (Ok None ∷ rows) ram cores bytes all = touches_ram_alone rows ram cores bytes all
+touches_ram_alone (Ok (Some shown) ∷ rows) ram cores bytes all =
+    let run = (by_set cores shown).run bytes in
     let now = after_writes run.wrote bytes in
-    let later = subst (λ (map : Map). All (IsInRam map.ram) (judgement_of by_hart run.value.next rows now).accesses)
-    (same_map core shown bytes) (touches_ram_alone rows run.value.next now) in
-    row_and_others core.map.ram run.value.difference (accesses_by run) (judgement_of by_hart run.value.next rows now)
-    (row_in_ram core shown bytes) later
+    row_and_others ram run.value.difference (accesses_by run) (judgement_of by_set run.value.next rows now)
+    (judged_in_ram ram cores shown bytes all)
+    (touches_ram_alone rows ram run.value.next now (judged_keeps_ram ram cores shown bytes all))
 
 -- ---- what is noted of it
 
@@ -82,8 +83,8 @@ noted_within ram footprint accesses of_them all = record {
       (sym (of_them.wrote address) ∙ is);
 }
 
-pub lies_in_ram : {M : Type 0} (bytes_of : M → Bytes) (start : HartState) (rows : List RowReading) (judged : Judged M)
-    → FootprintLiesInRam bytes_of start rows judged
-lies_in_ram bytes_of start rows judged is =
-    noted_within start.core.map.ram judged.footprint (judgement_from by_hart start rows).accesses is.footprint
-    (touches_ram_alone rows start.core start.bytes)
+pub lies_in_ram : {M : Type 0} (bytes_of : M → Bytes) (ram : Span) (start : SetState) (rows : List RowReading)
+    (judged : Judged M) → FootprintLiesInRam bytes_of ram start rows judged
+lies_in_ram bytes_of ram start rows judged all is =
+    noted_within ram judged.footprint (judgement_from by_set start rows).accesses is.footprint
+    (touches_ram_alone rows ram start.core start.bytes all)

@@ -8,14 +8,12 @@ use Rattle.std.proofs.lemmas.List.Elements.{All-head, All-tail, All-weaker}
 use Rattle.hart_words.specs.declared.span.Span.{Span}
 use Rattle.hart_words.specs.declared.accesses.Read.{Read}
 use Rattle.hart_words.specs.declared.accesses.Write.{Write}
-use Rattle.hart_words.specs.Actions.{Performs}
 use Rattle.hart_words.specs.Memory.{Bytes, is_within}
 use Rattle.hart_words.specs.Signals.{Shown}
 use Rattle.hart_words.specs.Spans.{holds_all, is_in}
 use Rattle.read_footprint.specs.Footprints.{is_written}
 use Rattle.read_footprint.specs.declared.footprint.Footprint.{Footprint}
 use Rattle.read_footprint.specs.Sets.{IsNarrow, LiesInRam, has_read, has_written, is_read}
-use Rattle.rvfi_rows.specs.declared.expected.Expected.{Expected}
 use Rattle.hart_step.specs.declared.state.Core.{Core}
 use Rattle.hart_step.specs.Choices.{asks_interrupt}
 use Rattle.hart_step.specs.Steps.{before_instruction, core_after_count, core_after_entry, interrupt_of}
@@ -99,19 +97,6 @@ written_in ram (write ∷ writes) address all is = elim (or_cases _ _ is) [
   | inl here ↦ one_in ram write.pa write.len address (All-head (WriteLies ram) write writes all) here
   | inr later ↦ written_in ram writes address (All-tail (WriteLies ram) write writes all) later
 ]
-
--- what a step that was performed read and wrote
-pub performed_reads : {next : Core} {expected : Expected} {seen : List Read} {wrote : List Write} {bytes after : Bytes}
-    (core : Core) (shown : Shown)
-    → Performs (step_of core shown) (record { next = next; expected = expected }) [] seen [] wrote bytes after
-    → All (ReadLies core.map.ram) seen
-performed_reads {bytes = bytes} core shown done = rw done.seen_is (reads_lie core shown bytes)
-
-pub performed_writes : {next : Core} {expected : Expected} {seen : List Read} {wrote : List Write} {bytes after : Bytes}
-    (core : Core) (shown : Shown)
-    → Performs (step_of core shown) (record { next = next; expected = expected }) [] seen [] wrote bytes after
-    → All (WriteLies core.map.ram) wrote
-performed_writes {bytes = bytes} core shown done = rw done.wrote_is (writes_lie core shown bytes)
 
 -- a footprint after one row more
 pub record IsAdded (before after : Footprint) (reads : List Read) (writes : List Write) : Type 0 where

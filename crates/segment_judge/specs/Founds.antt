@@ -3,10 +3,11 @@ use Rattle.std.specs.Prelude.{◌≡◌, ◌<◌, ℕ, List, length, Some, slice
 use Rattle.hart_words.specs.declared.span.Span.{Span}
 use Rattle.hart_words.specs.Memory.{Bytes}
 use Rattle.rvfi_rows.specs.declared.segment.Segment.{Segment}
-use Rattle.rvfi_rows.specs.Columns.{ColumnList}
+use Rattle.rvfi_rows.specs.Columns.{TraceColumns}
 use Rattle.rvfi_rows.specs.Rows.{rows_of}
-use Rattle.hart_step.specs.declared.hart.Hart.{Hart}
-use Rattle.hart_step.specs.Harts.{state_of}
+use Rattle.hart_set.specs.declared.set.HartSet.{HartSet}
+use Rattle.hart_step.specs.declared.state.Core.{Core}
+use Rattle.hart_step.specs.HartSets.{set_state_of}
 use Rattle.segment_judge.specs.declared.found.Found.{Found}
 use Rattle.segment_judge.specs.declared.found.What.{What}
 use Rattle.segment_judge.specs.declared.found.What.TheVariants.{Judged, Skipped}
@@ -14,22 +15,22 @@ use Rattle.segment_judge.specs.declared.judged.Judged.{Judged as JudgedSegment}
 use Rattle.segment_judge.specs.Judged.{IsJudgement, IsUsable}
 
 -- the judgement of a segment from the guess before it
-abbrev pub IsJudgedFrom : {M : Type 0} → (M → Bytes) → (M → Span) → ColumnList → List Segment → List (Hart M) → ℕ
-    → JudgedSegment M → Type 0
+abbrev pub IsJudgedFrom : {M : Type 0} → (M → Bytes) → (M → Span) → TraceColumns → List Segment
+    → List (HartSet Core M) → ℕ → JudgedSegment M → Type 0
 IsJudgedFrom {M = M} bytes_of ram_of columns segments guesses number judged =
-    (segment : Segment) (guess : Hart M) → slice_get segments number ≡ Some segment
+    (segment : Segment) (guess : HartSet Core M) → slice_get segments number ≡ Some segment
     → slice_get guesses number ≡ Some guess
-    → IsJudgement bytes_of (state_of bytes_of guess) (rows_of columns segment.lines) judged
+    → IsJudgement bytes_of (set_state_of bytes_of guess) (rows_of columns segment.lines) judged
     × IsUsable ram_of (ram_of guess.mem) judged
 
 -- what was found is lawful: it names a segment, and a judgement is the segment's
-abbrev pub IsLawfulWhat : {M : Type 0} → (M → Bytes) → (M → Span) → ColumnList → List Segment → List (Hart M) → ℕ
-    → What (JudgedSegment M) → Type 0
+abbrev pub IsLawfulWhat : {M : Type 0} → (M → Bytes) → (M → Span) → TraceColumns → List Segment
+    → List (HartSet Core M) → ℕ → What (JudgedSegment M) → Type 0
 IsLawfulWhat bytes_of ram_of columns segments guesses number (Judged judged) =
     IsJudgedFrom bytes_of ram_of columns segments guesses number judged
 IsLawfulWhat bytes_of ram_of columns segments guesses number (Skipped least) = Unit {0}
 
-pub record IsLawfulFound {M : Type 0} (bytes_of : M → Bytes) (ram_of : M → Span) (columns : ColumnList)
-    (segments : List Segment) (guesses : List (Hart M)) (found : Found (JudgedSegment M)) : Type 0 where
+pub record IsLawfulFound {M : Type 0} (bytes_of : M → Bytes) (ram_of : M → Span) (columns : TraceColumns)
+    (segments : List Segment) (guesses : List (HartSet Core M)) (found : Found (JudgedSegment M)) : Type 0 where
   pub below : found.seg < length segments
   pub lawful : IsLawfulWhat bytes_of ram_of columns segments guesses found.seg found.what

@@ -1,6 +1,5 @@
--- What rows come to, one after another, from a state on: the verdict on them. The state is a hart's, or another that
--- rows
--- are judged by, one at a time.
+-- What rows come to, one after another, from a state on: the verdict on them. The state is that of harts, or of one, or
+-- another that rows are judged by, one at a time.
 use Rattle.std.specs.Prelude.{ℕ, ◌+◌, List, [], ◌∷◌, ◌++◌, Option, Some, None, Ok, Err}
 use Rattle.hart_words.specs.declared.signal.Difference.{Difference}
 use Rattle.hart_words.specs.Actions.{Action, Run, mapped}
@@ -8,9 +7,11 @@ use Rattle.hart_words.specs.Memory.{Bytes, after_writes}
 use Rattle.hart_words.specs.Signals.{Shown}
 use Rattle.rvfi_rows.specs.declared.verdict.Verdict.{Verdict}
 use Rattle.rvfi_rows.specs.declared.verdict.Verdict.TheVariants.{Agrees, Differs, Refused}
+use Rattle.rvfi_rows.specs.Meanings.{Gave}
 use Rattle.rvfi_rows.specs.Rows.{RowReading}
 use Rattle.hart_step.specs.declared.state.Core.{Core}
-use Rattle.hart_step.specs.Steps.{StepResult, step_of}
+use Rattle.hart_step.specs.Steps.{step_of}
+use Rattle.hart_step.specs.HartSets.{set_step_of}
 use Rattle.row_compare.specs.Difference.{difference_of}
 use Rattle.read_footprint.specs.Footprints.{Accesses}
 
@@ -23,10 +24,15 @@ pub record RowJudgement (C : Type 0) : Type 0 where
 abbrev pub Judging : Type 0 → Type 0
 Judging C = C → Shown → Action (RowJudgement C)
 
--- by the reference hart: it is stepped by the row, and the row is compared with what it did
-abbrev pub row_judgement_of : Shown → StepResult → RowJudgement Core
+-- what a row came to by a step: it is compared with what the hart did
+abbrev pub row_judgement_of : {C : Type 0} → Shown → Gave C → RowJudgement C
 row_judgement_of shown gave = record { next = gave.next; difference = difference_of gave.expected shown }
 
+-- by the reference harts: the row's is stepped
+unfoldable pub by_set : Judging (List Core)
+by_set cores shown = mapped (row_judgement_of shown) (set_step_of cores shown)
+
+-- by one reference hart, whatever the row says of its hart
 unfoldable pub by_hart : Judging Core
 by_hart core shown = mapped (row_judgement_of shown) (step_of core shown)
 

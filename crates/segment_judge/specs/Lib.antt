@@ -1,5 +1,6 @@
 pub mod Judgements
 pub mod Laws
+pub mod OneHart
 pub mod Judged
 pub mod Standings
 pub mod Progress

@@ -4,7 +4,7 @@ use Rattle.hart_words.specs.declared.span.Span.{Span}
 use Rattle.hart_words.specs.Memory.{Bytes, after_writes}
 use Rattle.rvfi_rows.specs.declared.verdict.Verdict.{Verdict}
 use Rattle.rvfi_rows.specs.Rows.{RowReading}
-use Rattle.hart_step.specs.Harts.{CanStep, state_of}
+use Rattle.hart_step.specs.HartSets.{SetCanStep, set_state_of}
 use Rattle.read_footprint.specs.Footprints.{Accesses, writes_of}
 use Rattle.read_footprint.specs.Sets.{IsFootprintOf, LiesInRam}
 use Rattle.segment_judge.specs.declared.progress.Progress.{Progress}
@@ -13,7 +13,7 @@ use Rattle.segment_judge.specs.Standings.{RowGives, Standing, accesses_at}
 -- where rows touched this before
 abbrev pub standing : {M : Type 0} → (M → Bytes) → Progress M → List Accesses → Standing
 standing bytes progress accesses = record {
-  state = state_of bytes progress.hart;
+  state = set_state_of bytes progress.harts;
   rows = progress.counts.rows;
   valid = progress.counts.valid;
   accesses = accesses;
@@ -23,13 +23,13 @@ standing bytes progress accesses = record {
 pub record JudgesRow {M : Type 0} (bytes_of : M → Bytes) (before now : Progress M) (row : RowReading)
     (end : Option Verdict) (accesses : List Accesses) : Type 0 where
   pub gives : RowGives (standing bytes_of before accesses) row end
-      (standing bytes_of now (accesses ++ accesses_at (state_of bytes_of before.hart) row))
+      (standing bytes_of now (accesses ++ accesses_at (set_state_of bytes_of before.harts) row))
   pub footprint : IsFootprintOf before.footprint accesses
-      → IsFootprintOf now.footprint (accesses ++ accesses_at (state_of bytes_of before.hart) row)
-  pub bytes : bytes_of now.hart.mem
-      ≡ after_writes (writes_of (accesses_at (state_of bytes_of before.hart) row)) (bytes_of before.hart.mem)
+      → IsFootprintOf now.footprint (accesses ++ accesses_at (set_state_of bytes_of before.harts) row)
+  pub bytes : bytes_of now.harts.mem
+      ≡ after_writes (writes_of (accesses_at (set_state_of bytes_of before.harts) row)) (bytes_of before.harts.mem)
 
--- the next row may be judged: the hart can step, and all that was read or written is RAM
+-- the next row may be judged: the harts can step, and all that was read or written is RAM
 pub record CanJudge {M : Type 0} (ram_of : M → Span) (progress : Progress M) : Type 0 where
-  pub can_step : CanStep ram_of progress.hart
-  pub within : LiesInRam (ram_of progress.hart.mem) progress.footprint
+  pub can_step : SetCanStep ram_of progress.harts
+  pub within : LiesInRam (ram_of progress.harts.mem) progress.footprint

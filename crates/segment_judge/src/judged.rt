@@ -1,6 +1,6 @@
 //! What the judging of a segment gives.
 
-use hart_step::Hart;
+use hart_step::Harts;
 use read_footprint::Footprint;
 use rvfi_rows::Verdict;
 
@@ -9,8 +9,8 @@ use rvfi_rows::Verdict;
 pub struct Judged<M> {
     /// The verdict on its rows, which are numbered from 1.
     pub verdict: Verdict,
-    /// The hart after them, where they agree.
-    pub end: Option<Hart<M>>,
+    /// The harts after them, where they agree.
+    pub end: Option<Harts<M>>,
     /// What they read and wrote, a row that differs too.
     pub footprint: Footprint,
 }

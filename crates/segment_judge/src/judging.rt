@@ -1,14 +1,14 @@
 //! Judging the rows of a segment, one after the other.
 
 ghost use Rattle.std.specs.Prelude.{IfOk};
-ghost use Rattle.hart_step.specs.Harts.{CanStep, state_of};
+ghost use Rattle.hart_step.specs.HartSets.{SetCanStep, set_state_of};
 ghost use Rattle.rvfi_rows.specs.Readings.{readings_in};
 ghost use Rattle.rvfi_rows.specs.Rows.{rows_of};
 ghost use Rattle.segment_judge.specs.Judged.{IsJudgement, IsUsable, HoldsInOtherMemories};
 
 use crate::judged::Judged;
 use crate::progress::Progress;
-use hart_step::Hart;
+use hart_step::Harts;
 use hart_words::{NoMemory, PhysMem};
 use rvfi_rows::{Columns, Row, Rows, Segment, Verdict, read_rows};
 use std::alloc::Global;
@@ -17,34 +17,34 @@ use std::alloc::Global;
 /// columns are read, and not kept.
 pub fn judge<M: PhysMem + Drop>(
     alloc: Global,
-    start: &Hart<M>,
+    start: &Harts<M>,
     columns: &Columns,
     segment: &Segment,
 ) -> Result<Judged<M>, NoMemory>
-    requires { CanStep M.ram start.now }
-    ensures judged { IfOk result (λ judged. IsJudgement M.bytes (state_of M.bytes start.now)
+    requires { SetCanStep M.ram start.now }
+    ensures judged { IfOk result (λ judged. IsJudgement M.bytes (set_state_of M.bytes start.now)
         (rows_of columns.now segment.now.lines) judged) }
     ensures usable { IfOk result (λ judged. IsUsable M.ram (M.ram start.now.mem) judged) }
     // What was read of memory is all of it that the verdict depends on.
-    ensures stands { IfOk result (λ judged. HoldsInOtherMemories M.bytes (state_of M.bytes start.now)
-        (rows_of columns.now segment.now.lines) judged) }
+    ensures stands { IfOk result (λ judged. HoldsInOtherMemories M.bytes
+        (set_state_of M.bytes start.now) (rows_of columns.now segment.now.lines) judged) }
 {
     judge_from(alloc, start.copy()?, columns, segment)
 }
 
-/// The same of a hart that is not needed any more.
+/// The same of harts that are not needed any more.
 pub fn judge_from<M: PhysMem + Drop>(
     alloc: Global,
-    start: Hart<M>,
+    start: Harts<M>,
     columns: &Columns,
     segment: &Segment,
 ) -> Result<Judged<M>, NoMemory>
-    requires { CanStep M.ram start }
-    ensures judged { IfOk result (λ judged. IsJudgement M.bytes (state_of M.bytes start)
+    requires { SetCanStep M.ram start }
+    ensures judged { IfOk result (λ judged. IsJudgement M.bytes (set_state_of M.bytes start)
         (rows_of columns.now segment.now.lines) judged) }
     ensures usable { IfOk result (λ judged. IsUsable M.ram (M.ram start.mem) judged) }
-    ensures stands { IfOk result (λ judged. HoldsInOtherMemories M.bytes (state_of M.bytes start)
-        (rows_of columns.now segment.now.lines) judged) }
+    ensures stands { IfOk result (λ judged. HoldsInOtherMemories M.bytes
+        (set_state_of M.bytes start) (rows_of columns.now segment.now.lines) judged) }
 {
     match segment.rows(columns) {
         Some(rows) => judge_rows(alloc, start, rows),
@@ -58,15 +58,15 @@ pub fn judge_from<M: PhysMem + Drop>(
 /// Judges rows that were read.
 fn judge_rows<M: PhysMem + Drop>(
     alloc: Global,
-    start: Hart<M>,
+    start: Harts<M>,
     rows: &Rows,
 ) -> Result<Judged<M>, NoMemory>
-    requires { CanStep M.ram start }
+    requires { SetCanStep M.ram start }
     ensures judged { IfOk result (λ judged.
-        IsJudgement M.bytes (state_of M.bytes start) (readings_in rows.now) judged) }
+        IsJudgement M.bytes (set_state_of M.bytes start) (readings_in rows.now) judged) }
     ensures usable { IfOk result (λ judged. IsUsable M.ram (M.ram start.mem) judged) }
     ensures stands { IfOk result (λ judged.
-        HoldsInOtherMemories M.bytes (state_of M.bytes start) (readings_in rows.now) judged) }
+        HoldsInOtherMemories M.bytes (set_state_of M.bytes start) (readings_in rows.now) judged) }
 {
     let mut progress = Progress::before(alloc, start);
     let mut row = Row::empty();
@@ -89,7 +89,7 @@ fn judge_rows<M: PhysMem + Drop>(
             rows: progress.counts.rows,
             valid: progress.counts.valid,
         },
-        end: Some(progress.hart),
+        end: Some(progress.harts),
         footprint: progress.footprint,
     })
 }

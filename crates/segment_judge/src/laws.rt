@@ -1,14 +1,17 @@
 //! What holds of judgements.
 
 ghost use Rattle.std.specs.Prelude.{ℕ, List};
+ghost use Rattle.hart_words.specs.declared.span.Span.{Span};
 ghost use Rattle.hart_words.specs.Memory.{Bytes};
 ghost use Rattle.hart_words.specs.States.{State};
+ghost use Rattle.rvfi_rows.specs.Columns.{TraceColumns};
 ghost use Rattle.rvfi_rows.specs.Rows.{RowReading};
 ghost use Rattle.hart_step.specs.declared.state.Core.{Core};
-ghost use Rattle.hart_step.specs.Rows.{HartState};
+ghost use Rattle.hart_step.specs.HartSets.{SetState};
 ghost use Rattle.segment_judge.specs.declared.judged.Judged.{Judged};
-ghost use Rattle.segment_judge.specs.Judgements.{Judging, by_hart};
+ghost use Rattle.segment_judge.specs.Judgements.{Judging};
 ghost use Rattle.segment_judge.specs.Laws.{FramedByFootprint, JudgedInParts};
+ghost use Rattle.segment_judge.specs.OneHart.{OneHartJudgesAlone, RowsAreOfFirst};
 ghost use Rattle.segment_judge.specs.Ram.{FootprintLiesInRam, TouchesRamAlone};
 
 /// Rows may be judged in parts: all of them, or the first part and then the others from the state
@@ -25,11 +28,20 @@ pub fn judgements_are_framed<C>()
         → FramedByFootprint judging core rows one other }
 {}
 
-/// A judgement by the reference hart reads and writes RAM alone, and so all bytes that are noted of
-/// it are RAM: who judges elsewhere, over the same RAM, owes no proof of that.
+/// A judgement by the reference harts reads and writes RAM alone, and so all bytes that are noted
+/// of it are RAM: who judges elsewhere, over the same RAM, owes no proof of that.
 pub fn judgements_touch_ram_alone<M>()
-    ensures accesses { (core : Core) (rows : List RowReading) (bytes : Bytes)
-        → TouchesRamAlone core rows bytes }
-    ensures noted { (bytes_of : M → Bytes) (start : HartState) (rows : List RowReading)
-        (judged : Judged M) → FootprintLiesInRam bytes_of start rows judged }
+    ensures accesses { (ram : Span) (cores : List Core) (rows : List RowReading) (bytes : Bytes)
+        → TouchesRamAlone ram cores rows bytes }
+    ensures noted { (bytes_of : M → Bytes) (ram : Span) (start : SetState) (rows : List RowReading)
+        (judged : Judged M) → FootprintLiesInRam bytes_of ram start rows judged }
+{}
+
+/// With one hart the set is the hart: the rows of a trace of one hart come to what they come to by
+/// that hart alone. Each valid row that is read for one hart is of it.
+pub fn one_hart_judges_alone()
+    ensures alone { (core : Core) (rows : List RowReading) (bytes : Bytes)
+        → OneHartJudgesAlone core rows bytes }
+    ensures rows { (columns : TraceColumns) (lines : List (List ℕ))
+        → RowsAreOfFirst columns lines }
 {}

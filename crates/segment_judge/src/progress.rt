@@ -1,24 +1,24 @@
 //! How far a segment was judged.
 
 ghost use Rattle.std.specs.Prelude.{◌≡◌, ◌≤◌, ◌<◌, ◌+◌, ◌^◌, [], List, Ok, Some, IfOk, IfNone};
-ghost use Rattle.hart_step.specs.Harts.{CanStep};
+ghost use Rattle.hart_step.specs.HartSets.{SetCanStep};
 ghost use Rattle.rvfi_rows.specs.Cells.{shown_in};
 ghost use Rattle.rvfi_rows.specs.Readings.{reading_of};
 ghost use Rattle.read_footprint.specs.Footprints.{Accesses};
 ghost use Rattle.read_footprint.specs.Sets.{IsFootprintOf};
 
-use hart_step::Hart;
+use hart_step::Harts;
 use hart_words::{NoMemory, PhysMem};
 use read_footprint::Footprint;
 use row_compare::first_difference;
 use rvfi_rows::{Reading, Row, RowCounts, Stepped, Verdict};
 use std::alloc::Global;
 
-/// How far a segment was judged: the hart, what the rows read and wrote, how many there were, and
+/// How far a segment was judged: the harts, what the rows read and wrote, how many there were, and
 /// what the last step gave, which is large and is put in place again by the next.
 #[derive(Drop)]
 pub(crate) struct Progress<M> {
-    pub hart: Hart<M>,
+    pub harts: Harts<M>,
     pub footprint: Footprint,
     pub counts: RowCounts,
     pub stepped: Stepped,
@@ -28,16 +28,16 @@ impl<M: PhysMem + Drop> Progress<M> {
     ghost use Rattle.segment_judge.specs.Progress.{CanJudge, JudgesRow};
 
     /// No row was judged yet.
-    pub fn before(alloc: Global, hart: Hart<M>) -> Progress<M>
-        requires { CanStep M.ram hart }
-        ensures hart { result.hart ≡ hart }
+    pub fn before(alloc: Global, harts: Harts<M>) -> Progress<M>
+        requires { SetCanStep M.ram harts }
+        ensures harts { result.harts ≡ harts }
         ensures rows { result.counts.rows ≡ 0 }
         ensures valid { result.counts.valid ≡ 0 }
         ensures footprint { IsFootprintOf result.footprint [] }
         ensures can_judge { CanJudge M.ram result }
     {
         Progress {
-            hart,
+            harts,
             footprint: Footprint::empty(alloc),
             counts: RowCounts::zero(),
             stepped: Stepped::halted(),
@@ -52,8 +52,9 @@ impl<M: PhysMem + Drop> Progress<M> {
         ensures judges { IfOk result (λ end. (accesses : List Accesses) → JudgesRow M.bytes self.old
             self.new (reading_of reading (shown_in row.now)) end accesses) }
         ensures can_judge { IfOk result (λ end. CanJudge M.ram self.new) }
-        ensures ram { M.ram self.new.hart.mem ≡ M.ram self.old.hart.mem }
-        ensures rows { IfOk result (λ end. IfNone end (self.new.counts.rows ≡ self.old.counts.rows + 1)) }
+        ensures ram { M.ram self.new.harts.mem ≡ M.ram self.old.harts.mem }
+        ensures rows { IfOk result (λ end. IfNone end
+            (self.new.counts.rows ≡ self.old.counts.rows + 1)) }
     {
         match reading {
             Reading::Refused(fault) => Ok(Some(Verdict::Refused {
@@ -68,17 +69,18 @@ impl<M: PhysMem + Drop> Progress<M> {
         }
     }
 
-    /// Judges a valid row: the hart is stepped by it, and it is compared with what the hart did.
+    /// Judges a valid row: its hart is stepped by it, and it is compared with what the hart did.
     fn judge_valid(&mut self, row: &Row) -> Result<Option<Verdict>, NoMemory>
         requires can_judge { CanJudge M.ram self.old }
         requires below_2_to_63 { self.old.counts.rows < 2 ^ 63 }
         ensures judges { IfOk result (λ end. (accesses : List Accesses) → JudgesRow M.bytes self.old
             self.new (Ok (Some (shown_in row.now))) end accesses) }
         ensures can_judge { IfOk result (λ end. CanJudge M.ram self.new) }
-        ensures ram { M.ram self.new.hart.mem ≡ M.ram self.old.hart.mem }
-        ensures rows { IfOk result (λ end. IfNone end (self.new.counts.rows ≡ self.old.counts.rows + 1)) }
+        ensures ram { M.ram self.new.harts.mem ≡ M.ram self.old.harts.mem }
+        ensures rows { IfOk result (λ end. IfNone end
+            (self.new.counts.rows ≡ self.old.counts.rows + 1)) }
     {
-        self.hart.step_into(row, &mut self.stepped)?;
+        self.harts.step_into(row, &mut self.stepped)?;
         self.footprint.add(&self.stepped.seen, &self.stepped.wrote)?;
         match first_difference(&self.stepped.expected, row) {
             Some(difference) => {

@@ -1,11 +1,11 @@
-ghost use Rattle.std.specs.Prelude.{◌≡◌, IfOk, IfSome, IsTrue};
+ghost use Rattle.std.specs.Prelude.{◌≡◌, ◌≤◌, IfOk, IfSome, IsTrue};
 ghost use Rattle.hart_step.specs.Cores.{IsSound};
-ghost use Rattle.hart_step.specs.Harts.{CanStep};
+ghost use Rattle.hart_step.specs.HartSets.{SetCanStep};
 ghost use Rattle.line_text.specs.Lines.{IsLine};
 ghost use Rattle.page_layers.specs.Memories.{map_bytes, map_bytes-fits};
 
 use super::*;
-use hart_step::{Core, Hart};
+use hart_step::{Core, Harts};
 use hart_words::{Choices, Difference, Map, Mode, NoMemory, PhysMem, Signal, Span};
 use line_text::Lines;
 use page_layers::MapMem;
@@ -15,6 +15,9 @@ use std::process::Abort;
 use std::test::Fail;
 
 const CODE: u64 = 0x8000_0000;
+
+/// Where the other program stands.
+const SHARING: u64 = 0x8000_0020;
 
 const DATA: u64 = 0x8000_1000;
 
@@ -31,8 +34,9 @@ const BEHIND: u64 = 0x0011_2233_4455_6677;
 /// What stands in memory, by address and length. The program: ADDI x1, x0, 5; SD x1, 8(x10);
 /// LD x3, 0(x10); LD x4, 8(x10). Page tables that map the first 2 MiB from `CODE` on to themselves:
 /// an entry that is valid and names the next table; and one that is valid, may be read, written and
-/// executed, and has A and D. Numbers.
-const NUMBERS: [(u64, u8, u64); 8] = [
+/// executed, and has A and D. Numbers. Another program: LR.D x12, (x10); SC.D x12, x11, (x10);
+/// LD x3, 0(x10).
+const NUMBERS: [(u64, u8, u64); 11] = [
     (CODE, 4, 0x0050_0093),
     (CODE + 4, 4, 0x0015_3423),
     (CODE + 8, 4, 0x0005_3183),
@@ -41,6 +45,9 @@ const NUMBERS: [(u64, u8, u64); 8] = [
     (BELOW, 8, (CODE >> 12) << 10 | 0xcf),
     (DATA, 8, HELD),
     (DATA + 8, 8, BEHIND),
+    (SHARING, 4, 0x1005_362f),
+    (SHARING + 4, 4, 0x18b5_362f),
+    (SHARING + 8, 4, 0x0005_3183),
 ];
 
 const HEADER: &[u8] = b"valid,insn,pc_rdata,rd_addr,rd_wdata,pc_wdata";
@@ -127,16 +134,32 @@ fn map() -> Result<Map, Fail> {
 }
 
 /// A hart at an address of code, with `DATA` in x10.
-fn start(alloc: Global, pc: u64) -> Result<Hart<MapMem>, Fail>
-    ensures { IfOk result (CanStep (λ mem. mem.ram)) }
+fn core_at(pc: u64) -> Result<Core, Fail>
+    ensures { IfOk result IsSound }
 {
     if pc % 2 != 0 {
         return Err(Fail::from("no address of code"));
     }
-    let map = map()?;
-    let mut hart = Hart::reset(memory(alloc, map.ram)?, pc, map, Choices::plain());
-    hart.core.registers.set(10, DATA);
-    Ok(hart)
+    let mut core = Core::reset(pc, map()?, Choices::plain());
+    core.registers.set(10, DATA);
+    Ok(core)
+}
+
+/// So many harts, each as this one.
+fn harts_of(alloc: Global, core: Core, harts: u32) -> Result<Harts<MapMem>, Fail>
+    requires sound { IsSound core }
+    requires some { 1 ≤ harts }
+    ensures { IfOk result (SetCanStep (λ mem. mem.ram)) }
+{
+    let mem = memory(alloc, core.map.ram)?;
+    Ok(Harts::reset(alloc, core, harts, mem)?)
+}
+
+/// One hart, at an address of code.
+fn start(alloc: Global, pc: u64) -> Result<Harts<MapMem>, Fail>
+    ensures { IfOk result (SetCanStep (λ mem. mem.ram)) }
+{
+    harts_of(alloc, core_at(pc)?, 1)
 }
 
 /// Writes a register of control as M does.
@@ -151,53 +174,64 @@ fn write(core: &mut Core, address: u16, value: u64) -> Result<(), Fail>
 }
 
 /// The same in S, by the page tables, where an entry of protection grants all.
-fn translating_hart(alloc: Global, pc: u64) -> Result<Hart<MapMem>, Fail>
-    ensures { IfOk result (CanStep (λ mem. mem.ram)) }
+fn translating(alloc: Global, pc: u64) -> Result<Harts<MapMem>, Fail>
+    ensures { IfOk result (SetCanStep (λ mem. mem.ram)) }
 {
-    let mut hart = start(alloc, pc)?;
+    let mut core = core_at(pc)?;
     // pmpaddr0, pmpcfg0, and satp with Sv39 as its MODE.
-    write(&mut hart.core, 0x3b0, 0x3f_ffff_ffff_ffff)?;
-    write(&mut hart.core, 0x3a0, 0x1f)?;
-    write(&mut hart.core, 0x180, 8 << 60 | ROOT >> 12)?;
-    hart.core.mode = Mode::Supervisor;
-    Ok(hart)
+    write(&mut core, 0x3b0, 0x3f_ffff_ffff_ffff)?;
+    write(&mut core, 0x3a0, 0x1f)?;
+    write(&mut core, 0x180, 8 << 60 | ROOT >> 12)?;
+    core.mode = Mode::Supervisor;
+    harts_of(alloc, core, 1)
+}
+
+/// The RAM of the harts.
+fn ram_of(harts: &Harts<MapMem>) -> Span
+    requires { SetCanStep (λ mem. mem.ram) harts.now }
+    ensures { harts.now.mem.ram ≡ result }
+{
+    harts.cores[0].map.ram
 }
 
 /// The numbers in pc, in x1, in x3, in x4 and after `DATA`.
 type Numbers = (u64, u64, u64, u64, u64);
 
-fn numbers(hart: &Hart<MapMem>) -> Result<Numbers, Fail>
-    requires { CanStep (λ mem. mem.ram) hart.now }
+/// Those of the first hart.
+fn numbers(harts: &Harts<MapMem>) -> Result<Numbers, Fail>
+    requires { SetCanStep (λ mem. mem.ram) harts.now }
 {
-    let registers = &hart.core.registers;
+    let after_data = number_at(&harts.mem, &ram_of(harts), DATA + 8, 8)?;
+    let core = &harts.cores[0];
+    let registers = &core.registers;
     Ok((
-        hart.core.pc,
+        core.pc,
         registers.get(1),
         registers.get(3),
         registers.get(4),
-        number_at(&hart.mem, &hart.core.map.ram, DATA + 8, 8)?,
+        after_data,
     ))
 }
 
 const BEGIN: Numbers = (CODE, 0, 0, 0, BEHIND);
 
-/// Rows, the verdict on them, and the numbers of the hart after them.
+/// Rows, the verdict on them, and the numbers of the first hart after them.
 type Case<'a> = (&'a [&'a [u8]], Verdict, Option<Numbers>);
 
 /// The judging gave what the case wants.
 fn hold_judged(rt: &impl Abort, judged: &Judged<MapMem>, case: &Case) -> Result<(), Fail>
-    requires { IfSome judged.now.end (CanStep (λ mem. mem.ram)) }
+    requires { IfSome judged.now.end (SetCanStep (λ mem. mem.ram)) }
 {
     assert_eq!(rt; judged.verdict, case.1);
     let end = match &judged.end {
         None => None,
-        Some(hart) => Some(numbers(hart)?),
+        Some(harts) => Some(numbers(harts)?),
     };
     assert_eq!(rt; end, case.2, "following {:?}", case.1);
     Ok(())
 }
 
-/// Judges the segment from a hart that is kept, and from one that is not.
+/// Judges the segment from harts that are kept, and from harts that are not.
 fn hold_segment(
     rt: &impl Abort,
     alloc: Global,
@@ -205,10 +239,10 @@ fn hold_segment(
     segment: &Segment,
     case: &Case,
 ) -> Result<(), Fail> {
-    let hart = start(alloc, CODE)?;
-    hold_judged(rt, &judge(alloc, &hart, columns, segment)?, case)?;
-    assert_eq!(rt; numbers(&hart)?, BEGIN);
-    hold_judged(rt, &judge_from(alloc, hart, columns, segment)?, case)
+    let harts = start(alloc, CODE)?;
+    hold_judged(rt, &judge(alloc, &harts, columns, segment)?, case)?;
+    assert_eq!(rt; numbers(&harts)?, BEGIN);
+    hold_judged(rt, &judge_from(alloc, harts, columns, segment)?, case)
 }
 
 /// Judges the rows of a case, where they were not read, where they were read under these columns,
@@ -296,19 +330,70 @@ fn judges_segments(rt: HostRuntime) -> Result<(), Fail> {
     Ok(())
 }
 
+const OF_HARTS: &[u8] = b"hart,insn,pc_rdata,rd_addr,rd_wdata,pc_wdata";
+
+/// The rows of two harts: each loads and reserves the number at `DATA`, and one stores there.
+const RESERVE_0: &[u8] = b"0,0x1005362f,0x80000020,12,0x8899aabbccddeeff,0x80000024";
+
+const RESERVE_1: &[u8] = b"1,0x1005362f,0x80000020,12,0x8899aabbccddeeff,0x80000024";
+
+const STORED_0: &[u8] = b"0,0x18b5362f,0x80000024,12,0,0x80000028";
+
+const LOST_1: &[u8] = b"1,0x18b5362f,0x80000024,12,1,0x80000028";
+
+/// The last, as if the other hart had not stored.
+const STORED_1: &[u8] = b"1,0x18b5362f,0x80000024,12,0,0x80000028";
+
+/// What hart 0 stored, as each hart loads it.
+const LOADED_0: &[u8] = b"0,0x00053183,0x80000028,3,0,0x8000002c";
+
+const LOADED_1: &[u8] = b"1,0x00053183,0x80000028,3,0,0x8000002c";
+
+const OF_NONE: &[u8] = b"2,0x1005362f,0x80000020,12,0x8899aabbccddeeff,0x80000024";
+
+/// Judges rows of two harts.
+fn verdict_of_two(alloc: Global, rows: &[&[u8]]) -> Result<Verdict, Fail> {
+    let columns = read_header(alloc, OF_HARTS)?.with_harts(2);
+    let segment = segment_of(alloc, rows)?;
+    let harts = harts_of(alloc, core_at(SHARING)?, 2)?;
+    Ok(judge_from(alloc, harts, &columns, &segment)?.verdict)
+}
+
+#[test]
+fn judges_two_harts(rt: HostRuntime) -> Result<(), Fail> {
+    let cases: [(&[&[u8]], Verdict); 6] = [
+        (
+            &[RESERVE_0, RESERVE_1, STORED_0, LOST_1, LOADED_1, LOADED_0],
+            agrees(6, 6),
+        ),
+        (&[RESERVE_0, STORED_0, LOADED_0], agrees(3, 3)),
+        (&[RESERVE_1, STORED_1, LOADED_1], agrees(3, 3)),
+        (
+            &[RESERVE_0, RESERVE_1, STORED_0, STORED_1],
+            differs(4, 1, 0),
+        ),
+        (&[RESERVE_0, STORED_0, RESERVE_1], differs(3, 0, HELD)),
+        (&[RESERVE_1, OF_NONE], refusal(2, RowFault::NoHart)),
+    ];
+    'cases: for (rows, verdict) in cases {
+        assert_eq!(rt; verdict_of_two(rt.alloc(), rows)?, verdict);
+    }
+    Ok(())
+}
+
 /// Whether a memory whose byte at an address is another agrees on what the rows read.
 fn agrees_beside(
     rt: &impl Abort,
     alloc: Global,
-    start: Hart<MapMem>,
+    start: Harts<MapMem>,
     rows: &[&[u8]],
     pa: u64,
 ) -> Result<bool, Fail>
-    requires { CanStep (λ mem. mem.ram) start }
+    requires { SetCanStep (λ mem. mem.ram) start }
 {
     let columns = read_header(alloc, HEADER)?;
     let segment = segment_of(alloc, rows)?;
-    let ram = start.core.map.ram;
+    let ram = ram_of(&start);
     let mut other = start.mem.copy()?;
     let byte = number_at(&other, &ram, pa, 1)?;
     put(&mut other, &ram, pa, 1, byte ^ 0xff)?;
@@ -377,7 +462,7 @@ fn notes_page_tables(rt: HostRuntime) -> Result<(), Fail> {
     ];
     'cases: for (pc, rows, pa, agrees) in cases {
         let alloc = rt.alloc();
-        let found = agrees_beside(&rt, alloc, translating_hart(alloc, pc)?, rows, pa)?;
+        let found = agrees_beside(&rt, alloc, translating(alloc, pc)?, rows, pa)?;
         assert_eq!(rt; found, agrees, "{pc} and {pa}");
     }
     Ok(())
@@ -415,17 +500,15 @@ impl PhysMem for Refusing {
     }
 }
 
-/// A hart at the start of the code over a memory that refuses, with `DATA` in x10.
-fn start_refusing(alloc: Global) -> Result<Hart<Refusing>, Fail>
-    ensures { IfOk result (CanStep (λ memory. memory.mem.ram)) }
+/// One hart at the start of the code, over a memory that refuses.
+fn start_refusing(alloc: Global) -> Result<Harts<Refusing>, Fail>
+    ensures { IfOk result (SetCanStep (λ memory. memory.mem.ram)) }
 {
-    let map = map()?;
+    let core = core_at(CODE)?;
     let mem = Refusing {
-        mem: memory(alloc, map.ram)?,
+        mem: memory(alloc, core.map.ram)?,
     };
-    let mut hart = Hart::reset(mem, CODE, map, Choices::plain());
-    hart.core.registers.set(10, DATA);
-    Ok(hart)
+    Ok(Harts::reset(alloc, core, 1, mem)?)
 }
 
 /// The verdict, where memory was not refused.
@@ -454,10 +537,10 @@ fn stops_without_memory(rt: HostRuntime) -> Result<(), Fail> {
         let alloc = rt.alloc();
         let columns = read_header(alloc, HEADER)?;
         let segment = segment_of(alloc, rows)?;
-        let hart = start_refusing(alloc)?;
-        assert_eq!(rt; known_files(judge(alloc, &hart, &columns, &segment)), None);
+        let harts = start_refusing(alloc)?;
+        assert_eq!(rt; known_files(judge(alloc, &harts, &columns, &segment)), None);
         assert_eq!(rt;
-            known_files(judge_from(alloc, hart, &columns, &segment)),
+            known_files(judge_from(alloc, harts, &columns, &segment)),
             verdict
         );
     }

@@ -1,10 +1,6 @@
-use Rattle.std.proofs.Common.{◌≡◌}
-use Rattle.hart_step.specs.Cores.{IsSound}
+use Rattle.hart_step.specs.HartSets.{SetCanStep}
 use Rattle.page_layers.specs.Memories.{layered_ram}
 use Rattle.boundary_guess.proofs.compiled_tests.guesses_one_row_more.Given as goal
 
 abbrev pub invariant-rows : goal.invariant-rows
-invariant-rows g l = record {
-  sound : IsSound l.hart.core;
-  ram : layered_ram l.hart.mem ≡ l.hart.core.map.ram;
-}
+invariant-rows g l = SetCanStep layered_ram l.harts

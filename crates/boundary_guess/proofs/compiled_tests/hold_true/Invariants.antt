@@ -1,10 +1,6 @@
-use Rattle.std.proofs.Common.{◌≡◌}
-use Rattle.hart_step.specs.Cores.{IsSound}
+use Rattle.hart_step.specs.HartSets.{SetCanStep}
 use Rattle.page_layers.specs.Memories.{layered_ram}
 use Rattle.boundary_guess.proofs.compiled_tests.hold_true.Given as goal
 
 abbrev pub invariant-found : goal.invariant-found
-invariant-found g l = record {
-  sound : IsSound l.hart.core;
-  ram : layered_ram l.hart.mem ≡ l.hart.core.map.ram;
-}
+invariant-found g l = SetCanStep layered_ram l.harts

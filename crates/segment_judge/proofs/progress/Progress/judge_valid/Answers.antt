@@ -1,20 +1,23 @@
 use Rattle.std.proofs.Common.{sym}
 use Rattle.rvfi_rows.specs.Cells.{shown_in}
 use Rattle.segment_judge.proofs.Progressed.{judges_agreed, judges_differing, still_judges}
-use Rattle.segment_judge.proofs.Within.{performed_reads, performed_writes, reads_narrow, writes_narrow}
+use Rattle.segment_judge.proofs.SetSteps.{performed_reads, performed_writes}
+use Rattle.segment_judge.proofs.Within.{reads_narrow, writes_narrow}
 use Rattle.segment_judge.proofs.progress.Progress.judge_valid.Goals as goal
 
 pub add-requires-clause-reads : goal.add-requires-clause-reads
 add-requires-clause-reads g c =
-    let core = c.args.self.now.hart.core in
-    reads_narrow core.map.ram c.step_into.new.stepped.seen
-    (performed_reads core _ c.in_ok-step_into.ensures.stepped)
+    let harts = c.args.self.now.harts in
+    reads_narrow (g.M.PhysMem.ram harts.mem) c.step_into.new.stepped.seen
+    (performed_reads (g.M.PhysMem.ram harts.mem) harts.cores.items _ c.requires.can_judge.can_step.maps
+    c.in_ok-step_into.ensures.stepped)
 
 pub add-requires-clause-writes : goal.add-requires-clause-writes
 add-requires-clause-writes g c =
-    let core = c.args.self.now.hart.core in
-    writes_narrow core.map.ram c.step_into.new.stepped.wrote
-    (performed_writes core _ c.in_ok-step_into.ensures.stepped)
+    let harts = c.args.self.now.harts in
+    writes_narrow (g.M.PhysMem.ram harts.mem) c.step_into.new.stepped.wrote
+    (performed_writes (g.M.PhysMem.ram harts.mem) harts.cores.items _ c.requires.can_judge.can_step.maps
+    c.in_ok-step_into.ensures.stepped)
 
 pub returns-in-Some-clause-judges : goal.returns-in-Some-clause-judges
 returns-in-Some-clause-judges g c = λ accesses.
@@ -42,16 +45,18 @@ returns-in-None-clause-judges g c = λ accesses.
 
 pub returns-in-Some-clause-can_judge : goal.returns-in-Some-clause-can_judge
 returns-in-Some-clause-can_judge g c =
-    let core = c.args.self.now.hart.core in
-    still_judges g.M.PhysMem.ram c.requires.can_judge c.step_into.ensures.sound c.step_into.ensures.map
-    c.step_into.ensures.ram (record { read = c.in_ok-add.ensures.read; wrote = c.in_ok-add.ensures.wrote })
-    (performed_reads core _ c.in_ok-step_into.ensures.stepped)
-    (performed_writes core _ c.in_ok-step_into.ensures.stepped)
+    let harts = c.args.self.now.harts in
+    let maps = c.requires.can_judge.can_step.maps in
+    still_judges g.M.PhysMem.ram c.requires.can_judge c.step_into.ensures.can c.step_into.ensures.ram
+    (record { read = c.in_ok-add.ensures.read; wrote = c.in_ok-add.ensures.wrote })
+    (performed_reads (g.M.PhysMem.ram harts.mem) harts.cores.items _ maps c.in_ok-step_into.ensures.stepped)
+    (performed_writes (g.M.PhysMem.ram harts.mem) harts.cores.items _ maps c.in_ok-step_into.ensures.stepped)
 
 pub returns-in-None-clause-can_judge : goal.returns-in-None-clause-can_judge
 returns-in-None-clause-can_judge g c =
-    let core = c.args.self.now.hart.core in
-    still_judges g.M.PhysMem.ram c.requires.can_judge c.step_into.ensures.sound c.step_into.ensures.map
-    c.step_into.ensures.ram (record { read = c.in_ok-add.ensures.read; wrote = c.in_ok-add.ensures.wrote })
-    (performed_reads core _ c.in_ok-step_into.ensures.stepped)
-    (performed_writes core _ c.in_ok-step_into.ensures.stepped)
+    let harts = c.args.self.now.harts in
+    let maps = c.requires.can_judge.can_step.maps in
+    still_judges g.M.PhysMem.ram c.requires.can_judge c.step_into.ensures.can c.step_into.ensures.ram
+    (record { read = c.in_ok-add.ensures.read; wrote = c.in_ok-add.ensures.wrote })
+    (performed_reads (g.M.PhysMem.ram harts.mem) harts.cores.items _ maps c.in_ok-step_into.ensures.stepped)
+    (performed_writes (g.M.PhysMem.ram harts.mem) harts.cores.items _ maps c.in_ok-step_into.ensures.stepped)
