@@ -10,12 +10,11 @@ use Rattle.board_core.specs.Machine.{looks, machine_at_start, machine_after_even
 use Rattle.hart_words.specs.declared.span.Span.{Span}
 use Rattle.hart_words.specs.Memory.{Bytes}
 use Rattle.rvfi_rows.specs.Rows.{RowReading}
-use Rattle.hart_step.specs.Harts.{state_of}
-use Rattle.hart_step.specs.Rows.{HartState}
+use Rattle.hart_step.specs.HartSets.{SetState, set_state_of}
 use Rattle.segment_judge.specs.declared.found.What.{What}
 use Rattle.segment_judge.specs.declared.found.What.TheVariants.{Judged, Skipped}
 use Rattle.segment_judge.specs.declared.judged.Judged.{Judged as JudgedSegment}
-use Rattle.segment_judge.specs.Judgements.{by_hart}
+use Rattle.segment_judge.specs.Judgements.{by_set}
 use Rattle.verdict_board.specs.declared.view.View.{View}
 use Rattle.verdict_join.specs.Founds.{IsLeftBy, WasFoundSo}
 use Rattle.verdict_join.specs.Joining.{finding, found_of, rows_of_segment}
@@ -34,23 +33,23 @@ no_none xs i low none =
 pub has_same : (one other : List (ℕ × ℕ)) → SameBag one other → (pair : ℕ × ℕ) → Has other pair → Has one pair
 has_same one other same pair has = omega (arith, has, same (λ x. as_number (is_pair pair x)))
 
-module _ {M : Type 0} (rows : List (List RowReading)) (states : List HartState) (view : View) (n : ℕ)
+module _ {M : Type 0} (rows : List (List RowReading)) (states : List SetState) (view : View) (n : ℕ)
     (events : List Event)
     (looks_same : SameBag (looks (machine_at_start n) events) view.looks) where
   found_so : (worker number : ℕ) (what : What (JudgedSegment M)) → number < length rows → number < length states
       → IsSeenSo view worker number what
-      → IsTheirFinding by_hart rows states number (finding (slice_get rows number) (slice_get states number) what)
-      → WasFoundSo by_hart rows states n events worker number
+      → IsTheirFinding by_set rows states number (finding (slice_get rows number) (slice_get states number) what)
+      → WasFoundSo by_set rows states n events worker number
       (finding (slice_get rows number) (slice_get states number) what)
   found_so worker number (Skipped least) row state seen theirs =
       (seen.0, has_same (looks (machine_at_start n) events) view.looks looks_same (worker, least) seen.1)
   found_so worker number (Judged judged) row state seen theirs =
       by (slice_get rows number) (slice_get states number) refl refl theirs
     where
-      by : (mine : Option (List RowReading)) (guess : Option HartState) → slice_get rows number ≡ mine
+      by : (mine : Option (List RowReading)) (guess : Option SetState) → slice_get rows number ≡ mine
           → slice_get states number ≡ guess
-          → IsTheirFinding by_hart rows states number (finding mine guess (Judged judged))
-          → WasFoundSo by_hart rows states n events worker number (finding mine guess (Judged judged))
+          → IsTheirFinding by_set rows states number (finding mine guess (Judged judged))
+          → WasFoundSo by_set rows states n events worker number (finding mine guess (Judged judged))
       by None guess no_row at theirs = absurd (no_none rows number row no_row)
       by (Some mine) None here no_state theirs = absurd (no_none states number state no_state)
       by (Some mine) (Some guess) here at theirs = theirs
@@ -91,11 +90,11 @@ leaves_founds : {M : Type 0} (bytes_of : M → Bytes) (ram_of : M → Span) (ran
     → LeavesFounds bytes_of ran events
 leaves_founds {M} bytes_of ram_of ran events draws_are looks_are promised =
     let rows : List (List RowReading) = map (rows_of_segment ran.columns) ran.segments in
-    let states : List HartState = map (state_of bytes_of) ran.guesses in
+    let states : List SetState = map (set_state_of bytes_of) ran.guesses in
     let n = length ran.segments in
     let rows_many : length rows ≡ n = length-map ran.segments (rows_of_segment ran.columns) in
-    let states_many : length states ≡ n = length-map ran.guesses (state_of bytes_of) ∙ promised.one_each in
-    All-map (IsLeftBy by_hart rows states n events) (found_of rows states) ran.founds (λ k d low.
+    let states_many : length states ≡ n = length-map ran.guesses (set_state_of bytes_of) ∙ promised.one_each in
+    All-map (IsLeftBy by_set rows states n events) (found_of rows states) ran.founds (λ k d low.
     let lawful = promised.lawful k d low in
     let by = promised.by k d low in
     record {

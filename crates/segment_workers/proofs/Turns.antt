@@ -16,15 +16,15 @@ use Rattle.rvfi_rows.specs.declared.segment.Segment.{Segment}
 use Rattle.rvfi_rows.specs.declared.verdict.Verdict.{Verdict}
 use Rattle.rvfi_rows.specs.declared.verdict.Verdict.TheVariants.{Agrees, Differs, Refused}
 use Rattle.rvfi_rows.specs.Rows.{RowReading}
-use Rattle.hart_step.specs.declared.hart.Hart.{Hart}
-use Rattle.hart_step.specs.Harts.{state_of}
-use Rattle.hart_step.specs.Rows.{HartState}
+use Rattle.hart_set.specs.declared.set.HartSet.{HartSet}
+use Rattle.hart_step.specs.declared.state.Core.{Core}
+use Rattle.hart_step.specs.HartSets.{SetState, set_state_of}
 use Rattle.segment_judge.specs.declared.found.Found.{Found}
 use Rattle.segment_judge.specs.declared.found.What.{What}
 use Rattle.segment_judge.specs.declared.found.What.TheVariants.{Judged, Skipped}
 use Rattle.segment_judge.specs.declared.judged.Judged.{Judged as JudgedSegment}
 use Rattle.segment_judge.specs.Founds.{IsLawfulFound, IsLawfulWhat}
-use Rattle.segment_judge.specs.Judgements.{by_hart}
+use Rattle.segment_judge.specs.Judgements.{by_set}
 use Rattle.segment_judge.specs.Laws.{judgement_from}
 use Rattle.verdict_join.specs.Founds.{found_judgement}
 use Rattle.verdict_join.specs.Joining.{candidates_of, found_of, rows_of_segment}
@@ -115,27 +115,27 @@ module _ {M : Type 0} (bytes_of : M → Bytes) (ram_of : M → Span) (ran : Work
   abbrev rows : List (List RowReading)
   rows = map (rows_of_segment ran.columns) ran.segments
 
-  abbrev states : List HartState
-  states = map (state_of bytes_of) ran.guesses
+  abbrev states : List SetState
+  states = map (set_state_of bytes_of) ran.guesses
 
   -- those before a number agree from their guesses
   abbrev AgreeBefore : ℕ → Type 0
   AgreeBefore number =
-      (earlier : ℕ) → earlier < number → (mine : List RowReading) (guess : HartState)
+      (earlier : ℕ) → earlier < number → (mine : List RowReading) (guess : SetState)
       → slice_get rows earlier ≡ Some mine → slice_get states earlier ≡ Some guess
-      → is_some (judgement_from by_hart guess mine).end ≡ true
+      → is_some (judgement_from by_set guess mine).end ≡ true
 
-  agrees_not_ends : (number : ℕ) (what : What (JudgedSegment M)) (segment : Segment) (guess : Hart M)
+  agrees_not_ends : (number : ℕ) (what : What (JudgedSegment M)) (segment : Segment) (guess : HartSet Core M)
       → slice_get ran.segments number ≡ Some segment → slice_get ran.guesses number ≡ Some guess
-      → is_some (judgement_from by_hart (state_of bytes_of guess) (rows_of_segment ran.columns segment)).end ≡ true
+      → is_some (judgement_from by_set (set_state_of bytes_of guess) (rows_of_segment ran.columns segment)).end ≡ true
       → IsLawfulWhat bytes_of ram_of ran.columns ran.segments ran.guesses number what → is_end what ≡ true → ⊥
   agrees_not_ends number (Skipped least) segment guess here there agrees lawful end = cc
   agrees_not_ends number (Judged judged) segment guess here there agrees lawful end =
-      let state = state_of bytes_of guess in
+      let state = set_state_of bytes_of guess in
       let mine = rows_of_segment ran.columns segment in
-      let judgement = judgement_from by_hart state mine in
+      let judgement = judgement_from by_set state mine in
       let theirs = (lawful segment guess here there).0 in
-      never_both judgement.verdict judgement.end (judgement_ends by_hart state.core mine state.bytes) agrees
+      never_both judgement.verdict judgement.end (judgement_ends by_set state.core mine state.bytes) agrees
       (sym (ap ends_trace theirs.verdict) ∙ end)
 
   not_posted : (number : ℕ) → number < length ran.segments → AgreeBefore number → (least : ℕ) → least < number
@@ -150,9 +150,10 @@ module _ {M : Type 0} (bytes_of : M → Bytes) (ram_of : M → Span) (ran : Work
       let mine : slice_get rows least ≡ Some (rows_of_segment ran.columns segment.0) =
       slice_get-map (rows_of_segment ran.columns) ran.segments least
       ∙ ap (option_map (rows_of_segment ran.columns)) segment.1 in
-      let theirs : slice_get states least ≡ Some (state_of bytes_of guess.0) =
-      slice_get-map (state_of bytes_of) ran.guesses least ∙ ap (option_map (state_of bytes_of)) guess.1 in
-      let agrees = agree least low (rows_of_segment ran.columns segment.0) (state_of bytes_of guess.0) mine theirs in
+      let theirs : slice_get states least ≡ Some (set_state_of bytes_of guess.0) =
+      slice_get-map (set_state_of bytes_of) ran.guesses least ∙ ap (option_map (set_state_of bytes_of)) guess.1 in
+      let agrees = agree least low (rows_of_segment ran.columns segment.0) (set_state_of bytes_of guess.0) mine theirs
+      in
       agrees_not_ends found.0.seg found.0.what segment.0 guess.0 (ap (slice_get ran.segments) same ∙ segment.1)
       (ap (slice_get ran.guesses) same ∙ guess.1) agrees found.1.lawful parts.1
 
@@ -178,17 +179,17 @@ module _ {M : Type 0} (bytes_of : M → Bytes) (ram_of : M → Span) (ran : Work
 
 pub segments_judged_in_turn : {M : Type 0} (bytes_of : M → Bytes) (ram_of : M → Span) (ran : WorkerRun M)
     → IsPromised bytes_of ram_of ran
-    → AreJudgedInTurn by_hart (candidates_of bytes_of ran.columns ran.segments ran.guesses ran.founds)
+    → AreJudgedInTurn by_set (candidates_of bytes_of ran.columns ran.segments ran.guesses ran.founds)
 segments_judged_in_turn bytes_of ram_of ran promised =
     let mine : List (List RowReading) = map (rows_of_segment ran.columns) ran.segments in
-    let theirs : List HartState = map (state_of bytes_of) ran.guesses in
+    let theirs : List SetState = map (set_state_of bytes_of) ran.guesses in
     let founds = map (found_of mine theirs) ran.founds in
-    judged_in_turn by_hart mine 0 theirs founds (λ index rows guess here there agree.
+    judged_in_turn by_set mine 0 theirs founds (λ index rows guess here there agree.
     let number : index ≡ 0 + index = omega arith in
     let below : index < length ran.segments =
     omega (arith, within mine index rows here, length-map ran.segments (rows_of_segment ran.columns)) in
     let some =
-    mapped_some (λ any. judgement_from by_hart guess rows) (judged_segment_in ran.founds index)
+    mapped_some (λ any. judgement_from by_set guess rows) (judged_segment_in ran.founds index)
     (judged_at bytes_of ram_of ran promised index below agree) in
     let found =
     found_is mine theirs ran.founds index

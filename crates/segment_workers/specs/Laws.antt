@@ -6,17 +6,17 @@ use Rattle.board_core.specs.Machine.{looks, machine_at_start, machine_after_even
 use Rattle.hart_words.specs.declared.span.Span.{Span}
 use Rattle.hart_words.specs.Memory.{Bytes}
 use Rattle.rvfi_rows.specs.declared.segment.Segment.{Segment}
-use Rattle.rvfi_rows.specs.Columns.{ColumnList}
+use Rattle.rvfi_rows.specs.Columns.{TraceColumns}
 use Rattle.rvfi_rows.specs.Rows.{RowReading}
 use Rattle.rvfi_rows.specs.Segments.{segment_lines}
-use Rattle.hart_step.specs.declared.hart.Hart.{Hart}
-use Rattle.hart_step.specs.Harts.{state_of}
-use Rattle.hart_step.specs.Rows.{HartState}
+use Rattle.hart_set.specs.declared.set.HartSet.{HartSet}
+use Rattle.hart_step.specs.declared.state.Core.{Core}
+use Rattle.hart_step.specs.HartSets.{SetState, set_state_of}
 use Rattle.boundary_guess.specs.Guesses.{guesses_of}
 use Rattle.segment_judge.specs.declared.found.Found.{Found}
 use Rattle.segment_judge.specs.declared.judged.Judged.{Judged}
 use Rattle.segment_judge.specs.Founds.{IsLawfulFound}
-use Rattle.segment_judge.specs.Judgements.{by_hart}
+use Rattle.segment_judge.specs.Judgements.{by_set}
 use Rattle.verdict_board.specs.declared.view.View.{View}
 use Rattle.verdict_board.specs.Seats.{LeavesAll}
 use Rattle.verdict_join.specs.Founds.{Leaves}
@@ -25,9 +25,9 @@ use Rattle.segment_workers.specs.Runs.{ArePosted, FoundBelow, HasReason, IsFound
 
 -- what a run was given, and what came of it: what was found, and the view of the seat of all workers
 pub record WorkerRun (M : Type 0) : Type 0 where
-  pub columns : ColumnList
+  pub columns : TraceColumns
   pub segments : List Segment
-  pub guesses : List (Hart M)
+  pub guesses : List (HartSet Core M)
   pub founds : List (Found (Judged M))
   pub view : View
 
@@ -44,8 +44,8 @@ pub record IsPromised {M : Type 0} (bytes_of : M → Bytes) (ram_of : M → Span
 abbrev pub LeavesFounds : {M : Type 0} → (M → Bytes) → WorkerRun M → List Event → Type 0
 LeavesFounds bytes_of ran events =
     let rows : List (List RowReading) = map (rows_of_segment ran.columns) ran.segments in
-    let states : List HartState = map (state_of bytes_of) ran.guesses in
-    Leaves by_hart rows states (length ran.segments) events (map (found_of rows states) ran.founds)
+    let states : List SetState = map (set_state_of bytes_of) ran.guesses in
+    Leaves by_set rows states (length ran.segments) events (map (found_of rows states) ran.founds)
 
 -- a view with the draws, posts and looks of the machine after events, in place of its own
 abbrev pub view_by_events : ℕ → List Event → View → View
@@ -72,6 +72,6 @@ EventsLeaveFounds bytes_of ram_of ran =
     → AreEventsOf bytes_of ram_of ran closed.events
 
 -- a run was given the guesses that rows let one make from a state on
-abbrev pub IsGuessedFrom : {M : Type 0} → (M → Bytes) → HartState → WorkerRun M → Type 0
+abbrev pub IsGuessedFrom : {M : Type 0} → (M → Bytes) → SetState → WorkerRun M → Type 0
 IsGuessedFrom bytes_of start ran =
-    map (state_of bytes_of) ran.guesses ≡ guesses_of start ran.columns (map segment_lines ran.segments)
+    map (set_state_of bytes_of) ran.guesses ≡ guesses_of start ran.columns (map segment_lines ran.segments)

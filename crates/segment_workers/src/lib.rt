@@ -1,6 +1,6 @@
 //! The segments of a trace, judged side by side.
 //!
-//! In come a board with all of its seats, the segments, and a guess of the hart's state before
+//! In come a board with all of its seats, the segments, and a guess of the harts' state before
 //! each. One worker for each seat draws segments from the board, looks at the least segment that
 //! was posted, and judges what it drew from its guess, or skips it where a segment before it was
 //! posted. A segment that differs or is refused is posted. Out come what was found of each segment,

@@ -2,7 +2,7 @@
 
 ghost use Rattle.std.specs.Prelude.{◌≡◌, ◌+◌, ◌<◌, ◌≤◌, ◌^◌, IfOk, length, map, vec_len};
 ghost use Rattle.std.specs.List.{All};
-ghost use Rattle.hart_step.specs.Harts.{CanStep};
+ghost use Rattle.hart_step.specs.HartSets.{SetCanStep};
 ghost use Rattle.segment_judge.specs.Founds.{IsLawfulFound};
 ghost use Rattle.verdict_board.specs.Seats.{IsAt, view_of};
 ghost use Rattle.verdict_board.specs.Views.{IsWhole};
@@ -13,7 +13,7 @@ use crate::chain::call_each;
 use crate::steps::Steps;
 use crate::task::Task;
 use crate::work::{Work, Worker};
-use hart_step::Hart;
+use hart_step::Harts;
 use hart_words::{NoMemory, PhysMem};
 use outside_ports::Gate;
 use rvfi_rows::{Columns, Segment};
@@ -31,7 +31,7 @@ pub fn run<R: Threads + Sync, M: PhysMem + Drop + Send + Sync, G: Gate, L: Ledge
     alloc: Global,
     board: &Board,
     seats: Vec<Seat>,
-    guesses: &[Hart<M>],
+    guesses: &[Harts<M>],
     columns: &Columns,
     segments: &[Segment],
     gate: &G,
@@ -39,7 +39,7 @@ pub fn run<R: Threads + Sync, M: PhysMem + Drop + Send + Sync, G: Gate, L: Ledge
 ) -> Result<(Vec<Found<Judged<M>>>, Seat), NoMemory>
     requires seats { AreAllSeats (length segments.now) board.now seats.items }
     requires one_each { length guesses.now ≡ length segments.now }
-    requires can_step { All (CanStep M.ram) guesses.now }
+    requires can_step { All (SetCanStep M.ram) guesses.now }
     requires below_2_to_32 { length segments.now < 2 ^ 32 }
     ensures lawful { IfOk result (λ done. All
         (IsLawfulFound M.bytes M.ram columns.now segments.now guesses.now) done.0.items) }
@@ -65,7 +65,7 @@ pub fn run<R: Threads + Sync, M: PhysMem + Drop + Send + Sync, G: Gate, L: Ledge
         gate,
     };
     let work = |worker: Worker| -> Result<Work<M>, NoMemory>
-        requires { All (CanStep M.ram) task.guesses.now
+        requires { All (SetCanStep M.ram) task.guesses.now
             × IsFreshSeat (length task.segments.now) task.board.now worker.seat }
         ensures { IfOk result (HaveDone
             (IsLawfulFound M.bytes M.ram task.entry.columns.now task.entry.segments.now

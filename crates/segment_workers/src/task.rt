@@ -4,7 +4,7 @@ ghost use Rattle.std.specs.Prelude.{◌≡◌, ◌<◌, ◌^◌, length};
 ghost use Rattle.segment_workers.specs.Runs.{ends_trace};
 
 use crate::work::{Work, Worker};
-use hart_step::Hart;
+use hart_step::Harts;
 use hart_words::{NoMemory, PhysMem};
 use outside_ports::Gate;
 use rvfi_rows::{Columns, Segment, Verdict};
@@ -17,7 +17,7 @@ use verdict_board::{Board, Seat};
 pub(crate) struct Task<'a, M: PhysMem, G> {
     pub alloc: Global,
     pub board: &'a Board,
-    pub guesses: &'a [Hart<M>],
+    pub guesses: &'a [Harts<M>],
     pub columns: &'a Columns,
     pub segments: &'a [Segment],
     pub gate: &'a G,
@@ -30,7 +30,7 @@ impl<'a, M: PhysMem + Drop, G: Gate> Task<'a, M, G> {
     ghost use Rattle.std.specs.Prelude.{IfOk, vec_len};
     ghost use Rattle.std.specs.List.{All};
     ghost use Rattle.board_core.specs.Bags.{Has};
-    ghost use Rattle.hart_step.specs.Harts.{CanStep};
+    ghost use Rattle.hart_step.specs.HartSets.{SetCanStep};
     ghost use Rattle.segment_judge.specs.Founds.{IsJudgedFrom, IsLawfulFound, IsLawfulWhat};
     ghost use Rattle.verdict_board.specs.Seats.{IsAt, IsSameSeat, view_of};
     ghost use Rattle.verdict_board.specs.Views.{lead};
@@ -38,7 +38,7 @@ impl<'a, M: PhysMem + Drop, G: Gate> Task<'a, M, G> {
 
     /// Works at a seat until no segment is left. Where memory is refused the worker stops.
     pub fn work(&self, worker: Worker) -> Result<Work<M>, NoMemory>
-        requires can_step { All (CanStep M.ram) self.now.guesses.now }
+        requires can_step { All (SetCanStep M.ram) self.now.guesses.now }
         requires new { IsFreshSeat (length self.now.segments.now) self.now.board.now worker.seat }
         ensures { IfOk result (λ work. HaveDone
             (IsLawfulFound M.bytes M.ram self.now.columns.now self.now.segments.now
@@ -81,7 +81,7 @@ impl<'a, M: PhysMem + Drop, G: Gate> Task<'a, M, G> {
 
     /// Finds out about a segment that the seat drew, between the gate's two calls.
     fn find(&self, worker: u32, seg: u32, seat: &mut Seat) -> Result<What<Judged<M>>, NoMemory>
-        requires can_step { All (CanStep M.ram) self.now.guesses.now }
+        requires can_step { All (SetCanStep M.ram) self.now.guesses.now }
         requires at { IsAt self.now.board.now seat.old }
         requires below { seg < length self.now.segments.now }
         requires drawn { Has (view_of seat.old).draws (lead (view_of seat.old), seg) }
@@ -100,7 +100,7 @@ impl<'a, M: PhysMem + Drop, G: Gate> Task<'a, M, G> {
     /// Judges a segment that the seat drew, and posts it where it ends the trace; skips it where a
     /// segment before it was posted.
     fn look_and_judge(&self, seg: u32, seat: &mut Seat) -> Result<What<Judged<M>>, NoMemory>
-        requires can_step { All (CanStep M.ram) self.now.guesses.now }
+        requires can_step { All (SetCanStep M.ram) self.now.guesses.now }
         requires at { IsAt self.now.board.now seat.old }
         requires below { seg < length self.now.segments.now }
         requires drawn { Has (view_of seat.old).draws (lead (view_of seat.old), seg) }
@@ -123,7 +123,7 @@ impl<'a, M: PhysMem + Drop, G: Gate> Task<'a, M, G> {
 
     /// Judges a segment from the guess before it.
     fn judge(&self, seg: u32) -> Result<Judged<M>, NoMemory>
-        requires can_step { All (CanStep M.ram) self.now.guesses.now }
+        requires can_step { All (SetCanStep M.ram) self.now.guesses.now }
         requires below { seg < length self.now.segments.now }
         ensures { IfOk result (IsJudgedFrom M.bytes M.ram self.now.columns.now
             self.now.segments.now self.now.guesses.now seg) }

@@ -1,10 +1,10 @@
 ghost use Rattle.std.specs.Prelude.{◌≡◌, ◌<◌, ◌≤◌, IfOk, IsTrue};
 ghost use Rattle.std.specs.List.{All};
-ghost use Rattle.hart_step.specs.Harts.{CanStep};
+ghost use Rattle.hart_step.specs.HartSets.{SetCanStep};
 ghost use Rattle.line_text.specs.Lines.{IsLine};
 
 use super::*;
-use hart_step::Hart;
+use hart_step::{Core, Harts};
 use hart_words::{Choices, Map, PhysMem, Span};
 use line_text::Lines;
 use outside_ports::{Gate, HoldGate, OpenGate};
@@ -91,9 +91,9 @@ fn memory(alloc: Global, ram: Span, rows: Rows) -> Result<MapMem, Fail>
     Ok(mem)
 }
 
-/// The hart at reset, with another pc.
-fn at(alloc: Global, rows: Rows, pc: u64) -> Result<Hart<MapMem>, Fail>
-    ensures { IfOk result (CanStep (λ mem. mem.ram)) }
+/// One hart at reset, with another pc.
+fn at(alloc: Global, rows: Rows, pc: u64) -> Result<Harts<MapMem>, Fail>
+    ensures { IfOk result (SetCanStep (λ mem. mem.ram)) }
 {
     if pc % 2 != 0 {
         return Err(Fail::from("odd"));
@@ -101,12 +101,13 @@ fn at(alloc: Global, rows: Rows, pc: u64) -> Result<Hart<MapMem>, Fail>
     let ram = Span::new(CODE, 0x1000).ok_or("no range")?;
     let map = Map::new(ram, None).ok_or("no map")?;
     let memory = memory(alloc, map.ram, rows)?;
-    Ok(Hart::reset(memory, pc, map, Choices::plain()))
+    let core = Core::reset(pc, map, Choices::plain());
+    Ok(Harts::reset(alloc, core, 1, memory)?)
 }
 
 /// A guess before each segment: its pc is right, and all registers are 0.
-fn guesses_of(alloc: Global, rows: Rows) -> Result<Vec<Hart<MapMem>>, Fail>
-    ensures { IfOk result (λ guesses. All (CanStep (λ mem. mem.ram)) guesses.items) }
+fn guesses_of(alloc: Global, rows: Rows) -> Result<Vec<Harts<MapMem>>, Fail>
+    ensures { IfOk result (λ guesses. All (SetCanStep (λ mem. mem.ram)) guesses.items) }
 {
     let mut guesses = Vec::new(alloc);
     let mut pc = CODE;

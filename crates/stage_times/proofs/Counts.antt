@@ -3,12 +3,12 @@ use Rattle.std.proofs.Common.{◌≡◌, ℕ, ◌≤◌, List, length, map, arit
 use Rattle.std.specs.List.{flat_map}
 use Rattle.std.proofs.lemmas.List.{length-map}
 use Rattle.hart_words.specs.Memory.{Bytes}
-use Rattle.hart_step.specs.declared.hart.Hart.{Hart}
-use Rattle.hart_step.specs.Harts.{state_of}
-use Rattle.hart_step.specs.Rows.{HartState}
+use Rattle.hart_set.specs.declared.set.HartSet.{HartSet}
+use Rattle.hart_step.specs.declared.state.Core.{Core}
+use Rattle.hart_step.specs.HartSets.{SetState, set_state_of}
 use Rattle.boundary_guess.specs.Cuts.{lines_of_pieces}
 use Rattle.boundary_guess.specs.Guesses.{guesses_of}
-use Rattle.rvfi_rows.specs.Columns.{ColumnList}
+use Rattle.rvfi_rows.specs.Columns.{TraceColumns}
 use Rattle.rvfi_rows.specs.declared.segment.Segment.{Segment}
 use Rattle.rvfi_rows.specs.Segments.{segment_lines}
 use Rattle.trace_lines.specs.declared.piece.Ending.{Ending}
@@ -25,12 +25,12 @@ fits_most TooLarge asked count fits = omega (arith, fits)
 fits_most (TooLong line) asked count fits = omega (arith, fits)
 
 -- there is a guess for each segment
-pub guess_for_each_segment : {M : Type 0} (bytes_of : M → Bytes) (start : HartState) (columns : ColumnList)
-    (segments : List Segment) (guesses : List (Hart M))
-    → map (state_of bytes_of) guesses ≡ guesses_of start columns (map segment_lines segments)
+pub guess_for_each_segment : {M : Type 0} (bytes_of : M → Bytes) (start : SetState) (columns : TraceColumns)
+    (segments : List Segment) (guesses : List (HartSet Core M))
+    → map (set_state_of bytes_of) guesses ≡ guesses_of start columns (map segment_lines segments)
     → length guesses ≡ length segments
 guess_for_each_segment bytes_of start columns segments guesses is =
-    sym (length-map guesses (state_of bytes_of)) ∙ ap length is
+    sym (length-map guesses (set_state_of bytes_of)) ∙ ap length is
     ∙ guess_for_each start columns (map segment_lines segments) ∙ length-map segments segment_lines
 
 -- segments that were read have as many lines as before

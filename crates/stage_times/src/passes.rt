@@ -5,7 +5,8 @@ ghost use Rattle.std.specs.Prelude.{◌≡◌};
 use crate::failure::Failure;
 use crate::stages::Stages;
 use crate::windows::{Walk, Workers, pass_window};
-use hart_step::Hart;
+use hart_set::HartSet;
+use hart_step::Core;
 use hart_words::{Choices, Map, NoMemory, Span};
 use image_text::read_image;
 use outside_ports::{MemShelf, NamedFile};
@@ -77,10 +78,11 @@ impl Course {
             Some(header) => header_of(alloc, header)?,
         };
         let memory = Layered::over(alloc, &self.image);
-        let hart = Hart::reset(memory, FIRST_PC, self.map, Choices::plain());
+        let core = Core::reset(FIRST_PC, self.map, Choices::plain());
+        let harts = HartSet::reset(alloc, core, 1, memory)?;
         let judged = Vec::new(alloc);
         let mut walk = Walk {
-            hart,
+            harts,
             taker,
             judged,
         };

@@ -9,7 +9,7 @@ pub struct Stages {
     pub lines: u64,
     /// Rows are read, by all workers.
     pub reading: u64,
-    /// The hart before each segment is guessed, by one thread.
+    /// The harts before each segment are guessed, by one thread.
     pub guessing: u64,
     /// Segments are judged, by all workers.
     pub judging: u64,

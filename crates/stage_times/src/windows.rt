@@ -2,14 +2,14 @@
 
 ghost use Rattle.std.specs.Prelude.{◌≡◌, ◌≤◌, ◌<◌, ◌+◌, ◌*◌, ◌^◌, IfOk, IfSome, OnOk, length, map};
 ghost use Rattle.std.specs.List.{All, flat_map};
-ghost use Rattle.hart_step.specs.Harts.{CanStep};
+ghost use Rattle.hart_step.specs.HartSets.{SetCanStep};
 ghost use Rattle.rvfi_rows.specs.Segments.{segment_lines};
 ghost use Rattle.segment_judge.specs.Founds.{IsLawfulFound};
 
 use crate::failure::Failure;
 use crate::stages::Stages;
 use boundary_guess::guesses;
-use hart_step::Hart;
+use hart_step::Harts;
 use hart_words::{NoMemory, PhysMem};
 use line_text::Lines;
 use outside_ports::{OpenGate, Shelf};
@@ -40,10 +40,10 @@ pub(crate) struct Window {
     ghost lines: { length (flat_map segment_lines segments.items) ≤ 64 * 4096 },
 }
 
-/// What is known before a window: the hart, and where lines are taken from.
+/// What is known before a window: the harts, and where lines are taken from.
 #[derive(Drop)]
 pub(crate) struct Walk<M> {
-    pub hart: Hart<M>,
+    pub harts: Harts<M>,
     pub taker: LineTaker,
     /// The segments of the window before, in the memory of whose rows others are read.
     pub judged: Vec<Segment>,
@@ -105,14 +105,14 @@ fn take_window<H: Shelf>(
 /// What the workers find of segments.
 fn find<R: Threads + Sync, M: PhysMem + Drop + Send + Sync, L: Ledger>(
     workers: &Workers<R>,
-    guesses: &[Hart<M>],
+    guesses: &[Harts<M>],
     columns: &Columns,
     segments: &[Segment],
     blank: Blank,
 ) -> Result<Vec<Found<Judged<M>>>, NoMemory>
     requires below_2_to_32 { length segments.now < 2 ^ 32 }
     requires one_each { length guesses.now ≡ length segments.now }
-    requires guesses { All (CanStep M.ram) guesses.now }
+    requires guesses { All (SetCanStep M.ram) guesses.now }
     requires name { blank.name ≡ L.name }
     requires parts { blank.parts ≡ L.parts }
     requires positive { 0 < blank.parts }
@@ -154,17 +154,17 @@ fn read<R: Threads + Sync>(
     Ok(segments)
 }
 
-/// Judges segments that were read, after a hart: what the stages took, and the hart after them.
+/// Judges segments that were read, after harts: what the stages took, and the harts after them.
 fn judge_segments<R: Threads + Sync + Clock, M: PhysMem + Drop + Send + Sync>(
     workers: &Workers<R>,
     columns: &Columns,
-    start: Hart<M>,
+    start: Harts<M>,
     segments: &[Segment],
-) -> Result<(Stages, Hart<M>), Failure>
-    requires can_step { CanStep M.ram start }
+) -> Result<(Stages, Harts<M>), Failure>
+    requires can_step { SetCanStep M.ram start }
     requires below_2_to_32 { length segments.now < 2 ^ 32 }
     requires lines { length (flat_map segment_lines segments.now) < 2 ^ 60 }
-    ensures { IfOk result (λ judged. CanStep M.ram judged.1) }
+    ensures { IfOk result (λ judged. SetCanStep M.ram judged.1) }
 {
     let begin = Instant::now(workers.rt)?;
     let start = start.copy()?;
@@ -199,11 +199,11 @@ pub fn pass_window<R: Threads + Sync + Clock, M: PhysMem + Drop + Send + Sync, H
     walk: Walk<M>,
     shelf: &mut H,
 ) -> Result<(Stages, Option<Walk<M>>), Failure>
-    requires { CanStep M.ram walk.hart }
-    ensures { IfOk result (λ passed. IfSome passed.1 (λ walk. CanStep M.ram walk.hart)) }
+    requires { SetCanStep M.ram walk.harts }
+    ensures { IfOk result (λ passed. IfSome passed.1 (λ walk. SetCanStep M.ram walk.harts)) }
 {
     let Walk {
-        hart,
+        harts,
         taker,
         judged,
     } = walk;
@@ -214,7 +214,7 @@ pub fn pass_window<R: Threads + Sync + Clock, M: PhysMem + Drop + Send + Sync, H
     let begin = Instant::now(workers.rt)?;
     let segments = read(workers, columns, segments, judged)?;
     let reading = since(workers.rt, begin)?;
-    let (stages, hart) = judge_segments(workers, columns, hart, &segments)?;
+    let (stages, harts) = judge_segments(workers, columns, harts, &segments)?;
     let stages = Stages {
         lines,
         reading,
@@ -225,7 +225,7 @@ pub fn pass_window<R: Threads + Sync + Clock, M: PhysMem + Drop + Send + Sync, H
     }
     let judged = segments;
     let walk = Walk {
-        hart,
+        harts,
         taker,
         judged,
     };

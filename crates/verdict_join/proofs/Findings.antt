@@ -8,19 +8,18 @@ use Rattle.std.proofs.lemmas.Option.{slice_get-map}
 use Rattle.hart_words.specs.Memory.{Bytes}
 use Rattle.hart_words.specs.declared.span.Span.{Span}
 use Rattle.rvfi_rows.specs.declared.segment.Segment.{Segment}
-use Rattle.rvfi_rows.specs.Columns.{ColumnList}
+use Rattle.rvfi_rows.specs.Columns.{TraceColumns}
 use Rattle.rvfi_rows.specs.Rows.{RowReading}
-use Rattle.hart_step.specs.declared.hart.Hart.{Hart}
+use Rattle.hart_set.specs.declared.set.HartSet.{HartSet}
 use Rattle.hart_step.specs.declared.state.Core.{Core}
-use Rattle.hart_step.specs.Harts.{state_of}
-use Rattle.hart_step.specs.Rows.{HartState}
+use Rattle.hart_step.specs.HartSets.{SetState, set_state_of}
 use Rattle.segment_judge.specs.declared.found.Found.{Found}
 use Rattle.segment_judge.specs.declared.found.What.{What}
 use Rattle.segment_judge.specs.declared.found.What.TheVariants.{Judged, Skipped}
 use Rattle.segment_judge.specs.declared.judged.Judged.{Judged as JudgedSegment}
 use Rattle.segment_judge.specs.Founds.{IsJudgedFrom, IsLawfulFound, IsLawfulWhat}
 use Rattle.segment_judge.specs.Judged.{IsJudgement}
-use Rattle.segment_judge.specs.Judgements.{Judgement, by_hart}
+use Rattle.segment_judge.specs.Judgements.{Judgement, by_set}
 use Rattle.segment_judge.specs.Laws.{bytes_after_judgement, judgement_from}
 use Rattle.verdict_join.specs.Founds.{found_judgement, judgement_of_segment}
 use Rattle.verdict_join.specs.Joining.{finding, found_of, judgement_as_judged, rows_of_segment}
@@ -30,83 +29,84 @@ use Rattle.verdict_join.proofs.Placed.{or_none}
 
 -- ---- a judgement
 
-core_of_end : {M : Type 0} (bytes_of : M → Bytes) (end : Option (Hart M))
-    → option_map (λ (hart : Hart M). hart.core) end
-    ≡ option_map (λ (state : HartState). state.core) (option_map (state_of bytes_of) end)
-core_of_end bytes_of None = refl
-core_of_end bytes_of (Some hart) = refl
+cores_of_end : {M : Type 0} (bytes_of : M → Bytes) (end : Option (HartSet Core M))
+    → option_map (λ (set : HartSet Core M). set.cores.items) end
+    ≡ option_map (λ (state : SetState). state.core) (option_map (set_state_of bytes_of) end)
+cores_of_end bytes_of None = refl
+cores_of_end bytes_of (Some set) = refl
 
-core_over : (bytes : Bytes) (end : Option Core)
-    → option_map (λ (state : HartState). state.core)
-    (option_map (λ (core : Core). let state : HartState = record { core = core; bytes = bytes } in state) end) ≡ end
-core_over bytes None = refl
-core_over bytes (Some core) = refl
+cores_over : (bytes : Bytes) (end : Option (List Core))
+    → option_map (λ (state : SetState). state.core)
+    (option_map (λ (cores : List Core). let state : SetState = record { core = cores; bytes = bytes } in state) end)
+    ≡ end
+cores_over bytes None = refl
+cores_over bytes (Some cores) = refl
 
-abbrev judgement_with : Judgement Core → Judgement Core → Judgement Core
+abbrev judgement_with : Judgement (List Core) → Judgement (List Core) → Judgement (List Core)
 judgement_with one whole = record { verdict = one.verdict; end = one.end; accesses = whole.accesses }
 
 -- a judgement in code is that of the rows
-pub judgement_is : {M : Type 0} (bytes_of : M → Bytes) (guess : HartState) (rows : List RowReading)
+pub judgement_is : {M : Type 0} (bytes_of : M → Bytes) (guess : SetState) (rows : List RowReading)
     (judged : JudgedSegment M) → IsJudgement bytes_of guess rows judged
-    → judgement_as_judged rows guess judged ≡ judgement_from by_hart guess rows
+    → judgement_as_judged rows guess judged ≡ judgement_from by_set guess rows
 judgement_is bytes_of guess rows judged is =
-    let whole = judgement_from by_hart guess rows in
-    let end : option_map (λ hart. hart.core) judged.end ≡ whole.end =
-    core_of_end bytes_of judged.end ∙ ap (option_map (λ (state : HartState). state.core)) is.end
-    ∙ core_over (bytes_after_judgement whole guess.bytes) whole.end in
+    let whole = judgement_from by_set guess rows in
+    let end : option_map (λ set. set.cores.items) judged.end ≡ whole.end =
+    cores_of_end bytes_of judged.end ∙ ap (option_map (λ (state : SetState). state.core)) is.end
+    ∙ cores_over (bytes_after_judgement whole guess.bytes) whole.end in
     let equal : judgement_with (judgement_as_judged rows guess judged) whole ≡ judgement_with whole whole =
     rw (is.verdict, end) refl in
     equal
 
 -- ---- what was found
 
-module _ {M : Type 0} (bytes_of : M → Bytes) (ram_of : M → Span) (columns : ColumnList) (segments : List Segment)
-    (guesses : List (Hart M)) where
+module _ {M : Type 0} (bytes_of : M → Bytes) (ram_of : M → Span) (columns : TraceColumns) (segments : List Segment)
+    (guesses : List (HartSet Core M)) where
   abbrev readings : List (List RowReading)
   readings = map (rows_of_segment columns) segments
 
-  abbrev states : List HartState
-  states = map (state_of bytes_of) guesses
+  abbrev states : List SetState
+  states = map (set_state_of bytes_of) guesses
 
   finding_theirs : (number : ℕ) (what : What (JudgedSegment M))
       → IsLawfulWhat bytes_of ram_of columns segments guesses number what
-      → IsTheirFinding by_hart readings states number
+      → IsTheirFinding by_set readings states number
       (finding (slice_get readings number) (slice_get states number) what)
   finding_theirs number (Skipped least) lawful = tt
   finding_theirs number (Judged judged) lawful =
-      rw (slice_get-map (rows_of_segment columns) segments number, slice_get-map (state_of bytes_of) guesses number)
+      rw (slice_get-map (rows_of_segment columns) segments number, slice_get-map (set_state_of bytes_of) guesses number)
       (by (slice_get segments number) (slice_get guesses number) refl refl)
     where
-      by : (segment : Option Segment) (guess : Option (Hart M)) → slice_get segments number ≡ segment
+      by : (segment : Option Segment) (guess : Option (HartSet Core M)) → slice_get segments number ≡ segment
           → slice_get guesses number ≡ guess
-          → IsTheirFinding by_hart readings states number
-          (finding (option_map (rows_of_segment columns) segment) (option_map (state_of bytes_of) guess)
+          → IsTheirFinding by_set readings states number
+          (finding (option_map (rows_of_segment columns) segment) (option_map (set_state_of bytes_of) guess)
           (Judged judged))
       by None guess no_segment there = tt
       by (Some segment) None here no_guess = tt
       by (Some segment) (Some guess) here there = λ theirs start is_theirs is_start.
           let mine = rows_of_segment columns segment in
-          let state : HartState = state_of bytes_of guess in
+          let state : SetState = set_state_of bytes_of guess in
           let row_here : slice_get readings number ≡ Some mine =
           slice_get-map (rows_of_segment columns) segments number ∙ ap (option_map (rows_of_segment columns)) here in
           let state_there : slice_get states number ≡ Some state =
-          slice_get-map (state_of bytes_of) guesses number ∙ ap (option_map (state_of bytes_of)) there in
+          slice_get-map (set_state_of bytes_of) guesses number ∙ ap (option_map (set_state_of bytes_of)) there in
           let same_rows : mine ≡ theirs = ap (λ some. unwrap_or some mine) (sym row_here ∙ is_theirs) in
           let same_start : state ≡ start = ap (λ some. unwrap_or some state) (sym state_there ∙ is_start) in
           judgement_is bytes_of state mine judged (lawful segment guess here there).0
-          ∙ ap (λ one. judgement_from by_hart one mine) same_start
-          ∙ ap (judgement_from by_hart start) same_rows
+          ∙ ap (λ one. judgement_from by_set one mine) same_start
+          ∙ ap (judgement_from by_set start) same_rows
 
   pub found_theirs : (found : Found (JudgedSegment M))
       → IsLawfulFound bytes_of ram_of columns segments guesses found
-      → IsFoundTheirs by_hart readings states (found_of readings states found)
+      → IsFoundTheirs by_set readings states (found_of readings states found)
   found_theirs found lawful = finding_theirs found.seg found.what lawful.lawful
 
   pub founds_theirs : (founds : List (Found (JudgedSegment M)))
       → All (IsLawfulFound bytes_of ram_of columns segments guesses) founds
-      → All (IsFoundTheirs by_hart readings states) (map (found_of readings states) founds)
+      → All (IsFoundTheirs by_set readings states) (map (found_of readings states) founds)
   founds_theirs founds lawful =
-      All-map (IsFoundTheirs by_hart readings states) (found_of readings states) founds
+      All-map (IsFoundTheirs by_set readings states) (found_of readings states) founds
       (λ k d low. found_theirs _ (lawful k d low))
 
 -- ---- what was found of the segment of a number
@@ -115,8 +115,8 @@ by_constant : {A B : Type 0} (b : B) (x : Option A) (a : A) → Some b ≡ optio
 by_constant b None a = refl
 by_constant b (Some other) a = refl
 
-unnamed : {M : Type 0} (number segment : ℕ) (rows : Option (List RowReading)) (guess : Option HartState)
-    (judged : JudgedSegment M) (rest : Option (Judgement Core)) → (segment == number) ≡ false
+unnamed : {M : Type 0} (number segment : ℕ) (rows : Option (List RowReading)) (guess : Option SetState)
+    (judged : JudgedSegment M) (rest : Option (Judgement (List Core))) → (segment == number) ≡ false
     → judgement_of_segment number segment (finding rows guess (Judged judged)) rest ≡ rest
 unnamed number segment None guess judged rest other = refl
 unnamed number segment (Some rows) None judged rest other = refl
@@ -124,27 +124,27 @@ unnamed number segment (Some rows) (Some guess) judged rest other =
     ap (λ test. if test then Some (judgement_as_judged rows guess judged) else rest) other
 
 -- it is its judgement, where it was judged
-pub found_is : {M : Type 0} {rows : List RowReading} {guess : HartState} (segments : List (List RowReading))
-    (guesses : List HartState) (founds : List (Found (JudgedSegment M))) (number : ℕ)
-    → All (IsFoundTheirs by_hart segments guesses) (map (found_of segments guesses) founds)
+pub found_is : {M : Type 0} {rows : List RowReading} {guess : SetState} (segments : List (List RowReading))
+    (guesses : List SetState) (founds : List (Found (JudgedSegment M))) (number : ℕ)
+    → All (IsFoundTheirs by_set segments guesses) (map (found_of segments guesses) founds)
     → slice_get segments number ≡ Some rows → slice_get guesses number ≡ Some guess
     → found_judgement (map (found_of segments guesses) founds) number
-    ≡ option_map (λ any. judgement_from by_hart guess rows) (judged_segment_in founds number)
+    ≡ option_map (λ any. judgement_from by_set guess rows) (judged_segment_in founds number)
 unfolding found_judgement judged_segment_in
 found_is segments guesses [] number theirs here there = refl
 found_is {M = M} {rows = rows} {guess = guess} segments guesses (found ∷ founds) number theirs here there =
     by found.what (found.seg == number) refl
-    (All-head (IsFoundTheirs by_hart segments guesses) (found_of segments guesses found)
+    (All-head (IsFoundTheirs by_set segments guesses) (found_of segments guesses found)
     (map (found_of segments guesses) founds) theirs)
     (found_is segments guesses founds number
-    (All-tail (IsFoundTheirs by_hart segments guesses) (found_of segments guesses found)
+    (All-tail (IsFoundTheirs by_set segments guesses) (found_of segments guesses found)
     (map (found_of segments guesses) founds) theirs) here there)
   where
-    whole : Judgement Core
-    whole = judgement_from by_hart guess rows
+    whole : Judgement (List Core)
+    whole = judgement_from by_set guess rows
 
     by : (what : What (JudgedSegment M)) (test : Bool) → (found.seg == number) ≡ test
-        → IsTheirFinding by_hart segments guesses found.seg
+        → IsTheirFinding by_set segments guesses found.seg
         (finding (slice_get segments found.seg) (slice_get guesses found.seg) what)
         → found_judgement (map (found_of segments guesses) founds) number
         ≡ option_map (λ any. whole) (judged_segment_in founds number)
@@ -171,8 +171,8 @@ found_is {M = M} {rows = rows} {guess = guess} segments guesses (found ∷ found
         ∙ ap (λ test. option_or (judged_segment_in founds number) (if test then Some judged else None)) (sym is))
 
 -- and how it was judged is lawful
-pub lawful_at : {M : Type 0} {segments : List Segment} {guesses : List (Hart M)} {judged : JudgedSegment M}
-    (bytes_of : M → Bytes) (ram_of : M → Span) (columns : ColumnList) (founds : List (Found (JudgedSegment M)))
+pub lawful_at : {M : Type 0} {segments : List Segment} {guesses : List (HartSet Core M)} {judged : JudgedSegment M}
+    (bytes_of : M → Bytes) (ram_of : M → Span) (columns : TraceColumns) (founds : List (Found (JudgedSegment M)))
     (number : ℕ) → All (IsLawfulFound bytes_of ram_of columns segments guesses) founds
     → judged_segment_in founds number ≡ Some judged
     → IsJudgedFrom bytes_of ram_of columns segments guesses number judged

@@ -8,7 +8,7 @@ use Rattle.std.proofs.lemmas.List.Concat.{flat_map-cons}
 use Rattle.std.proofs.lemmas.List.Elements.{All-cons, All-head, All-nil, All-tail, All-weaker}
 use Rattle.board_core.specs.declared.event.Event.{Event}
 use Rattle.hart_words.specs.States.{State}
-use Rattle.rvfi_rows.specs.Columns.{ColumnList}
+use Rattle.rvfi_rows.specs.Columns.{TraceColumns}
 use Rattle.rvfi_rows.specs.Rows.{RowReading, rows_of}
 use Rattle.rvfi_rows.proofs.PortRows.{rows_append}
 use Rattle.segment_judge.specs.declared.found.Found.{Found}
@@ -16,7 +16,7 @@ use Rattle.segment_judge.specs.declared.found.What.{What}
 use Rattle.segment_judge.specs.declared.found.What.TheVariants.{Judged, Skipped}
 use Rattle.segment_judge.specs.Judgements.{Judgement, Judging}
 use Rattle.segment_judge.specs.Laws.{judgement_from}
-use Rattle.hart_step.specs.Rows.{HartState}
+use Rattle.hart_step.specs.HartSets.{SetState}
 use Rattle.boundary_guess.specs.Cuts.{lines_of_pieces}
 use Rattle.boundary_guess.specs.Guesses.{guess_after, guesses_of}
 use Rattle.verdict_join.specs.Founds.{IsLeftBy, IsTheirs, Leaves, WasFoundSo, candidates_from, found_judgement}
@@ -129,7 +129,7 @@ candidates_rows {C = C} from (rows ∷ segments) (guess ∷ guesses) founds one_
     ∙ sym (flat_map-cons (λ rows. rows) rows segments)
 
 -- pieces read as their lines do
-pub pieces_read : (columns : ColumnList) (pieces : List (List (List ℕ)))
+pub pieces_read : (columns : TraceColumns) (pieces : List (List (List ℕ)))
     → all_rows (map (rows_of columns) pieces) ≡ rows_of columns (lines_of_pieces pieces)
 unfolding rows_of
 pieces_read columns [] = refl
@@ -140,7 +140,7 @@ pieces_read columns (piece ∷ pieces) =
     ∙ ap (rows_of columns) (sym (flat_map-cons (λ piece. piece) piece pieces))
 
 -- there is a guess for each segment
-pub guess_for_each : (state : HartState) (columns : ColumnList) (segments : List (List (List ℕ)))
+pub guess_for_each : (state : SetState) (columns : TraceColumns) (segments : List (List (List ℕ)))
     → length (guesses_of state columns segments) ≡ length segments
 unfolding guesses_of
 guess_for_each state columns [] = refl

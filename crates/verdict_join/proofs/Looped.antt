@@ -13,19 +13,18 @@ use Rattle.hart_words.specs.declared.span.Span.{Span}
 use Rattle.hart_words.specs.Memory.{Bytes}
 use Rattle.rvfi_rows.specs.declared.segment.Segment.{Segment}
 use Rattle.rvfi_rows.specs.declared.verdict.Verdict.{Verdict}
-use Rattle.rvfi_rows.specs.Columns.{ColumnList}
+use Rattle.rvfi_rows.specs.Columns.{TraceColumns}
 use Rattle.rvfi_rows.specs.Segments.{row_count_of, segment_lines}
 use Rattle.rvfi_rows.specs.Rows.{RowReading}
 use Rattle.rvfi_rows.proofs.PortRows.{count-cons}
-use Rattle.hart_step.specs.declared.hart.Hart.{Hart}
+use Rattle.hart_set.specs.declared.set.HartSet.{HartSet}
 use Rattle.hart_step.specs.declared.state.Core.{Core}
-use Rattle.hart_step.specs.Harts.{state_of}
-use Rattle.hart_step.specs.Rows.{HartState}
+use Rattle.hart_step.specs.HartSets.{SetState, set_state_of}
 use Rattle.segment_judge.specs.declared.found.Found.{Found}
 use Rattle.segment_judge.specs.declared.judged.Judged.{Judged as JudgedSegment}
 use Rattle.segment_judge.specs.Founds.{IsLawfulFound}
 use Rattle.segment_judge.specs.Judged.{IsJudgement, IsUsable}
-use Rattle.segment_judge.specs.Judgements.{Judgement, by_hart}
+use Rattle.segment_judge.specs.Judgements.{Judgement, by_set}
 use Rattle.segment_judge.specs.Laws.{judgement_from}
 use Rattle.verdict_join.specs.declared.walk.Walk.{Walk}
 use Rattle.verdict_join.specs.Founds.{candidates, found_judgement}
@@ -40,30 +39,30 @@ use Rattle.verdict_join.proofs.Walks.{after_segment}
 use Rattle.verdict_join.proofs.Turns.{candidate_at, candidate_lawful}
 
 -- what stands under a number, where all that was found is lawful: a segment, the guess before it, and how it was judged
-pub record StandUnder {M : Type 0} (bytes_of : M → Bytes) (ram_of : M → Span) (columns : ColumnList)
-    (segments : List Segment) (guesses : List (Hart M)) (founds : List (Found (JudgedSegment M))) (number : ℕ)
-    (segment : Segment) (guess : Hart M) (place : Option (Bor (JudgedSegment M))) : Type 0 where
+pub record StandUnder {M : Type 0} (bytes_of : M → Bytes) (ram_of : M → Span) (columns : TraceColumns)
+    (segments : List Segment) (guesses : List (HartSet Core M)) (founds : List (Found (JudgedSegment M))) (number : ℕ)
+    (segment : Segment) (guess : HartSet Core M) (place : Option (Bor (JudgedSegment M))) : Type 0 where
   pub lawful : All (IsLawfulFound bytes_of ram_of columns segments guesses) founds
   pub segment_is : slice_get segments number ≡ Some segment
   pub guess_is : slice_get guesses number ≡ Some guess
   pub place_is : option_copied place ≡ judged_segment_in founds number
 
 -- it is the judgement of its segment
-pub placed_judgement : {M : Type 0} {bytes_of : M → Bytes} {ram_of : M → Span} {columns : ColumnList}
-    {segments : List Segment} {guesses : List (Hart M)} {founds : List (Found (JudgedSegment M))} {number : ℕ}
-    {segment : Segment} {guess : Hart M} (place : Option (Bor (JudgedSegment M)))
+pub placed_judgement : {M : Type 0} {bytes_of : M → Bytes} {ram_of : M → Span} {columns : TraceColumns}
+    {segments : List Segment} {guesses : List (HartSet Core M)} {founds : List (Found (JudgedSegment M))} {number : ℕ}
+    {segment : Segment} {guess : HartSet Core M} (place : Option (Bor (JudgedSegment M)))
     → StandUnder bytes_of ram_of columns segments guesses founds number segment guess place
     → IfSome place
-    (λ judged. IsJudgement bytes_of (state_of bytes_of guess) (rows_of_segment columns segment) judged.now)
+    (λ judged. IsJudgement bytes_of (set_state_of bytes_of guess) (rows_of_segment columns segment) judged.now)
 placed_judgement None stand = tt
 placed_judgement {bytes_of = bytes_of} {ram_of = ram_of} {columns = columns} {founds = founds} {number = number}
     {segment = segment} {guess = guess} (Some judged) stand =
     (lawful_at bytes_of ram_of columns founds number stand.lawful (sym stand.place_is) segment guess stand.segment_is
     stand.guess_is).0
 
-pub placed_usable : {M : Type 0} {bytes_of : M → Bytes} {ram_of : M → Span} {columns : ColumnList}
-    {segments : List Segment} {guesses : List (Hart M)} {founds : List (Found (JudgedSegment M))} {number : ℕ}
-    {segment : Segment} {guess : Hart M} (place : Option (Bor (JudgedSegment M)))
+pub placed_usable : {M : Type 0} {bytes_of : M → Bytes} {ram_of : M → Span} {columns : TraceColumns}
+    {segments : List Segment} {guesses : List (HartSet Core M)} {founds : List (Found (JudgedSegment M))} {number : ℕ}
+    {segment : Segment} {guess : HartSet Core M} (place : Option (Bor (JudgedSegment M)))
     → StandUnder bytes_of ram_of columns segments guesses founds number segment guess place
     → IfSome place (λ judged. IsUsable ram_of (ram_of guess.mem) judged.now)
 placed_usable None stand = tt
@@ -78,14 +77,15 @@ mapped_copy b None = refl
 mapped_copy b (Some a) = refl
 
 -- the rest, or nothing, where the round ends with the segment
-abbrev pub left_or_none : Sameness Core → Bool → Bool → List (Candidate Core) → HartState → Joined Core
+abbrev pub left_or_none : Sameness (List Core) → Bool → Bool → List (Candidate (List Core)) → SetState
+    → Joined (List Core)
 left_or_none same once true later state = nothing_from state
-left_or_none same once false later state = walk by_hart same once later state
+left_or_none same once false later state = walk by_set same once later state
 
-after_by : {A : Type 0} (same : Sameness Core) (once : Bool) (later : List (Candidate Core))
-    (found : Option (Judgement Core)) (adopted : Option A) (state : HartState)
+after_by : {A : Type 0} (same : Sameness (List Core)) (once : Bool) (later : List (Candidate (List Core)))
+    (found : Option (Judgement (List Core))) (adopted : Option A) (state : SetState)
     → miss found ≡ (if is_none adopted then 1 else 0)
-    → after_segment once found (λ following. walk by_hart same once later following) state
+    → after_segment once found (λ following. walk by_set same once later following) state
     ≡ left_or_none same once (once && is_none adopted) later state
 after_by same true later None None state is = refl
 after_by same false later None None state is = refl
@@ -95,47 +95,49 @@ after_by same once later None (Some a) state is = absurd (omega (arith, is))
 after_by same once later (Some judgement) None state is = absurd (omega (arith, is))
 
 -- what a turn leads to: the rest from the state after it, or the end
-abbrev pub Turned : {M : Type 0} → (M → Bytes) → (HartState → Joined Core) → Walk M → ℕ → Joined Core
+abbrev pub Turned : {M : Type 0} → (M → Bytes) → (SetState → Joined (List Core)) → Walk M → ℕ → Joined (List Core)
     → Option Verdict → Type 0
-Turned bytes_of rest now number whole None = IsRest now (number + 1) (rest (state_of bytes_of now.hart)) whole
+Turned bytes_of rest now number whole None = IsRest now (number + 1) (rest (set_state_of bytes_of now.harts)) whole
 Turned bytes_of rest now number whole (Some verdict) =
     round_of bytes_of (record { verdict = verdict; end = None; settled = number + 1; rejudged = now.rejudged }) ≡ whole
 
 -- a turn passes rows: as they were judged from a guess, where that is adopted, or as they are judged again
-pub record PassesAs {M : Type 0} (bytes_of : M → Bytes) (same : Sameness Core) (guess : HartState)
+pub record PassesAs {M : Type 0} (bytes_of : M → Bytes) (same : Sameness (List Core)) (guess : SetState)
     (rows : List RowReading) (place adopted : Option (Bor (JudgedSegment M))) (before now : Walk M)
     (end : Option Verdict) : Type 0 where
-  pub misses : IsMissedAs same guess (state_of bytes_of before.hart) rows place adopted
+  pub misses : IsMissedAs same guess (set_state_of bytes_of before.harts) rows place adopted
   pub again : now.rejudged ≡ before.rejudged + (if is_none adopted then 1 else 0)
   pub passes : PassesRows bytes_of before now rows end
 
-turned : {M : Type 0} {bytes_of : M → Bytes} {before now : Walk M} {number : ℕ} {whole : Joined Core}
-    (same : Sameness Core) → TellsApart same
-    → (once : Bool) (candidate : Candidate Core) (later : List (Candidate Core)) (end : Option Verdict)
+turned : {M : Type 0} {bytes_of : M → Bytes} {before now : Walk M} {number : ℕ} {whole : Joined (List Core)}
+    (same : Sameness (List Core)) → TellsApart same
+    → (once : Bool) (candidate : Candidate (List Core)) (later : List (Candidate (List Core))) (end : Option Verdict)
     → IsPassed bytes_of same before now candidate end
-    → IsRest before number (walk by_hart same once (candidate ∷ later) (state_of bytes_of before.hart)) whole
-    → Turned bytes_of (left_after same once candidate later (state_of bytes_of before.hart)) now number whole end
+    → IsRest before number (walk by_set same once (candidate ∷ later) (set_state_of bytes_of before.harts)) whole
+    → Turned bytes_of (left_after same once candidate later (set_state_of bytes_of before.harts)) now number whole end
 turned same tells once candidate later None passed so_far = turn_on same tells once candidate later passed so_far
 turned same tells once candidate later (Some last) passed so_far =
     turn_ends same tells once candidate later passed so_far
 
 -- it is the same by whichever name the rest goes
-turned_alike : {M : Type 0} {rest other : HartState → Joined Core} (bytes_of : M → Bytes) (now : Walk M) (number : ℕ)
-    (whole : Joined Core) (end : Option Verdict) → ((state : HartState) → rest state ≡ other state)
+turned_alike : {M : Type 0} {rest other : SetState → Joined (List Core)} (bytes_of : M → Bytes) (now : Walk M)
+    (number : ℕ)
+    (whole : Joined (List Core)) (end : Option Verdict) → ((state : SetState) → rest state ≡ other state)
     → Turned bytes_of rest now number whole end → Turned bytes_of other now number whole end
 turned_alike bytes_of now number whole None alike done =
-    subst (λ left. IsRest now (number + 1) left whole) (alike (state_of bytes_of now.hart)) done
+    subst (λ left. IsRest now (number + 1) left whole) (alike (set_state_of bytes_of now.harts)) done
 turned_alike bytes_of now number whole (Some last) alike done = done
 
-pub loop_turn : {M : Type 0} {bytes_of : M → Bytes} {ram_of : M → Span} {columns : ColumnList}
-    {segments : List Segment} {guesses : List (Hart M)} {founds : List (Found (JudgedSegment M))} {number : ℕ}
-    {segment : Segment} {guess : Hart M} {place adopted : Option (Bor (JudgedSegment M))} {before now : Walk M}
-    {end : Option Verdict} {whole : Joined Core} (once : Bool) (same : Sameness Core) → TellsApart same
+pub loop_turn : {M : Type 0} {bytes_of : M → Bytes} {ram_of : M → Span} {columns : TraceColumns}
+    {segments : List Segment} {guesses : List (HartSet Core M)} {founds : List (Found (JudgedSegment M))} {number : ℕ}
+    {segment : Segment} {guess : HartSet Core M} {place adopted : Option (Bor (JudgedSegment M))} {before now : Walk M}
+    {end : Option Verdict} {whole : Joined (List Core)} (once : Bool) (same : Sameness (List Core)) → TellsApart same
     → StandUnder bytes_of ram_of columns segments guesses founds number segment guess place
-    → PassesAs bytes_of same (state_of bytes_of guess) (rows_of_segment columns segment) place adopted before now end
+    → PassesAs bytes_of same (set_state_of bytes_of guess) (rows_of_segment columns segment) place adopted before now
+    end
     → IsRest before number
-    (walk by_hart same once (drop number (candidates_of bytes_of columns segments guesses founds))
-    (state_of bytes_of before.hart)) whole
+    (walk by_set same once (drop number (candidates_of bytes_of columns segments guesses founds))
+    (set_state_of bytes_of before.harts)) whole
     → Turned bytes_of
     (left_or_none same once (once && is_none adopted)
     (drop (number + 1) (candidates_of bytes_of columns segments guesses founds))) now number whole end
@@ -143,16 +145,16 @@ loop_turn {bytes_of = bytes_of} {ram_of = ram_of} {columns = columns} {segments 
     {founds = founds} {number = number} {segment = segment} {guess = guess} {place = place} {adopted = adopted}
     {before = before} {now = now} {end = end} {whole = whole} once same tells stand turn so_far =
     let rows : List (List RowReading) = map (rows_of_segment columns) segments in
-    let states : List HartState = map (state_of bytes_of) guesses in
+    let states : List SetState = map (set_state_of bytes_of) guesses in
     let all = map (found_of rows states) founds in
     let mine = rows_of_segment columns segment in
-    let state : HartState = state_of bytes_of guess in
-    let judged = judgement_from by_hart state mine in
+    let state : SetState = set_state_of bytes_of guess in
+    let judged = judgement_from by_set state mine in
     let row_here : slice_get rows number ≡ Some mine =
     slice_get-map (rows_of_segment columns) segments number
     ∙ ap (option_map (rows_of_segment columns)) stand.segment_is in
     let state_there : slice_get states number ≡ Some state =
-    slice_get-map (state_of bytes_of) guesses number ∙ ap (option_map (state_of bytes_of)) stand.guess_is in
+    slice_get-map (set_state_of bytes_of) guesses number ∙ ap (option_map (set_state_of bytes_of)) stand.guess_is in
     let number_is : 0 + number ≡ number = omega arith in
     let found = found_judgement all (0 + number) in
     let by_place : found ≡ option_map (λ any. judged) place =
@@ -160,8 +162,8 @@ loop_turn {bytes_of = bytes_of} {ram_of = ram_of} {columns = columns} {segments 
     ∙ found_is rows states founds number
     (founds_theirs bytes_of ram_of columns segments guesses founds stand.lawful) row_here state_there
     ∙ ap (option_map (λ any. judged)) (sym stand.place_is) ∙ mapped_copy judged place in
-    let candidate : Candidate Core = record { rows = mine; guess = state; found = found } in
-    let start = state_of bytes_of before.hart in
+    let candidate : Candidate (List Core) = record { rows = mine; guess = state; found = found } in
+    let start = set_state_of bytes_of before.harts in
     let missed : miss (adopted_judgement same candidate start) ≡ (if is_none adopted then 1 else 0) =
     ap (λ found. miss (adopted_judgement_from same state start found)) by_place ∙ turn.misses in
     let passed : IsPassed bytes_of same before now candidate end = record {
@@ -175,26 +177,29 @@ loop_turn {bytes_of = bytes_of} {ram_of = ram_of} {columns = columns} {segments 
     turned_alike bytes_of now number whole end
     (λ state. after_by same once later (adopted_judgement same candidate start) adopted state missed)
     (turned same tells once candidate later end passed
-    (subst (λ left. IsRest before number (walk by_hart same once left start) whole) left so_far)) in
+    (subst (λ left. IsRest before number (walk by_set same once left start) whole) left so_far)) in
     subst
     (λ n. Turned bytes_of (left_or_none same once (once && is_none adopted) (drop n (candidates rows states all))) now
     number whole end) (sym (add-one number)) done
 
 -- the walk goes on after a segment that is not the last
-pub goes_on_after : {M : Type 0} {last : Bool} {whole : Joined Core} {now : Walk M} {count : ℕ} (same : Sameness Core)
-    (once : Bool) (later : List (Candidate Core)) (state : HartState) → last ≡ false
+pub goes_on_after : {M : Type 0} {last : Bool} {whole : Joined (List Core)} {now : Walk M} {count : ℕ}
+    (same : Sameness (List Core))
+    (once : Bool) (later : List (Candidate (List Core))) (state : SetState) → last ≡ false
     → IsRest now count (left_or_none same once last later state) whole
-    → IsRest now count (walk by_hart same once later state) whole
+    → IsRest now count (walk by_set same once later state) whole
 goes_on_after {whole = whole} {now = now} {count = count} same once later state not_last rest =
     subst (λ last. IsRest now count (left_or_none same once last later state) whole) not_last rest
 
-pub stops_after : {M : Type 0} {last : Bool} {whole : Joined Core} {now : Walk M} {count : ℕ} (bytes_of : M → Bytes)
-    (same : Sameness Core) (once : Bool) (later : List (Candidate Core)) → last ≡ true
-    → IsRest now count (left_or_none same once last later (state_of bytes_of now.hart)) whole
+pub stops_after : {M : Type 0} {last : Bool} {whole : Joined (List Core)} {now : Walk M} {count : ℕ}
+    (bytes_of : M → Bytes)
+    (same : Sameness (List Core)) (once : Bool) (later : List (Candidate (List Core))) → last ≡ true
+    → IsRest now count (left_or_none same once last later (set_state_of bytes_of now.harts)) whole
     → round_of bytes_of (agreed_round now count) ≡ whole
 stops_after {whole = whole} {now = now} {count = count} bytes_of same once later is_last rest =
     nothing_left bytes_of now count whole
-    (subst (λ last. IsRest now count (left_or_none same once last later (state_of bytes_of now.hart)) whole) is_last
+    (subst (λ last. IsRest now count (left_or_none same once last later (set_state_of bytes_of now.harts)) whole)
+    is_last
     rest)
 
 same_default : {A : Type 0} (xs : List A) (number : ℕ) (one other : A) → number < length xs
@@ -218,7 +223,7 @@ drop_at (y ∷ xs) zero x is = let same : y ≡ x = cc in rw same refl
 drop_at (y ∷ xs) (suc i) x is = drop_at xs i x is
 
 -- the rows of the segments that are left
-pub rows_left : {segment : Segment} (columns : ColumnList) (segments : List Segment) (number : ℕ)
+pub rows_left : {segment : Segment} (columns : TraceColumns) (segments : List Segment) (number : ℕ)
     → slice_get segments number ≡ Some segment
     → row_count_of columns (drop number segments) ≡ length (rows_of_segment columns segment)
     + row_count_of columns (drop (number + 1) segments)

@@ -7,28 +7,27 @@ use Rattle.rvfi_rows.specs.declared.row_counts.RowCounts.{RowCounts}
 use Rattle.rvfi_rows.specs.declared.verdict.Verdict.{Verdict}
 use Rattle.rvfi_rows.specs.declared.verdict.Verdict.TheVariants.{Agrees, Differs, Refused}
 use Rattle.std.proofs.lemmas.List.{length-map}
-use Rattle.rvfi_rows.specs.Columns.{ColumnList}
+use Rattle.rvfi_rows.specs.Columns.{TraceColumns}
 use Rattle.rvfi_rows.specs.declared.segment.Segment.{Segment}
 use Rattle.rvfi_rows.specs.Rows.{RowReading, rows_of}
 use Rattle.rvfi_rows.specs.Segments.{row_count_of, segment_lines}
 use Rattle.rvfi_rows.proofs.PortRows.{rows_counted}
 use Rattle.std.specs.List.{flat_map}
 use Rattle.hart_step.specs.declared.state.Core.{Core}
-use Rattle.hart_step.specs.Harts.{state_of}
-use Rattle.hart_step.specs.Rows.{HartState}
+use Rattle.hart_step.specs.HartSets.{SetState, set_state_of}
 use Rattle.hart_words.specs.States.{State}
 use Rattle.read_footprint.specs.Footprints.{Accesses}
 use Rattle.read_footprint.specs.Sets.{has_read}
 use Rattle.segment_judge.specs.declared.judged.Judged.{Judged as JudgedSegment}
 use Rattle.segment_judge.specs.Judged.{HoldsInOtherMemories, moved_end}
-use Rattle.segment_judge.specs.Judgements.{Judgement, Judging, judgement_after_row, by_difference, by_hart}
+use Rattle.segment_judge.specs.Judgements.{Judgement, Judging, judgement_after_row, by_difference, by_set}
 use Rattle.segment_judge.specs.Judgements.{verdict_after_rows, judgement_of, accesses_by}
 use Rattle.segment_judge.specs.Laws.{bytes_after_judgement, conclusion_from, end_from, judgement_from}
 use Rattle.verdict_join.specs.declared.walk.Walk.{Walk}
 use Rattle.verdict_join.specs.Walks.{Concludes, CountsOn, IsReached, IsWithinRows, LeadsToState, PassesRows}
 
 -- what stands over each memory that agrees concludes the rows from such a state
-pub concludes : {M : Type 0} (bytes_of : M → Bytes) (guess now : HartState) (rows : List RowReading)
+pub concludes : {M : Type 0} (bytes_of : M → Bytes) (guess now : SetState) (rows : List RowReading)
     (judged : JudgedSegment M) → guess.core ≡ now.core
     → ((address : ℕ) → has_read judged.footprint address ≡ true → now.bytes address ≡ guess.bytes address)
     → HoldsInOtherMemories bytes_of guess rows judged → Concludes bytes_of now rows judged
@@ -36,12 +35,12 @@ unfolding conclusion_from
 concludes bytes_of guess now rows judged same agree stands =
     let framed = stands now.bytes agree in
     record {
-      verdict = subst (λ core. (judgement_of by_hart core rows now.bytes).verdict ≡ judged.verdict) same framed.verdict;
+      verdict = subst (λ core. (judgement_of by_set core rows now.bytes).verdict ≡ judged.verdict) same framed.verdict;
       end = subst (λ core. end_over core ≡ moved_end bytes_of judged now.bytes) same framed.end;
     }
   where
-    end_over : Core → Option HartState
-    end_over core = let state : HartState = record { core = core; bytes = now.bytes } in end_from by_hart state rows
+    end_over : List Core → Option SetState
+    end_over cores = let state : SetState = record { core = cores; bytes = now.bytes } in end_from by_set state rows
 
 -- a verdict agrees just where there is a state after it
 abbrev pub EndsWhereAgrees : {C : Type 0} → Verdict → Option C → Type 0
@@ -131,17 +130,17 @@ judgement_within judging core (Ok (Some shown) ∷ rows) bytes =
     (judgement_of judging run.value.next rows (after_writes run.wrote bytes)) (length rows)
     (judgement_within judging run.value.next rows (after_writes run.wrote bytes)))
 
-pub conclusion_within : (now : HartState) (rows : List RowReading)
-    → IsWithinRows (length rows) (conclusion_from by_hart now rows).verdict
+pub conclusion_within : (now : SetState) (rows : List RowReading)
+    → IsWithinRows (length rows) (conclusion_from by_set now rows).verdict
 unfolding conclusion_from
-conclusion_within now rows = judgement_within by_hart now.core rows now.bytes
+conclusion_within now rows = judgement_within by_set now.core rows now.bytes
 
 -- a walk stands after rows from where it stood first, and has their verdict still to count
 pub record HasPassed {M : Type 0} (bytes_of : M → Bytes) (first before : Walk M) (rows : List RowReading)
     (verdict : Verdict) : Type 0 where
-  pub verdict_is : verdict ≡ (conclusion_from by_hart (state_of bytes_of first.hart) rows).verdict
-  pub reached : IsReached (conclusion_from by_hart (state_of bytes_of first.hart) rows).end
-      (state_of bytes_of before.hart)
+  pub verdict_is : verdict ≡ (conclusion_from by_set (set_state_of bytes_of first.harts) rows).verdict
+  pub reached : IsReached (conclusion_from by_set (set_state_of bytes_of first.harts) rows).end
+      (set_state_of bytes_of before.harts)
   pub counts_are : before.counts ≡ first.counts
 
 -- counting alone looks at no hart
@@ -162,9 +161,9 @@ counts_from first before now (Refused row fault) end same counts =
 -- it counts the verdict, and goes on from the state after the rows
 pub passes_by : {M : Type 0} {bytes_of : M → Bytes} {first : Walk M} {rows : List RowReading} (before now : Walk M)
     (verdict : Verdict) (end : Option Verdict) → HasPassed bytes_of first before rows verdict
-    → CountsOn before now verdict end → now.hart ≡ before.hart → PassesRows bytes_of first now rows end
+    → CountsOn before now verdict end → now.harts ≡ before.harts → PassesRows bytes_of first now rows end
 passes_by {M = M} {bytes_of = bytes_of} {first = first} {rows = rows} before now verdict end passed counts same_hart =
-    let conclusion = conclusion_from by_hart (state_of bytes_of first.hart) rows in
+    let conclusion = conclusion_from by_set (set_state_of bytes_of first.harts) rows in
     let counted =
     subst (λ verdict. CountsOn first now verdict end) passed.verdict_is
     (counts_from first before now verdict end passed.counts_are counts) in
@@ -172,17 +171,17 @@ passes_by {M = M} {bytes_of = bytes_of} {first = first} {rows = rows} before now
       counts = counted;
       leads =
           leads conclusion.verdict conclusion.end
-          (conclusion_ends by_hart (state_of bytes_of first.hart) rows) counted
-          (subst (λ hart. IsReached conclusion.end (state_of bytes_of hart)) (sym same_hart) passed.reached);
+          (conclusion_ends by_set (set_state_of bytes_of first.harts) rows) counted
+          (subst (λ hart. IsReached conclusion.end (set_state_of bytes_of hart)) (sym same_hart) passed.reached);
     }
   where
-    leads_on : (rows valid : ℕ) (state : Option HartState) → EndsWhereAgrees (Agrees rows valid) state
-        → IsReached state (state_of bytes_of now.hart) → state ≡ Some (state_of bytes_of now.hart)
+    leads_on : (rows valid : ℕ) (state : Option SetState) → EndsWhereAgrees (Agrees rows valid) state
+        → IsReached state (set_state_of bytes_of now.harts) → state ≡ Some (set_state_of bytes_of now.harts)
     leads_on rows valid None ends reached = absurd ends
     leads_on rows valid (Some state) ends reached = ap Some (sym reached)
 
-    leads : (verdict : Verdict) (state : Option HartState) → EndsWhereAgrees verdict state
-        → CountsOn first now verdict end → IsReached state (state_of bytes_of now.hart)
+    leads : (verdict : Verdict) (state : Option SetState) → EndsWhereAgrees verdict state
+        → CountsOn first now verdict end → IsReached state (set_state_of bytes_of now.harts)
         → LeadsToState bytes_of now state end
     leads (Agrees rows valid) state ends counts reached =
         subst (LeadsToState bytes_of now state) (sym counts.0) (leads_on rows valid state ends reached)
@@ -193,11 +192,11 @@ passes_by {M = M} {bytes_of = bytes_of} {first = first} {rows = rows} before now
     leads (Refused row fault) (Some state) ends counts reached = absurd ends
 
 -- a state after rows, where there is none, and where there is one
-pub reached_none : (end : Option HartState) (now : HartState) → end ≡ None → IsReached end now
+pub reached_none : (end : Option SetState) (now : SetState) → end ≡ None → IsReached end now
 reached_none None now is = tt
 reached_none (Some state) now is = cc
 
-pub reached_some : (end : Option HartState) (state now : HartState) → end ≡ Some state → now ≡ state → IsReached end now
+pub reached_some : (end : Option SetState) (state now : SetState) → end ≡ Some state → now ≡ state → IsReached end now
 reached_some None state now is same = cc
 reached_some (Some other) state now is same = let equal : other ≡ state = cc in same ∙ sym equal
 
@@ -207,13 +206,13 @@ fewer_within count more (Agrees rows valid) fewer within = (omega (arith, fewer,
 fewer_within count more (Differs row difference) fewer within = omega (arith, fewer, within)
 fewer_within count more (Refused row fault) fewer within = omega (arith, fewer, within)
 
-pub rows_within : {verdict : Verdict} (now : HartState) (rows : List RowReading)
-    → verdict ≡ (conclusion_from by_hart now rows).verdict → IsWithinRows (length rows) verdict
+pub rows_within : {verdict : Verdict} (now : SetState) (rows : List RowReading)
+    → verdict ≡ (conclusion_from by_set now rows).verdict → IsWithinRows (length rows) verdict
 rows_within now rows is = subst (IsWithinRows (length rows)) (sym is) (conclusion_within now rows)
 
 -- the verdict on the lines of segments counts no more rows than these have
-pub lines_within : (now : HartState) (columns : ColumnList) (segments : List Segment) (verdict : Verdict)
-    → verdict ≡ (conclusion_from by_hart now (rows_of columns (flat_map segment_lines segments))).verdict
+pub lines_within : (now : SetState) (columns : TraceColumns) (segments : List Segment) (verdict : Verdict)
+    → verdict ≡ (conclusion_from by_set now (rows_of columns (flat_map segment_lines segments))).verdict
     → IsWithinRows (row_count_of columns segments) verdict
 lines_within now columns segments verdict is =
     let rows = rows_of columns (flat_map segment_lines segments) in

@@ -4,9 +4,8 @@ use Rattle.hart_words.specs.Memory.{Bytes}
 use Rattle.rvfi_rows.specs.declared.verdict.Verdict.{Verdict}
 use Rattle.rvfi_rows.specs.declared.verdict.Verdict.TheVariants.{Agrees, Differs, Refused}
 use Rattle.hart_step.specs.declared.state.Core.{Core}
-use Rattle.hart_step.specs.Harts.{state_of}
-use Rattle.hart_step.specs.Rows.{HartState}
-use Rattle.segment_judge.specs.Judgements.{by_hart, verdict_after_rows}
+use Rattle.hart_step.specs.HartSets.{SetState, set_state_of}
+use Rattle.segment_judge.specs.Judgements.{by_set, verdict_after_rows}
 use Rattle.segment_judge.specs.Laws.{conclusion_from, verdict_of_both}
 use Rattle.segment_judge.proofs.Parts.{counted_twice, uncounted}
 use Rattle.verdict_join.specs.declared.joined.Round.{Round}
@@ -18,30 +17,31 @@ use Rattle.verdict_join.specs.Walks.{CountsOn, IsRest, PassesRows}
 use Rattle.verdict_join.proofs.Walks.{after_segment, walked_segment_once}
 
 -- a candidate is passed: its rows are, and it was judged again just where none is adopted of it
-pub record IsPassed {M : Type 0} (bytes_of : M → Bytes) (same : Sameness Core) (before now : Walk M)
-    (candidate : Candidate Core) (end : Option Verdict) : Type 0 where
-  pub lawful : IsLawfulCandidate by_hart candidate
+pub record IsPassed {M : Type 0} (bytes_of : M → Bytes) (same : Sameness (List Core)) (before now : Walk M)
+    (candidate : Candidate (List Core)) (end : Option Verdict) : Type 0 where
+  pub lawful : IsLawfulCandidate by_set candidate
   pub passes : PassesRows bytes_of before now candidate.rows end
   pub misses : now.rejudged
-      ≡ before.rejudged + miss (adopted_judgement same candidate (state_of bytes_of before.hart))
+      ≡ before.rejudged + miss (adopted_judgement same candidate (set_state_of bytes_of before.harts))
 
 -- what is left after a segment
-abbrev pub left_after : Sameness Core → Bool → Candidate Core → List (Candidate Core) → HartState → HartState
-    → Joined Core
+abbrev pub left_after : Sameness (List Core) → Bool → Candidate (List Core) → List (Candidate (List Core)) → SetState
+    → SetState
+    → Joined (List Core)
 left_after same once candidate later now following =
-    after_segment once (adopted_judgement same candidate now) (λ following. walk by_hart same once later following)
+    after_segment once (adopted_judgement same candidate now) (λ following. walk by_set same once later following)
     following
 
 -- the walk over a segment and those after it
-one_and_rest : (same : Sameness Core) → TellsApart same
-    → (once : Bool) (candidate : Candidate Core) (later : List (Candidate Core)) (now : HartState)
-    → IsLawfulCandidate by_hart candidate
-    → walk by_hart same once (candidate ∷ later) now
-    ≡ joined_by (conclusion_from by_hart now candidate.rows).end (conclusion_from by_hart now candidate.rows).verdict
+one_and_rest : (same : Sameness (List Core)) → TellsApart same
+    → (once : Bool) (candidate : Candidate (List Core)) (later : List (Candidate (List Core))) (now : SetState)
+    → IsLawfulCandidate by_set candidate
+    → walk by_set same once (candidate ∷ later) now
+    ≡ joined_by (conclusion_from by_set now candidate.rows).end (conclusion_from by_set now candidate.rows).verdict
     (miss (adopted_judgement same candidate now)) (left_after same once candidate later now)
 unfolding walk
 one_and_rest same tells once candidate later now lawful =
-    walked_segment_once by_hart same once candidate now (λ following. walk by_hart same once later following) tells
+    walked_segment_once by_set same once candidate now (λ following. walk by_set same once later following) tells
     lawful
 
 counts_rest : {M : Type 0} (before now : Walk M) (verdict rest : Verdict) → CountsOn before now verdict None
@@ -53,18 +53,18 @@ counts_rest before now (Differs row difference) rest counts = cc
 counts_rest before now (Refused row fault) rest counts = cc
 
 -- the walk goes on after one segment more
-pub turn_on : {M : Type 0} {bytes_of : M → Bytes} {before now : Walk M} {walked : ℕ} {whole : Joined Core}
-    (same : Sameness Core) → TellsApart same
-    → (once : Bool) (candidate : Candidate Core) (later : List (Candidate Core))
+pub turn_on : {M : Type 0} {bytes_of : M → Bytes} {before now : Walk M} {walked : ℕ} {whole : Joined (List Core)}
+    (same : Sameness (List Core)) → TellsApart same
+    → (once : Bool) (candidate : Candidate (List Core)) (later : List (Candidate (List Core)))
     → IsPassed bytes_of same before now candidate None
-    → IsRest before walked (walk by_hart same once (candidate ∷ later) (state_of bytes_of before.hart)) whole
+    → IsRest before walked (walk by_set same once (candidate ∷ later) (set_state_of bytes_of before.harts)) whole
     → IsRest now (walked + 1)
-    (left_after same once candidate later (state_of bytes_of before.hart) (state_of bytes_of now.hart)) whole
+    (left_after same once candidate later (set_state_of bytes_of before.harts) (set_state_of bytes_of now.harts)) whole
 turn_on {bytes_of = bytes_of} {before = before} {now = now} {walked = walked} {whole = whole} same tells once candidate
     later passed so_far =
-    let start = state_of bytes_of before.hart in
-    let state = state_of bytes_of now.hart in
-    let first = conclusion_from by_hart start candidate.rows in
+    let start = set_state_of bytes_of before.harts in
+    let state = set_state_of bytes_of now.harts in
+    let first = conclusion_from by_set start candidate.rows in
     let again = miss (adopted_judgement same candidate start) in
     let next = left_after same once candidate later start in
     let here : IsRest before walked (joined_by (Some state) first.verdict again next) whole =
@@ -86,7 +86,7 @@ counts_end before now (Agrees rows valid) end counts = cc
 counts_end before now (Differs row difference) end counts = cc
 counts_end before now (Refused row fault) end counts = cc
 
-same_join : (one other : Joined Core) → one.verdict ≡ other.verdict → one.end ≡ other.end
+same_join : (one other : Joined (List Core)) → one.verdict ≡ other.verdict → one.end ≡ other.end
     → one.settled ≡ other.settled → one.rejudged ≡ other.rejudged → one ≡ other
 same_join one other verdict end settled rejudged =
     let whole : record { verdict = one.verdict; end = one.end; settled = one.settled; rejudged = one.rejudged }
@@ -96,15 +96,15 @@ same_join one other verdict end settled rejudged =
 
 -- or it ends with the verdict on it
 pub turn_ends : {M : Type 0} {bytes_of : M → Bytes} {before now : Walk M} {walked : ℕ} {last : Verdict}
-    {whole : Joined Core} (same : Sameness Core) → TellsApart same
-    → (once : Bool) (candidate : Candidate Core) (later : List (Candidate Core))
+    {whole : Joined (List Core)} (same : Sameness (List Core)) → TellsApart same
+    → (once : Bool) (candidate : Candidate (List Core)) (later : List (Candidate (List Core)))
     → IsPassed bytes_of same before now candidate (Some last)
-    → IsRest before walked (walk by_hart same once (candidate ∷ later) (state_of bytes_of before.hart)) whole
+    → IsRest before walked (walk by_set same once (candidate ∷ later) (set_state_of bytes_of before.harts)) whole
     → round_of bytes_of (record { verdict = last; end = None; settled = walked + 1; rejudged = now.rejudged }) ≡ whole
 turn_ends {bytes_of = bytes_of} {before = before} {now = now} {walked = walked} {last = last} {whole = whole} same
     tells once candidate later passed so_far =
-    let start = state_of bytes_of before.hart in
-    let first = conclusion_from by_hart start candidate.rows in
+    let start = set_state_of bytes_of before.harts in
+    let first = conclusion_from by_set start candidate.rows in
     let again = miss (adopted_judgement same candidate start) in
     let next = left_after same once candidate later start in
     let here : IsRest before walked (joined_by None first.verdict again next) whole =
@@ -115,7 +115,7 @@ turn_ends {bytes_of = bytes_of} {before = before} {now = now} {walked = walked} 
     here.settled (passed.misses ∙ here.rejudged)
 
 -- nothing was walked yet
-pub rest_begins : {M : Type 0} (begun : Walk M) (whole : Joined Core) → begun.counts.rows ≡ 0
+pub rest_begins : {M : Type 0} (begun : Walk M) (whole : Joined (List Core)) → begun.counts.rows ≡ 0
     → begun.counts.valid ≡ 0
     → begun.rejudged ≡ 0 → IsRest begun 0 whole whole
 rest_begins begun whole rows valid again = record {
@@ -129,14 +129,14 @@ rest_begins begun whole rows valid again = record {
 abbrev pub agreed_round : {M : Type 0} → Walk M → ℕ → Round M
 agreed_round now settled = record {
   verdict = Agrees now.counts.rows now.counts.valid;
-  end = Some now.hart;
+  end = Some now.harts;
   settled = settled;
   rejudged = now.rejudged;
 }
 
 -- nothing is left
-pub nothing_left : {M : Type 0} (bytes_of : M → Bytes) (now : Walk M) (walked : ℕ) (whole : Joined Core)
-    → IsRest now walked (nothing_from (state_of bytes_of now.hart)) whole
+pub nothing_left : {M : Type 0} (bytes_of : M → Bytes) (now : Walk M) (walked : ℕ) (whole : Joined (List Core))
+    → IsRest now walked (nothing_from (set_state_of bytes_of now.harts)) whole
     → round_of bytes_of (agreed_round now walked) ≡ whole
 nothing_left bytes_of now walked whole here =
     let rows : now.counts.rows + 0 ≡ now.counts.rows = omega arith in
@@ -147,17 +147,18 @@ nothing_left bytes_of now walked whole here =
     same_join _ whole (rw (rows, valid) at verdict) here.end (omega (arith, settled)) (omega (arith, again))
 
 -- no segment is left
-pub rest_ends : {M : Type 0} {count : ℕ} {left : List (Candidate Core)} {whole : Joined Core} (bytes_of : M → Bytes)
-    (same : Sameness Core) (once : Bool) (walked : Walk M) → left ≡ []
-    → IsRest walked count (walk by_hart same once left (state_of bytes_of walked.hart)) whole
+pub rest_ends : {M : Type 0} {count : ℕ} {left : List (Candidate (List Core))} {whole : Joined (List Core)}
+    (bytes_of : M → Bytes)
+    (same : Sameness (List Core)) (once : Bool) (walked : Walk M) → left ≡ []
+    → IsRest walked count (walk by_set same once left (set_state_of bytes_of walked.harts)) whole
     → round_of bytes_of (agreed_round walked count) ≡ whole
 unfolding walk
 rest_ends {count = count} {whole = whole} bytes_of same once walked none so_far =
     nothing_left bytes_of walked count whole
-    (subst (λ left. IsRest walked count (walk by_hart same once left (state_of bytes_of walked.hart)) whole) none
+    (subst (λ left. IsRest walked count (walk by_set same once left (set_state_of bytes_of walked.harts)) whole) none
     so_far)
 
-pub settled_is : {M : Type 0} (bytes_of : M → Bytes) (now : Walk M) (count other : ℕ) (whole : Joined Core)
+pub settled_is : {M : Type 0} (bytes_of : M → Bytes) (now : Walk M) (count other : ℕ) (whole : Joined (List Core))
     → count ≡ other → round_of bytes_of (agreed_round now count) ≡ whole
     → round_of bytes_of (agreed_round now other) ≡ whole
 settled_is bytes_of now count other whole same is =

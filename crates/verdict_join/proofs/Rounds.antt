@@ -8,15 +8,15 @@ use Rattle.std.proofs.lemmas.List.Elements.{All-head, All-tail}
 use Rattle.hart_words.specs.Memory.{after_writes}
 use Rattle.hart_words.specs.States.{State}
 use Rattle.rvfi_rows.specs.declared.verdict.Verdict.{Verdict}
-use Rattle.rvfi_rows.specs.Columns.{ColumnList}
+use Rattle.rvfi_rows.specs.Columns.{TraceColumns}
 use Rattle.rvfi_rows.specs.Rows.{RowReading, rows_of}
 use Rattle.rvfi_rows.proofs.PortRows.{rows_append}
 use Rattle.hart_step.specs.declared.state.Core.{Core}
-use Rattle.hart_step.specs.Rows.{HartState}
+use Rattle.hart_step.specs.HartSets.{SetState}
 use Rattle.boundary_guess.specs.Cuts.{lines_of_pieces}
 use Rattle.boundary_guess.specs.Guesses.{guesses_of}
 use Rattle.segment_judge.specs.declared.found.Found.{Found}
-use Rattle.segment_judge.specs.Judgements.{Judgement, Judging, by_hart, judgement_of}
+use Rattle.segment_judge.specs.Judgements.{Judgement, Judging, by_set, judgement_of}
 use Rattle.segment_judge.specs.Laws.{Conclusion, conclusion_after_end, conclusion_from, conclusion_then}
 use Rattle.segment_judge.specs.Laws.{verdict_of_both}
 use Rattle.segment_judge.proofs.Parts.{in_parts}
@@ -28,7 +28,7 @@ use Rattle.verdict_join.specs.Laws.{IsLawfulCandidate, TellsApart, miss, rows_th
 use Rattle.verdict_join.specs.Rounds.{AreRounds, GoOn, IsRound, SettleAll, SettlesSome, rejudged_in, rounds_conclude}
 use Rattle.verdict_join.proofs.Guessed.{none_rejudged}
 use Rattle.verdict_join.proofs.Lawful.{guess_for_each, left_lawful, pieces_read}
-use Rattle.verdict_join.proofs.Sameness.{core_sameness, core_tells}
+use Rattle.verdict_join.proofs.Sameness.{cores_sameness, cores_tell}
 use Rattle.verdict_join.proofs.Walks.{after_segment, conclusion_of, walked_segment, walked_segment_once}
 
 -- ---- one walk
@@ -265,22 +265,24 @@ take_mapped f (suc count) [] = refl
 take_mapped f (suc count) (x ∷ xs) = ap (λ rest. f x ∷ rest) (take_mapped f count xs)
 
 -- what a round comes to
-record Settled (start : HartState) (columns : ColumnList) (pieces : List (List (List ℕ))) (round : Joined Core) : Type
+record Settled (start : SetState) (columns : TraceColumns) (pieces : List (List (List ℕ))) (round : Joined (List Core))
+    : Type
     0 where
   at_least_one : 0 < length pieces → 0 < round.settled
   within : round.settled ≤ length pieces
   concludes : record { verdict = round.verdict; end = round.end }
-      ≡ conclusion_from by_hart start (rows_of columns (lines_of_pieces (take round.settled pieces)))
+      ≡ conclusion_from by_set start (rows_of columns (lines_of_pieces (take round.settled pieces)))
   again : Again (length pieces) round
 
-settled_lawful : (start : HartState) (columns : ColumnList) (pieces : List (List (List ℕ))) (round : Joined Core)
+settled_lawful : (start : SetState) (columns : TraceColumns) (pieces : List (List (List ℕ)))
+    (round : Joined (List Core))
     (is : IsRound start columns pieces round)
-    → All (IsLawfulCandidate by_hart) (guessed_candidates start columns pieces is.founds)
+    → All (IsLawfulCandidate by_set) (guessed_candidates start columns pieces is.founds)
 settled_lawful start columns pieces round is =
-    left_lawful by_hart (map (rows_of columns) pieces) (guesses_of start columns pieces) (length pieces) is.events
+    left_lawful by_set (map (rows_of columns) pieces) (guesses_of start columns pieces) (length pieces) is.events
     is.founds is.left
 
-round_settles : (start : HartState) (columns : ColumnList) (pieces : List (List (List ℕ))) (round : Joined Core)
+round_settles : (start : SetState) (columns : TraceColumns) (pieces : List (List (List ℕ))) (round : Joined (List Core))
     → IsRound start columns pieces round → Settled start columns pieces round
 round_settles start columns pieces round is =
     let segments = guessed_candidates start columns pieces is.founds in
@@ -290,49 +292,49 @@ round_settles start columns pieces round is =
     guess_for_each start columns pieces ∙ sym (length-map pieces (rows_of columns)) in
     let count : length segments ≡ length pieces =
     candidates_count 0 rows guesses is.founds each ∙ length-map pieces (rows_of columns) in
-    let settles : SettlesSome by_hart segments start round =
-    subst (SettlesSome by_hart segments start) (sym (is.walked core_sameness core_tells))
-    (settles_some by_hart core_sameness segments start core_tells (settled_lawful start columns pieces round is)) in
+    let settles : SettlesSome by_set segments start round =
+    subst (SettlesSome by_set segments start) (sym (is.walked cores_sameness cores_tell))
+    (settles_some by_set cores_sameness segments start cores_tell (settled_lawful start columns pieces round is)) in
     let front : rows_through (take round.settled segments)
     ≡ rows_of columns (lines_of_pieces (take round.settled pieces)) =
     candidates_front 0 round.settled rows guesses is.founds each
     ∙ ap (flat_map (λ rows. rows)) (take_mapped (rows_of columns) round.settled pieces)
     ∙ pieces_read columns (take round.settled pieces) in
-    let conclusion = conclusion_from by_hart start (rows_through (take round.settled segments)) in
+    let conclusion = conclusion_from by_set start (rows_through (take round.settled segments)) in
     let whole : record { verdict = round.verdict; end = round.end } ≡ conclusion =
     rw (settles.has_verdict.verdict, settles.has_verdict.end) refl in
     record {
       at_least_one = λ some. settles.at_least_one (omega (arith, count, some));
       within = omega (arith, count, settles.within);
-      concludes = whole ∙ ap (conclusion_from by_hart start) front;
+      concludes = whole ∙ ap (conclusion_from by_set start) front;
       again = subst (λ n. Again n round) count settles.again;
     }
 
 -- ---- rounds
 
-abbrev lines_conclude : HartState → ColumnList → List (List (List ℕ)) → Conclusion Core
-lines_conclude start columns pieces = conclusion_from by_hart start (rows_of columns (lines_of_pieces pieces))
+abbrev lines_conclude : SetState → TraceColumns → List (List (List ℕ)) → Conclusion (List Core)
+lines_conclude start columns pieces = conclusion_from by_set start (rows_of columns (lines_of_pieces pieces))
 
 -- pieces come to what the first of them come to, and the others from the state after these
-pieces_in_parts : (start : HartState) (columns : ColumnList) (count : ℕ) (pieces : List (List (List ℕ)))
+pieces_in_parts : (start : SetState) (columns : TraceColumns) (count : ℕ) (pieces : List (List (List ℕ)))
     → lines_conclude start columns pieces
     ≡ conclusion_then (lines_conclude start columns (take count pieces))
     (λ following. lines_conclude following columns (drop count pieces))
 pieces_in_parts start columns count pieces =
     ap (lines_conclude start columns) (sym (take-append-drop count pieces))
-    ∙ ap (λ lines. conclusion_from by_hart start (rows_of columns lines))
+    ∙ ap (λ lines. conclusion_from by_set start (rows_of columns lines))
     (flat_map-append (λ (piece : List (List ℕ)). piece) (take count pieces) (drop count pieces))
-    ∙ ap (conclusion_from by_hart start)
+    ∙ ap (conclusion_from by_set start)
     (rows_append columns (lines_of_pieces (take count pieces)) (lines_of_pieces (drop count pieces)))
-    ∙ in_parts by_hart start (rows_of columns (lines_of_pieces (take count pieces)))
+    ∙ in_parts by_set start (rows_of columns (lines_of_pieces (take count pieces)))
     (rows_of columns (lines_of_pieces (drop count pieces)))
 
-followed_alike : (first : Conclusion Core) (one other : HartState → Conclusion Core)
-    → ((following : HartState) → first.end ≡ Some following → one following ≡ other following)
+followed_alike : (first : Conclusion (List Core)) (one other : SetState → Conclusion (List Core))
+    → ((following : SetState) → first.end ≡ Some following → one following ≡ other following)
     → conclusion_then first one ≡ conclusion_then first other
 followed_alike first one other alike = by first.end refl
   where
-    by : (end : Option HartState) → first.end ≡ end
+    by : (end : Option SetState) → first.end ≡ end
         → conclusion_after_end end first one ≡ conclusion_after_end end first other
     by None is = refl
     by (Some following) is =
@@ -340,20 +342,22 @@ followed_alike first one other alike = by first.end refl
         (alike following is)
 
 -- the rounds after one
-after_round : (columns : ColumnList) (pieces : List (List (List ℕ))) (round : Joined Core)
-    (rounds : List (Joined Core)) (following : HartState)
+after_round : (columns : TraceColumns) (pieces : List (List (List ℕ))) (round : Joined (List Core))
+    (rounds : List (Joined (List Core))) (following : SetState)
     → GoOn round.end rounds (λ following. AreRounds following columns (drop round.settled pieces) rounds)
     → round.end ≡ Some following → AreRounds following columns (drop round.settled pieces) rounds
 after_round columns pieces round rounds following on is =
     subst (λ end. GoOn end rounds (λ following. AreRounds following columns (drop round.settled pieces) rounds)) is on
 
-no_more : (columns : ColumnList) (pieces : List (List (List ℕ))) (round : Joined Core) (rounds : List (Joined Core))
+no_more : (columns : TraceColumns) (pieces : List (List (List ℕ))) (round : Joined (List Core))
+    (rounds : List (Joined (List Core)))
     → GoOn round.end rounds (λ following. AreRounds following columns (drop round.settled pieces) rounds)
     → round.end ≡ None → rounds ≡ []
 no_more columns pieces round rounds on is =
     subst (λ end. GoOn end rounds (λ following. AreRounds following columns (drop round.settled pieces) rounds)) is on
 
-conclude : (rounds : List (Joined Core)) (start : HartState) (columns : ColumnList) (pieces : List (List (List ℕ)))
+conclude : (rounds : List (Joined (List Core))) (start : SetState) (columns : TraceColumns)
+    (pieces : List (List (List ℕ)))
     → AreRounds start columns pieces rounds → rounds_conclude start rounds ≡ lines_conclude start columns pieces
 unfolding AreRounds rounds_conclude conclusion_from judgement_of after_writes rows_of
 conclude [] start columns pieces none = rw none refl
@@ -369,7 +373,7 @@ conclude (round ∷ rounds) start columns pieces are =
     ∙ sym (pieces_in_parts start columns round.settled pieces)
 
 -- how many they are
-record Numbers (pieces : List (List (List ℕ))) (rounds : List (Joined Core)) : Type 0 where
+record Numbers (pieces : List (List (List ℕ))) (rounds : List (Joined (List Core))) : Type 0 where
   at_most_pieces : length rounds ≤ length pieces
   at_least_one : 0 < length pieces → 0 < length rounds
   count : (length rounds ≡ rejudged_in rounds) ⊎ (length rounds ≡ rejudged_in rounds + 1)
@@ -381,13 +385,15 @@ drop_nothing (suc count) [] is = refl
 drop_nothing (suc count) (x ∷ xs) is = drop_nothing count xs (omega (arith, is))
 
 -- no rounds are left where no piece is
-none_left : (rounds : List (Joined Core)) (start : HartState) (columns : ColumnList) (pieces : List (List (List ℕ)))
+none_left : (rounds : List (Joined (List Core))) (start : SetState) (columns : TraceColumns)
+    (pieces : List (List (List ℕ)))
     → AreRounds start columns pieces rounds → pieces ≡ [] → rounds ≡ []
 unfolding AreRounds
 none_left [] start columns pieces are none = refl
 none_left (round ∷ rounds) start columns pieces are none = absurd (omega (arith, are.0, ap length none))
 
-one_alone : (round : Joined Core) (rounds : List (Joined Core)) (pieces : List (List (List ℕ))) → 0 < length pieces
+one_alone : (round : Joined (List Core)) (rounds : List (Joined (List Core))) (pieces : List (List (List ℕ)))
+    → 0 < length pieces
     → (round.rejudged ≡ 0) ⊎ (round.rejudged ≡ 1) → rounds ≡ [] → Numbers pieces (round ∷ rounds)
 unfolding rejudged_in
 one_alone round [] pieces some (inl none) alone =
@@ -404,7 +410,8 @@ one_alone round [] pieces some (inr one) alone =
     }
 one_alone round (other ∷ rounds) pieces some again alone = cc
 
-one_and_more : (round : Joined Core) (rounds : List (Joined Core)) (pieces : List (List (List ℕ))) → 0 < length pieces
+one_and_more : (round : Joined (List Core)) (rounds : List (Joined (List Core))) (pieces : List (List (List ℕ)))
+    → 0 < length pieces
     → 0 < round.settled → round.settled ≤ length pieces → round.rejudged ≡ 1
     → Numbers (drop round.settled pieces) rounds → Numbers pieces (round ∷ rounds)
 unfolding rejudged_in
@@ -422,7 +429,8 @@ one_and_more round rounds pieces some settled within one rest =
     by (inl is) = inl (omega (arith, one, is))
     by (inr is) = inr (omega (arith, one, is))
 
-numbers : (rounds : List (Joined Core)) (start : HartState) (columns : ColumnList) (pieces : List (List (List ℕ)))
+numbers : (rounds : List (Joined (List Core))) (start : SetState) (columns : TraceColumns)
+    (pieces : List (List (List ℕ)))
     → AreRounds start columns pieces rounds → Numbers pieces rounds
 unfolding AreRounds rejudged_in
 numbers [] start columns pieces none =
@@ -443,8 +451,8 @@ numbers (round ∷ rounds) start columns pieces are =
     either (inl one) = inr one
     either (inr (none, rest)) = inl none
 
-    by : ((following : HartState) → AreRounds following columns (drop round.settled pieces) rounds
-        → Numbers (drop round.settled pieces) rounds) → (end : Option HartState) → round.end ≡ end
+    by : ((following : SetState) → AreRounds following columns (drop round.settled pieces) rounds
+        → Numbers (drop round.settled pieces) rounds) → (end : Option SetState) → round.end ≡ end
         → Again (length pieces) round → Numbers pieces (round ∷ rounds)
     by more None is again =
         one_alone round rounds pieces are.0 (either again) (no_more columns pieces round rounds are.1.1 is)
@@ -458,8 +466,8 @@ numbers (round ∷ rounds) start columns pieces are =
         (none_left rounds following columns (drop round.settled pieces) later
         (drop_nothing round.settled pieces all))
 
-pub settle_all : (start : HartState) (columns : ColumnList) (pieces : List (List (List ℕ)))
-    (rounds : List (Joined Core)) → AreRounds start columns pieces rounds → SettleAll start columns pieces rounds
+pub settle_all : (start : SetState) (columns : TraceColumns) (pieces : List (List (List ℕ)))
+    (rounds : List (Joined (List Core))) → AreRounds start columns pieces rounds → SettleAll start columns pieces rounds
 settle_all start columns pieces rounds are =
     let counted = numbers rounds start columns pieces are in
     record {
@@ -471,23 +479,23 @@ settle_all start columns pieces rounds are =
     }
 
 -- where the rows show what they change, the first round judges none again, and it is the last
-first_none : (start : HartState) (columns : ColumnList) (pieces : List (List (List ℕ))) (round : Joined Core)
+first_none : (start : SetState) (columns : TraceColumns) (pieces : List (List (List ℕ))) (round : Joined (List Core))
     → IsRound start columns pieces round → ShowsFrom start columns pieces → round.rejudged ≡ 0
 first_none start columns pieces round is shows =
     let segments = guessed_candidates start columns pieces is.founds in
     let lawful = settled_lawful start columns pieces round is in
-    ap (λ (round : Joined Core). round.rejudged) (is.walked core_sameness core_tells)
-    ∙ none_once by_hart core_sameness segments start core_tells lawful
-    (none_rejudged is.founds core_sameness shows core_tells lawful is.judged)
+    ap (λ (round : Joined (List Core)). round.rejudged) (is.walked cores_sameness cores_tell)
+    ∙ none_once by_set cores_sameness segments start cores_tell lawful
+    (none_rejudged is.founds cores_sameness shows cores_tell lawful is.judged)
 
-none_in_all : (round : Joined Core) (rounds : List (Joined Core)) → round.rejudged ≡ 0 → rounds ≡ []
+none_in_all : (round : Joined (List Core)) (rounds : List (Joined (List Core))) → round.rejudged ≡ 0 → rounds ≡ []
     → rejudged_in (round ∷ rounds) ≡ 0
 unfolding rejudged_in
 none_in_all round [] none alone = omega (arith, none)
 none_in_all round (other ∷ rounds) none alone = cc
 
-pub none_again : (start : HartState) (columns : ColumnList) (pieces : List (List (List ℕ)))
-    (rounds : List (Joined Core)) → AreRounds start columns pieces rounds → ShowsFrom start columns pieces
+pub none_again : (start : SetState) (columns : TraceColumns) (pieces : List (List (List ℕ)))
+    (rounds : List (Joined (List Core))) → AreRounds start columns pieces rounds → ShowsFrom start columns pieces
     → rejudged_in rounds ≡ 0
 unfolding AreRounds rejudged_in
 none_again start columns pieces [] are shows = refl
@@ -500,7 +508,7 @@ none_again start columns pieces (round ∷ rounds) are shows =
     settled : Settled start columns pieces round
     settled = round_settles start columns pieces round are.1.0
 
-    by : (end : Option HartState) → round.end ≡ end → Again (length pieces) round → rounds ≡ []
+    by : (end : Option SetState) → round.end ≡ end → Again (length pieces) round → rounds ≡ []
     by None is again = no_more columns pieces round rounds are.1.1 is
     by (Some following) is (inl one) = absurd (omega (arith, none, one))
     by (Some following) is (inr (zero_is, inl end)) = let never : Some following ≡ None = sym is ∙ end in cc

@@ -1,4 +1,4 @@
--- A test that tells states of a hart apart.
+-- A test that tells states of harts apart.
 use Rattle.std.proofs.Common.{◌≡◌, ◌∙◌, ℕ, ◌==◌, Bool, true, false, List, [], ◌∷◌, Option, Some, None, refl, sym, ap}
 use Rattle.std.specs.Prelude.{◌&&◌}
 use Rattle.std.specs.Bool.{Decides}
@@ -298,9 +298,10 @@ core_test one other =
       ),
     )
 
-pub core_sameness : Sameness Core
-core_sameness one other = (core_test one other).0
+-- as many harts, and those of each number equal
+pub cores_sameness : Sameness (List Core)
+cores_sameness one other = (list_test core_test one other).0
 
-pub core_tells : TellsApart core_sameness
-unfolding core_sameness core_test
-core_tells one other = (core_test one other).1
+pub cores_tell : TellsApart cores_sameness
+unfolding cores_sameness
+cores_tell one other = (list_test core_test one other).1

@@ -5,9 +5,9 @@ use Rattle.std.proofs.Common.{arith}
 use Rattle.hart_words.specs.States.{State}
 use Rattle.rvfi_rows.specs.Rows.{RowReading}
 use Rattle.hart_step.specs.declared.state.Core.{Core}
-use Rattle.hart_step.specs.Rows.{HartState}
+use Rattle.hart_step.specs.HartSets.{SetState}
 use Rattle.segment_judge.specs.declared.found.Found.{Found}
-use Rattle.segment_judge.specs.Judgements.{Judgement, by_hart}
+use Rattle.segment_judge.specs.Judgements.{Judgement, by_set}
 use Rattle.segment_judge.specs.Laws.{judgement_from}
 use Rattle.verdict_join.specs.Founds.{candidates_from, found_judgement}
 use Rattle.verdict_join.specs.Laws.{IsLawfulCandidate}
@@ -47,10 +47,10 @@ candidates_end from (suc index) (segment ∷ segments) (guess ∷ guesses) found
     candidates_end (from + 1) index segments guesses founds (omega (arith, past))
 
 -- a candidate with such a judgement is lawful
-pub candidate_lawful : (rows : List RowReading) (guess : HartState) (found : Option (Judgement Core))
-    → {A : Type 0} (x : Option A) → found ≡ option_map (λ any. judgement_from by_hart guess rows) x
-    → IsLawfulCandidate by_hart (record { rows = rows; guess = guess; found = found })
+pub candidate_lawful : (rows : List RowReading) (guess : SetState) (found : Option (Judgement (List Core)))
+    → {A : Type 0} (x : Option A) → found ≡ option_map (λ any. judgement_from by_set guess rows) x
+    → IsLawfulCandidate by_set (record { rows = rows; guess = guess; found = found })
 candidate_lawful rows guess found None is =
-    subst (λ found. IsLawfulCandidate by_hart (record { rows = rows; guess = guess; found = found })) (sym is) tt
+    subst (λ found. IsLawfulCandidate by_set (record { rows = rows; guess = guess; found = found })) (sym is) tt
 candidate_lawful rows guess found (Some a) is =
-    subst (λ found. IsLawfulCandidate by_hart (record { rows = rows; guess = guess; found = found })) (sym is) refl
+    subst (λ found. IsLawfulCandidate by_set (record { rows = rows; guess = guess; found = found })) (sym is) refl

@@ -2,17 +2,16 @@
 use Rattle.std.specs.Prelude.{◌≡◌, Bool, List, map, Option, Some, option_map, slice_get}
 use Rattle.hart_words.specs.Memory.{Bytes}
 use Rattle.rvfi_rows.specs.declared.segment.Segment.{Segment}
-use Rattle.rvfi_rows.specs.Columns.{ColumnList}
+use Rattle.rvfi_rows.specs.Columns.{TraceColumns}
 use Rattle.rvfi_rows.specs.Rows.{RowReading, rows_of}
-use Rattle.hart_step.specs.declared.hart.Hart.{Hart}
+use Rattle.hart_set.specs.declared.set.HartSet.{HartSet}
 use Rattle.hart_step.specs.declared.state.Core.{Core}
-use Rattle.hart_step.specs.Harts.{state_of}
-use Rattle.hart_step.specs.Rows.{HartState}
+use Rattle.hart_step.specs.HartSets.{SetState, set_state_of}
 use Rattle.segment_judge.specs.declared.found.Found.{Found}
 use Rattle.segment_judge.specs.declared.found.What.{What}
 use Rattle.segment_judge.specs.declared.found.What.TheVariants.{Judged, Skipped}
 use Rattle.segment_judge.specs.declared.judged.Judged.{Judged as JudgedSegment}
-use Rattle.segment_judge.specs.Judgements.{Judgement, by_hart}
+use Rattle.segment_judge.specs.Judgements.{Judgement, by_set}
 use Rattle.segment_judge.specs.Laws.{judgement_from}
 use Rattle.verdict_join.specs.declared.joined.Joined.{Joined as JoinedSegments}
 use Rattle.verdict_join.specs.declared.joined.Round.{Round}
@@ -21,61 +20,62 @@ use Rattle.verdict_join.specs.Laws.{TellsApart}
 use Rattle.verdict_join.specs.Founds.{candidates}
 
 -- what the lines of a segment read as
-abbrev pub rows_of_segment : ColumnList → Segment → List RowReading
+abbrev pub rows_of_segment : TraceColumns → Segment → List RowReading
 rows_of_segment columns segment = rows_of columns segment.lines
 
 -- a judgement that was made, as the definitions have one: its verdict and its end are as they were found. Of what the
 -- rows touched the code keeps a footprint and no list, so the list is that of the rows from the guess
-abbrev pub judgement_as_judged : {M : Type 0} → List RowReading → HartState → JudgedSegment M → Judgement Core
+abbrev pub judgement_as_judged : {M : Type 0} → List RowReading → SetState → JudgedSegment M → Judgement (List Core)
 judgement_as_judged rows guess judged = record {
   verdict = judged.verdict;
-  end = option_map (λ hart. hart.core) judged.end;
-  accesses = (judgement_from by_hart guess rows).accesses;
+  end = option_map (λ set. set.cores.items) judged.end;
+  accesses = (judgement_from by_set guess rows).accesses;
 }
 
 -- what was found of a segment, as the definitions have it, where there is such a segment
-abbrev pub finding : {M : Type 0} → Option (List RowReading) → Option HartState → What (JudgedSegment M)
-    → What (Judgement Core)
+abbrev pub finding : {M : Type 0} → Option (List RowReading) → Option SetState → What (JudgedSegment M)
+    → What (Judgement (List Core))
 finding rows guess (Skipped least) = Skipped least
 finding (Some rows) (Some guess) (Judged judged) = Judged (judgement_as_judged rows guess judged)
 finding rows guess (Judged judged) = Skipped 0
 
-abbrev pub found_of : {M : Type 0} → List (List RowReading) → List HartState → Found (JudgedSegment M)
-    → Found (Judgement Core)
+abbrev pub found_of : {M : Type 0} → List (List RowReading) → List SetState → Found (JudgedSegment M)
+    → Found (Judgement (List Core))
 found_of segments guesses found = record {
   seg = found.seg;
   what = finding (slice_get segments found.seg) (slice_get guesses found.seg) found.what;
 }
 
 -- the segments, the guesses before them and what was found, as the definitions have them
-abbrev pub candidates_of : {M : Type 0} → (M → Bytes) → ColumnList → List Segment → List (Hart M)
-    → List (Found (JudgedSegment M)) → List (Candidate Core)
+abbrev pub candidates_of : {M : Type 0} → (M → Bytes) → TraceColumns → List Segment → List (HartSet Core M)
+    → List (Found (JudgedSegment M)) → List (Candidate (List Core))
 candidates_of bytes_of columns segments guesses founds =
     let rows : List (List RowReading) = map (rows_of_segment columns) segments in
-    let states : List HartState = map (state_of bytes_of) guesses in
+    let states : List SetState = map (set_state_of bytes_of) guesses in
     candidates rows states (map (found_of rows states) founds)
 
 -- the join of the definitions, by its verdict, the state after it, and how many segments were judged again
-pub record IsJoin {M : Type 0} (bytes_of : M → Bytes) (joined : JoinedSegments M) (whole : Joined Core) : Type 0 where
+pub record IsJoin {M : Type 0} (bytes_of : M → Bytes) (joined : JoinedSegments M) (whole : Joined (List Core))
+    : Type 0 where
   pub verdict : joined.verdict ≡ whole.verdict
-  pub end : option_map (state_of bytes_of) joined.end ≡ whole.end
+  pub end : option_map (set_state_of bytes_of) joined.end ≡ whole.end
   pub rejudged : joined.rejudged ≡ whole.rejudged
 
 -- whichever test tells states apart
-abbrev pub JoinsThem : {M : Type 0} → (M → Bytes) → List (Candidate Core) → HartState → JoinedSegments M → Type 0
+abbrev pub JoinsThem : {M : Type 0} → (M → Bytes) → List (Candidate (List Core)) → SetState → JoinedSegments M → Type 0
 JoinsThem bytes_of segments start result =
-    (same : Sameness Core) → TellsApart same → IsJoin bytes_of result (joined by_hart same segments start)
+    (same : Sameness (List Core)) → TellsApart same → IsJoin bytes_of result (joined by_set same segments start)
 
 -- a round, as the definitions have it
-abbrev pub round_of : {M : Type 0} → (M → Bytes) → Round M → Joined Core
+abbrev pub round_of : {M : Type 0} → (M → Bytes) → Round M → Joined (List Core)
 round_of bytes_of round = record {
   verdict = round.verdict;
-  end = option_map (state_of bytes_of) round.end;
+  end = option_map (set_state_of bytes_of) round.end;
   settled = round.settled;
   rejudged = round.rejudged;
 }
 
 -- the walk of the definitions, whichever test tells states apart
-abbrev pub WalksThem : {M : Type 0} → (M → Bytes) → Bool → List (Candidate Core) → HartState → Round M → Type 0
+abbrev pub WalksThem : {M : Type 0} → (M → Bytes) → Bool → List (Candidate (List Core)) → SetState → Round M → Type 0
 WalksThem bytes_of once segments start result =
-    (same : Sameness Core) → TellsApart same → round_of bytes_of result ≡ walk by_hart same once segments start
+    (same : Sameness (List Core)) → TellsApart same → round_of bytes_of result ≡ walk by_set same once segments start

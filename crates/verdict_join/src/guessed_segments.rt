@@ -9,18 +9,18 @@ ghost use Rattle.verdict_join.specs.Walks.{ArePlaced};
 use crate::adoption::adopted_judgement;
 use crate::joined::Round;
 use crate::walk::Walk;
-use hart_step::Hart;
+use hart_step::Harts;
 use hart_words::{NoMemory, PhysMem};
 use rvfi_rows::{Columns, RowCounts, Segment};
 use segment_judge::{Found, Judged, What};
 use std::alloc::Global;
 
-/// Segments, each with a guess of the hart before it.
+/// Segments, each with a guess of the harts before it.
 #[derive(Drop)]
 pub(crate) struct GuessedSegments<'a, M: PhysMem> {
     pub columns: &'a Columns,
     pub segments: &'a [Segment],
-    pub guesses: &'a [Hart<M>],
+    pub guesses: &'a [Harts<M>],
     ghost one_each: { length guesses.now ≡ length segments.now },
     ghost below_2_to_32: { length segments.now < 2 ^ 32 },
     // Each line has four rows at most.
@@ -29,41 +29,41 @@ pub(crate) struct GuessedSegments<'a, M: PhysMem> {
 
 impl<'a, M: PhysMem + Drop> GuessedSegments<'a, M> {
     ghost use Rattle.std.specs.Prelude.{IfSome};
-    ghost use Rattle.hart_step.specs.Harts.{CanStep, state_of};
+    ghost use Rattle.hart_step.specs.HartSets.{SetCanStep, set_state_of};
     ghost use Rattle.segment_judge.specs.Founds.{IsLawfulFound};
     ghost use Rattle.verdict_join.specs.Joining.{WalksThem, candidates_of};
 
-    /// Walks the segments in order, from the hart before the first, by what was found of them: to
+    /// Walks the segments in order, from the harts before the first, by what was found of them: to
     /// the first that does not agree, and with `once` no further than the first that has to be
     /// judged again.
     pub fn walk(
         &self,
         alloc: Global,
-        start: Hart<M>,
+        start: Harts<M>,
         founds: Vec<Found<Judged<M>>>,
         once: bool,
     ) -> Result<Round<M>, NoMemory>
-        requires can_step { CanStep M.ram start }
-        requires guesses { All (CanStep M.ram) self.now.guesses.now }
+        requires can_step { SetCanStep M.ram start }
+        requires guesses { All (SetCanStep M.ram) self.now.guesses.now }
         requires lawful { All (IsLawfulFound M.bytes M.ram self.now.columns.now
             self.now.segments.now self.now.guesses.now) founds.items }
         ensures walks { IfOk result (λ round. WalksThem M.bytes once
             (candidates_of M.bytes self.now.columns.now self.now.segments.now
-            self.now.guesses.now founds.items) (state_of M.bytes start) round) }
-        ensures can_step { IfOk result (λ round. IfSome round.end (CanStep M.ram)) }
+            self.now.guesses.now founds.items) (set_state_of M.bytes start) round) }
+        ensures can_step { IfOk result (λ round. IfSome round.end (SetCanStep M.ram)) }
         ensures ram { IfOk result (λ round.
-            IfSome round.end (λ hart. M.ram hart.mem ≡ M.ram start.mem)) }
+            IfSome round.end (λ set. M.ram set.mem ≡ M.ram start.mem)) }
     {
         let segments = self.segments;
         let guesses = self.guesses;
         let places = judged_segments(alloc, segments.len(), &founds)?;
         let mut walk = Walk {
-            hart: start,
+            harts: start,
             counts: RowCounts::zero(),
             rejudged: 0,
         };
         for number in 0..segments.len() {
-            let judged = adopted_judgement(&walk.hart, &guesses[number], places[number]);
+            let judged = adopted_judgement(&walk.harts, &guesses[number], places[number]);
             let is_last = is_last(once, judged);
             match walk.pass(alloc, self.columns, &segments[number], judged)? {
                 None => {

@@ -1,6 +1,6 @@
 //! What segments come to together.
 
-use hart_step::Hart;
+use hart_step::Harts;
 use rvfi_rows::Verdict;
 
 /// What all segments come to together.
@@ -8,8 +8,8 @@ use rvfi_rows::Verdict;
 pub struct Joined<M> {
     /// The verdict on their rows, which are numbered from 1 through all segments.
     pub verdict: Verdict,
-    /// The hart after them, where they agree.
-    pub end: Option<Hart<M>>,
+    /// The harts after them, where they agree.
+    pub end: Option<Harts<M>>,
     /// How many of them were judged again, from the true state.
     pub rejudged: u32,
 }
@@ -19,8 +19,8 @@ pub struct Joined<M> {
 pub struct Round<M> {
     /// The verdict on their rows, which are numbered from 1 through these segments.
     pub verdict: Verdict,
-    /// The hart after them, where they agree.
-    pub end: Option<Hart<M>>,
+    /// The harts after them, where they agree.
+    pub end: Option<Harts<M>>,
     /// How many segments they are.
     pub settled: usize,
     /// How many of them were judged again, from the true state: 0 or 1.

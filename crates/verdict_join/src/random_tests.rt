@@ -2,13 +2,14 @@
 
 ghost use Rattle.std.specs.Prelude.{◌<◌, IfOk};
 ghost use Rattle.std.specs.List.{All};
-ghost use Rattle.hart_step.specs.Harts.{CanStep};
+ghost use Rattle.hart_step.specs.HartSets.{SetCanStep};
 
 use super::*;
 use crate::tests::{
-    CODE, CutLines, Damage, Find, Number, Trial, hold_joined, number_at, put_line, start, write,
+    CODE, CutLines, Damage, Find, HartDamage, Number, Trial, core_at_reset, harts_of, hold_joined,
+    number_at, put_line, write,
 };
-use hart_step::Hart;
+use hart_step::Harts;
 use line_text::Lines;
 use page_layers::MapMem;
 use rvfi_rows::{
@@ -76,20 +77,20 @@ const INSTRUCTIONS: [u32; 18] = [
 const COLUMNS: &[u8] = b"insn,pc_rdata,trap,rd_addr,rd_wdata,pc_wdata,mem_addr,mem_wmask,mem_wdata";
 
 /// A hart before a program of one to eight instructions, to whose front its traps lead.
-fn roll_hart(alloc: Global, dice: &mut Dice) -> Result<Hart<MapMem>, Fail>
-    ensures { IfOk result (CanStep (λ mem. mem.ram)) }
+fn roll_hart(alloc: Global, dice: &mut Dice) -> Result<Harts<MapMem>, Fail>
+    ensures { IfOk result (SetCanStep (λ mem. mem.ram)) }
 {
     let mut program = Vec::new(alloc);
     'program: for _ in 0..1 + dice.roll(8) {
         program.push(INSTRUCTIONS[dice.roll(18) as usize])?;
     }
-    let mut hart = start(alloc, &program, &[(PLACE, 8, HELD)])?;
-    hart.core.registers.set(10, PLACE);
-    hart.core.registers.set(11, CODE);
-    hart.core.registers.set(12, STORED);
+    let mut core = core_at_reset()?;
+    core.registers.set(10, PLACE);
+    core.registers.set(11, CODE);
+    core.registers.set(12, STORED);
     // mtvec.
-    write(&mut hart.core, 0x305, CODE)?;
-    Ok(hart)
+    write(&mut core, 0x305, CODE)?;
+    harts_of(alloc, core, 1, &program, &[(PLACE, 8, HELD)])
 }
 
 /// What the hart did, and the instruction.
@@ -142,17 +143,17 @@ fn line_of(alloc: Global, stepped: &Stepped, dice: &mut Dice) -> Result<String, 
 /// The rows of so many instructions, as the hart runs them.
 fn run_rows(
     alloc: Global,
-    mut hart: Hart<MapMem>,
+    mut harts: Harts<MapMem>,
     count: u64,
     dice: &mut Dice,
 ) -> Result<Lines, Fail>
-    requires { CanStep (λ mem. mem.ram) hart }
+    requires { SetCanStep (λ mem. mem.ram) harts }
 {
     let columns = read_header(alloc, b"insn,pc_rdata")?;
-    let row = read_row(alloc, &columns, b"0,0", 0)?.ok_or("the row is valid")?;
+    let row = read_row(alloc, &columns, b"0,0", 0, 1)?.ok_or("the row is valid")?;
     let mut lines = Lines::new(alloc);
     'rows: for _ in 0..count {
-        let stepped = hart.step(&row)?;
+        let stepped = harts.step(&row)?;
         put_line(&mut lines, line_of(alloc, &stepped, dice)?.as_bytes())?;
     }
     Ok(lines)
@@ -180,13 +181,13 @@ fn roll_segments(alloc: Global, lines: &Lines, dice: &mut Dice) -> Result<Vec<Se
 /// What is damaged: of memory a byte of the program, or one from `PLACE` on.
 fn roll_damage(dice: &mut Dice) -> Damage {
     match dice.roll(12) {
-        0 => Damage::Register,
-        1 => Damage::Pc,
-        2 => Damage::Mscratch,
-        3 => Damage::Reservation,
-        4 => Damage::Order,
-        5 => Damage::Trapped,
-        6 => Damage::Halted,
+        0 => Damage::Hart(0, HartDamage::Register),
+        1 => Damage::Hart(0, HartDamage::Pc),
+        2 => Damage::Hart(0, HartDamage::Mscratch),
+        3 => Damage::Hart(0, HartDamage::Reservation),
+        4 => Damage::Hart(0, HartDamage::Order),
+        5 => Damage::Hart(0, HartDamage::Trapped),
+        6 => Damage::Hart(0, HartDamage::Halted),
         7 | 8 => Damage::Byte(CODE + dice.roll(32)),
         _ => Damage::Byte(PLACE + dice.roll(16)),
     }
@@ -272,8 +273,8 @@ fn is_apart(stores: &[(u64, u8)], pa: u64) -> bool {
 }
 
 /// Whether a guess has what was read, but for bytes that were stored before.
-fn has_read(guess: &Hart<MapMem>, stores: &[(u64, u8)], read: Number) -> Result<bool, Fail>
-    requires { CanStep (λ mem. mem.ram) guess.now }
+fn has_read(guess: &Harts<MapMem>, stores: &[(u64, u8)], read: Number) -> Result<bool, Fail>
+    requires { SetCanStep (λ mem. mem.ram) guess.now }
 {
     let (from, len, value) = read;
     let mut byte = value;
@@ -290,22 +291,22 @@ fn has_read(guess: &Hart<MapMem>, stores: &[(u64, u8)], read: Number) -> Result<
 /// One hart that is stepped by all rows, and how many of these are left up to the last that counts.
 #[derive(Drop)]
 struct Walker {
-    hart: Hart<MapMem>,
+    harts: Harts<MapMem>,
     left: u64,
 }
 
 impl Walker {
     /// Before the rows of a trial, which come to this verdict.
     fn before(trial: &Trial, verdict: Verdict) -> Result<Walker, Fail>
-        requires { CanStep (λ mem. mem.ram) trial.now.start }
-        ensures { IfOk result (λ walker. CanStep (λ mem. mem.ram) walker.hart) }
+        requires { SetCanStep (λ mem. mem.ram) trial.now.start }
+        ensures { IfOk result (λ walker. SetCanStep (λ mem. mem.ram) walker.harts) }
     {
         let left = match verdict {
             Verdict::Agrees { .. } => u64::MAX,
             Verdict::Differs { row, .. } | Verdict::Refused { row, .. } => row,
         };
         Ok(Walker {
-            hart: trial.start.copy()?,
+            harts: trial.start.copy()?,
             left,
         })
     }
@@ -317,11 +318,11 @@ impl Walker {
         alloc: Global,
         columns: &Columns,
         segment: &Segment,
-        guess: &Hart<MapMem>,
+        guess: &Harts<MapMem>,
     ) -> Result<bool, Fail>
-        requires hart { CanStep (λ mem. mem.ram) self.old.hart }
-        requires guess { CanStep (λ mem. mem.ram) guess.now }
-        ensures { CanStep (λ mem. mem.ram) self.new.hart }
+        requires harts { SetCanStep (λ mem. mem.ram) self.old.harts }
+        requires guess { SetCanStep (λ mem. mem.ram) guess.now }
+        ensures { SetCanStep (λ mem. mem.ram) self.new.harts }
     {
         let mut stores = Vec::new(alloc);
         let mut has_all = true;
@@ -331,8 +332,8 @@ impl Walker {
             }
             self.left -= 1;
             let line = segment.lines.get(number).ok_or("a line")?;
-            let row = read_row(alloc, columns, line, 0)?.ok_or("the row is valid")?;
-            let stepped = self.hart.step(&row)?;
+            let row = read_row(alloc, columns, line, 0, 1)?.ok_or("the row is valid")?;
+            let stepped = self.harts.step(&row)?;
             let (retired, insn) = retirement_of(&stepped)?;
             for read in reads_of(&retired, insn) {
                 has_all = has_read(guess, &stores, read)? && has_all;
@@ -354,9 +355,9 @@ fn is_judged(finds: &[Find], number: usize) -> bool {
 }
 
 /// Whether two harts have the same bytes where instructions stand, and loads and stores reach.
-fn same_bytes(one: &Hart<MapMem>, other: &Hart<MapMem>) -> Result<bool, Fail>
-    requires one { CanStep (λ mem. mem.ram) one.now }
-    requires other { CanStep (λ mem. mem.ram) other.now }
+fn same_bytes(one: &Harts<MapMem>, other: &Harts<MapMem>) -> Result<bool, Fail>
+    requires one { SetCanStep (λ mem. mem.ram) one.now }
+    requires other { SetCanStep (λ mem. mem.ram) other.now }
 {
     for pa in [CODE, CODE + 8, CODE + 16, CODE + 24, PLACE, PLACE + 8] {
         if number_at(one, pa, 8)? != number_at(other, pa, 8)? {
@@ -405,8 +406,8 @@ fn counts_of(
     verdict: Verdict,
     counts: &mut Counts,
 ) -> Result<(), Fail>
-    requires start { CanStep (λ mem. mem.ram) trial.now.start }
-    requires guesses { All (CanStep (λ mem. mem.ram)) trial.now.guesses.items }
+    requires start { SetCanStep (λ mem. mem.ram) trial.now.start }
+    requires guesses { All (SetCanStep (λ mem. mem.ram)) trial.now.guesses.items }
 {
     let mut walker = Walker::before(trial, verdict)?;
     'segments: for number in 0..trial.segments.len() {
@@ -414,8 +415,8 @@ fn counts_of(
             return Ok(());
         }
         let guess = &trial.guesses[number];
-        let is_same = guess.same_but_memory(&walker.hart);
-        let is_other = !same_bytes(guess, &walker.hart)?;
+        let is_same = guess.same_but_memory(&walker.harts);
+        let is_other = !same_bytes(guess, &walker.harts)?;
         let has_read = walker.pass(alloc, &trial.columns, &trial.segments[number], guess)?;
         let is_adopted = is_judged(finds, number) && is_same && has_read;
         counts.count(is_adopted, is_same && is_other, has_read);
@@ -424,15 +425,21 @@ fn counts_of(
 }
 
 fn roll_trial(alloc: Global, dice: &mut Dice) -> Result<Trial, Fail>
-    ensures start { IfOk result (λ trial. CanStep (λ mem. mem.ram) trial.start) }
-    ensures guesses { IfOk result (λ trial. All (CanStep (λ mem. mem.ram)) trial.guesses.items) }
+    ensures start { IfOk result (λ trial. SetCanStep (λ mem. mem.ram) trial.start) }
+    ensures guesses { IfOk result (λ trial. All (SetCanStep (λ mem. mem.ram)) trial.guesses.items) }
 {
-    let hart = roll_hart(alloc, dice)?;
-    let whole = run_rows(alloc, hart.copy()?, 2 + dice.roll(10), dice)?;
+    let harts = roll_hart(alloc, dice)?;
+    let whole = run_rows(alloc, harts.copy()?, 2 + dice.roll(10), dice)?;
     let segments = roll_segments(alloc, &whole, dice)?;
     let damages = roll_damages(alloc, segments.len(), dice)?;
     let columns = read_header(alloc, COLUMNS)?;
-    Trial::of(alloc, hart, columns, CutLines { whole, segments }, &damages)
+    Trial::of(
+        alloc,
+        harts,
+        columns,
+        CutLines { whole, segments },
+        &damages,
+    )
 }
 
 /// The verdict is that of one hart, and just those segments are judged again that have to be.

@@ -1,9 +1,9 @@
 //! Joins of small traces, each beside the judging of all its lines as one segment.
 
-ghost use Rattle.std.specs.Prelude.{◌≡◌, ◌<◌, ◌^◌, IfOk, IfSome, IsTrue, length};
+ghost use Rattle.std.specs.Prelude.{◌≡◌, ◌≤◌, ◌<◌, ◌^◌, IfOk, IfSome, IsTrue, length};
 ghost use Rattle.std.specs.List.{All};
 ghost use Rattle.hart_step.specs.Cores.{IsSound};
-ghost use Rattle.hart_step.specs.Harts.{CanStep};
+ghost use Rattle.hart_step.specs.HartSets.{SetCanStep};
 ghost use Rattle.line_text.specs.Lines.{IsLine};
 ghost use Rattle.page_layers.specs.Memories.{map_bytes};
 ghost use Rattle.rvfi_rows.specs.Segments.{line_count_of};
@@ -11,7 +11,7 @@ ghost use Rattle.segment_judge.specs.Founds.{IsLawfulFound};
 
 use super::*;
 use boundary_guess::{cut, guesses};
-use hart_step::{Core, Hart};
+use hart_step::{Core, Harts};
 use hart_words::{Choices, Difference, Map, Mode, PhysMem, Signal, Span};
 use line_text::Lines;
 use page_layers::MapMem;
@@ -48,14 +48,22 @@ fn lines_with(alloc: Global, rows: &[&[u8]]) -> Result<Lines, Fail> {
     Ok(lines)
 }
 
-/// The number of so many bytes at an address.
-pub(crate) fn number_at(hart: &Hart<MapMem>, pa: u64, len: u8) -> Result<u64, Fail>
-    requires { CanStep (λ mem. mem.ram) hart.now }
+/// The RAM of harts.
+fn ram_of(harts: &Harts<MapMem>) -> Span
+    requires { SetCanStep (λ mem. mem.ram) harts.now }
+    ensures { harts.now.mem.ram ≡ result }
 {
-    if !hart.core.map.ram.is_place(pa, len) {
+    harts.cores[0].map.ram
+}
+
+/// The number of so many bytes at an address.
+pub(crate) fn number_at(harts: &Harts<MapMem>, pa: u64, len: u8) -> Result<u64, Fail>
+    requires { SetCanStep (λ mem. mem.ram) harts.now }
+{
+    if !ram_of(harts).is_place(pa, len) {
         return Err(Fail::from("no place of RAM"));
     }
-    Ok(hart.mem.read(pa, len))
+    Ok(harts.mem.read(pa, len))
 }
 
 /// Writes to memory, where so many bytes lie in one page of RAM.
@@ -89,18 +97,36 @@ fn memory(alloc: Global, ram: Span, program: &[u32], numbers: &[Number]) -> Resu
     Ok(mem)
 }
 
-/// The hart at reset at `CODE`, over such a memory.
-pub(crate) fn start(
-    alloc: Global,
-    program: &[u32],
-    numbers: &[Number],
-) -> Result<Hart<MapMem>, Fail>
-    ensures { IfOk result (CanStep (λ mem. mem.ram)) }
+/// A hart at reset at `CODE`.
+pub(crate) fn core_at_reset() -> Result<Core, Fail>
+    ensures { IfOk result IsSound }
 {
     let ram = Span::new(CODE, 0x800_0000).ok_or("no range")?;
     let map = Map::new(ram, None).ok_or("no map")?;
-    let memory = memory(alloc, map.ram, program, numbers)?;
-    Ok(Hart::reset(memory, CODE, map, Choices::plain()))
+    Ok(Core::reset(CODE, map, Choices::plain()))
+}
+
+/// So many harts, each as this one, over such a memory.
+pub(crate) fn harts_of(
+    alloc: Global,
+    core: Core,
+    harts: u32,
+    program: &[u32],
+    numbers: &[Number],
+) -> Result<Harts<MapMem>, Fail>
+    requires sound { IsSound core }
+    requires some { 1 ≤ harts }
+    ensures { IfOk result (SetCanStep (λ mem. mem.ram)) }
+{
+    let memory = memory(alloc, core.map.ram, program, numbers)?;
+    Ok(Harts::reset(alloc, core, harts, memory)?)
+}
+
+/// One hart at reset at `CODE`, over such a memory.
+fn start(alloc: Global, program: &[u32], numbers: &[Number]) -> Result<Harts<MapMem>, Fail>
+    ensures { IfOk result (SetCanStep (λ mem. mem.ram)) }
+{
+    harts_of(alloc, core_at_reset()?, 1, program, numbers)
 }
 
 /// Writes a register of control as M does.
@@ -127,9 +153,9 @@ fn reserve(core: &mut Core, pa: u64) -> Result<(), Fail>
     Ok(())
 }
 
-/// What is made another in a guess.
+/// What is made another in a hart.
 #[derive(Clone, Copy, Debug)]
-pub(crate) enum Damage {
+pub(crate) enum HartDamage {
     Register,
     Pc,
     Mscratch,
@@ -137,40 +163,68 @@ pub(crate) enum Damage {
     Order,
     Trapped,
     Halted,
+}
+
+/// What is made another in a guess.
+#[derive(Clone, Copy, Debug)]
+pub(crate) enum Damage {
+    /// Of the hart of a number.
+    Hart(usize, HartDamage),
     /// A byte of memory.
     Byte(u64),
 }
 
-fn damage_hart(hart: &mut Hart<MapMem>, damage: Damage) -> Result<(), Fail>
-    requires { CanStep (λ mem. mem.ram) hart.old }
-    ensures { CanStep (λ mem. mem.ram) hart.new }
+fn damage_core(core: &mut Core, damage: HartDamage) -> Result<(), Fail>
+    requires sound { IsSound core.old }
+    ensures sound { IsSound core.new }
+    ensures map { core.new.map ≡ core.old.map }
 {
     match damage {
-        Damage::Register => {
-            hart.core.registers.set(9, 77);
+        HartDamage::Register => {
+            core.registers.set(9, 77);
             Ok(())
         }
-        Damage::Pc => {
-            hart.core.pc = 0x8000_0400;
+        HartDamage::Pc => {
+            core.pc = 0x8000_0400;
             Ok(())
         }
-        Damage::Mscratch => write(&mut hart.core, 0x340, 77),
-        Damage::Reservation => reserve(&mut hart.core, DATA),
-        Damage::Order => {
-            hart.core.next_order = Some(77);
+        HartDamage::Mscratch => write(core, 0x340, 77),
+        HartDamage::Reservation => reserve(core, DATA),
+        HartDamage::Order => {
+            core.next_order = Some(77);
             Ok(())
         }
-        Damage::Trapped => {
-            hart.core.trapped_last = true;
+        HartDamage::Trapped => {
+            core.trapped_last = true;
             Ok(())
         }
-        Damage::Halted => {
-            hart.core.halted = !hart.core.halted;
+        HartDamage::Halted => {
+            core.halted = !core.halted;
             Ok(())
         }
+    }
+}
+
+fn damage_hart(harts: &mut Harts<MapMem>, number: usize, damage: HartDamage) -> Result<(), Fail>
+    requires { SetCanStep (λ mem. mem.ram) harts.old }
+    ensures { SetCanStep (λ mem. mem.ram) harts.new }
+{
+    if number >= harts.cores.len() {
+        return Err(Fail::from("no such hart"));
+    }
+    damage_core(&mut harts.cores[number], damage)
+}
+
+fn damage_harts(harts: &mut Harts<MapMem>, damage: Damage) -> Result<(), Fail>
+    requires { SetCanStep (λ mem. mem.ram) harts.old }
+    ensures { SetCanStep (λ mem. mem.ram) harts.new }
+{
+    match damage {
+        Damage::Hart(number, damage) => damage_hart(harts, number, damage),
         Damage::Byte(pa) => {
-            let byte = number_at(hart, pa, 1)?;
-            put(&mut hart.mem, &hart.core.map.ram, pa, 1, byte ^ 0xff)
+            let byte = number_at(harts, pa, 1)?;
+            let ram = ram_of(harts);
+            put(&mut harts.mem, &ram, pa, 1, byte ^ 0xff)
         }
     }
 }
@@ -178,19 +232,19 @@ fn damage_hart(hart: &mut Hart<MapMem>, damage: Damage) -> Result<(), Fail>
 /// Which guesses are damaged, by the numbers of their segments.
 pub(crate) type Damages<'a> = &'a [(usize, Damage)];
 
-fn damage_at(guesses: &mut [Hart<MapMem>], number: usize, damage: Damage) -> Result<(), Fail>
+fn damage_at(guesses: &mut [Harts<MapMem>], number: usize, damage: Damage) -> Result<(), Fail>
     requires within { number < length guesses.old }
-    requires can_step { All (CanStep (λ mem. mem.ram)) guesses.old }
-    ensures can_step { All (CanStep (λ mem. mem.ram)) guesses.new }
+    requires can_step { All (SetCanStep (λ mem. mem.ram)) guesses.old }
+    ensures can_step { All (SetCanStep (λ mem. mem.ram)) guesses.new }
     ensures length { length guesses.new ≡ length guesses.old }
 {
-    damage_hart(&mut guesses[number], damage)
+    damage_harts(&mut guesses[number], damage)
 }
 
 /// Numbers beyond the last segment are passed over.
-fn damage_guesses(guesses: &mut [Hart<MapMem>], damages: Damages) -> Result<(), Fail>
-    requires { All (CanStep (λ mem. mem.ram)) guesses.old }
-    ensures can_step { All (CanStep (λ mem. mem.ram)) guesses.new }
+fn damage_guesses(guesses: &mut [Harts<MapMem>], damages: Damages) -> Result<(), Fail>
+    requires { All (SetCanStep (λ mem. mem.ram)) guesses.old }
+    ensures can_step { All (SetCanStep (λ mem. mem.ram)) guesses.new }
     ensures length { length guesses.new ≡ length guesses.old }
 {
     'damages: for (number, damage) in damages {
@@ -219,11 +273,11 @@ fn are_few(segments: &[Segment]) -> bool
 /// A trace that is judged: its rows as one segment, and as several with a guess before each.
 #[derive(Drop)]
 pub(crate) struct Trial {
-    pub start: Hart<MapMem>,
+    pub start: Harts<MapMem>,
     pub columns: Columns,
     whole: Segment,
     pub segments: Vec<Segment>,
-    pub guesses: Vec<Hart<MapMem>>,
+    pub guesses: Vec<Harts<MapMem>>,
     ghost one_each: { length guesses.items ≡ length segments.items },
     ghost below_2_to_32: { length segments.items < 2 ^ 32 },
     ghost lines: { line_count_of segments.items < 2 ^ 60 },
@@ -248,15 +302,15 @@ impl Trial {
     /// With a guess before each segment, some of which are damaged.
     pub fn of(
         alloc: Global,
-        start: Hart<MapMem>,
+        start: Harts<MapMem>,
         columns: Columns,
         lines: CutLines,
         damages: Damages,
     ) -> Result<Trial, Fail>
-        requires { CanStep (λ mem. mem.ram) start }
-        ensures start { IfOk result (λ trial. CanStep (λ mem. mem.ram) trial.start) }
+        requires { SetCanStep (λ mem. mem.ram) start }
+        ensures start { IfOk result (λ trial. SetCanStep (λ mem. mem.ram) trial.start) }
         ensures guesses { IfOk result (λ trial.
-            All (CanStep (λ mem. mem.ram)) trial.guesses.items) }
+            All (SetCanStep (λ mem. mem.ram)) trial.guesses.items) }
     {
         let CutLines { whole, segments } = lines;
         let mut guesses = guesses(alloc, &start, &columns, &segments)?;
@@ -276,15 +330,18 @@ impl Trial {
 
 fn trial_of(
     alloc: Global,
-    start: Hart<MapMem>,
+    start: Harts<MapMem>,
     trace: Trace,
     damages: Damages,
 ) -> Result<Trial, Fail>
-    requires { CanStep (λ mem. mem.ram) start }
-    ensures start { IfOk result (λ trial. CanStep (λ mem. mem.ram) trial.start) }
-    ensures guesses { IfOk result (λ trial. All (CanStep (λ mem. mem.ram)) trial.guesses.items) }
+    requires { SetCanStep (λ mem. mem.ram) start }
+    ensures start { IfOk result (λ trial. SetCanStep (λ mem. mem.ram) trial.start) }
+    ensures guesses { IfOk result (λ trial. All (SetCanStep (λ mem. mem.ram)) trial.guesses.items) }
 {
-    let columns = read_header(alloc, trace.header)?;
+    let harts = u32::try_from(start.cores.len())
+        .ok()
+        .ok_or("too many harts")?;
+    let columns = read_header(alloc, trace.header)?.with_harts(harts);
     if trace.length == 0 {
         return Err(Fail::from("no length"));
     }
@@ -304,7 +361,7 @@ pub(crate) enum Find {
 }
 
 fn found_of(alloc: Global, trial: &Trial, find: Find) -> Result<Found<Judged<MapMem>>, Fail>
-    requires { All (CanStep (λ mem. mem.ram)) trial.now.guesses.items }
+    requires { All (SetCanStep (λ mem. mem.ram)) trial.now.guesses.items }
     ensures { IfOk result (IsLawfulFound map_bytes (λ mem. mem.ram) trial.now.columns
         trial.now.segments.items trial.now.guesses.items) }
 {
@@ -338,7 +395,7 @@ fn founds_of(
     trial: &Trial,
     finds: &[Find],
 ) -> Result<Vec<Found<Judged<MapMem>>>, Fail>
-    requires { All (CanStep (λ mem. mem.ram)) trial.now.guesses.items }
+    requires { All (SetCanStep (λ mem. mem.ram)) trial.now.guesses.items }
     ensures { IfOk result (λ founds. All (IsLawfulFound map_bytes (λ mem. mem.ram)
         trial.now.columns trial.now.segments.items trial.now.guesses.items) founds.items) }
 {
@@ -349,14 +406,14 @@ fn founds_of(
     Ok(founds)
 }
 
-/// Both ends are the same hart, with the same bytes in the first lines of both pages.
+/// Both ends are the same harts, with the same bytes in the first lines of the pages.
 fn hold_same_end(
     rt: &impl Abort,
-    found: &Option<Hart<MapMem>>,
-    wanted: &Option<Hart<MapMem>>,
+    found: &Option<Harts<MapMem>>,
+    wanted: &Option<Harts<MapMem>>,
 ) -> Result<(), Fail>
-    requires found { IfSome found.now (CanStep (λ mem. mem.ram)) }
-    requires wanted { IfSome wanted.now (CanStep (λ mem. mem.ram)) }
+    requires found { IfSome found.now (SetCanStep (λ mem. mem.ram)) }
+    requires wanted { IfSome wanted.now (SetCanStep (λ mem. mem.ram)) }
 {
     match (found, wanted) {
         (Some(found), Some(wanted)) => {
@@ -375,15 +432,15 @@ fn hold_same_end(
 }
 
 /// The join comes to the verdict, and so does the judging of all rows as one segment, with the same
-/// hart after them. How many segments were judged again.
+/// harts after them. How many segments were judged again.
 pub(crate) fn hold_joined(
     rt: &impl Abort,
     alloc: Global,
     trial: &Trial,
     finds: &[Find],
 ) -> Result<(Verdict, u32), Fail>
-    requires start { CanStep (λ mem. mem.ram) trial.now.start }
-    requires guesses { All (CanStep (λ mem. mem.ram)) trial.now.guesses.items }
+    requires start { SetCanStep (λ mem. mem.ram) trial.now.start }
+    requires guesses { All (SetCanStep (λ mem. mem.ram)) trial.now.guesses.items }
 {
     let founds = founds_of(alloc, trial, finds)?;
     let whole = judge(alloc, &trial.start, &trial.columns, &trial.whole)?;
@@ -461,8 +518,8 @@ fn orders_of(alloc: Global, set: u32) -> Result<[Vec<Find>; 3], Fail> {
 
 /// The join of what was found of the silent rows.
 fn join_silent(rt: &impl Abort, alloc: Global, finds: &[Find]) -> Result<(Verdict, u32), Fail> {
-    let hart = start(alloc, &SUMS, &[])?;
-    let trial = trial_of(alloc, hart, trace_of(alloc, &SILENT)?, &[])?;
+    let harts = start(alloc, &SUMS, &[])?;
+    let trial = trial_of(alloc, harts, trace_of(alloc, &SILENT)?, &[])?;
     hold_joined(rt, alloc, &trial, finds)
 }
 
@@ -491,8 +548,8 @@ fn joins_what_was_found(rt: HostRuntime) -> Result<(), Fail> {
 
 /// The join of all segments, each judged from its guess.
 fn join_each(rt: &impl Abort, alloc: Global, trial: &Trial) -> Result<(Verdict, u32), Fail>
-    requires start { CanStep (λ mem. mem.ram) trial.now.start }
-    requires guesses { All (CanStep (λ mem. mem.ram)) trial.now.guesses.items }
+    requires start { SetCanStep (λ mem. mem.ram) trial.now.start }
+    requires guesses { All (SetCanStep (λ mem. mem.ram)) trial.now.guesses.items }
 {
     let mut finds = Vec::new(alloc);
     'finds: for number in 0..trial.segments.len() {
@@ -513,8 +570,8 @@ type Case<'a> = (
 
 fn hold_cases(rt: &impl Abort, alloc: Global, cases: &[Case]) -> Result<(), Fail> {
     'cases: for (program, numbers, rows, damages, wanted) in cases {
-        let hart = start(alloc, *program, *numbers)?;
-        let trial = trial_of(alloc, hart, trace_of(alloc, rows)?, *damages)?;
+        let harts = start(alloc, *program, *numbers)?;
+        let trial = trial_of(alloc, harts, trace_of(alloc, rows)?, *damages)?;
         let found = join_each(rt, alloc, &trial)?;
         assert_eq!(rt; found, *wanted, "{damages:?}");
     }
@@ -577,9 +634,9 @@ const SKIPPING: Rows = (SHOWN, &[FIRST, INVALID, SECOND, THIRD], 2);
 
 const EMPTY: Rows = (SHOWN, &[], 2);
 
-const REGISTER: Damages = &[(1, Damage::Register)];
+const REGISTER: Damages = &[(1, Damage::Hart(0, HartDamage::Register))];
 
-const NOT_HALTED: Damages = &[(1, Damage::Halted)];
+const NOT_HALTED: Damages = &[(1, Damage::Hart(0, HartDamage::Halted))];
 
 #[test]
 fn joins_verdicts(rt: HostRuntime) -> Result<(), Fail> {
@@ -627,13 +684,13 @@ const LOADED: Rows = (
 #[test]
 fn meets_guesses(rt: HostRuntime) -> Result<(), Fail> {
     let cases: [(usize, Damage, u32); 15] = [
-        (1, Damage::Register, 1),
-        (1, Damage::Pc, 1),
-        (1, Damage::Mscratch, 1),
-        (1, Damage::Reservation, 1),
-        (1, Damage::Order, 1),
-        (1, Damage::Trapped, 1),
-        (1, Damage::Halted, 1),
+        (1, Damage::Hart(0, HartDamage::Register), 1),
+        (1, Damage::Hart(0, HartDamage::Pc), 1),
+        (1, Damage::Hart(0, HartDamage::Mscratch), 1),
+        (1, Damage::Hart(0, HartDamage::Reservation), 1),
+        (1, Damage::Hart(0, HartDamage::Order), 1),
+        (1, Damage::Hart(0, HartDamage::Trapped), 1),
+        (1, Damage::Hart(0, HartDamage::Halted), 1),
         // What the segment fetches and loads, and what stands beside that.
         (1, Damage::Byte(CODE + 3), 0),
         (1, Damage::Byte(CODE + 4), 1),
@@ -641,7 +698,7 @@ fn meets_guesses(rt: HostRuntime) -> Result<(), Fail> {
         (1, Damage::Byte(DATA + 7), 1),
         (1, Damage::Byte(DATA + 8), 0),
         // The first, which is known.
-        (0, Damage::Order, 1),
+        (0, Damage::Hart(0, HartDamage::Order), 1),
         (0, Damage::Byte(CODE), 1),
         (0, Damage::Byte(DATA), 0),
     ];
@@ -654,6 +711,41 @@ fn meets_guesses(rt: HostRuntime) -> Result<(), Fail> {
             rt.alloc(),
             &[(&LOADS, &numbers, LOADED, &damages, wanted)],
         )?;
+    }
+    Ok(())
+}
+
+/// Both harts run the instructions above, in turn.
+const LOADED_BY_TWO: Rows = (
+    b"hart,insn,pc_rdata,rd_addr,rd_wdata",
+    &[
+        b"0,0x00001117,0x80000000,2,0x80001000",
+        b"1,0x00001117,0x80000000,2,0x80001000",
+        b"0,0x00013183,0x80000004,3,0x8899aabbccddeeff",
+        b"1,0x00013183,0x80000004,3,0x8899aabbccddeeff",
+    ],
+    3,
+);
+
+/// A guess is met where each of its harts is the true one: the first, of which no row comes after
+/// it, and the second.
+#[test]
+fn meets_guesses_of_two_harts(rt: HostRuntime) -> Result<(), Fail> {
+    let alloc = rt.alloc();
+    let cases: [(Damage, u32); 6] = [
+        (Damage::Hart(0, HartDamage::Register), 1),
+        (Damage::Hart(0, HartDamage::Trapped), 1),
+        (Damage::Hart(1, HartDamage::Trapped), 1),
+        (Damage::Hart(1, HartDamage::Order), 1),
+        (Damage::Byte(DATA), 1),
+        (Damage::Byte(DATA + 8), 0),
+    ];
+    'cases: for (damage, rejudged) in cases {
+        let harts = harts_of(alloc, core_at_reset()?, 2, &LOADS, &[(DATA, 8, HELD)])?;
+        let trace = trace_of(alloc, &LOADED_BY_TWO)?;
+        let trial = trial_of(alloc, harts, trace, &[(1, damage)])?;
+        let found = join_each(&rt, alloc, &trial)?;
+        assert_eq!(rt; found, (agrees(4), rejudged), "{damage:?}");
     }
     Ok(())
 }
@@ -673,24 +765,24 @@ const MAPS: [u32; 4] = [0x0005_8293, 0x0055_3023, 0x0010_0293, 0x0006_3303];
 /// In S, by page tables that map the first 2 MiB from `CODE` on to themselves, where an entry of
 /// protection grants all. x10 has the place of the next entry, which is not valid yet, x11 what is
 /// stored there, and x12 an address that it will map to `DATA`.
-fn translating_hart(alloc: Global) -> Result<Hart<MapMem>, Fail>
-    ensures { IfOk result (CanStep (λ mem. mem.ram)) }
+fn translating_hart(alloc: Global) -> Result<Harts<MapMem>, Fail>
+    ensures { IfOk result (SetCanStep (λ mem. mem.ram)) }
 {
     let numbers = [
         (ROOT + 16, 8, (BELOW >> 12) << 10 | 0x01),
         (BELOW, 8, LEAF),
         (DATA, 8, HELD),
     ];
-    let mut hart = start(alloc, &MAPS, &numbers)?;
-    hart.core.registers.set(10, BELOW + 8);
-    hart.core.registers.set(11, LEAF);
-    hart.core.registers.set(12, DATA + 0x20_0000);
+    let mut core = core_at_reset()?;
+    core.registers.set(10, BELOW + 8);
+    core.registers.set(11, LEAF);
+    core.registers.set(12, DATA + 0x20_0000);
     // pmpaddr0, pmpcfg0, and satp with Sv39 as its MODE.
-    write(&mut hart.core, 0x3b0, 0x3f_ffff_ffff_ffff)?;
-    write(&mut hart.core, 0x3a0, 0x1f)?;
-    write(&mut hart.core, 0x180, 8 << 60 | ROOT >> 12)?;
-    hart.core.mode = Mode::Supervisor;
-    Ok(hart)
+    write(&mut core, 0x3b0, 0x3f_ffff_ffff_ffff)?;
+    write(&mut core, 0x3a0, 0x1f)?;
+    write(&mut core, 0x180, 8 << 60 | ROOT >> 12)?;
+    core.mode = Mode::Supervisor;
+    harts_of(alloc, core, 1, &MAPS, &numbers)
 }
 
 /// Where the first row does not show x5, the guess before the last has no entry where the load

@@ -2,26 +2,26 @@
 
 ghost use Rattle.std.specs.Prelude.{◌≡◌, ◌≤◌, ◌<◌, ◌+◌, ◌^◌, ℕ, IfOk, OnOk, IfSome, None, Some, length, if◌then◌else◌};
 ghost use Rattle.std.specs.Option.{is_none};
-ghost use Rattle.hart_step.specs.Harts.{CanStep, state_of};
+ghost use Rattle.hart_step.specs.HartSets.{SetCanStep, set_state_of};
 ghost use Rattle.rvfi_rows.specs.declared.verdict.Verdict.TheVariants.{Agrees};
 ghost use Rattle.rvfi_rows.specs.Rows.{rows_of};
 ghost use Rattle.segment_judge.specs.Judged.{IsUsable, moved_end};
-ghost use Rattle.segment_judge.specs.Judgements.{by_hart};
+ghost use Rattle.segment_judge.specs.Judgements.{by_set};
 ghost use Rattle.segment_judge.specs.Laws.{conclusion_from};
 ghost use Rattle.verdict_join.specs.Walks.{Concludes, CountsOn, IsReached, IsWithinRows, PassesRows};
 
 use crate::joined::Round;
-use hart_step::Hart;
+use hart_step::Harts;
 use hart_words::{NoMemory, PhysMem};
 use rvfi_rows::{Columns, RowCounts, Segment, Verdict};
 use segment_judge::{Judged, judge};
 use std::alloc::Global;
 
-/// How far segments were walked: the true state of the hart after them, how many rows and valid
+/// How far segments were walked: the true state of the harts after them, how many rows and valid
 /// rows they have, and how many of them were judged again.
 #[derive(Drop)]
 pub(crate) struct Walk<M> {
-    pub hart: Hart<M>,
+    pub harts: Harts<M>,
     pub counts: RowCounts,
     pub rejudged: u32,
 }
@@ -31,7 +31,7 @@ impl<M: PhysMem + Drop> Walk<M> {
     pub fn agreeing_round(self, settled: usize) -> Round<M>
         ensures { result ≡ record {
           verdict = Agrees self.counts.rows self.counts.valid;
-          end = Some self.hart;
+          end = Some self.harts;
           settled = settled;
           rejudged = self.rejudged;
         } }
@@ -41,7 +41,7 @@ impl<M: PhysMem + Drop> Walk<M> {
                 rows: self.counts.rows,
                 valid: self.counts.valid,
             },
-            end: Some(self.hart),
+            end: Some(self.harts),
             settled,
             rejudged: self.rejudged,
         }
@@ -73,20 +73,21 @@ impl<M: PhysMem + Drop> Walk<M> {
         segment: &Segment,
         adopted: Option<&Judged<M>>,
     ) -> Result<Option<Verdict>, NoMemory>
-        requires can_step { CanStep M.ram self.old.hart }
+        requires can_step { SetCanStep M.ram self.old.harts }
         requires below_2_to_62 { self.old.counts.rows
             + length (rows_of columns.now segment.now.lines) < 2 ^ 62 }
         requires again { self.old.rejudged + 1 < 2 ^ 32 }
         requires adopted { IfSome adopted (λ judged. Concludes M.bytes
-            (state_of M.bytes self.old.hart) (rows_of columns.now segment.now.lines) judged.now) }
+            (set_state_of M.bytes self.old.harts) (rows_of columns.now segment.now.lines)
+            judged.now) }
         requires usable { IfSome adopted (λ judged.
-            IsUsable M.ram (M.ram self.old.hart.mem) judged.now) }
+            IsUsable M.ram (M.ram self.old.harts.mem) judged.now) }
         ensures passes { IfOk result (λ end. PassesRows M.bytes self.old self.new
             (rows_of columns.now segment.now.lines) end) }
         ensures again { IfOk result (λ end. self.new.rejudged
             ≡ self.old.rejudged + (if is_none adopted.entry then 1 else 0)) }
-        ensures can_step { IfOk result (λ end. CanStep M.ram self.new.hart) }
-        ensures ram { IfOk result (λ end. M.ram self.new.hart.mem ≡ M.ram self.old.hart.mem) }
+        ensures can_step { IfOk result (λ end. SetCanStep M.ram self.new.harts) }
+        ensures ram { IfOk result (λ end. M.ram self.new.harts.mem ≡ M.ram self.old.harts.mem) }
         ensures rows { IfOk result (λ end. self.new.counts.rows
             ≤ self.old.counts.rows + length (rows_of columns.now segment.now.lines)) }
     {
@@ -104,18 +105,18 @@ impl<M: PhysMem + Drop> Walk<M> {
 
     /// Goes on after a segment as it was judged, from a guess that is met.
     fn adopt(&mut self, judged: &Judged<M>) -> Result<(), NoMemory>
-        requires can_step { CanStep M.ram self.old.hart }
-        requires usable { IsUsable M.ram (M.ram self.old.hart.mem) judged.now }
+        requires can_step { SetCanStep M.ram self.old.harts }
+        requires usable { IsUsable M.ram (M.ram self.old.harts.mem) judged.now }
         ensures reached { OnOk result (IsReached (moved_end M.bytes judged.now
-            (M.bytes self.old.hart.mem)) (state_of M.bytes self.new.hart)) }
+            (M.bytes self.old.harts.mem)) (set_state_of M.bytes self.new.harts)) }
         ensures counts { self.new.counts ≡ self.old.counts }
         ensures again { self.new.rejudged ≡ self.old.rejudged }
-        ensures can_step { OnOk result (CanStep M.ram self.new.hart) }
-        ensures ram { M.ram self.new.hart.mem ≡ M.ram self.old.hart.mem }
+        ensures can_step { OnOk result (SetCanStep M.ram self.new.harts) }
+        ensures ram { M.ram self.new.harts.mem ≡ M.ram self.old.harts.mem }
     {
         if let Some(end) = &judged.end {
-            judged.footprint.moved(&mut self.hart.mem, &end.mem)?;
-            self.hart.core = end.core;
+            judged.footprint.moved(&mut self.harts.mem, &end.mem)?;
+            self.harts.take_cores(end)?;
         }
         Ok(())
     }
@@ -127,24 +128,25 @@ impl<M: PhysMem + Drop> Walk<M> {
         columns: &Columns,
         segment: &Segment,
     ) -> Result<Verdict, NoMemory>
-        requires can_step { CanStep M.ram self.old.hart }
+        requires can_step { SetCanStep M.ram self.old.harts }
         requires again { self.old.rejudged + 1 < 2 ^ 32 }
-        ensures verdict { IfOk result (λ verdict. verdict ≡ (conclusion_from by_hart
-            (state_of M.bytes self.old.hart) (rows_of columns.now segment.now.lines)).verdict) }
-        ensures reached { OnOk result (IsReached (conclusion_from by_hart
-            (state_of M.bytes self.old.hart) (rows_of columns.now segment.now.lines)).end
-            (state_of M.bytes self.new.hart)) }
+        ensures verdict { IfOk result (λ verdict. verdict ≡ (conclusion_from by_set
+            (set_state_of M.bytes self.old.harts)
+            (rows_of columns.now segment.now.lines)).verdict) }
+        ensures reached { OnOk result (IsReached (conclusion_from by_set
+            (set_state_of M.bytes self.old.harts) (rows_of columns.now segment.now.lines)).end
+            (set_state_of M.bytes self.new.harts)) }
         ensures counts { self.new.counts ≡ self.old.counts }
         ensures again { OnOk result (self.new.rejudged ≡ self.old.rejudged + 1) }
-        ensures can_step { CanStep M.ram self.new.hart }
-        ensures ram { M.ram self.new.hart.mem ≡ M.ram self.old.hart.mem }
+        ensures can_step { SetCanStep M.ram self.new.harts }
+        ensures ram { M.ram self.new.harts.mem ≡ M.ram self.old.harts.mem }
     {
-        let Judged { verdict, end, .. } = judge(alloc, &self.hart, columns, segment)?;
+        let Judged { verdict, end, .. } = judge(alloc, &self.harts, columns, segment)?;
         self.rejudged += 1;
         match end {
             None => Ok(verdict),
             Some(end) => {
-                self.hart = end;
+                self.harts = end;
                 Ok(verdict)
             }
         }
@@ -155,7 +157,7 @@ impl<M: PhysMem + Drop> Walk<M> {
         requires below_2_to_62 { self.old.counts.rows < 2 ^ 62 }
         requires within { IsWithinRows (2 ^ 62) verdict }
         ensures counts { CountsOn self.old self.new verdict result }
-        ensures hart { self.new.hart ≡ self.old.hart }
+        ensures harts { self.new.harts ≡ self.old.harts }
         ensures again { self.new.rejudged ≡ self.old.rejudged }
         ensures rows { (count : ℕ) → IsWithinRows count verdict
             → self.new.counts.rows ≤ self.old.counts.rows + count }

@@ -1,7 +1,8 @@
-use Rattle.std.proofs.Common.{◌∙◌, ap, length, subst, sym}
+use Rattle.std.proofs.Common.{◌≡◌, ◌∙◌, ◌<◌, List, ap, length, subst, sym}
 use Rattle.std.specs.List.{All}
+use Rattle.hart_step.specs.declared.state.Core.{Core}
 use Rattle.hart_step.specs.Cores.{IsSound}
-use Rattle.hart_step.specs.Harts.{CanStep}
+use Rattle.hart_step.specs.HartSets.{SetCanStep}
 use Rattle.segment_judge.specs.Founds.{IsLawfulFound}
 use Rattle.stage_times.proofs.Counts.{guess_for_each_segment}
 use Rattle.stage_times.proofs.windows.judge_segments.Goals as goal
@@ -14,9 +15,12 @@ find-requires-clause-one_each g c = λ κs lives.
 
 pub join_round-requires-clause-can_step : goal.join_round-requires-clause-can_step
 join_round-requires-clause-can_step g c = record {
-  sound = subst IsSound (sym c.in_ok-start.ensures.core) c.requires.can_step.sound;
-  ram =
-      c.in_ok-start.ensures.ram ∙ c.requires.can_step.ram ∙ sym (ap (λ core. core.map.ram) c.in_ok-start.ensures.core);
+  some = subst (λ (cores : List Core). 0 < length cores) (sym c.in_ok-start.ensures.cores) c.requires.can_step.some;
+  sound = subst (All IsSound) (sym c.in_ok-start.ensures.cores) c.requires.can_step.sound;
+  maps =
+      subst (λ ram. All (λ core. ram ≡ core.map.ram) c.in_ok-start.start.cores.items) (sym c.in_ok-start.ensures.ram)
+      (subst (All (λ core. g.M.PhysMem.ram c.args.start.mem ≡ core.map.ram)) (sym c.in_ok-start.ensures.cores)
+      c.requires.can_step.maps);
 }
 
 pub join_round-requires-clause-one_each : goal.join_round-requires-clause-one_each
@@ -27,7 +31,7 @@ join_round-requires-clause-one_each g c =
 
 pub join_round-requires-clause-guesses : goal.join_round-requires-clause-guesses
 join_round-requires-clause-guesses g c =
-    subst (λ guesses. All (CanStep g.M.PhysMem.ram) guesses) (sym c.deref-2.ensures.value)
+    subst (λ guesses. All (SetCanStep g.M.PhysMem.ram) guesses) (sym c.deref-2.ensures.value)
     c.in_ok-guesses.ensures.can_step
 
 pub join_round-requires-clause-lawful : goal.join_round-requires-clause-lawful

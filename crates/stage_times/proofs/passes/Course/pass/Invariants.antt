@@ -1,6 +1,6 @@
-use Rattle.hart_step.specs.Harts.{CanStep}
+use Rattle.hart_step.specs.HartSets.{SetCanStep}
 use Rattle.page_layers.specs.Memories.{layered_ram}
 use Rattle.stage_times.proofs.passes.Course.pass.Given as goal
 
 abbrev pub invariant-windows : goal.invariant-windows
-invariant-windows g l = CanStep layered_ram l.walk.hart
+invariant-windows g l = SetCanStep layered_ram l.walk.harts

@@ -1,8 +1,8 @@
-use Rattle.std.proofs.Common.{◌≡◌, ◌≤◌, ◌+◌, drop}
+use Rattle.std.proofs.Common.{◌≡◌, ◌≤◌, ◌+◌, List, drop}
 use Rattle.hart_step.specs.declared.state.Core.{Core}
-use Rattle.hart_step.specs.Harts.{CanStep, state_of}
+use Rattle.hart_step.specs.HartSets.{SetCanStep, set_state_of}
 use Rattle.rvfi_rows.specs.Segments.{row_count_of}
-use Rattle.segment_judge.specs.Judgements.{by_hart}
+use Rattle.segment_judge.specs.Judgements.{by_set}
 use Rattle.verdict_join.specs.Joining.{candidates_of}
 use Rattle.verdict_join.specs.Joins.{Sameness, walk}
 use Rattle.verdict_join.specs.Laws.{TellsApart}
@@ -12,17 +12,17 @@ use Rattle.verdict_join.proofs.guessed_segments.GuessedSegments.walk.Given as go
 -- the segments that are left come to what all come to, after what was walked
 abbrev pub invariant-loop-number : goal.invariant-loop-number
 invariant-loop-number g l = record {
-  whole : (same : Sameness Core) → TellsApart same
+  whole : (same : Sameness (List Core)) → TellsApart same
       → IsRest l.walk l.number
-      (walk by_hart same l.fn.once
+      (walk by_set same l.fn.once
       (drop l.number
       (candidates_of g.M.PhysMem.bytes l.self.columns.now l.self.segments.now l.self.guesses.now
-      l.fn.founds.items)) (state_of g.M.PhysMem.bytes l.walk.hart))
-      (walk by_hart same l.fn.once
+      l.fn.founds.items)) (set_state_of g.M.PhysMem.bytes l.walk.harts))
+      (walk by_set same l.fn.once
       (candidates_of g.M.PhysMem.bytes l.self.columns.now l.self.segments.now l.self.guesses.now
-      l.fn.founds.items) (state_of g.M.PhysMem.bytes l.fn.start));
-  can_step : CanStep g.M.PhysMem.ram l.walk.hart;
-  ram : g.M.PhysMem.ram l.walk.hart.mem ≡ g.M.PhysMem.ram l.fn.start.mem;
+      l.fn.founds.items) (set_state_of g.M.PhysMem.bytes l.fn.start));
+  can_step : SetCanStep g.M.PhysMem.ram l.walk.harts;
+  ram : g.M.PhysMem.ram l.walk.harts.mem ≡ g.M.PhysMem.ram l.fn.start.mem;
   rows : l.walk.counts.rows
       + row_count_of l.self.columns.now (drop l.number l.self.segments.now)
       ≤ row_count_of l.self.columns.now l.self.segments.now;

@@ -1,14 +1,14 @@
 use Rattle.std.proofs.Common.{arith, length, subst, sym}
 use Rattle.rvfi_rows.specs.Rows.{rows_of}
-use Rattle.hart_step.specs.Harts.{state_of}
-use Rattle.hart_step.specs.Rows.{HartState}
+use Rattle.hart_step.specs.HartSets.{set_state_of}
+use Rattle.hart_step.specs.HartSets.{SetState}
 use Rattle.verdict_join.specs.Walks.{IsReached}
 use Rattle.verdict_join.proofs.Passed.{few_within, passes_by, rows_within}
 use Rattle.verdict_join.proofs.walk.Walk.pass.Goals as goal
 
 pub count-requires-clause-within : goal.count-requires-clause-within
 count-requires-clause-within g c =
-    let now : HartState = state_of g.M.PhysMem.bytes c.args.self.now.hart in
+    let now : SetState = set_state_of g.M.PhysMem.bytes c.args.self.now.harts in
     let rows = rows_of c.args.columns.now c.args.segment.now.lines in
     let concludes = rw c.in-Some.is at c.requires.adopted in
     few_within (length rows) _ c.in-Some.judged.now.verdict (rows_within now rows (sym concludes.verdict))
@@ -16,7 +16,7 @@ count-requires-clause-within g c =
 
 pub count-requires-in-None-clause-within : goal.count-requires-in-None-clause-within
 count-requires-in-None-clause-within g c =
-    let now : HartState = state_of g.M.PhysMem.bytes c.args.self.now.hart in
+    let now : SetState = set_state_of g.M.PhysMem.bytes c.args.self.now.harts in
     let rows = rows_of c.args.columns.now c.args.segment.now.lines in
     few_within (length rows) _ c.in_ok-verdict-in-None.verdict
     (rows_within now rows c.in_ok-verdict-in-None.ensures.verdict) (omega (arith, c.requires.below_2_to_62))
@@ -28,14 +28,14 @@ returns-in_ok-adopt-in-Some-clause-passes g c =
     (record {
       verdict_is = sym concludes.verdict;
       reached =
-          subst (λ end. IsReached end (state_of g.M.PhysMem.bytes c.adopt.new.self.hart)) (sym concludes.end)
+          subst (λ end. IsReached end (set_state_of g.M.PhysMem.bytes c.adopt.new.self.harts)) (sym concludes.end)
           c.in_ok-adopt-in-Some.ensures.reached;
       counts_are = c.adopt.ensures.counts;
-    }) c.count.ensures.counts c.count.ensures.hart
+    }) c.count.ensures.counts c.count.ensures.harts
 
 pub returns-in_ok-adopt-in-Some-clause-rows : goal.returns-in_ok-adopt-in-Some-clause-rows
 returns-in_ok-adopt-in-Some-clause-rows g c =
-    let now : HartState = state_of g.M.PhysMem.bytes c.args.self.now.hart in
+    let now : SetState = set_state_of g.M.PhysMem.bytes c.args.self.now.harts in
     let rows = rows_of c.args.columns.now c.args.segment.now.lines in
     let concludes = rw c.in-Some.is at c.requires.adopted in
     let more = c.count.ensures.rows (length rows) (rows_within now rows (sym concludes.verdict)) in
@@ -48,11 +48,11 @@ returns-in_ok-verdict-in-None-clause-passes g c =
       verdict_is = c.in_ok-verdict-in-None.ensures.verdict;
       reached = c.in_ok-verdict-in-None.ensures.reached;
       counts_are = c.judge_again.ensures.counts;
-    }) c.count-in-None.ensures.counts c.count-in-None.ensures.hart
+    }) c.count-in-None.ensures.counts c.count-in-None.ensures.harts
 
 pub returns-in_ok-verdict-in-None-clause-rows : goal.returns-in_ok-verdict-in-None-clause-rows
 returns-in_ok-verdict-in-None-clause-rows g c =
-    let now : HartState = state_of g.M.PhysMem.bytes c.args.self.now.hart in
+    let now : SetState = set_state_of g.M.PhysMem.bytes c.args.self.now.harts in
     let rows = rows_of c.args.columns.now c.args.segment.now.lines in
     let within = rows_within now rows c.in_ok-verdict-in-None.ensures.verdict in
     let more = c.count-in-None.ensures.rows (length rows) within in
