@@ -11,7 +11,7 @@ use Rattle.hart_words.specs.Spans.{is_span, is_span-true, span_by, span_of, span
 use Rattle.clap.proofs.OnLiterals.{clap_on_literals}
 use Rattle.clap.specs.Walk.{Row, first_of}
 use Rattle.hart_words.specs.Numbers.{digits_number, number_of, number_within}
-use Rattle.judge_words.specs.Values.{◌>>=◌, at_most, image_limit_in, io_in, made_number_in, made_rows_in}
+use Rattle.judge_words.specs.Values.{◌>>=◌, at_most, harts_in, image_limit_in, io_in, made_number_in, made_rows_in}
 use Rattle.judge_words.specs.Values.{number_at_most, number_of_text, number_up_to, first_pc_in, span_in, trace_limit_in}
 use Rattle.judge_words.specs.Commands.{command_line, command_entered, values_given_to}
 use Rattle.hart_words.specs.Choices.{plain_choices}
@@ -36,6 +36,7 @@ made_with number rows map sharing =
       pc =
           None;
       map = map;
+      harts = 1;
       max_image = MOST_IMAGE_BYTES;
       max_trace = MOST_TRACE_BYTES;
       choices = plain_choices;
@@ -83,6 +84,7 @@ files_named product given =
     following IfMade (first_of (codes "ram") given >>= span_in) _ (λ ram e4.
     following IfMade (io_in (first_of (codes "io") given)) _ (λ io e5.
     following IfMade (map_of ram io) _ (λ map e6.
+    following IfMade (first_of (codes "harts") given >>= harts_in) _ (λ harts h1.
     following IfMade (first_of (codes "max-image") given >>= image_limit_in) _ (λ max_image e7.
     following IfMade (first_of (codes "max-trace") given >>= trace_limit_in) _ (λ max_trace e8.
     following IfMade (given_choices given) _ (λ choices e9.
@@ -93,12 +95,13 @@ files_named product given =
           Judge image trace product;
       pc = pc;
       map = map;
+      harts = harts;
       max_image = max_image;
       max_trace = max_trace;
       choices = choices;
       sharing = sharing;
     })
-    image trace product refl))))))))))
+    image trace product refl)))))))))))
 
 -- a range has the base and the size that it is made of
 span_has : (base size : ℕ) → ForSome (span_of base size) (λ span. (span.base ≡ base) × (span.size ≡ size))
@@ -140,6 +143,7 @@ of_made number rows map sharing small within_most plain job same n r made =
       base = ap (λ (map : Map). map.ram.base) (sym over) ∙ plain.base;
       size = ap (λ (map : Map). map.ram.size) (sym over) ∙ plain.size;
       io = ap (λ (map : Map). map.io) (sym over) ∙ plain.io;
+      harts = ap (λ (job : JobView). job.harts) (sym one);
       max_image = ap (λ (job : JobView). job.max_image) (sym one);
       max_trace = ap (λ (job : JobView). job.max_trace) (sym one);
       choices = ap (λ (job : JobView). job.choices) (sym one);

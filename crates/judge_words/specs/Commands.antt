@@ -52,6 +52,7 @@ files_command name =
     ∷ option_of (codes "pc")
     ∷ option_or (codes "ram") (codes "0x80000000:0x8000000")
     ∷ option_of (codes "io")
+    ∷ option_or (codes "harts") (codes "1")
     ∷ option_or (codes "max-image") (codes "0x40000000")
     ∷ option_or (codes "max-trace") (codes "0x10000000000")
     ∷ []

@@ -8,11 +8,11 @@ use Rattle.hart_words.specs.Spans.{span_of}
 use Rattle.clap.specs.Walk.{Row, first_of}
 use Rattle.judge_words.specs.Commands.{command_line, command_entered, values_given_to}
 use Rattle.judge_words.specs.Values.{◌>>=◌, first_pc_in, span_in, io_in, image_limit_in, trace_limit_in, workers_in}
-use Rattle.judge_words.specs.Values.{segment_in, window_in, made_number_in, made_rows_in, misaligned_in}
+use Rattle.judge_words.specs.Values.{segment_in, window_in, harts_in, made_number_in, made_rows_in, misaligned_in}
 use Rattle.judge_words.specs.Values.{trap_values_in, marks_in, block_size_in, bits_in}
 use Rattle.judge_words.specs.declared.values.TheConstants.{RAM_BASE, RAM_SIZE, MOST_IMAGE_BYTES, MOST_TRACE_BYTES}
-use Rattle.judge_words.specs.declared.values.TheConstants.{MOST_WORKERS, MOST_LINES, MOST_SEGMENTS, MOST_MADE_NUMBER}
-use Rattle.judge_words.specs.declared.values.TheConstants.{MOST_MADE_ROWS}
+use Rattle.judge_words.specs.declared.values.TheConstants.{MOST_WORKERS, MOST_LINES, MOST_SEGMENTS, MOST_HARTS}
+use Rattle.judge_words.specs.declared.values.TheConstants.{MOST_MADE_NUMBER, MOST_MADE_ROWS}
 use Rattle.judge_words.specs.declared.job.Sharing.{Sharing}
 use Rattle.judge_words.specs.declared.job.Command.{Command}
 use Rattle.judge_words.specs.declared.job.Command.TheVariants.{Judge, Make}
@@ -22,12 +22,13 @@ use Rattle.judge_words.specs.declared.job.Job.{Job}
 use Rattle.judge_words.specs.declared.job.WordError.{WordError}
 use Rattle.judge_words.specs.declared.job.WordError.TheVariants.{NotAJob, NoMemory}
 
--- the command, the address of the first instruction where one is given, the map, the most bytes of
--- either text, the choices of the implementation, and how the work is shared out
+-- the command, the address of the first instruction where one is given, the map, how many harts there are, the most
+-- bytes of either text, the choices of the implementation, and how the work is shared out
 pub record JobView : Type 0 where
   pub command : Command (List ℕ)
   pub pc : Option ℕ
   pub map : Map
+  pub harts : ℕ
   pub max_image : ℕ
   pub max_trace : ℕ
   pub choices : Choices
@@ -60,6 +61,7 @@ files_job product given = do
   ram ← first_of (codes "ram") given >>= span_in
   io ← io_in (first_of (codes "io") given)
   map ← map_of ram io
+  harts ← first_of (codes "harts") given >>= harts_in
   max_image ← first_of (codes "max-image") given >>= image_limit_in
   max_trace ← first_of (codes "max-trace") given >>= trace_limit_in
   choices ← given_choices given
@@ -68,13 +70,14 @@ files_job product given = do
     command = Judge image trace product;
     pc = pc;
     map = map;
+    harts = harts;
     max_image = max_image;
     max_trace = max_trace;
     choices = choices;
     sharing = sharing;
   })
 
--- the job that is given to the command `make`: RAM and choices as `judge` has them where nothing else is said
+-- the job that is given to the command `make`: RAM, one hart and choices as `judge` has them where nothing else is said
 unfoldable pub made_job : List Row → Option JobView
 made_job given = do
   number ← first_of (codes "number") given >>= made_number_in
@@ -86,6 +89,7 @@ made_job given = do
     command = Make number rows;
     pc = None;
     map = map;
+    harts = 1;
     max_image = MOST_IMAGE_BYTES;
     max_trace = MOST_TRACE_BYTES;
     choices = plain_choices;
@@ -117,6 +121,7 @@ job_view job = record {
   command = command_by string_bytes job.command;
   pc = job.pc;
   map = job.map;
+  harts = job.harts;
   max_image = job.max_image;
   max_trace = job.max_trace;
   choices = job.choices;
@@ -138,13 +143,14 @@ pub record IsLawfulSharing (sharing : Sharing) : Type 0 where
 -- what holds of every job
 pub record IsLawful (job : JobView) : Type 0 where
   pub even : IfSome job.pc (λ pc. pc % 2 ≡ 0)
+  pub harts : (1 ≤ job.harts) × (job.harts ≤ MOST_HARTS)
   pub max_image : job.max_image ≤ MOST_IMAGE_BYTES
   pub max_trace : job.max_trace ≤ MOST_TRACE_BYTES
   pub sharing : IsLawfulSharing job.sharing
 
 -- what holds of every job of `make`: no address of the first instruction is given, RAM, the most
--- bytes of either text and the choices are those that stand where nothing else is said, and there
--- are no devices
+-- bytes of either text and the choices are those that stand where nothing else is said, there are no
+-- devices, and one hart
 pub record IsMadeJob (job : JobView) (number rows : ℕ) : Type 0 where
   pub small : number ≤ MOST_MADE_NUMBER
   pub within_most_rows : rows ≤ MOST_MADE_ROWS
@@ -152,6 +158,7 @@ pub record IsMadeJob (job : JobView) (number rows : ℕ) : Type 0 where
   pub base : job.map.ram.base ≡ RAM_BASE
   pub size : job.map.ram.size ≡ RAM_SIZE
   pub io : job.map.io ≡ None
+  pub harts : job.harts ≡ 1
   pub max_image : job.max_image ≡ MOST_IMAGE_BYTES
   pub max_trace : job.max_trace ≡ MOST_TRACE_BYTES
   pub choices : job.choices ≡ plain_choices

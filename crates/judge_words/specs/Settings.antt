@@ -10,6 +10,7 @@ settings_view product settings = record {
   command = Judge settings.image.now settings.trace.now product;
   pc = settings.pc;
   map = settings.map;
+  harts = settings.harts;
   max_image = settings.max_image;
   max_trace = settings.max_trace;
   choices = settings.choices;

@@ -14,7 +14,7 @@ use Rattle.hart_words.specs.declared.options.TrapValues.TheVariants as values
 use Rattle.hart_words.specs.declared.options.Marks.{Marks}
 use Rattle.hart_words.specs.declared.options.Marks.TheVariants as marks
 use Rattle.judge_words.specs.declared.values.TheConstants.{MOST_IMAGE_BYTES, MOST_TRACE_BYTES, MOST_WORKERS, MOST_LINES}
-use Rattle.judge_words.specs.declared.values.TheConstants.{MOST_SEGMENTS, MOST_BLOCK_BYTES, MOST_MADE_NUMBER}
+use Rattle.judge_words.specs.declared.values.TheConstants.{MOST_SEGMENTS, MOST_HARTS, MOST_BLOCK_BYTES, MOST_MADE_NUMBER}
 use Rattle.judge_words.specs.declared.values.TheConstants.{MOST_MADE_ROWS}
 
 -- the next step at the value, where there is one
@@ -66,6 +66,10 @@ segment_in text = number_up_to MOST_LINES text
 -- a number of segments of a window, at least one
 abbrev pub window_in : List ℕ → Option ℕ
 window_in text = number_up_to MOST_SEGMENTS text
+
+-- a number of harts, at least one
+abbrev pub harts_in : List ℕ → Option ℕ
+harts_in text = number_up_to MOST_HARTS text
 
 -- a number of bytes of the block that LR reserves, at least one
 abbrev pub block_size_in : List ℕ → Option ℕ

@@ -11,8 +11,8 @@ use clap::error::ErrorKind;
 use clap::{Arg, ArgMatches, Command};
 use std::alloc::{AllocError, Global};
 
-/// `rvjudge judge IMAGE TRACE [--pc A] [--ram B:S] [--io B:S] [--max-image M] [--max-trace M]
-/// [--misaligned trap|done] [--mtval value|zero] [--ad fault|set] [--reserve R] [--bits on|off]`,
+/// `rvjudge judge IMAGE TRACE [--pc A] [--ram B:S] [--io B:S] [--harts H] [--max-image M]
+/// [--max-trace M] [--misaligned trap|done] [--mtval value|zero] [--ad fault|set] [--reserve R] [--bits on|off]`,
 /// `rvjudge state` with the same, and `rvjudge make NUMBER ROWS`, each with
 /// `[--workers N] [--segment K] [--window W]`.
 pub fn command_line<'a>(alloc: Global) -> Result<Command<'a>, AllocError>
@@ -34,6 +34,7 @@ fn files_command<'a>(alloc: Global, name: &'a str) -> Result<Command<'a>, AllocE
         .arg(option(alloc, "pc"))?
         .arg(option_or(alloc, "ram", "0x80000000:0x8000000"))?
         .arg(option(alloc, "io"))?
+        .arg(option_or(alloc, "harts", "1"))?
         .arg(option_or(alloc, "max-image", "0x40000000"))?
         .arg(option_or(alloc, "max-trace", "0x10000000000"))?;
     with_sharing(alloc, with_choices(alloc, files)?)

@@ -8,7 +8,7 @@ ghost use Rattle.judge_words.specs.declared.job.WordError.TheVariants.{NoMemory}
 
 use crate::command_line::{command_line, given_to, parse, text_of};
 use crate::values::{
-    MOST_IMAGE_BYTES, MOST_TRACE_BYTES, RAM_BASE, RAM_SIZE, read_bits, read_block_size,
+    MOST_IMAGE_BYTES, MOST_TRACE_BYTES, RAM_BASE, RAM_SIZE, read_bits, read_block_size, read_harts,
     read_image_limit, read_io, read_made_number, read_made_rows, read_marks, read_misaligned,
     read_pc, read_segment, read_span, read_trace_limit, read_trap_values, read_window,
     read_workers,
@@ -55,14 +55,16 @@ pub struct Sharing {
 }
 
 /// What the judge is asked to do: the command, the address of the first instruction, the ranges of
-/// RAM and of devices, how many bytes either text may have, the choices of the implementation, and
-/// how the work is to be shared out.
+/// RAM and of devices, how many harts there are, how many bytes either text may have, the choices
+/// of the implementation, and how the work is to be shared out.
 #[derive(Debug, Drop)]
 pub struct Job {
     pub command: Command<String>,
     /// The address of the first instruction, even, where one is given.
     pub pc: Option<u64>,
     pub map: Map,
+    /// How many harts there are, from 1 to 8.
+    pub harts: u32,
     /// The most bytes that the image's text may have, from 1 to 2^30.
     pub max_image: u64,
     /// The most bytes that the trace may have, from 1 to 2^40.
@@ -91,8 +93,8 @@ impl From<AllocError> for WordError {
 
 /// The job that the words of a command line ask for, the program's name first:
 ///
-/// `rvjudge judge IMAGE TRACE [--pc A] [--ram B:S] [--io B:S] [--max-image M] [--max-trace M]
-/// [--misaligned trap|done] [--mtval value|zero] [--ad fault|set] [--reserve R] [--bits on|off]
+/// `rvjudge judge IMAGE TRACE [--pc A] [--ram B:S] [--io B:S] [--harts H] [--max-image M]
+/// [--max-trace M] [--misaligned trap|done] [--mtval value|zero] [--ad fault|set] [--reserve R] [--bits on|off]
 /// [--workers N] [--segment K] [--window W]`
 ///
 /// `rvjudge state` with the same words, and
@@ -101,7 +103,7 @@ impl From<AllocError> for WordError {
 ///
 /// `state` gives the state after the last row where the trace agrees, in place of a line. Each option stands at most once, as `--name value` or `--name=value`. Numbers are decimal, or
 /// hexadecimal after `0x`. A is even; B and S are multiples of 4,096, S at least 4,096 and B + S at
-/// most 2^56, and the two ranges have no byte in common; the M of the image is from 1 to 2^30, that
+/// most 2^56, and the two ranges have no byte in common; H is from 1 to 8; the M of the image is from 1 to 2^30, that
 /// of the trace to 2^40, R a power of two from 8 to 4,096, N from 1 to 64, K from 1 to 2^20, and W
 /// from 1 to 2^10. NUMBER is below 2^32, ROWS at most 2^18.
 ///
@@ -111,7 +113,7 @@ impl From<AllocError> for WordError {
 /// whether Zba, Zbb and Zbs are there (`--bits`). Their words are taken as they are written here.
 ///
 /// Left out, A is not given, and the hart begins where the image says, or else at `FIRST_PC`; the
-/// B:S of RAM is 0x80000000:0x8000000, either M is the most that it may be, N is 4, K is 4,096, and
+/// B:S of RAM is 0x80000000:0x8000000, H is 1, either M is the most that it may be, N is 4, K is 4,096, and
 /// W is 64; the choices are `trap`, `value`, `fault`, 64 and `off`; without `--io` there are no
 /// devices. So it is with `make` too. All other words are no job, those that ask for help among
 /// them.
@@ -148,6 +150,7 @@ fn files_job(alloc: Global, product: Product, given: &ArgMatches<'_>) -> Result<
             },
             pc: settings.pc,
             map: settings.map,
+            harts: settings.harts,
             max_image: settings.max_image,
             max_trace: settings.max_trace,
             choices: settings.choices,
@@ -163,6 +166,7 @@ struct Settings<'a> {
     trace: &'a str,
     pc: Option<u64>,
     map: Map,
+    harts: u32,
     max_image: u64,
     max_trace: u64,
     choices: Choices,
@@ -185,6 +189,7 @@ fn settings_from<'a>(product: Product, given: &ArgMatches<'a>) -> Option<Setting
         trace: text_of(given, "trace")?,
         pc: read_pc(text_of(given, "pc"))?,
         map,
+        harts: read_harts(text_of(given, "harts")?)?,
         max_image: read_image_limit(text_of(given, "max-image")?)?,
         max_trace: read_trace_limit(text_of(given, "max-trace")?)?,
         choices: given_choices(given)?,
@@ -206,6 +211,7 @@ fn made_job(given: &ArgMatches<'_>) -> Option<Job>
         },
         pc: None,
         map,
+        harts: 1,
         max_image: MOST_IMAGE_BYTES,
         max_trace: MOST_TRACE_BYTES,
         choices: Choices::plain(),

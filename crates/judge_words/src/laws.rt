@@ -5,7 +5,7 @@ ghost use Rattle.judge_words.specs.Job.{IsMadeJob, JobView, job_of};
 ghost use Rattle.judge_words.specs.declared.job.Command.TheVariants.{Make};
 
 /// Whatever words ask for it: a job of `make` has a number below 2^32 and at most 2^18 rows, is
-/// given no first address, has the RAM 0x80000000:0x8000000 and no devices, takes as many bytes of
+/// given no first address, has the RAM 0x80000000:0x8000000, no devices and one hart, takes as many bytes of
 /// either text as any job may, and has the choices that stand where none is said.
 pub fn made_jobs_are_plain()
     ensures { (words : List (List ℕ)) (job : JobView) (number rows : ℕ)

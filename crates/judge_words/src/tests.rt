@@ -163,6 +163,23 @@ fn takes_devices_at_their_ends(rt: HostRuntime) -> Result<(), Fail> {
     Ok(())
 }
 
+#[test]
+fn takes_numbers_of_harts(rt: HostRuntime) -> Result<(), Fail> {
+    let lines: [(&[&str], u32); 7] = [
+        (&["rvjudge", "judge", "i", "t"], 1),
+        (&["rvjudge", "judge", "i", "t", "--harts", "1"], 1),
+        (&["rvjudge", "judge", "--harts=2", "i", "t"], 2),
+        (&["rvjudge", "judge", "i", "t", "--harts=8"], 8),
+        (&["rvjudge", "state", "i", "t", "--harts=0X8"], 8),
+        (&["rvjudge", "state", "i", "t", "--harts", "03"], 3),
+        (&["rvjudge", "make", "7", "3"], 1),
+    ];
+    for (words, harts) in lines {
+        assert_eq!(rt; job_at(rt.alloc(), words)??.harts, harts);
+    }
+    Ok(())
+}
+
 /// How the words share the work out: workers, lines of a segment, segments of a window.
 type Share = (u32, usize, usize);
 
@@ -304,7 +321,7 @@ fn takes_numbers_of_made_traces(rt: HostRuntime) -> Result<(), Fail> {
 #[test]
 fn refuses_other_words(rt: HostRuntime) -> Result<(), Fail> {
     let alloc = rt.alloc();
-    let lines: [&[&str]; 32] = [
+    let lines: [&[&str]; 33] = [
         &[],
         &["rvjudge"],
         &["rvjudge", "judge", "i"],
@@ -325,6 +342,7 @@ fn refuses_other_words(rt: HostRuntime) -> Result<(), Fail> {
         &["rvjudge", "judge", "i", "t", "--workers=4", "--workers=4"],
         &["rvjudge", "judge", "i", "t", "--segment", "0"],
         &["rvjudge", "judge", "i", "t", "--ad=set", "--ad=set"],
+        &["rvjudge", "judge", "i", "t", "--harts=2", "--harts=2"],
         &["rvjudge", "make"],
         &["rvjudge", "make", "7"],
         &["rvjudge", "make", "7", "1", "2"],
@@ -413,8 +431,20 @@ const CHOICES: [&str; 17] = [
     "--bits=ON",
 ];
 
+/// No number of harts from 1 to 8.
+const HARTS: [&str; 7] = [
+    "--harts",
+    "--harts=",
+    "--harts=0",
+    "--harts=9",
+    "--harts=0x10",
+    "--harts=4294967297",
+    "--harts=two",
+];
+
 /// Options that `make` does not know.
-const OF_JUDGE: [&str; 5] = [
+const OF_JUDGE: [&str; 6] = [
+    "--harts=1",
     "--misaligned=trap",
     "--mtval=value",
     "--ad=fault",
@@ -446,6 +476,10 @@ fn refuses_other_numbers(rt: HostRuntime) -> Result<(), Fail> {
     }
     for choice in CHOICES {
         refuses(&rt, alloc, &["rvjudge", "judge", "i", "t", choice])?;
+    }
+    for harts in HARTS {
+        refuses(&rt, alloc, &["rvjudge", "judge", "i", "t", harts])?;
+        refuses(&rt, alloc, &["rvjudge", "state", "i", "t", harts])?;
     }
     for option in OF_JUDGE {
         refuses(&rt, alloc, &["rvjudge", "make", "7", "10", option])?;

@@ -1,7 +1,7 @@
 //! The values of options, read from their texts.
 
 ghost use Rattle.std.specs.Prelude.{◌≡◌, ◌≤◌, ◌%◌, IfSome, option_map};
-ghost use Rattle.judge_words.specs.Values.{number_of_text, number_up_to, even_in, image_limit_in, trace_limit_in, workers_in, segment_in, window_in, block_size_in, misaligned_in, trap_values_in, marks_in, bits_in, number_at_most, made_number_in, made_rows_in, span_in, io_in, first_pc_in};
+ghost use Rattle.judge_words.specs.Values.{number_of_text, number_up_to, even_in, image_limit_in, trace_limit_in, workers_in, segment_in, window_in, harts_in, block_size_in, misaligned_in, trap_values_in, marks_in, bits_in, number_at_most, made_number_in, made_rows_in, span_in, io_in, first_pc_in};
 
 use hart_words::{Marks, Misaligned, Span, TrapValues, read_number};
 
@@ -28,6 +28,9 @@ pub const MOST_LINES: u64 = 1 << 20;
 
 /// The most segments of a window.
 pub const MOST_SEGMENTS: u64 = 1 << 10;
+
+/// The most harts.
+pub const MOST_HARTS: u64 = 8;
 
 /// The most bytes of the block that LR reserves.
 pub const MOST_BLOCK_BYTES: u64 = 4096;
@@ -125,6 +128,15 @@ pub fn read_window(text: &str) -> Option<usize>
 {
     let window = read_up_to(text, MOST_SEGMENTS)?;
     Some(window as usize)
+}
+
+/// A number of harts, from 1 to 8.
+pub fn read_harts(text: &str) -> Option<u32>
+    ensures value { result ≡ harts_in text.now }
+    ensures range { IfSome result (λ value. (1 ≤ value) × (value ≤ MOST_HARTS)) }
+{
+    let harts = read_up_to(text, MOST_HARTS)?;
+    Some(harts as u32)
 }
 
 /// A number of bytes of the block that LR reserves, from 1 to 4,096.

@@ -13,10 +13,10 @@ use Rattle.hart_words.specs.Results.{◌>>=◌, ◌>>◌, refuse_if}
 use Rattle.state_text.specs.declared.fault.FaultKind.TheVariants.{BadLine, BadValue, OutsideRam}
 use Rattle.state_text.specs.declared.fault.StateFault.{StateFault}
 use Rattle.state_text.specs.declared.head.Head.{Head}
-use Rattle.state_text.specs.Lines.{number_line, option_line, version_line, mode_line, flags_line}
+use Rattle.state_text.specs.Lines.{number_line, option_line, version_line, harts_line, front_lines, mode_line, flags_line}
 use Rattle.state_text.specs.Reading.{Remaining, fault_at, is_next, after, choice_in, number_in, option_in, version_in}
 use Rattle.state_text.proofs.Guesses.{guessed_small}
-use Rattle.state_text.specs.Reading.{pc_in, mode_in, flags_in, reserved_in, head_in, is_misplaced, is_outside}
+use Rattle.state_text.specs.Reading.{count_in, front_in, pc_in, mode_in, flags_in, reserved_in, head_in, is_misplaced, is_outside}
 
 -- a line that is the next one stands at the front
 pub next_stands : (line : List ℕ) (left : Remaining) → is_next line left ≡ true
@@ -27,7 +27,7 @@ next_stands line left next = (starts_is Decides-eqb left.text line (is_next line
 pub stands_next : (line rest : List ℕ) (left : Remaining) → left.text ≡ line ++ rest → is_next line left ≡ true
 stands_next line rest left stands = (starts_is Decides-eqb left.text line (is_next line left) refl).1 rest stands
 
-abbrev read_as : {A : Type 0} → A → Remaining → Result (A × Remaining) StateFault
+abbrev pub read_as : {A : Type 0} → A → Remaining → Result (A × Remaining) StateFault
 read_as value left = Ok (value, left)
 
 -- the parts of a pair that was read
@@ -143,11 +143,10 @@ reserved_stands ram size left reserved next h =
       subst (λ (x : Option ℕ). is_outside ram size x ≡ false) same.0 inside.0,
     )
 
--- the first six lines of a hart
+-- the lines of a hart before its numbers
 abbrev pub head_lines : Head → List (List ℕ)
 head_lines head =
-    version_line
-    ∷ number_line (codes "pc ") head.pc
+    number_line (codes "pc ") head.pc
     ∷ mode_line head.mode
     ∷ option_line (codes "order ") head.next_order
     ∷ flags_line head.trapped_last head.halted
@@ -158,7 +157,31 @@ head_lines head =
 pub joined : (text one more two rest : List ℕ) → text ≡ one ++ more → more ≡ two ++ rest → text ≡ (one ++ two) ++ rest
 joined text one more two rest p q = p ∙ ap (λ (t : List ℕ). one ++ t) q ∙ sym (append_assoc one two rest)
 
--- what is known of the first six lines that were read
+count_stands : (harts : ℕ) (left : Remaining) (count : Unit {0}) (next : Remaining)
+    → count_in harts left ≡ Ok (count, next)
+    → left.text ≡ concat (if harts == 1 then [] else harts_line harts ∷ []) ++ next.text
+unfolding count_in
+count_stands harts left count next h = by (harts == 1) h
+  where
+    by : (one : Bool)
+        → (if one then read_as tt left else choice_in (λ _. harts_line harts) (tt ∷ []) left) ≡ read_as count next
+        → left.text ≡ concat (if one then [] else harts_line harts ∷ []) ++ next.text
+    by true h = ap (λ (x : Remaining). x.text) (same_read tt count left next h).1
+    by false h =
+        choice_stands (λ _. harts_line harts) (tt ∷ []) left count next h
+        ∙ ap (λ (t : List ℕ). t ++ next.text) (sym (append-nil (harts_line harts)))
+
+-- the lines before those of the harts stand at the front
+pub front_stands : (harts : ℕ) (left : Remaining) (front : Unit {0}) (next : Remaining)
+    → front_in harts left ≡ Ok (front, next) → left.text ≡ concat (front_lines harts) ++ next.text
+unfolding front_in
+front_stands harts left front next h =
+    let version = then_read (version_in left) _ (front, next) h in
+    joined left.text version_line version.0.1.text (concat (if harts == 1 then [] else harts_line harts ∷ []))
+    next.text
+    (version_stands left version.0.0 version.0.1 version.1) (count_stands harts version.0.1 front next version.2)
+
+-- what is known of the lines of a hart before its numbers, which were read
 pub record HasHead (ram : Span) (size : ℕ) (left : Remaining) (head : Head) (next : Remaining) : Type 0 where
   pub stands : left.text ≡ concat (head_lines head) ++ next.text
   pub even : (head.pc % 2 == 1) ≡ false
@@ -169,14 +192,12 @@ pub has_head : (ram : Span) (size : ℕ) (left : Remaining) (head : Head) (next 
     → head_in ram size left ≡ Ok (head, next) → HasHead ram size left head next
 unfolding head_in
 has_head ram size left head next h =
-    let version = then_read (version_in left) _ (head, next) h in
-    let pc = then_read (pc_in version.0.1) _ (head, next) version.2 in
+    let pc = then_read (pc_in left) _ (head, next) h in
     let mode = then_read (mode_in pc.0.1) _ (head, next) pc.2 in
     let order = then_read (option_in (codes "order ") mode.0.1) _ (head, next) mode.2 in
     let flags = then_read (flags_in order.0.1) _ (head, next) order.2 in
     let reserved = then_read (reserved_in ram size flags.0.1) _ (head, next) flags.2 in
-    let one = version_stands left version.0.0 version.0.1 version.1 in
-    let two = pc_stands version.0.1 pc.0.0 pc.0.1 pc.1 in
+    let two = pc_stands left pc.0.0 pc.0.1 pc.1 in
     let three = mode_stands pc.0.1 mode.0.0 mode.0.1 mode.1 in
     let four = option_stands (codes "order ") mode.0.1 order.0.0 order.0.1 order.1 in
     let five = flags_stand order.0.1 flags.0.0 flags.0.1 flags.1 in
@@ -190,10 +211,10 @@ has_head ram size left head next h =
       reserved = reserved.0.0;
     } in
     let known : HasHead ram size left read reserved.0.1 = record {
-      stands = six_lines version_line (number_line (codes "pc ") pc.0.0) (mode_line mode.0.0)
+      stands = five_lines (number_line (codes "pc ") pc.0.0) (mode_line mode.0.0)
           (option_line (codes "order ") order.0.0) (flags_line flags.0.0.0 flags.0.0.1)
-          (option_line (codes "reserved ") reserved.0.0) left.text version.0.1.text pc.0.1.text mode.0.1.text
-          order.0.1.text flags.0.1.text reserved.0.1.text one two.0 three four five six.0;
+          (option_line (codes "reserved ") reserved.0.0) left.text pc.0.1.text mode.0.1.text
+          order.0.1.text flags.0.1.text reserved.0.1.text two.0 three four five six.0;
       even = two.1;
       placed = six.1;
       inside = six.2;
@@ -202,7 +223,7 @@ has_head ram size left head next h =
     subst (λ (x : Head). HasHead ram size left x next) same.0
     (subst (λ (x : Remaining). HasHead ram size left read x) same.1 known)
   where
-    six_lines : (a b c d e f : List ℕ) (t u v w x y z : List ℕ)
-        → t ≡ a ++ u → u ≡ b ++ v → v ≡ c ++ w → w ≡ d ++ x → x ≡ e ++ y → y ≡ f ++ z
-        → t ≡ concat (a ∷ b ∷ c ∷ d ∷ e ∷ f ∷ []) ++ z
-    six_lines a b c d e f t u v w x y z p q r s i j = rw (p, q, r, s, i, j) (simp (append_assoc, append-nil))
+    five_lines : (b c d e f : List ℕ) (u v w x y z : List ℕ)
+        → u ≡ b ++ v → v ≡ c ++ w → w ≡ d ++ x → x ≡ e ++ y → y ≡ f ++ z
+        → u ≡ concat (b ∷ c ∷ d ∷ e ∷ f ∷ []) ++ z
+    five_lines b c d e f u v w x y z q r s i j = rw (q, r, s, i, j) (simp (append_assoc, append-nil))

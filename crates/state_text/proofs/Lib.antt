@@ -5,11 +5,13 @@ pub mod NumberLines
 pub mod LegalValues
 pub mod Walks
 pub mod Blocks
+pub mod CoreText
 pub mod OneText
 pub mod Sound
 pub mod LinesBack
 pub mod BlocksBack
 pub mod ReadBack
+pub mod CoresRead
 pub mod States
 pub mod TextBack
 pub mod SavedWords

@@ -3,7 +3,7 @@ use Rattle.std.proofs.Common.{◌≡◌, ◌≢◌, ℕ, suc, ◌+◌, ◌<◌, 
 use Rattle.std.proofs.Common.{Result, length, drop}
 use Rattle.std.proofs.Common.{refl, sym, ap, ◌∙◌, append_assoc, arith, Option, Some, None, get_or, ◌⊎◌}
 use Rattle.std.proofs.Common.{inl, inr}
-use Rattle.std.specs.Prelude.{codes, not, ◌==◌, ◌%◌, ◌^◌, ◌/◌}
+use Rattle.std.specs.Prelude.{codes, not, ◌==◌, ◌%◌, ◌^◌, ◌/◌, if◌then◌else◌}
 use Rattle.std.specs.List.{concat}
 use Rattle.std.specs.Option.{ForSome}
 use Rattle.std.proofs.lemmas.Bool.{cases_lt}
@@ -16,13 +16,15 @@ use Rattle.hart_words.specs.declared.privilege.Mode.TheVariants.{User, Superviso
 use Rattle.state_text.specs.declared.fault.StateFault.{StateFault}
 use Rattle.state_text.specs.declared.head.Head.{Head}
 use Rattle.state_text.specs.declared.numbers.NumberKind.{NumberKind}
-use Rattle.state_text.specs.Lines.{digits_of, number_line, option_line, version_line, mode_line, flags_line}
+use Rattle.state_text.specs.Lines.{digits_of, number_line, option_line, version_line, harts_line, front_lines}
+use Rattle.state_text.specs.Lines.{mode_line, flags_line}
 use Rattle.state_text.specs.Texts.{number_lines}
 use Rattle.state_text.specs.Reading.{Remaining, is_next, after, choice_in, guess_of_number, number_in, option_in}
-use Rattle.state_text.specs.Reading.{version_in, pc_in, mode_in, flags_in, reserved_in, head_in, is_misplaced}
+use Rattle.state_text.specs.Reading.{version_in, count_in, front_in, pc_in, mode_in, flags_in, reserved_in}
+use Rattle.state_text.specs.Reading.{head_in, is_misplaced}
 use Rattle.state_text.specs.Reading.{is_outside}
 use Rattle.state_text.specs.Reading.{numbers_in}
-use Rattle.state_text.proofs.Fronts.{next_stands, stands_next, head_lines}
+use Rattle.state_text.proofs.Fronts.{next_stands, stands_next, head_lines, read_as}
 use Rattle.state_text.proofs.Guesses.{number_again}
 use Rattle.state_text.proofs.NumberLines.{AreLegal}
 use Rattle.state_text.proofs.LegalValues.{all_at}
@@ -170,33 +172,66 @@ pub record IsHead (ram : Span) (size : ℕ) (head : Head) : Type 0 where
   pub placed : is_misplaced size head.reserved ≡ false
   pub inside : is_outside ram size head.reserved ≡ false
 
-pub head_back : (ram : Span) (size : ℕ) (head : Head) (text rest : List ℕ) → IsHead ram size head
-    → text ≡ concat (head_lines head) ++ rest
-    → head_in ram size (record { line = 1; text = text }) ≡ Ok (head, record { line = 7; text = rest })
+pub head_back : (ram : Span) (size : ℕ) (head : Head) (left : Remaining) (rest : List ℕ) → IsHead ram size head
+    → left.text ≡ concat (head_lines head) ++ rest
+    → head_in ram size left ≡ Ok (head, record { line = left.line + 1 + 1 + 1 + 1 + 1; text = rest })
 unfolding head_in
-head_back ram size head text rest is stands =
+head_back ram size head left rest is stands =
     let six = option_line (codes "reserved ") head.reserved ++ rest in
     let five = flags_line head.trapped_last head.halted ++ six in
     let four = option_line (codes "order ") head.next_order ++ five in
     let three = mode_line head.mode ++ four in
-    let two = number_line (codes "pc ") head.pc ++ three in
-    let split : text ≡ version_line ++ two =
-    stands ∙ six_lines version_line (number_line (codes "pc ") head.pc) (mode_line head.mode)
+    let split : left.text ≡ number_line (codes "pc ") head.pc ++ three =
+    stands ∙ five_lines (number_line (codes "pc ") head.pc) (mode_line head.mode)
     (option_line (codes "order ") head.next_order) (flags_line head.trapped_last head.halted)
     (option_line (codes "reserved ") head.reserved) rest in
+    let after_pc = left_after left 1 three in
+    let after_mode = left_after after_pc 1 four in
+    let after_order = left_after after_mode 1 five in
+    let after_flags = left_after after_order 1 six in
     rw (
-      version_back (record { line = 1; text = text }) two split,
-      pc_back head.pc (record { line = 2; text = two }) three is.pc is.even refl,
-      mode_back head.mode (record { line = 3; text = three }) four refl,
-      option_back (codes "order ") head.next_order (record { line = 4; text = four }) five is.order refl,
-      flags_back head.trapped_last head.halted (record { line = 5; text = five }) six refl,
-      reserved_back ram size head.reserved (record { line = 6; text = six }) rest is.reserved is.placed is.inside refl,
+      pc_back head.pc left three is.pc is.even split,
+      mode_back head.mode after_pc four refl,
+      option_back (codes "order ") head.next_order after_mode five is.order refl,
+      flags_back head.trapped_last head.halted after_order six refl,
+      reserved_back ram size head.reserved after_flags rest is.reserved is.placed is.inside refl,
     )
     refl
   where
-    six_lines : (a b c d e f rest : List ℕ)
-        → concat (a ∷ b ∷ c ∷ d ∷ e ∷ f ∷ []) ++ rest ≡ a ++ (b ++ (c ++ (d ++ (e ++ (f ++ rest)))))
-    six_lines a b c d e f rest = simp append_assoc
+    five_lines : (b c d e f rest : List ℕ)
+        → concat (b ∷ c ∷ d ∷ e ∷ f ∷ []) ++ rest ≡ b ++ (c ++ (d ++ (e ++ (f ++ rest))))
+    five_lines b c d e f rest = simp append_assoc
+
+abbrev nothing : Unit {0}
+nothing = tt
+
+count_back : (harts : ℕ) (left : Remaining) (rest : List ℕ)
+    → left.text ≡ concat (if harts == 1 then [] else harts_line harts ∷ []) ++ rest
+    → (next : Remaining) × (next.text ≡ rest) × (count_in harts left ≡ read_as nothing next)
+unfolding count_in
+count_back harts left rest stands = by (harts == 1) stands
+  where
+    by : (one : Bool) → left.text ≡ concat (if one then [] else harts_line harts ∷ []) ++ rest
+        → (next : Remaining) × (next.text ≡ rest)
+        × ((if one then read_as nothing left else choice_in (λ _. harts_line harts) (nothing ∷ []) left)
+        ≡ read_as nothing next)
+    by true stands = (left, stands, refl)
+    by false stands = (
+      left_after left 1 rest,
+      refl,
+      choice_first (λ _. harts_line harts) nothing [] left rest
+          (stands ∙ ap (λ (t : List ℕ). t ++ rest) (append-nil (harts_line harts))),
+    )
+
+-- the lines before those of the harts are read again
+pub front_back : (harts : ℕ) (left : Remaining) (rest : List ℕ) → left.text ≡ concat (front_lines harts) ++ rest
+    → (next : Remaining) × (next.text ≡ rest) × (front_in harts left ≡ read_as nothing next)
+unfolding front_in
+front_back harts left rest stands =
+    let count = concat (if harts == 1 then [] else harts_line harts ∷ []) in
+    let split : left.text ≡ version_line ++ (count ++ rest) = stands ∙ append_assoc version_line count rest in
+    let more = count_back harts (left_after left 1 (count ++ rest)) rest refl in
+    (more.0, more.1, rw (version_back left (count ++ rest) split) more.2)
 
 abbrev numbers_read : List ℕ → ℕ → List ℕ → Result (List ℕ × Remaining) StateFault
 numbers_read numbers line text = Ok (numbers, record { line = line; text = text })

@@ -1,144 +1,154 @@
 -- A text that is read is the text of the state that it says.
-use Rattle.std.proofs.Common.{◌≡◌, ℕ, zero, suc, ◌+◌, ◌<◌, List, [], ◌∷◌, ◌++◌, Ok, Result, length}
-use Rattle.std.proofs.Common.{take, drop}
-use Rattle.std.proofs.Common.{refl, sym, ap, subst, ◌∙◌, arith, append_assoc, get_or, map, Option, Some, None}
-use Rattle.std.specs.Prelude.{◌^◌, ◌/◌, codes, option_map}
-use Rattle.std.specs.List.{concat, range_with_len}
-use Rattle.std.proofs.lemmas.List.{take-append-drop, drop_more, drop_all}
-use Rattle.std.proofs.lemmas.Nat.{from_le_bytes-to_le_bytes_8}
+use Rattle.std.proofs.Common.{◌≡◌, ◌∙◌, ℕ, zero, suc, ◌+◌, ◌≤◌, Bool, true, false, List, [], ◌∷◌, ◌++◌, Ok, Err}
+use Rattle.std.proofs.Common.{Result, length, refl, sym, ap, subst, arith, append_assoc}
+use Rattle.std.specs.Prelude.{◌/◌, if◌then◌else◌}
+use Rattle.std.specs.List.{AllByRecursion, concat}
+use Rattle.std.proofs.lemmas.List.{append-nil}
 use Rattle.hart_words.specs.declared.map.Map.{Map}
 use Rattle.hart_words.specs.declared.choices.Choices.{Choices}
 use Rattle.hart_words.specs.Memory.{Bytes}
-use Rattle.csr_file.specs.Registers.{at}
-use Rattle.csr_file.specs.Values.{packed_pmpcfg_of}
 use Rattle.hart_step.specs.declared.state.Core.{Core}
+use Rattle.hart_step.specs.Cores.{IsSound}
 use Rattle.state_text.specs.declared.fault.StateFault.{StateFault}
-use Rattle.state_text.specs.declared.head.Head.{Head}
-use Rattle.state_text.specs.declared.numbers.TheConstants.{KINDS}
-use Rattle.state_text.specs.Lines.{number_line, option_line, version_line, mode_line, flags_line, end_line}
-use Rattle.state_text.specs.Numbers.{number_names, saved_csrs, numbers_of, registers_with, csrs_with}
-use Rattle.state_text.specs.Reading.{Remaining, head_in, numbers_in}
+use Rattle.state_text.specs.declared.fault.StateFault.TheVariants.{WrongHarts}
+use Rattle.state_text.specs.Counts.{says_harts}
+use Rattle.state_text.specs.Laws.{IsOver}
+use Rattle.state_text.specs.Lines.{end_line, front_lines}
+use Rattle.state_text.specs.Reading.{Remaining, front_in}
 use Rattle.state_text.specs.Memory.{memory_lines, memory_in}
-use Rattle.state_text.specs.Texts.{number_lines, saved_lines, saved_text, block_with, core_with, state_in}
-use Rattle.state_text.proofs.Fronts.{then_read, head_lines, HasHead, has_head}
-use Rattle.state_text.proofs.NumberLines.{HasNumbers, has_numbers}
+use Rattle.state_text.specs.Texts.{core_lines, cores_lines, ram_lines, saved_lines, saved_text, core_in, cores_in}
+use Rattle.state_text.specs.Texts.{lines_in, state_in}
+use Rattle.state_text.proofs.Fronts.{front_stands, joined, same_read, then_read}
+use Rattle.state_text.proofs.CoreText.{concat_both, core_stands, has_core}
 use Rattle.state_text.proofs.Blocks.{has_memory}
+use Rattle.state_text.proofs.Sound.{over_core, sound_core}
 
--- the end of a list, element by element
-drop_is : (xs : List ℕ) (i count : ℕ) → i + count ≡ length xs
-    → drop i xs ≡ map (λ k. get_or xs k 0) (range_with_len i count)
-drop_is xs i zero all = drop_all i xs (omega arith)
-drop_is xs i (suc count) all =
-    drop_more xs i 0 (omega arith) ∙ ap (λ (l : List ℕ). get_or xs i 0 ∷ l) (drop_is xs (i + 1) count (omega arith))
+-- what is known of harts that were read after some
+pub record HasCores (map : Map) (choices : Choices) (harts : ℕ) (before cores : List Core) (left next : Remaining)
+    : Type 0 where
+  pub read : List Core
+  pub all : cores ≡ before ++ read
+  pub count : length read ≡ harts
+  pub stand : left.text ≡ concat (cores_lines read) ++ next.text
+  pub sound : AllByRecursion IsSound read
+  pub over : AllByRecursion (IsOver map choices) read
 
-pub same_numbers : (numbers : List ℕ) → length numbers ≡ 70 → ((k : ℕ) → get_or numbers k 0 < 2 ^ 64)
-    → numbers_of (registers_with numbers) (csrs_with numbers) ≡ numbers
-unfolding numbers_of csrs_with packed_pmpcfg_of at
-same_numbers numbers len small =
-    let csrs = csrs_with numbers in
-    let low : packed_pmpcfg_of csrs 0
-    ≡ get_or numbers 52 0 = from_le_bytes-to_le_bytes_8 (get_or numbers 52 0) (small 52) in
-    let high : packed_pmpcfg_of csrs 8
-    ≡ get_or numbers 53 0 = from_le_bytes-to_le_bytes_8 (get_or numbers 53 0) (small 53) in
-    let beyond : drop 31 numbers ≡ map (λ k. get_or numbers k 0) (range_with_len 31 39) =
-    drop_is numbers 31 39 (omega arith) in
-    ap (λ (p : ℕ). take 31 numbers ++ (map (at csrs) saved_csrs
-    ++ (p ∷ packed_pmpcfg_of csrs 8 ∷ map (λ entry. entry.addr) csrs.entries))) low
-    ∙ ap (λ (p : ℕ). take 31 numbers ++ (map (at csrs) saved_csrs
-    ++ (get_or numbers 52 0 ∷ p ∷ map (λ entry. entry.addr) csrs.entries))) high
-    ∙ ap (λ (l : List ℕ). take 31 numbers ++ l) (sym beyond) ∙ take-append-drop 31 numbers
-
-pub concat_both : (one other : List (List ℕ)) → concat (one ++ other) ≡ concat one ++ concat other
-concat_both [] other = refl
-concat_both (line ∷ one) other = ap (λ (t : List ℕ). line ++ t) (concat_both one other)
-    ∙ sym (append_assoc line (concat one) (concat other))
-
-same_address : (size : ℕ) (reserved : Option ℕ)
-    → option_map (λ block. block.address) (option_map (block_with size) reserved) ≡ reserved
-same_address size None = refl
-same_address size (Some address) = refl
+pub has_cores : (map : Map) (choices : Choices) (harts : ℕ) (before : List Core) (left : Remaining) (cores : List Core)
+    (next : Remaining) → cores_in map choices harts before left ≡ Ok (cores, next)
+    → HasCores map choices harts before cores left next
+unfolding cores_in cores_lines
+has_cores map choices zero before left cores next h =
+    let read = same_read before cores left next h in
+    record {
+      read = [];
+      all = sym read.0 ∙ sym (append-nil before);
+      count = refl;
+      stand = ap (λ (x : Remaining). x.text) read.1;
+      sound = tt;
+      over = tt;
+    }
+has_cores map choices (suc harts) before left cores next h =
+    let first = then_read (core_in map choices left) _ (cores, next) h in
+    let core = has_core map choices left first.0.0 first.0.1 first.1 in
+    let more = has_cores map choices harts (before ++ first.0.0 ∷ []) first.0.1 cores next first.2 in
+    record {
+      read = first.0.0 ∷ more.read;
+      all = more.all ∙ append_assoc before (first.0.0 ∷ []) more.read;
+      count = omega (arith, more.count);
+      stand = joined left.text (concat (core_lines first.0.0)) first.0.1.text (concat (cores_lines more.read))
+          next.text (core_stands map choices left first.0.0 first.0.1 core) more.stand
+          ∙ ap (λ (t : List ℕ). t ++ next.text) (sym (concat_both (core_lines first.0.0) (cores_lines more.read)));
+      sound = (sound_core map choices left first.0.0 first.0.1 core, more.sound);
+      over = (over_core map choices left first.0.0 first.0.1 core, more.over);
+    }
 
 -- what is known of a state that was read
-pub record HasState (map : Map) (choices : Choices) (text : List ℕ) (core : Core) (bytes : Bytes) : Type 0 where
-  pub head : Head
-  pub numbers : List ℕ
-  pub before_numbers : Remaining
+pub record HasState (map : Map) (choices : Choices) (harts : ℕ) (text : List ℕ) (cores : List Core) (bytes : Bytes)
+    : Type 0 where
+  pub before_cores : Remaining
   pub before_memory : Remaining
-  pub has_head : HasHead map.ram choices.block_size (record { line = 1; text = text }) head before_numbers
-  pub has_numbers : HasNumbers number_names KINDS [] numbers before_numbers before_memory
+  pub front : text ≡ concat (front_lines harts) ++ before_cores.text
+  pub has_cores : HasCores map choices harts [] cores before_cores before_memory
   pub memory : memory_in map.ram (length before_memory.text + 1) 0 (λ _. 0) before_memory ≡ Ok bytes
-  pub same : core_with map choices head numbers ≡ core
 
-pub has_state : (map : Map) (choices : Choices) (text : List ℕ) (core : Core) (bytes : Bytes)
-    → state_in map choices text ≡ Ok (core, bytes) → HasState map choices text core bytes
-unfolding state_in
-has_state map choices text core bytes h =
+pub has_state : (map : Map) (choices : Choices) (harts : ℕ) (text : List ℕ) (cores : List Core) (bytes : Bytes)
+    → state_in map choices harts text ≡ Ok (cores, bytes) → HasState map choices harts text cores bytes
+unfolding state_in lines_in
+has_state map choices harts text cores bytes h =
     let start : Remaining = record { line = 1; text = text } in
-    let head = then_read (head_in map.ram choices.block_size start) _ (core, bytes) h in
-    let numbers = then_read (numbers_in number_names KINDS [] head.0.1) _ (core, bytes) head.2 in
+    let lines = said (says_harts harts text) (lines_in map choices harts start) h in
+    let front = then_read (front_in harts start) _ (cores, bytes) lines in
+    let read = then_read (cores_in map choices harts [] front.0.1) _ (cores, bytes) front.2 in
     let memory =
-    then_read (memory_in map.ram (length numbers.0.1.text + 1) 0 (λ _. 0) numbers.0.1) _ (core, bytes) numbers.2 in
-    let same = both_same (core_with map choices head.0.0 numbers.0.0) core memory.0 bytes memory.2 in
+    then_read (memory_in map.ram (length read.0.1.text + 1) 0 (λ _. 0) read.0.1) _ (cores, bytes) read.2 in
+    let same = both_same read.0.0 cores memory.0 bytes memory.2 in
     record {
-      head = head.0.0;
-      numbers = numbers.0.0;
-      before_numbers = head.0.1;
-      before_memory = numbers.0.1;
-      has_head = has_head map.ram choices.block_size start head.0.0 head.0.1 head.1;
-      has_numbers = has_numbers number_names KINDS [] head.0.1 numbers.0.0 numbers.0.1 refl numbers.1;
+      before_cores = front.0.1;
+      before_memory = read.0.1;
+      front = front_stands harts start front.0.0 front.0.1 front.1;
+      has_cores = subst (λ (cores : List Core). HasCores map choices harts [] cores front.0.1 read.0.1) same.0
+          (has_cores map choices harts [] front.0.1 read.0.0 read.0.1 read.1);
       memory = memory.1 ∙ ap done same.1;
-      same = same.0;
     }
   where
     done : Bytes → Result Bytes StateFault
     done bytes = Ok bytes
 
-    state : Core → Bytes → Result (Core × Bytes) StateFault
-    state core bytes = Ok (core, bytes)
+    state : List Core → Bytes → Result (List Core × Bytes) StateFault
+    state cores bytes = Ok (cores, bytes)
 
-    both_same : (core other : Core) (bytes others : Bytes) → state core bytes ≡ state other others
-        → (core ≡ other) × (bytes ≡ others)
-    both_same core other bytes others h =
-        let p : (core, bytes) ≡ (other, others) = cc in
-        (ap (λ (q : Core × Bytes). q.0) p, ap (λ (q : Core × Bytes). q.1) p)
+    said : (test : Bool) (found : Result (List Core × Bytes) StateFault)
+        → (if test then found else Err WrongHarts) ≡ state cores bytes → found ≡ state cores bytes
+    said true found h = h
+    said false found h = absurd cc
 
-joined_text : (map : Map) (choices : Choices) (text : List ℕ) (bytes : Bytes) (head : Head) (numbers : List ℕ)
-    → numbers_of (registers_with numbers) (csrs_with numbers) ≡ numbers
-    → (one two : List ℕ) → text ≡ concat (head_lines head) ++ one
-    → one ≡ concat (number_lines number_names numbers) ++ two
-    → two ≡ concat (memory_lines bytes map.ram.base (map.ram.size / 16) ++ end_line ∷ [])
-    → text ≡ saved_text (core_with map choices head numbers) bytes
+    both_same : (cores others : List Core) (bytes more : Bytes) → state cores bytes ≡ state others more
+        → (cores ≡ others) × (bytes ≡ more)
+    both_same cores others bytes more h =
+        let p : (cores, bytes) ≡ (others, more) = cc in
+        (ap (λ (q : List Core × Bytes). q.0) p, ap (λ (q : List Core × Bytes). q.1) p)
+
+-- harts over one map have its RAM
+pub same_ram : (map : Map) (choices : Choices) (cores : List Core) (bytes : Bytes) → 1 ≤ length cores
+    → AllByRecursion (IsOver map choices) cores
+    → ram_lines cores bytes ≡ memory_lines bytes map.ram.base (map.ram.size / 16)
+same_ram map choices [] bytes some over = absurd (omega arith)
+same_ram map choices (core ∷ cores) bytes some over =
+    ap (λ (map : Map). memory_lines bytes map.ram.base (map.ram.size / 16)) over.0.map_is
+
+-- the text in its three parts
+pub text_parts : (cores : List Core) (bytes : Bytes)
+    → saved_text cores bytes
+    ≡ concat (front_lines (length cores)) ++ (concat (cores_lines cores)
+    ++ concat (ram_lines cores bytes ++ end_line ∷ []))
 unfolding saved_lines
-joined_text map choices text bytes head numbers same one two first second third =
-    let memory = memory_lines bytes map.ram.base (map.ram.size / 16) ++ end_line ∷ [] in
-    let lines = λ (reserved : Option ℕ) (numbers : List ℕ). version_line
-    ∷ number_line (codes "pc ") head.pc
-    ∷ mode_line head.mode
-    ∷ option_line (codes "order ") head.next_order
-    ∷ flags_line head.trapped_last head.halted
-    ∷ option_line (codes "reserved ") reserved
-    ∷ (number_lines number_names numbers ++ memory) in
-    first ∙ ap (λ (t : List ℕ). concat (head_lines head) ++ t)
-    (second ∙ ap (λ (t : List ℕ). concat (number_lines number_names numbers) ++ t) third
-    ∙ sym (concat_both (number_lines number_names numbers) memory))
-    ∙ sym (concat_both (head_lines head) (number_lines number_names numbers ++ memory))
-    ∙ ap (λ (n : List ℕ). concat (lines head.reserved n)) (sym same)
-    ∙ ap (λ (r : Option ℕ). concat (lines r (numbers_of (registers_with numbers) (csrs_with numbers))))
-    (sym (same_address choices.block_size head.reserved))
+text_parts cores bytes =
+    let memory = ram_lines cores bytes ++ end_line ∷ [] in
+    concat_both (front_lines (length cores)) (cores_lines cores ++ memory)
+    ∙ ap (λ (t : List ℕ). concat (front_lines (length cores)) ++ t) (concat_both (cores_lines cores) memory)
 
-pub one_text : (map : Map) (choices : Choices) (text : List ℕ) (core : Core) (bytes : Bytes)
-    → state_in map choices text ≡ Ok (core, bytes) → text ≡ saved_text core bytes
-one_text map choices text core bytes h =
-    let has = has_state map choices text core bytes h in
+joined_text : (cores : List Core) (bytes : Bytes) (harts : ℕ) (lines : List (List ℕ)) → length cores ≡ harts
+    → ram_lines cores bytes ≡ lines → (text one two : List ℕ) → text ≡ concat (front_lines harts) ++ one
+    → one ≡ concat (cores_lines cores) ++ two → two ≡ concat (lines ++ end_line ∷ []) → text ≡ saved_text cores bytes
+joined_text cores bytes harts lines count same text one two first second third =
+    first ∙ ap (λ (n : ℕ). concat (front_lines n) ++ one) (sym count)
+    ∙ ap (λ (t : List ℕ). concat (front_lines (length cores)) ++ t)
+    (second ∙ ap (λ (t : List ℕ). concat (cores_lines cores) ++ t)
+    (third ∙ ap (λ (lines : List (List ℕ)). concat (lines ++ end_line ∷ [])) (sym same)))
+    ∙ sym (text_parts cores bytes)
+
+pub one_text : (map : Map) (choices : Choices) (harts : ℕ) (text : List ℕ) (cores : List Core) (bytes : Bytes)
+    → 1 ≤ harts → state_in map choices harts text ≡ Ok (cores, bytes) → text ≡ saved_text cores bytes
+one_text map choices harts text cores bytes some h =
+    let has = has_state map choices harts text cores bytes h in
+    let read = has.has_cores in
     let whole = map.ram.whole_size in
     let memory =
     has_memory map.ram (length has.before_memory.text + 1) 0 (λ _. 0) has.before_memory bytes map.ram.base
     (map.ram.size / 16) has.memory (omega (arith, whole)) (omega (arith, map.ram.whole_base))
     (λ a at_least in_ram. in_ram) (λ a at_least. refl) in
-    let same : has.numbers ≡ has.has_numbers.read = has.has_numbers.all in
-    let numbers = same_numbers has.has_numbers.read has.has_numbers.len has.has_numbers.small in
-    subst (λ (core : Core). text ≡ saved_text core bytes) has.same
-    (subst (λ (numbers : List ℕ). text ≡ saved_text (core_with map choices has.head numbers) bytes) (sym same)
-    (joined_text map choices text bytes has.head has.has_numbers.read numbers has.before_numbers.text
-    has.before_memory.text has.has_head.stands
-    has.has_numbers.stand memory.stands))
+    let same : cores ≡ read.read = read.all in
+    let ram = same_ram map choices read.read bytes (omega (arith, some, read.count)) read.over in
+    subst (λ (cores : List Core). text ≡ saved_text cores bytes) (sym same)
+    (joined_text read.read bytes harts _ read.count ram text has.before_cores.text has.before_memory.text has.front
+    read.stand memory.stands)

@@ -5,7 +5,6 @@ use Rattle.std.specs.Prelude.{◌%◌, ◌==◌, not, option_map}
 use Rattle.std.proofs.lemmas.Bool.Decides.{nat_tests, Decides-eqb}
 use Rattle.hart_words.specs.declared.map.Map.{Map}
 use Rattle.hart_words.specs.declared.choices.Choices.{Choices}
-use Rattle.hart_words.specs.Memory.{Bytes}
 use Rattle.hart_words.specs.Spans.{holds_all}
 use Rattle.csr_file.specs.Legal.{IsLegal}
 use Rattle.hart_step.specs.declared.state.Core.{Core}
@@ -14,7 +13,9 @@ use Rattle.state_text.specs.Numbers.{csrs_with}
 use Rattle.state_text.specs.Reading.{is_misplaced, is_outside}
 use Rattle.state_text.specs.Texts.{block_with}
 use Rattle.state_text.proofs.LegalValues.{legal_csrs}
-use Rattle.state_text.proofs.OneText.{HasState}
+use Rattle.state_text.specs.Reading.{Remaining}
+use Rattle.state_text.specs.Laws.{IsOver}
+use Rattle.state_text.proofs.CoreText.{HasCore}
 
 even : (n : ℕ) → (n % 2 == 1) ≡ false → n % 2 ≡ 0
 even n h = grind (arith, nat_tests)
@@ -23,9 +24,15 @@ not_not : (test : Bool) → not test ≡ false → test ≡ true
 not_not true h = refl
 not_not false h = absurd cc
 
-pub sound_core : (map : Map) (choices : Choices) (text : List ℕ) (core : Core) (bytes : Bytes)
-    → HasState map choices text core bytes → IsSound core
-sound_core map choices text core bytes has =
+-- it has the map and the choices that are given
+pub over_core : (map : Map) (choices : Choices) (left : Remaining) (core : Core) (next : Remaining)
+    → HasCore map choices left core next → IsOver map choices core
+over_core map choices left core next has =
+    subst (IsOver map choices) has.same (record { map_is = refl; choices_are = refl })
+
+pub sound_core : (map : Map) (choices : Choices) (left : Remaining) (core : Core) (next : Remaining)
+    → HasCore map choices left core next → IsSound core
+sound_core map choices left core next has =
     let same : has.numbers ≡ has.has_numbers.read = has.has_numbers.all in
     let legal : IsLegal (csrs_with has.numbers) =
     subst (λ (n : List ℕ). IsLegal (csrs_with n)) (sym same)

@@ -1,59 +1,85 @@
--- A state is read in three steps: the first six lines, the numbers, memory.
-use Rattle.std.proofs.Common.{◌≡◌, ℕ, ◌+◌, List, [], Ok, Err, length, refl, Option, Some, None}
+-- A state is read in three steps: the lines before the harts, the harts, memory.
+use Rattle.std.proofs.Common.{◌≡◌, ◌∙◌, ℕ, ◌+◌, Bool, true, false, List, [], Ok, Err, length, refl, sym, Option}
+use Rattle.std.proofs.Common.{Some, None}
 use Rattle.hart_words.specs.declared.map.Map.{Map}
 use Rattle.hart_words.specs.declared.choices.Choices.{Choices}
 use Rattle.hart_words.specs.Memory.{Bytes}
 use Rattle.hart_words.specs.Results.{FailsAs}
+use Rattle.hart_step.specs.declared.state.Core.{Core}
 use Rattle.state_text.specs.declared.fault.StateFault.{StateFault}
+use Rattle.state_text.specs.declared.fault.StateFault.TheVariants.{WrongHarts}
 use Rattle.state_text.specs.declared.fault.StateError.{StateError}
-use Rattle.state_text.specs.declared.head.Head.{Head}
-use Rattle.state_text.specs.declared.numbers.TheConstants.{KINDS}
-use Rattle.state_text.specs.Numbers.{number_names}
-use Rattle.state_text.specs.Reading.{Remaining, head_in, numbers_in}
+use Rattle.state_text.specs.Counts.{says_harts}
+use Rattle.state_text.specs.Reading.{Remaining, front_in}
 use Rattle.state_text.specs.Memory.{memory_in}
-use Rattle.state_text.specs.Texts.{core_with, state_in, state_fault}
+use Rattle.state_text.specs.Texts.{cores_in, lines_in, state_in, state_fault}
 
 abbrev pub start_of : List ℕ → Remaining
 start_of text = record { line = 1; text = text }
 
-pub no_head : (map : Map) (choices : Choices) (text : List ℕ) (fault : StateFault)
-    → head_in map.ram choices.block_size (start_of text) ≡ Err fault → state_in map choices text ≡ Err fault
+-- a text that says another number of harts
+pub wrong_harts : (map : Map) (choices : Choices) (harts : ℕ) (text : List ℕ) (said : Bool)
+    → said ≡ says_harts harts text → said ≡ false → state_in map choices harts text ≡ Err WrongHarts
 unfolding state_in
-no_head map choices text fault fails = rw fails refl
+wrong_harts map choices harts text said is other = let test = sym is ∙ other in rw test refl
 
-pub no_numbers : (map : Map) (choices : Choices) (text : List ℕ) (head : Head) (left : Remaining) (fault : StateFault)
-    → head_in map.ram choices.block_size (start_of text) ≡ Ok (head, left)
-    → numbers_in number_names KINDS [] left ≡ Err fault → state_in map choices text ≡ Err fault
-unfolding state_in
-no_numbers map choices text head left fault headed fails = rw (headed, fails) refl
-
--- what was read before memory
-pub record BeforeMemory (map : Map) (choices : Choices) (text : List ℕ) (head : Head) (numbers : List ℕ)
+-- what was read before memory, of a text that says as many harts
+pub record BeforeMemory (map : Map) (choices : Choices) (harts : ℕ) (text : List ℕ) (cores : List Core)
     (next left : Remaining) :
     Type 0 where
-  pub headed : head_in map.ram choices.block_size (start_of text) ≡ Ok (head, next)
-  pub numbered : numbers_in number_names KINDS [] next ≡ Ok (numbers, left)
+  pub said : says_harts harts text ≡ true
+  pub fronted : front_in harts (start_of text) ≡ Ok (tt, next)
+  pub read : cores_in map choices harts [] next ≡ Ok (cores, left)
 
-refused : (map : Map) (choices : Choices) (text : List ℕ) (head : Head) (numbers : List ℕ) (next left : Remaining)
-    (fault : StateFault) → BeforeMemory map choices text head numbers next left
-    → memory_in map.ram (length left.text + 1) 0 (λ _. 0) left ≡ Err fault → state_in map choices text ≡ Err fault
-unfolding state_in
-refused map choices text head numbers next left fault before fails = rw (before.headed, before.numbered, fails) refl
+pub no_front : (map : Map) (choices : Choices) (harts : ℕ) (text : List ℕ) (said : Bool) (fault : StateFault)
+    → said ≡ says_harts harts text → said ≡ true → front_in harts (start_of text) ≡ Err fault
+    → state_in map choices harts text ≡ Err fault
+unfolding state_in lines_in
+no_front map choices harts text said fault is holds fails = let test = sym is ∙ holds in rw (test, fails) refl
 
-pub no_memory : (map : Map) (choices : Choices) (text : List ℕ) (head : Head) (numbers : List ℕ) (next left : Remaining)
-    (e : StateError) → BeforeMemory map choices text head numbers next left
+unread : (map : Map) (choices : Choices) (harts : ℕ) (text : List ℕ) (said : Bool) (next : Remaining)
+    (fault : StateFault) → said ≡ says_harts harts text → said ≡ true
+    → front_in harts (start_of text) ≡ Ok (tt, next) → cores_in map choices harts [] next ≡ Err fault
+    → state_in map choices harts text ≡ Err fault
+unfolding state_in lines_in
+unread map choices harts text said next fault is holds fronted fails =
+    let test = sym is ∙ holds in rw (test, fronted, fails) refl
+
+pub no_cores : (map : Map) (choices : Choices) (harts : ℕ) (text : List ℕ) (said : Bool) (next : Remaining)
+    (e : StateError) → said ≡ says_harts harts text → said ≡ true
+    → front_in harts (start_of text) ≡ Ok (tt, next)
+    → FailsAs (state_fault e) (cores_in map choices harts [] next)
+    → FailsAs (state_fault e) (state_in map choices harts text)
+no_cores map choices harts text said next e is holds fronted fails = by (state_fault e) fails
+  where
+    by : (fault : Option StateFault) → FailsAs fault (cores_in map choices harts [] next)
+        → FailsAs fault (state_in map choices harts text)
+    by None fails = tt
+    by (Some fault) fails = unread map choices harts text said next fault is holds fronted fails
+
+refused : (map : Map) (choices : Choices) (harts : ℕ) (text : List ℕ) (cores : List Core) (next left : Remaining)
+    (fault : StateFault) → BeforeMemory map choices harts text cores next left
+    → memory_in map.ram (length left.text + 1) 0 (λ _. 0) left ≡ Err fault
+    → state_in map choices harts text ≡ Err fault
+unfolding state_in lines_in
+refused map choices harts text cores next left fault before fails =
+    rw (before.said, before.fronted, before.read, fails) refl
+
+pub no_memory : (map : Map) (choices : Choices) (harts : ℕ) (text : List ℕ) (cores : List Core) (next left : Remaining)
+    (e : StateError) → BeforeMemory map choices harts text cores next left
     → FailsAs (state_fault e) (memory_in map.ram (length left.text + 1) 0 (λ _. 0) left)
-    → FailsAs (state_fault e) (state_in map choices text)
-no_memory map choices text head numbers next left e before fails = by (state_fault e) fails
+    → FailsAs (state_fault e) (state_in map choices harts text)
+no_memory map choices harts text cores next left e before fails = by (state_fault e) fails
   where
     by : (fault : Option StateFault) → FailsAs fault (memory_in map.ram (length left.text + 1) 0 (λ _. 0) left)
-        → FailsAs fault (state_in map choices text)
+        → FailsAs fault (state_in map choices harts text)
     by None fails = tt
-    by (Some fault) fails = refused map choices text head numbers next left fault before fails
+    by (Some fault) fails = refused map choices harts text cores next left fault before fails
 
-pub all_read : (map : Map) (choices : Choices) (text : List ℕ) (head : Head) (numbers : List ℕ) (next left : Remaining)
-    (bytes : Bytes) → BeforeMemory map choices text head numbers next left
+pub all_read : (map : Map) (choices : Choices) (harts : ℕ) (text : List ℕ) (cores : List Core) (next left : Remaining)
+    (bytes : Bytes) → BeforeMemory map choices harts text cores next left
     → memory_in map.ram (length left.text + 1) 0 (λ _. 0) left ≡ Ok bytes
-    → state_in map choices text ≡ Ok (core_with map choices head numbers, bytes)
-unfolding state_in
-all_read map choices text head numbers next left bytes before filled = rw (before.headed, before.numbered, filled) refl
+    → state_in map choices harts text ≡ Ok (cores, bytes)
+unfolding state_in lines_in
+all_read map choices harts text cores next left bytes before filled =
+    rw (before.said, before.fronted, before.read, filled) refl

@@ -10,19 +10,20 @@ use Rattle.std.proofs.Math.ListN.{drop_of_length-le}
 use Rattle.std.proofs.lemmas.List.Folds.{concat-append}
 use Rattle.std.proofs.Math.ListN.{get_or-append}
 use Rattle.std.proofs.Math.Seq.{get_or-append_right}
-use Rattle.std.proofs.lemmas.List.{length-append, length-map}
+use Rattle.std.proofs.lemmas.List.{drop_more, length-append, length-map}
 use Rattle.std.proofs.lemmas.Nat.{le_bytes_8}
 use Rattle.hart_words.specs.declared.span.Span.{Span}
 use Rattle.hart_words.specs.declared.registers.Registers.{Registers}
 use Rattle.csr_file.specs.declared.csrs.Csrs.{Csrs}
 use Rattle.hart_words.specs.Memory.{Bytes, number_at}
 use Rattle.hart_step.specs.declared.state.Core.{Core}
-use Rattle.state_text.specs.Lines.{block_line, number_line, end_line}
+use Rattle.state_text.specs.Lines.{block_line, number_line, front_lines, end_line}
 use Rattle.state_text.specs.Memory.{block_text, bytes_from, memory_lines}
-use Rattle.state_text.specs.Numbers.{number_names, numbers_of}
+use Rattle.state_text.specs.Numbers.{numbers_of}
 use Rattle.state_text.specs.Reading.{is_zero}
-use Rattle.state_text.specs.Texts.{head_lines_of, number_lines, saved_lines, saved_text}
-use Rattle.state_text.specs.Writes.{FindsInRam, Sends, WritesFront, text_from}
+use Rattle.state_text.specs.Texts.{core_lines, cores_lines, number_lines, ram_lines, saved_text}
+use Rattle.state_text.specs.Writes.{FindsInRam, Sends, WritesFront}
+use Rattle.state_text.proofs.OneText.{text_parts}
 
 -- ---- what a sink holds
 
@@ -262,19 +263,95 @@ numbers_end names numbers i past = rw (drop_of_length-le names past) refl
 
 -- ---- the whole text
 
-pub text_parts : (core : Core) (bytes : Bytes)
-    → saved_text core bytes
-    ≡ concat (head_lines_of core) ++ (concat (number_lines number_names (numbers_of core.registers core.csrs))
-    ++ (concat (memory_lines bytes core.map.ram.base (core.map.ram.size / 16)) ++ end_line))
-unfolding saved_lines
-text_parts core bytes =
-    let numbers = number_lines number_names (numbers_of core.registers core.csrs) in
-    let blocks = memory_lines bytes core.map.ram.base (core.map.ram.size / 16) in
-    let last : concat (blocks ++ end_line ∷ []) ≡ concat blocks ++ end_line =
-    concat-append blocks (end_line ∷ []) ∙ ap (λ text. concat blocks ++ text) (append-nil end_line) in
-    concat-append (head_lines_of core) (numbers ++ (blocks ++ end_line ∷ []))
-    ∙ ap (λ text. concat (head_lines_of core) ++ text)
-    (concat-append numbers (blocks ++ end_line ∷ []) ∙ ap (λ text. concat numbers ++ text) last)
+-- a text goes on after what is kept
+pub sends_more : {before now later : Option (List ℕ)} {all kept : List ℕ} (rest : List ℕ) → Sends all kept before now
+    → later ≡ option_map (λ bytes. bytes ++ (kept ++ rest)) now
+    → later ≡ option_map (λ bytes. bytes ++ (all ++ rest)) before
+sends_more {before} {all} {kept} rest sends wrote =
+    wrote ∙ ap (λ held. option_map (λ bytes. bytes ++ (kept ++ rest)) held) sends.held
+    ∙ appended_twice before sends.front (kept ++ rest)
+    ∙ ap (λ text. option_map (λ bytes. bytes ++ text) before)
+    (sym (append_assoc sends.front kept rest) ∙ ap (λ whole. whole ++ rest) sends.parts)
+
+pub sends_fails : {before now later : Option (List ℕ)} {all kept : List ℕ} (rest : List ℕ) → Sends all kept before now
+    → WritesFront (kept ++ rest) now later → WritesFront (all ++ rest) before later
+sends_fails {before} {all} {kept} rest sends writes = record {
+  front = sends.front ++ writes.front;
+  more = writes.more;
+  parts = append_assoc sends.front writes.front writes.more ∙ ap (λ text. sends.front ++ text) writes.parts
+      ∙ sym (append_assoc sends.front kept rest) ∙ ap (λ whole. whole ++ rest) sends.parts;
+  held = writes.held ∙ ap (λ held. option_map (λ bytes. bytes ++ writes.front) held) sends.held
+      ∙ appended_twice before sends.front writes.front;
+}
+
+-- a front of a text is one of a longer text
+pub longer_front : {before now : Option (List ℕ)} {text : List ℕ} (rest : List ℕ) → WritesFront text before now
+    → WritesFront (text ++ rest) before now
+longer_front rest writes = record {
+  front = writes.front;
+  more = writes.more ++ rest;
+  parts = sym (append_assoc writes.front writes.more rest) ∙ ap (λ whole. whole ++ rest) writes.parts;
+  held = writes.held;
+}
+
+-- all of a text was put, and what is kept of it is its end
+pub all_put : {text : List ℕ} {before now : Option (List ℕ)} {piece : List ℕ} → IsUnderway text before now piece []
+    → Sends text piece before now
+all_put {piece} is = record {
+  front = is.sent;
+  parts = ap (λ more. is.sent ++ more) (sym (append-nil piece)) ∙ is.parts;
+  held = is.held;
+}
+
+-- one hart's lines are put
+pub core_kept : {text : List ℕ} {before now : Option (List ℕ)} {piece : List ℕ} (cores : List Core) (place : ℕ)
+    (core : Core) (put : List ℕ) → place < length cores → core ≡ get_or cores place core
+    → put ≡ piece ++ concat (core_lines core)
+    → IsUnderway text before now piece (concat (cores_lines (drop place cores)))
+    → IsUnderway text before now put (concat (cores_lines (drop (place + 1) cores)))
+unfolding cores_lines
+core_kept {text} {before} {now} {piece} cores place core put here is puts under =
+    let left = concat (cores_lines (drop (place + 1) cores)) in
+    let rest : drop place cores ≡ core ∷ drop (place + 1) cores =
+    drop_more cores place core here ∙ ap (λ c. c ∷ drop (place + 1) cores) (sym is) in
+    let parts : concat (cores_lines (drop place cores)) ≡ concat (core_lines core) ++ left =
+    ap (λ cores. concat (cores_lines cores)) rest
+    ∙ concat-append (core_lines core) (cores_lines (drop (place + 1) cores)) in
+    subst (λ p. IsUnderway text before now p left) (sym puts)
+    (more_kept (concat (core_lines core)) left (subst (IsUnderway text before now piece) parts under))
+
+pub cores_end : (cores : List Core) (place : ℕ) → length cores ≤ place → concat (cores_lines (drop place cores)) ≡ []
+unfolding cores_lines
+cores_end cores place past = rw (drop_of_length-le cores past) refl
+
+-- the lines of memory by the first hart
+pub first_ram : (cores : List Core) (bytes : Bytes) (core : Core) → 0 < length cores → core ≡ get_or cores 0 core
+    → ram_lines cores bytes ≡ memory_lines bytes core.map.ram.base (core.map.ram.size / 16)
+first_ram [] bytes core some is = absurd (omega arith)
+first_ram (first ∷ cores) bytes core some is =
+    ap (λ (core : Core). memory_lines bytes core.map.ram.base (core.map.ram.size / 16)) (sym is)
+
+pub first_there : (cores : List Core) → 0 < length cores → (core : Core) × (core ≡ get_or cores 0 core)
+first_there [] some = absurd (omega arith)
+first_there (first ∷ cores) some = (first, refl)
+
+-- the text of a state, by what is put before memory
+pub whole_text : (cores : List Core) (bytes : Bytes) (ram : Span) (harts : ℕ) {p0 p1 : List ℕ}
+    → harts ≡ length cores → p0 ≡ [] → p1 ≡ p0 ++ concat (front_lines harts)
+    → ram_lines cores bytes ≡ memory_lines bytes ram.base (ram.size / 16)
+    → (p1 ++ concat (cores_lines cores)) ++ (concat (memory_lines bytes ram.base (ram.size / 16)) ++ end_line)
+    ≡ saved_text cores bytes
+whole_text cores bytes ram harts count none front same =
+    let lines = memory_lines bytes ram.base (ram.size / 16) in
+    let first = concat (front_lines (length cores)) in
+    let second = concat (cores_lines cores) in
+    let last : concat lines ++ end_line ≡ concat (ram_lines cores bytes ++ end_line ∷ []) =
+    sym (concat-append lines (end_line ∷ []) ∙ ap (λ text. concat lines ++ text) (append-nil end_line))
+    ∙ ap (λ lines. concat (lines ++ end_line ∷ [])) (sym same) in
+    ap (λ p. (p ++ second) ++ (concat lines ++ end_line)) (front
+    ∙ ap (λ p. p ++ concat (front_lines harts)) none ∙ ap (λ n. concat (front_lines n)) count)
+    ∙ append_assoc first second (concat lines ++ end_line)
+    ∙ ap (λ text. first ++ (second ++ text)) last ∙ sym (text_parts cores bytes)
 
 -- a block that is no block of zeros has its line
 pub block_put : (address : ℕ) (bytes read : List ℕ) (empty : Bool) → read ≡ bytes → empty ≡ is_zero read → empty ≡ false
@@ -358,15 +435,3 @@ page_kept {text} {before} {now} {piece} bytes ram from page put is whole low fou
     subst (λ p. IsUnderway text before now p (rest_from bytes ram (page + 4096))) (sym puts)
     (more_kept (concat (memory_lines bytes page 256)) (rest_from bytes ram (page + 4096))
     (subst (IsUnderway text before now piece) (page_next bytes ram from page whole low found) is))
-
--- the text of a state, by what is put before memory
-pub whole_text : (core : Core) (bytes : Bytes) {p0 p1 p2 : List ℕ} → p0 ≡ []
-    → p1 ≡ p0 ++ concat (head_lines_of core)
-    → p2 ≡ p1 ++ concat (number_lines number_names (numbers_of core.registers core.csrs))
-    → text_from p2 bytes core.map.ram ≡ saved_text core bytes
-whole_text core bytes none head numbers =
-    let first = concat (head_lines_of core) in
-    let second = concat (number_lines number_names (numbers_of core.registers core.csrs)) in
-    let last = concat (memory_lines bytes core.map.ram.base (core.map.ram.size / 16)) ++ end_line in
-    ap (λ p. p ++ last) (numbers ∙ ap (λ p. p ++ second) (head ∙ ap (λ p. p ++ first) none))
-    ∙ append_assoc first second last ∙ sym (text_parts core bytes)

@@ -1,6 +1,7 @@
 pub mod Lines
 pub mod Numbers
 pub mod Values
+pub mod Counts
 pub mod Reading
 pub mod Memory
 pub mod Texts

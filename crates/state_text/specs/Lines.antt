@@ -1,5 +1,6 @@
 -- The lines of a saved state's text, each with the line feed that ends it.
-use Rattle.std.specs.Prelude.{ℕ, Bool, true, false, List, ◌++◌, codes, Option, Some, None}
+use Rattle.std.specs.Prelude.{ℕ, ◌==◌, Bool, true, false, List, [], ◌∷◌, ◌++◌, codes, decimal, Option, Some, None}
+use Rattle.std.specs.Prelude.{if◌then◌else◌}
 use Rattle.std.specs.Int.{w64, to_be_bytes}
 use Rattle.hex.specs.Hex.{encode_lower}
 use Rattle.hart_words.specs.declared.privilege.Mode.{Mode}
@@ -20,6 +21,14 @@ option_line name (Some number) = number_line name number
 
 abbrev pub version_line : List ℕ
 version_line = codes "rvstate 1\n"
+
+-- how many harts there are
+unfoldable pub harts_line : ℕ → List ℕ
+harts_line harts = codes "harts " ++ (decimal harts ++ codes "\n")
+
+-- the lines before those of the harts: one hart alone is not counted
+abbrev pub front_lines : ℕ → List (List ℕ)
+front_lines harts = version_line ∷ (if harts == 1 then [] else harts_line harts ∷ [])
 
 abbrev pub mode_line : Mode → List ℕ
 mode_line User = codes "mode 0\n"

@@ -1,6 +1,5 @@
--- The state that a text says, or its first fault. Each line is one of those that the values in question have: a value
--- is
--- guessed from the text, and the text goes on with that value's line, or it has another line there.
+-- What the lines of a text say, or the first fault. Each line is one of those that the values in question have: a value
+-- is guessed from the text, and the text goes on with that value's line, or it has another line there.
 use Rattle.std.specs.Prelude.{ℕ, ◌+◌, ◌*◌, ◌%◌, ◌==◌, ◌||◌, Bool, true, false, not, nat_lt, if◌then◌else◌}
 use Rattle.std.specs.Prelude.{List, [], ◌∷◌, ◌++◌, codes, length, take, drop, replicate, Option, Some, None, Result}
 use Rattle.std.specs.Prelude.{Ok, Err}
@@ -16,10 +15,12 @@ use Rattle.hart_words.specs.Spans.{holds_all}
 use Rattle.state_text.specs.declared.fault.FaultKind.{FaultKind}
 use Rattle.state_text.specs.declared.fault.FaultKind.TheVariants.{BadLine, BadValue, OutsideRam}
 use Rattle.state_text.specs.declared.fault.StateFault.{StateFault}
+use Rattle.state_text.specs.declared.fault.StateFault.TheVariants.{InLine}
 use Rattle.state_text.specs.declared.head.Head.{Head}
 use Rattle.state_text.specs.declared.numbers.NumberKind.{NumberKind}
 use Rattle.state_text.specs.declared.memory.MemoryBlock.{MemoryBlock}
-use Rattle.state_text.specs.Lines.{number_line, option_line, version_line, mode_line, flags_line, block_line}
+use Rattle.state_text.specs.Lines.{number_line, option_line, version_line, harts_line, mode_line, flags_line}
+use Rattle.state_text.specs.Lines.{block_line}
 use Rattle.state_text.specs.Values.{is_legal}
 
 -- what is left of a text, and the number of the line in which that begins
@@ -29,7 +30,7 @@ pub record Remaining : Type 0 where
 
 -- a fault of the line at hand
 abbrev pub fault_at : Remaining → FaultKind → StateFault
-fault_at remaining kind = record { kind = kind; line = remaining.line }
+fault_at remaining kind = InLine kind remaining.line
 
 -- the line is the next one
 abbrev pub is_next : List ℕ → Remaining → Bool
@@ -68,6 +69,15 @@ option_in name remaining =
 unfoldable pub version_in : Remaining → Result ((Unit {0}) × Remaining) StateFault
 version_in remaining = choice_in (λ _. version_line) (tt ∷ []) remaining
 
+-- the line that counts the harts, where they are counted
+unfoldable pub count_in : ℕ → Remaining → Result ((Unit {0}) × Remaining) StateFault
+count_in harts remaining =
+    if harts == 1 then Ok (tt, remaining) else choice_in (λ _. harts_line harts) (tt ∷ []) remaining
+
+-- the lines before those of so many harts
+unfoldable pub front_in : ℕ → Remaining → Result ((Unit {0}) × Remaining) StateFault
+front_in harts remaining = version_in remaining >>= λ version. count_in harts version.1
+
 -- pc is even
 unfoldable pub pc_in : Remaining → Result (ℕ × Remaining) StateFault
 pc_in remaining = do
@@ -99,11 +109,10 @@ reserved_in ram size remaining = do
   refuse_if (is_outside ram size read.0) (fault_at remaining OutsideRam)
   Ok read
 
--- the first six lines
+-- the lines of a hart before the numbers
 unfoldable pub head_in : Span → ℕ → Remaining → Result (Head × Remaining) StateFault
 head_in ram size remaining = do
-  version ← version_in remaining
-  pc ← pc_in version.1
+  pc ← pc_in remaining
   mode ← mode_in pc.1
   order ← option_in (codes "order ") mode.1
   flags ← flags_in order.1

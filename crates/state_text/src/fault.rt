@@ -20,12 +20,15 @@ pub enum FaultKind {
     OutsideRam,
 }
 
-/// The first line that breaks a rule, from 1, and the first rule that it breaks.
+/// The first rule that a text breaks.
 #[derive(Clone, Copy, Debug, PartialEq, Eq, Error)]
-#[error("line {line}: {kind}")]
-pub struct StateFault {
-    pub kind: FaultKind,
-    pub line: u64,
+pub enum StateFault {
+    /// It says another number of harts than is asked for.
+    #[error("wrong number of harts")]
+    WrongHarts,
+    /// A line breaks a rule, the first one that does, from 1.
+    #[error("line {line}: {kind}")]
+    InLine { kind: FaultKind, line: u64 },
 }
 
 #[derive(Debug, Drop, Error)]

@@ -1,18 +1,18 @@
-//! The first six lines.
+//! The lines before the harts, and those of a hart before its numbers.
 
 ghost use Rattle.std.specs.Prelude.{◌≡◌, ◌≤◌, ℕ, length};
 ghost use Rattle.hart_words.specs.Results.{result_view};
 ghost use Rattle.state_text.specs.declared.line.TheConstants.{LONGEST_NAME};
-ghost use Rattle.state_text.specs.Reading.{number_in, option_in, version_in, pc_in, mode_in, flags_in, reserved_in, head_in, is_misplaced, is_outside};
+ghost use Rattle.state_text.specs.Reading.{number_in, option_in, version_in, count_in, front_in, pc_in, mode_in, flags_in, reserved_in, head_in, is_misplaced, is_outside};
 ghost use Rattle.state_text.specs.Views.{remaining_of, value_and_remaining};
 
 use crate::fault::{FaultKind, StateFault};
 use crate::guess::guess_of_number;
-use crate::line::{flags_line, mode_line, number_line, option_line};
+use crate::line::{flags_line, harts_line, mode_line, number_line, option_line};
 use crate::remaining::Remaining;
 use hart_words::{Mode, Span};
 
-/// What the lines before the numbers say.
+/// What the lines of a hart before its numbers say.
 #[derive(Clone, Copy)]
 pub struct Head {
     pub pc: u64,
@@ -24,8 +24,33 @@ pub struct Head {
     pub reserved: Option<u64>,
 }
 
-/// What the first six lines say, with what is left after them, or their first fault. A reserved
-/// block has `size` bytes.
+/// What is left after the lines before those of so many harts, or their first fault.
+#[tactic(auto, unfolding(crate::specs::Reading::front_in))]
+pub fn read_front(remaining: Remaining<'_>, harts: u32) -> Result<((), Remaining<'_>), StateFault>
+    requires { harts ≤ 8 }
+    ensures { result_view value_and_remaining result ≡ front_in harts (remaining_of remaining.entry) }
+{
+    let (_, remaining) = read_version(remaining)?;
+    read_count(remaining, harts)
+}
+
+/// The line that counts the harts, where they are counted.
+#[tactic(auto, unfolding(crate::specs::Reading::count_in, crate::specs::Reading::choice_in))]
+fn read_count(remaining: Remaining<'_>, harts: u32) -> Result<((), Remaining<'_>), StateFault>
+    requires { harts ≤ 8 }
+    ensures { result_view value_and_remaining result ≡ count_in harts (remaining_of remaining.entry) }
+{
+    if harts == 1 {
+        return Ok(((), remaining));
+    }
+    match remaining.after(harts_line(harts).as_slice()) {
+        Some(after) => Ok(((), after)),
+        None => Err(remaining.fault(FaultKind::BadLine)),
+    }
+}
+
+/// What the lines of a hart before its numbers say, with what is left after them, or their first
+/// fault. A reserved block has `size` bytes.
 #[tactic(auto, unfolding(crate::specs::Reading::head_in))]
 pub fn read_head(
     remaining: Remaining<'_>,
@@ -36,7 +61,6 @@ pub fn read_head(
     requires size { size ≤ 4096 }
     ensures { result_view value_and_remaining result ≡ head_in ram size (remaining_of remaining.entry) }
 {
-    let (_, remaining) = read_version(remaining)?;
     let (pc, remaining) = read_pc(remaining)?;
     let (mode, remaining) = read_mode(remaining)?;
     let (next_order, remaining) = read_option(remaining, b"order ")?;

@@ -1,9 +1,9 @@
 //! Lines as they are written, in a fixed buffer.
 
-ghost use Rattle.std.specs.Prelude.{◌≡◌, ◌≤◌, ◌<◌, ◌+◌, ◌++◌, [], List, ℕ, length};
+ghost use Rattle.std.specs.Prelude.{◌≡◌, ◌≤◌, ◌<◌, ◌+◌, ◌++◌, [], List, ℕ, length, decimal};
 ghost use Rattle.std.specs.Int.{w64, to_be_bytes};
 ghost use Rattle.hex.specs.Hex.{encode_lower};
-ghost use Rattle.state_text.specs.Lines.{digits_of, number_line, option_line, mode_line, flags_line, block_line};
+ghost use Rattle.state_text.specs.Lines.{digits_of, number_line, option_line, harts_line, mode_line, flags_line, block_line};
 ghost use Rattle.state_text.specs.declared.line.TheConstants.{MOST_BYTES, LONGEST_NAME};
 
 use arrayvec::ArrayVec;
@@ -97,6 +97,29 @@ fn none_line(name: &[u8]) -> Line
     line.put(name);
     line.put(b"none\n");
     line
+}
+
+/// The line of how many harts there are.
+#[tactic(auto, unfolding(crate::specs::Lines::harts_line))]
+pub(crate) fn harts_line(harts: u32) -> Line
+    requires { harts ≤ 8 }
+    ensures line { result ≡ harts_line harts }
+    ensures some { 0 < length result }
+    ensures short { length result ≤ MOST_BYTES }
+{
+    let mut line = Line::new();
+    line.put(b"harts ");
+    line.put(&numeral_of(harts));
+    line.put(b"\n");
+    line
+}
+
+/// The decimal digit of a number of harts.
+pub(crate) fn numeral_of(harts: u32) -> [u8; 1]
+    requires { harts ≤ 8 }
+    ensures { result ≡ decimal harts }
+{
+    [b'0' + harts as u8]
 }
 
 /// The line of a mode.

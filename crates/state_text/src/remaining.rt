@@ -39,7 +39,7 @@ impl<'a> Remaining<'a> {
     pub fn fault(self, kind: FaultKind) -> StateFault
         ensures { result ≡ fault_at (remaining_of self.entry) kind }
     {
-        StateFault {
+        StateFault::InLine {
             kind,
             line: self.line,
         }

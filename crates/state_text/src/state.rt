@@ -1,15 +1,19 @@
 //! A state read whole.
 
-ghost use Rattle.std.specs.Prelude.{◌≡◌, ℕ, IfOk, IsTrue, is_some, option_map};
-ghost use Rattle.hart_words.specs.Results.{Gives};
+ghost use Rattle.std.specs.Prelude.{◌≡◌, ◌≤◌, [], ℕ, IfOk, IsTrue, is_some, length, option_map};
+ghost use Rattle.std.specs.List.{All};
+ghost use Rattle.hart_words.specs.Results.{Gives, result_view};
 ghost use Rattle.hart_words.specs.Spans.{LiesIn};
 ghost use Rattle.hart_step.specs.Cores.{IsSound};
 ghost use Rattle.image_text.specs.Bytes.{byte_at};
+ghost use Rattle.state_text.specs.Laws.{IsOver};
 ghost use Rattle.state_text.specs.Memory.{memory_of};
-ghost use Rattle.state_text.specs.Texts.{block_with, core_with, state_fault, state_in};
+ghost use Rattle.state_text.specs.Texts.{block_with, core_with, core_in, cores_in, state_fault, state_in};
+ghost use Rattle.state_text.specs.Views.{remaining_of, value_and_remaining};
 
-use crate::fault::StateError;
-use crate::head::{Head, read_head};
+use crate::counts::says_harts;
+use crate::fault::{StateError, StateFault};
+use crate::head::{Head, read_front, read_head};
 use crate::memory::read_memory;
 use crate::numbers::{KINDS, NAMES, NUMBERS, csrs_with, read_numbers, registers_with};
 use crate::remaining::Remaining;
@@ -19,39 +23,85 @@ use image_text::Pieces;
 use rv_atomic::{Block, Reservation};
 use std::alloc::Global;
 
-/// A hart, and the bytes of memory that are not in a block of zeros.
+/// The most harts of a state.
+pub const MOST_HARTS: u32 = 8;
+
+/// Harts by their numbers from 0 on, and the bytes of memory that are not in a block of zeros.
 #[derive(Drop)]
 pub struct State {
-    pub core: Core,
+    pub cores: Vec<Core>,
     pub pieces: Pieces,
 }
 
-/// The state that a text says, over a map and choices; the pieces stand for 0 where they have no
-/// byte. The error is the first fault of the text.
+/// The state of so many harts that a text says, over a map and choices; the pieces stand for 0
+/// where they have no byte. The error is the first fault of the text.
 pub fn read_state(
     alloc: Global,
     bytes: &[u8],
     map: Map,
     choices: Choices,
+    harts: u32,
 ) -> Result<State, StateError>
-    ensures exact { Gives state_fault (λ state. (state.core, memory_of state.pieces)) result
-        (state_in map choices bytes.now) }
-    ensures sound { IfOk result (λ state. IsSound state.core) }
+    requires some { 1 ≤ harts }
+    requires few { harts ≤ MOST_HARTS }
+    ensures exact { Gives state_fault (λ state. (state.cores.items, memory_of state.pieces)) result
+        (state_in map choices harts bytes.now) }
+    ensures count { IfOk result (λ state. length state.cores.items ≡ harts) }
+    ensures sound { IfOk result (λ state. All IsSound state.cores.items) }
+    ensures over { IfOk result (λ state. All (IsOver map choices) state.cores.items) }
     ensures inside { IfOk result (λ state. (a : ℕ) → IsTrue (is_some (byte_at state.pieces a))
         → LiesIn a map.ram) }
 {
+    if !says_harts(bytes, harts) {
+        return Err(StateError::Fault(StateFault::WrongHarts));
+    }
     let remaining = Remaining {
         line: 1,
         text: bytes,
     };
-    let (head, remaining) = read_head(remaining, map.ram, choices.block_size)?;
-    let (numbers, remaining) = read_numbers(remaining, &NAMES, &KINDS)?;
+    let (_, remaining) = read_front(remaining, harts)?;
+    let (cores, remaining) = read_cores(alloc, remaining, map, choices, harts)?;
     let pieces = read_memory(alloc, remaining, map.ram)?;
-    let core = core_with(map, choices, head, &numbers);
-    Ok(State { core, pieces })
+    Ok(State { cores, pieces })
 }
 
-/// The hart that the lines before memory say.
+/// So many harts, with what is left after their lines, or the first fault of these.
+fn read_cores<'a>(
+    alloc: Global,
+    remaining: Remaining<'a>,
+    map: Map,
+    choices: Choices,
+    harts: u32,
+) -> Result<(Vec<Core>, Remaining<'a>), StateError>
+    ensures { Gives state_fault (λ read. (read.0.items, remaining_of read.1)) result
+        (cores_in map choices harts [] (remaining_of remaining.entry)) }
+{
+    let mut cores = Vec::new(alloc);
+    let mut remaining = remaining;
+    for _ in 0..harts {
+        let (core, after) = read_core(remaining, map, choices)?;
+        cores.push(core)?;
+        remaining = after;
+    }
+    Ok((cores, remaining))
+}
+
+/// The hart of the next lines, with what is left after them, or their first fault.
+#[tactic(auto, unfolding(crate::specs::Texts::core_in))]
+fn read_core(
+    remaining: Remaining<'_>,
+    map: Map,
+    choices: Choices,
+) -> Result<(Core, Remaining<'_>), StateFault>
+    ensures { result_view value_and_remaining result
+        ≡ core_in map choices (remaining_of remaining.entry) }
+{
+    let (head, remaining) = read_head(remaining, map.ram, choices.block_size)?;
+    let (numbers, remaining) = read_numbers(remaining, &NAMES, &KINDS)?;
+    Ok((core_with(map, choices, head, &numbers), remaining))
+}
+
+/// The hart that its lines say.
 fn core_with(map: Map, choices: Choices, head: Head, numbers: &[u64; NUMBERS]) -> Core
     requires { IsSound (core_with map choices head numbers.now) }
     ensures value { result ≡ core_with map choices head numbers.now }

@@ -113,28 +113,66 @@ pub(crate) fn text_with(alloc: Global, line: usize, other: &str) -> Result<Vec<u
     Ok(text)
 }
 
-/// The fault of the text with another line.
-fn fault_with(alloc: Global, line: usize, other: &str) -> Result<Option<StateFault>, Fail> {
-    let text = text_with(alloc, line, other)?;
-    match read_state(alloc, text.as_slice(), map()?, Choices::plain()) {
+/// The text of two harts: a line that counts them, the lines of the hart twice, with another text
+/// in place of one line of the second, and the lines of memory.
+pub(crate) fn text_of_two(
+    alloc: Global,
+    count: &str,
+    line: usize,
+    other: &str,
+) -> Result<Vec<u8>, Fail> {
+    let mut text = Vec::new(alloc);
+    text.extend_from_slice(b"rvstate 1\n")?;
+    text.extend_from_slice(count.as_bytes())?;
+    for hart in 0..2usize {
+        for (place, old) in LINES.iter().enumerate() {
+            if place == 0 || place >= BLOCK.wrapping_sub(1) {
+                continue;
+            }
+            if hart == 1 && place.wrapping_add(1) == line {
+                text.extend_from_slice(other.as_bytes())?;
+            } else {
+                text.extend_from_slice(old.as_bytes())?;
+                text.push(b'\n')?;
+            }
+        }
+    }
+    text.extend_from_slice(b"@0000000080000000 93005000938010000000000000000000\nend\n")?;
+    Ok(text)
+}
+
+/// The fault of a text that is to be of so many harts.
+fn fault_of(alloc: Global, text: &[u8], harts: u32) -> Result<Option<StateFault>, Fail> {
+    if harts == 0 || harts > MOST_HARTS {
+        return Ok(None);
+    }
+    match read_state(alloc, text, map()?, Choices::plain(), harts) {
         Err(StateError::Fault(fault)) => Ok(Some(fault)),
         _ => Ok(None),
     }
 }
 
+/// The fault of the text with another line.
+fn fault_with(alloc: Global, line: usize, other: &str) -> Result<Option<StateFault>, Fail> {
+    let text = text_with(alloc, line, other)?;
+    fault_of(alloc, text.as_slice(), 1)
+}
+
 #[test]
 fn a_state_after_one_row(rt: HostRuntime) -> Result<(), Fail> {
     let text = text_with(rt.alloc(), 0, "")?;
-    let state = read_state(rt.alloc(), text.as_slice(), map()?, Choices::plain())?;
-    assert_eq!(rt; state.core.pc, 0x8000_0004);
-    assert_eq!(rt; state.core.mode, Mode::Machine);
-    assert_eq!(rt; state.core.next_order, Some(1));
-    assert!(rt; !state.core.trapped_last);
-    assert!(rt; !state.core.halted);
-    assert!(rt; state.core.reservation.block.is_none());
-    assert_eq!(rt; state.core.registers.get(1), 5);
-    assert_eq!(rt; state.core.registers.get(2), 0);
-    assert_eq!(rt; state.core.csrs.get(StoredCsr::Mstatus), 0xa_0000_0000);
+    let state = read_state(rt.alloc(), text.as_slice(), map()?, Choices::plain(), 1)?;
+    assert_eq!(rt; state.cores.len(), 1);
+    let core = &state.cores[0];
+    assert_eq!(rt; core.pc, 0x8000_0004);
+    assert_eq!(rt; core.mode, Mode::Machine);
+    assert_eq!(rt; core.next_order, Some(1));
+    assert!(rt; !core.trapped_last);
+    assert!(rt; !core.halted);
+    assert!(rt; core.reservation.block.is_none());
+    assert_eq!(rt; core.registers.get(1), 5);
+    assert_eq!(rt; core.registers.get(2), 0);
+    assert_eq!(rt; core.csrs.get(StoredCsr::Mstatus), 0xa_0000_0000);
     for (address, byte) in [
         (0x7fff_ffff, None),
         (0x8000_0000, Some(0x93)),
@@ -180,16 +218,19 @@ fn each_number_has_its_place(rt: HostRuntime) -> Result<(), Fail> {
         ),
     ] {
         let text = text_with(rt.alloc(), line, other)?;
-        let state = read_state(rt.alloc(), text.as_slice(), map()?, Choices::plain())?;
-        assert_eq!(rt; state.core.csrs.get(stored), value);
+        let state = read_state(rt.alloc(), text.as_slice(), map()?, Choices::plain(), 1)?;
+        assert_eq!(rt; state.cores[0].csrs.get(stored), value);
     }
     let text = text_with(rt.alloc(), 60, "csr_pmpcfg2 000000000000991f\n")?;
-    let state = read_state(rt.alloc(), text.as_slice(), map()?, Choices::plain())?;
-    assert_eq!(rt; state.core.csrs.pmp_entries()[8].cfg, 0x1f);
-    assert_eq!(rt; state.core.csrs.pmp_entries()[9].cfg, 0x99);
+    let state = read_state(rt.alloc(), text.as_slice(), map()?, Choices::plain(), 1)?;
+    assert_eq!(rt; state.cores[0].csrs.pmp_entries()[8].cfg, 0x1f);
+    assert_eq!(rt; state.cores[0].csrs.pmp_entries()[9].cfg, 0x99);
     let text = text_with(rt.alloc(), 76, "csr_pmpaddr15 003fffffffffffff\n")?;
-    let state = read_state(rt.alloc(), text.as_slice(), map()?, Choices::plain())?;
-    assert_eq!(rt; state.core.csrs.pmp_entries()[15].addr, 0x3f_ffff_ffff_ffff);
+    let state = read_state(rt.alloc(), text.as_slice(), map()?, Choices::plain(), 1)?;
+    assert_eq!(rt;
+        state.cores[0].csrs.pmp_entries()[15].addr,
+        0x3f_ffff_ffff_ffff
+    );
     Ok(())
 }
 
@@ -225,17 +266,17 @@ fn lines_that_are_not_of_the_form(rt: HostRuntime) -> Result<(), Fail> {
         (END, "end"),
         (END, "end\r\n"),
     ] {
-        let wanted = StateFault {
+        let wanted = StateFault::InLine {
             kind,
             line: line as u64,
         };
         assert_eq!(rt; fault_with(rt.alloc(), line, other)?, Some(wanted));
     }
-    let after = StateFault { kind, line: 79 };
+    let after = StateFault::InLine { kind, line: 79 };
     assert_eq!(rt; fault_with(rt.alloc(), END, "end\n\n")?, Some(after));
     assert_eq!(rt; fault_with(rt.alloc(), END, "end\nend\n")?, Some(after));
     let again = "@0000000080000000 ffffffffffffffffffffffffffffffff\nend\n";
-    let second = StateFault { kind, line: 78 };
+    let second = StateFault::InLine { kind, line: 78 };
     assert_eq!(rt; fault_with(rt.alloc(), END, again)?, Some(second));
     Ok(())
 }
@@ -258,7 +299,7 @@ fn values_that_no_hart_has(rt: HostRuntime) -> Result<(), Fail> {
         (59, "csr_pmpcfg0 0000000000000002\n"),
         (61, "csr_pmpaddr0 0040000000000000\n"),
     ] {
-        let wanted = StateFault {
+        let wanted = StateFault::InLine {
             kind: FaultKind::BadValue,
             line: line as u64,
         };
@@ -281,7 +322,7 @@ fn blocks_outside_ram(rt: HostRuntime) -> Result<(), Fail> {
             "@fffffffffffffff0 93005000938010000000000000000000\n",
         ),
     ] {
-        let wanted = StateFault {
+        let wanted = StateFault::InLine {
             kind: FaultKind::OutsideRam,
             line: line as u64,
         };
@@ -317,9 +358,103 @@ fn texts_of_faults(rt: HostRuntime) -> Result<(), Fail> {
         (FaultKind::BadValue, "line 3: bad value"),
         (FaultKind::OutsideRam, "line 3: outside RAM"),
     ] {
-        let fault = StateFault { kind, line: 3 };
+        let fault = StateFault::InLine { kind, line: 3 };
         let written = format!(in rt.alloc(); "{fault}")?;
         assert_eq!(rt; written.as_str(), text);
+    }
+    let fault = StateFault::WrongHarts;
+    let written = format!(in rt.alloc(); "{fault}")?;
+    assert_eq!(rt; written.as_str(), "wrong number of harts");
+    Ok(())
+}
+
+#[test]
+fn a_state_of_two_harts(rt: HostRuntime) -> Result<(), Fail> {
+    let text = text_of_two(rt.alloc(), "harts 2\n", 2, "pc 0000000080000008\n")?;
+    let state = read_state(rt.alloc(), text.as_slice(), map()?, Choices::plain(), 2)?;
+    assert_eq!(rt; state.cores.len(), 2);
+    assert_eq!(rt; state.cores[0].pc, 0x8000_0004);
+    assert_eq!(rt; state.cores[1].pc, 0x8000_0008);
+    assert_eq!(rt; state.cores[1].registers.get(1), 5);
+    assert_eq!(rt; state.pieces.byte(0x8000_0002), Some(0x50));
+    Ok(())
+}
+
+/// A fault of the second hart has the number of its own line.
+#[test]
+fn faults_of_the_second_hart(rt: HostRuntime) -> Result<(), Fail> {
+    for (line, other, kind) in [
+        (2, "pc 0000000080000005\n", FaultKind::BadValue),
+        (3, "mode 2\n", FaultKind::BadLine),
+        (6, "reserved 0000000080010000\n", FaultKind::OutsideRam),
+        (76, "", FaultKind::BadLine),
+    ] {
+        let text = text_of_two(rt.alloc(), "harts 2\n", line, other)?;
+        let wanted = StateFault::InLine {
+            kind,
+            line: (line as u64).wrapping_add(76),
+        };
+        assert_eq!(rt; fault_of(rt.alloc(), text.as_slice(), 2)?, Some(wanted));
+    }
+    Ok(())
+}
+
+/// Second lines, a number of harts that is asked for, and whether they say another.
+const SAID: [(&str, u32, bool); 16] = [
+    ("harts 0\n", 1, true),
+    ("harts 2\n", 1, true),
+    ("harts 9\n", 1, true),
+    ("harts 18446744073709551617\n", 1, true),
+    ("harts 1\n", 1, false),
+    ("harts 02\n", 1, false),
+    ("harts x\n", 1, false),
+    ("harts \n", 1, false),
+    ("harts 2 \n", 1, false),
+    ("", 2, true),
+    ("harts 1\n", 2, true),
+    ("harts 02\n", 2, true),
+    ("harts 3\n", 2, true),
+    ("harts 22\n", 2, true),
+    ("harts 2\r\n", 2, true),
+    ("harts 2\n", 2, false),
+];
+
+#[test]
+fn numbers_of_harts_that_are_said(rt: HostRuntime) -> Result<(), Fail> {
+    let wrong = Some(StateFault::WrongHarts);
+    for (count, harts, is_wrong) in SAID {
+        let text = text_of_two(rt.alloc(), count, 0, "")?;
+        let fault = fault_of(rt.alloc(), text.as_slice(), harts)?;
+        assert_eq!(rt; fault == wrong, is_wrong, "{count}");
+        if harts == 1 && !is_wrong {
+            let kind = FaultKind::BadLine;
+            assert_eq!(rt; fault, Some(StateFault::InLine { kind, line: 2 }));
+        }
+    }
+    Ok(())
+}
+
+/// The number is looked at before all else, and its line need not end.
+#[test]
+fn numbers_of_harts_come_first(rt: HostRuntime) -> Result<(), Fail> {
+    let kind = FaultKind::BadLine;
+    let first = Some(StateFault::InLine { kind, line: 1 });
+    let second = Some(StateFault::InLine { kind, line: 2 });
+    let wrong = Some(StateFault::WrongHarts);
+    let texts: [(&[u8], u32, Option<StateFault>); 10] = [
+        (b"", 1, first),
+        (b"", 2, wrong),
+        (b"rvstate 1", 1, first),
+        (b"rvstate 1\n", 1, second),
+        (b"rvstate 2\nharts 2\n", 1, wrong),
+        (b"rvstate 2\nharts 2\n", 2, first),
+        (b"rvstate 1\nharts 2", 1, wrong),
+        (b"rvstate 1\nharts 2", 2, second),
+        (b"\nharts 3", 2, wrong),
+        (b"harts 2\nrvstate 1\n", 1, first),
+    ];
+    for (text, harts, fault) in texts {
+        assert_eq!(rt; fault_of(rt.alloc(), text, harts)?, fault);
     }
     Ok(())
 }

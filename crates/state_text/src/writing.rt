@@ -1,29 +1,32 @@
 //! A state written to a sink.
 
 ghost use Rattle.std.specs.Prelude.{◌≡◌, ◌≤◌, ◌<◌, ◌+◌, ◌-◌, ◌*◌, ◌%◌, ◌^◌, ◌++◌, length, map, option_map, IfOk, IfSome, OnOk, OnErr, Ok};
-ghost use Rattle.std.specs.List.{concat};
+ghost use Rattle.std.specs.List.{All, concat};
 ghost use Rattle.outside_ports.specs.Counts.{Rose};
+ghost use Rattle.hart_words.specs.declared.choices.Choices.{Choices};
+ghost use Rattle.hart_words.specs.declared.map.Map.{Map};
 ghost use Rattle.hart_words.specs.declared.span.TheConstants.{PAGE_SIZE};
 ghost use Rattle.hart_words.specs.Spans.{IsPlace};
-ghost use Rattle.hart_step.specs.Cores.{IsSound};
-ghost use Rattle.hart_step.specs.Harts.{CanStep};
+ghost use Rattle.hart_step.specs.HartSets.{SetCanStep};
 ghost use Rattle.page_layers.specs.Memories.{layered_bytes, layered_ram};
 ghost use Rattle.state_text.specs.declared.line.TheConstants.{MOST_BYTES};
 ghost use Rattle.state_text.specs.declared.numbers.TheConstants.{NUMBERS};
 ghost use Rattle.state_text.specs.declared.piece.TheConstants.{FULL_BYTES, PIECE_BYTES};
+ghost use Rattle.state_text.specs.declared.state.TheConstants.{MOST_HARTS};
 ghost use Rattle.state_text.specs.declared.writing.TheConstants.{PAGE_LINES};
-ghost use Rattle.state_text.specs.Laws.{IsSaved, IsZeroOutside};
+ghost use Rattle.state_text.specs.Laws.{IsOver, IsWhole, IsZeroOutside};
+ghost use Rattle.state_text.specs.Lines.{front_lines};
 ghost use Rattle.state_text.specs.Memory.{block_text, bytes_from, memory_lines};
 ghost use Rattle.state_text.specs.Numbers.{number_names, numbers_of, saved_csrs};
-ghost use Rattle.state_text.specs.Texts.{head_lines_of, number_lines, saved_text, state_in};
+ghost use Rattle.state_text.specs.Texts.{core_lines, cores_lines, head_lines_of, number_lines, saved_text, state_in};
 ghost use Rattle.state_text.specs.Writes.{FindsInRam, IsPageOf, Sends, WritesFront, text_from};
 
-use crate::line::{block_line, flags_line, mode_line, number_line, option_line};
+use crate::line::{block_line, flags_line, harts_line, mode_line, number_line, option_line};
 use crate::memory::is_zero;
 use crate::numbers::{NAMES, NUMBERS, SAVED_CSRS, number_of};
 use crate::piece::{FULL_BYTES, Piece};
 use csr_file::{STORED_CSRS, StoredCsr};
-use hart_step::{Core, Hart, hold_words};
+use hart_step::{Core, Harts, set_holds_words};
 use hart_words::{PAGE_SIZE, PhysMem, PmpEntry, Span};
 use outside_ports::{Failed, Sink, write_all};
 use page_layers::Layered;
@@ -32,37 +35,92 @@ use rv_atomic::Reservation;
 /// How many lines a page has at most.
 const PAGE_LINES: u64 = 256;
 
-/// Appends the text of a hart's state to a sink, in pieces of 8,192 bytes and more, the last aside.
-/// It takes no memory. Where a write fails, the sink has a front of the text.
-pub fn write_state<S: Sink>(hart: &Hart<Layered>, sink: &mut S) -> Result<(), Failed>
-    requires { CanStep layered_ram hart.now }
-    ensures text { OnOk result (S.held sink.new
-        ≡ option_map (λ bytes. bytes ++ saved_text hart.now.core (layered_bytes hart.now.mem))
+/// Appends the text of the state of harts to a sink, in pieces of 8,192 bytes and more, the last
+/// aside. It takes no memory. Where a write fails, the sink has a front of the text.
+pub fn write_state<S: Sink>(set: &Harts<Layered>, sink: &mut S) -> Result<(), Failed>
+    requires can { SetCanStep layered_ram set.now }
+    requires few { length set.now.cores.items ≤ MOST_HARTS }
+    ensures text { OnOk result (S.held sink.new ≡ option_map
+        (λ bytes. bytes ++ saved_text set.now.cores.items (layered_bytes set.now.mem))
         (S.held sink.old)) }
     ensures no_fault { OnOk result (S.faults sink.new ≡ S.faults sink.old) }
     ensures front { OnErr result (WritesFront
-        (saved_text hart.now.core (layered_bytes hart.now.mem)) (S.held sink.old) (S.held sink.new)) }
+        (saved_text set.now.cores.items (layered_bytes set.now.mem)) (S.held sink.old)
+        (S.held sink.new)) }
     ensures fault { OnErr result (Rose (S.faults sink.old) (S.faults sink.new)) }
     ensures kept { S.faults sink.old ≤ S.faults sink.new }
-    ensures back { IsZeroOutside hart.now.core.map.ram (layered_bytes hart.now.mem)
-        → state_in hart.now.core.map hart.now.core.choices
-        (saved_text hart.now.core (layered_bytes hart.now.mem))
-        ≡ Ok (hart.now.core, layered_bytes hart.now.mem) }
+    ensures back { (map : Map) (choices : Choices) → All (IsOver map choices) set.now.cores.items
+        → IsZeroOutside map.ram (layered_bytes set.now.mem)
+        → state_in map choices (length set.now.cores.items)
+        (saved_text set.now.cores.items (layered_bytes set.now.mem))
+        ≡ Ok (set.now.cores.items, layered_bytes set.now.mem) }
 {
-    hold_numbers(hart);
+    set_holds_words(set);
+    hold_whole(set.cores.as_slice());
     let mut piece = Piece::new();
-    put_head(&mut piece, &hart.core);
-    put_numbers(&mut piece, &hart.core);
-    write_memory(&hart.mem, hart.core.map.ram, piece, sink)
+    put_front(&mut piece, set.cores.len() as u32);
+    match write_cores(set.cores.as_slice(), piece, sink) {
+        Ok(piece) => write_memory(&set.mem, set.cores[0].map.ram, piece, sink),
+        Err(Failed) => Err(Failed),
+    }
 }
 
-/// The lines before the numbers.
-fn put_head(piece: &mut Piece, core: &Core)
-    requires { length piece.old ≤ 0 }
-    ensures text { piece.new ≡ piece.old ++ concat (head_lines_of core.now) }
-    ensures len { length piece.new ≤ 6 * MOST_BYTES }
+/// The lines before those of the harts.
+fn put_front(piece: &mut Piece, harts: u32)
+    requires none { length piece.old ≤ 0 }
+    requires few { harts ≤ MOST_HARTS }
+    ensures text { piece.new ≡ piece.old ++ concat (front_lines harts) }
+    ensures len { length piece.new ≤ 2 * MOST_BYTES }
 {
     piece.put(b"rvstate 1\n");
+    if harts != 1 {
+        piece.put(harts_line(harts).as_slice());
+    }
+}
+
+/// Writes a piece, and after it the lines of harts. What is kept of them is the piece to go on
+/// with.
+fn write_cores<S: Sink>(cores: &[Core], piece: Piece, sink: &mut S) -> Result<Piece, Failed>
+    requires whole { All IsWhole cores.now }
+    requires room { length piece < FULL_BYTES }
+    ensures sent { IfOk result (λ now. Sends (piece ++ concat (cores_lines cores.now)) now
+        (S.held sink.old) (S.held sink.new)) }
+    ensures room { IfOk result (λ now. length now < FULL_BYTES) }
+    ensures no_fault { OnOk result (S.faults sink.new ≡ S.faults sink.old) }
+    ensures front { OnErr result (WritesFront (piece ++ concat (cores_lines cores.now))
+        (S.held sink.old) (S.held sink.new)) }
+    ensures fault { OnErr result (Rose (S.faults sink.old) (S.faults sink.new)) }
+    ensures kept { S.faults sink.old ≤ S.faults sink.new }
+{
+    let mut piece = piece;
+    for place in 0..cores.len() {
+        put_core(&mut piece, &cores[place]);
+        piece = match write_full(piece, sink) {
+            Ok(next) => next,
+            Err(Failed) => return Err(Failed),
+        };
+    }
+    Ok(piece)
+}
+
+/// The lines of a hart.
+#[tactic(auto, unfolding(crate::specs::Texts::core_lines))]
+fn put_core(piece: &mut Piece, core: &Core)
+    requires whole { IsWhole core.now }
+    requires room { length piece.old < FULL_BYTES }
+    ensures text { piece.new ≡ piece.old ++ concat (core_lines core.now) }
+    ensures len { length piece.new < 2 * FULL_BYTES }
+{
+    put_head(piece, core);
+    put_numbers(piece, core);
+}
+
+/// The lines of a hart before its numbers.
+fn put_head(piece: &mut Piece, core: &Core)
+    requires { length piece.old < FULL_BYTES }
+    ensures text { piece.new ≡ piece.old ++ concat (head_lines_of core.now) }
+    ensures len { length piece.new ≤ length piece.old + 5 * MOST_BYTES }
+{
     piece.put(number_line(b"pc ", core.pc()).as_slice());
     piece.put(mode_line(core.mode()));
     piece.put(option_line(b"order ", core.next_order()).as_slice());
@@ -82,11 +140,11 @@ fn reserved_address(reservation: Reservation) -> Option<u64>
 
 /// The lines of the numbers.
 fn put_numbers(piece: &mut Piece, core: &Core)
-    requires room { length piece.old ≤ 6 * MOST_BYTES }
+    requires room { length piece.old < FULL_BYTES + 5 * MOST_BYTES }
     requires count { length (numbers_of core.now.registers core.now.csrs) ≡ NUMBERS }
     ensures text { piece.new ≡ piece.old
         ++ concat (number_lines number_names (numbers_of core.now.registers core.now.csrs)) }
-    ensures len { length piece.new < FULL_BYTES }
+    ensures len { length piece.new ≤ length piece.old + NUMBERS * MOST_BYTES }
 {
     put_lines(piece, core, &NAMES, &SAVED_CSRS);
 }
@@ -100,11 +158,11 @@ fn put_lines(
 )
     requires names { map (λ name. name.now) names.now ≡ number_names }
     requires stored { stored.now ≡ saved_csrs }
-    requires room { length piece.old ≤ 6 * MOST_BYTES }
+    requires room { length piece.old < FULL_BYTES + 5 * MOST_BYTES }
     requires count { length (numbers_of core.now.registers core.now.csrs) ≡ NUMBERS }
     ensures text { piece.new ≡ piece.old
         ++ concat (number_lines number_names (numbers_of core.now.registers core.now.csrs)) }
-    ensures len { length piece.new < FULL_BYTES }
+    ensures len { length piece.new ≤ length piece.old + NUMBERS * MOST_BYTES }
 {
     for place in 0..NUMBERS {
         let number = number_of(&core.registers.values, &core.csrs, stored, place);
@@ -231,18 +289,22 @@ fn block_at(mem: &Layered, address: u64) -> [u8; 16]
     ]
 }
 
-/// Tells a proof what holds of every hart's numbers. Their types say so, but a proof learns it only
-/// where they are read. Nothing else comes of the call.
-fn hold_numbers(hart: &Hart<Layered>)
-    requires { IsSound hart.now.core }
-    ensures saved { IsZeroOutside hart.now.core.map.ram (layered_bytes hart.now.mem)
-        → IsSaved hart.now.core (layered_bytes hart.now.mem) }
-    ensures count { length (numbers_of hart.now.core.registers hart.now.core.csrs) ≡ NUMBERS }
+/// Tells a proof what holds of the numbers of all harts. Their types say so, but a proof learns it
+/// only where they are read. Nothing else comes of the call.
+fn hold_whole(cores: &[Core])
+    ensures { All IsWhole cores.now }
 {
-    hold_words(hart);
-    hold_31(&hart.core.registers.values);
-    hold_16(&hart.core.csrs.entries);
-    hold_order(hart.core.next_order);
+    for core in cores {
+        hold_numbers(core);
+    }
+}
+
+fn hold_numbers(core: &Core)
+    ensures { IsWhole core.now }
+{
+    hold_31(&core.registers.values);
+    hold_16(&core.csrs.entries);
+    hold_order(core.next_order);
 }
 
 fn hold_31(values: &[u64; 31])

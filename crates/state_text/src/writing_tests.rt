@@ -1,6 +1,6 @@
 use super::*;
-use crate::tests::{BLOCK, END, map, text_with};
-use hart_step::Hart;
+use crate::tests::{BLOCK, END, map, text_of_two, text_with};
+use hart_step::Harts;
 use hart_words::{Choices, PhysMem};
 use outside_ports::{FailSink, MemSink, Sink};
 use page_image::PageImage;
@@ -8,15 +8,24 @@ use page_layers::Layered;
 use std::alloc::Global;
 use std::test::Fail;
 
-/// Writes the state that a text says.
-fn write_again<S: Sink>(alloc: Global, text: &[u8], sink: &mut S) -> Result<bool, Fail> {
-    let state = read_state(alloc, text, map()?, Choices::plain())?;
-    let image = PageImage::build(alloc, &state.pieces, state.core.map.ram)?;
-    let hart = Hart {
-        core: state.core,
+/// Writes the state of so many harts that a text says.
+fn write_again<S: Sink>(
+    alloc: Global,
+    text: &[u8],
+    harts: u32,
+    sink: &mut S,
+) -> Result<bool, Fail> {
+    if harts == 0 || harts > MOST_HARTS {
+        return Ok(false);
+    }
+    let map = map()?;
+    let state = read_state(alloc, text, map, Choices::plain(), harts)?;
+    let image = PageImage::build(alloc, &state.pieces, map.ram)?;
+    let set = Harts {
+        cores: state.cores,
         mem: Layered::over(alloc, &image),
     };
-    Ok(write_state(&hart, sink).is_ok())
+    Ok(write_state(&set, sink).is_ok())
 }
 
 /// The text of memory that has bytes in each block of three pages but one.
@@ -61,7 +70,7 @@ fn texts_are_written_again(rt: HostRuntime) -> Result<(), Fail> {
     ] {
         let text = text_with(rt.alloc(), line, other)?;
         let mut sink = MemSink::new(rt.alloc());
-        assert!(&rt; write_again(rt.alloc(), text.as_slice(), &mut sink)?);
+        assert!(&rt; write_again(rt.alloc(), text.as_slice(), 1, &mut sink)?);
         assert_eq!(&rt; sink.held.as_slice(), text.as_slice(), "line {line}");
     }
     Ok(())
@@ -71,7 +80,7 @@ fn texts_are_written_again(rt: HostRuntime) -> Result<(), Fail> {
 fn long_texts_are_written_in_pieces(rt: HostRuntime) -> Result<(), Fail> {
     let text = long_text(rt.alloc())?;
     let mut sink = MemSink::new(rt.alloc());
-    assert!(&rt; write_again(rt.alloc(), text.as_slice(), &mut sink)?);
+    assert!(&rt; write_again(rt.alloc(), text.as_slice(), 1, &mut sink)?);
     assert_eq!(&rt; sink.held.as_slice(), text.as_slice());
     Ok(())
 }
@@ -82,7 +91,7 @@ fn failing_sinks_have_a_front(rt: HostRuntime) -> Result<(), Fail> {
     let text = long_text(rt.alloc())?;
     for room in [0, 1, 2_500, 8_192, 20_000, 40_000] {
         let mut sink = FailSink::new(rt.alloc(), room)?;
-        assert!(&rt; !write_again(rt.alloc(), text.as_slice(), &mut sink)?);
+        assert!(&rt; !write_again(rt.alloc(), text.as_slice(), 1, &mut sink)?);
         assert_eq!(&rt; Some(sink.held.as_slice()), text.as_slice().get(..room));
         assert_eq!(&rt; sink.faults, 1);
     }
@@ -93,22 +102,48 @@ fn failing_sinks_have_a_front(rt: HostRuntime) -> Result<(), Fail> {
 #[test]
 fn stores_are_written(rt: HostRuntime) -> Result<(), Fail> {
     let text = text_with(rt.alloc(), 0, "")?;
-    let state = read_state(rt.alloc(), text.as_slice(), map()?, Choices::plain())?;
-    let image = PageImage::build(rt.alloc(), &state.pieces, state.core.map.ram)?;
+    let map = map()?;
+    let state = read_state(rt.alloc(), text.as_slice(), map, Choices::plain(), 1)?;
+    let ram = map.ram;
+    let image = PageImage::build(rt.alloc(), &state.pieces, ram)?;
     let mut mem = Layered::over(rt.alloc(), &image);
-    let ram = state.core.map.ram;
     assert!(&rt; ram.is_place(0x8000_0000, 8));
     mem.write(0x8000_0000, 8, 0)?;
     assert!(&rt; ram.is_place(0x8000_fff8, 8));
     mem.write(0x8000_fff8, 8, 0x8877_6655_4433_2211)?;
-    let hart = Hart {
-        core: state.core,
+    let set = Harts {
+        cores: state.cores,
         mem,
     };
     let mut sink = MemSink::new(rt.alloc());
-    assert!(&rt; write_state(&hart, &mut sink).is_ok());
+    assert!(&rt; write_state(&set, &mut sink).is_ok());
     let line = "@000000008000fff0 00000000000000001122334455667788\n";
     let wanted = text_with(rt.alloc(), BLOCK, line)?;
     assert_eq!(&rt; sink.held.as_slice(), wanted.as_slice());
+    Ok(())
+}
+
+/// The text of two harts, whose second has other values.
+#[test]
+fn texts_of_two_harts_are_written_again(rt: HostRuntime) -> Result<(), Fail> {
+    for (line, other) in [
+        (0, ""),
+        (2, "pc 0123456789abcdee\n"),
+        (6, "reserved 000000008000ffc0\n"),
+        (7, "x1 fedcba9876543210\n"),
+        (76, "csr_pmpaddr15 003fffffffffffff\n"),
+    ] {
+        let text = text_of_two(rt.alloc(), "harts 2\n", line, other)?;
+        let mut sink = MemSink::new(rt.alloc());
+        assert!(&rt; write_again(rt.alloc(), text.as_slice(), 2, &mut sink)?);
+        assert_eq!(&rt; sink.held.as_slice(), text.as_slice(), "line {line}");
+    }
+    let text = text_of_two(rt.alloc(), "harts 2\n", 0, "")?;
+    for room in [0, 9, 17, 1_000, 3_000] {
+        let mut sink = FailSink::new(rt.alloc(), room)?;
+        assert!(&rt; !write_again(rt.alloc(), text.as_slice(), 2, &mut sink)?);
+        assert_eq!(&rt; Some(sink.held.as_slice()), text.as_slice().get(..room));
+        assert_eq!(&rt; sink.faults, 1);
+    }
     Ok(())
 }

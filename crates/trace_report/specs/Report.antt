@@ -19,6 +19,7 @@ use Rattle.rvfi_rows.specs.declared.verdict.Verdict.TheVariants.{Agrees, Differs
 use Rattle.state_text.specs.declared.fault.FaultKind.{FaultKind as StateFaultKind}
 use Rattle.state_text.specs.declared.fault.FaultKind.TheVariants as state
 use Rattle.state_text.specs.declared.fault.StateFault.{StateFault}
+use Rattle.state_text.specs.declared.fault.StateFault.TheVariants.{WrongHarts, InLine}
 use Rattle.trace_report.specs.declared.outcome.Outcome.{Outcome}
 use Rattle.trace_report.specs.declared.outcome.Made.{Made}
 use Rattle.trace_report.specs.declared.outcome.Ruling.{Ruling}
@@ -60,8 +61,8 @@ state_kind_text state.OutsideRam = codes ": outside RAM\n"
 
 -- the line for a fault of a saved state
 unfoldable pub state_fault_text : StateFault → List ℕ
-state_fault_text fault =
-    codes "refused image: line " ++ decimal fault.line ++ state_kind_text fault.kind
+state_fault_text WrongHarts = codes "refused image: wrong number of harts\n"
+state_fault_text (InLine kind line) = codes "refused image: line " ++ decimal line ++ state_kind_text kind
 
 -- what a refusal puts after a column's name: the suffix of its port, and nothing for port 0
 abbrev pub port_text : Port → List ℕ
@@ -93,6 +94,7 @@ row_fault_text row.FieldCount = codes ": wrong number of fields\n"
 row_fault_text (row.Empty column) = column_text column (codes " empty\n")
 row_fault_text (row.NotNumber column) = column_text column (codes " not a number\n")
 row_fault_text (row.TooWide column) = column_text column (codes " too wide\n")
+row_fault_text row.NoHart = codes ": hart not there\n"
 
 -- the signal in which a row differs, after its number, and both values. It is the signal of the row, whatever its port
 unfoldable pub difference_text : Difference → List ℕ

@@ -49,12 +49,17 @@ fn reports_outcomes(rt: HostRuntime) -> Result<(), Fail> {
             b"refused image: elf segment 12: overlap\n",
         ),
         (
-            Ruling::StateFault(StateFault {
+            Ruling::StateFault(StateFault::InLine {
                 kind: state_text::FaultKind::BadValue,
                 line: 3,
             }),
             3,
             b"refused image: line 3: bad value\n",
+        ),
+        (
+            Ruling::StateFault(StateFault::WrongHarts),
+            3,
+            b"refused image: wrong number of harts\n",
         ),
         (Ruling::NoHeader, 4, b"refused trace: no header\n"),
         (
@@ -74,6 +79,14 @@ fn reports_outcomes(rt: HostRuntime) -> Result<(), Fail> {
             }),
             4,
             b"refused trace: row 2: pc_rdata_1 too wide\n",
+        ),
+        (
+            Ruling::Verdict(Verdict::Refused {
+                row: 2,
+                fault: RowFault::NoHart,
+            }),
+            4,
+            b"refused trace: row 2: hart not there\n",
         ),
         (
             Ruling::TooLong { line: 2 },

@@ -139,9 +139,14 @@ fn put_state_fault(text: &mut Text, fault: StateFault)
     ensures text { text.new ≡ text.old ++ state_fault_text fault }
     ensures short { length text.new ≤ MOST_LINE }
 {
-    text.put(b"refused image: line ");
-    text.put_decimal(fault.line);
-    text.put(state_kind_text(fault.kind));
+    match fault {
+        StateFault::WrongHarts => text.put(b"refused image: wrong number of harts\n"),
+        StateFault::InLine { kind, line } => {
+            text.put(b"refused image: line ");
+            text.put_decimal(line);
+            text.put(state_kind_text(kind));
+        }
+    }
 }
 
 /// What a fault of a saved state is called, to the end of the line.
@@ -223,6 +228,7 @@ fn put_row_fault(text: &mut Text, fault: RowFault)
         RowFault::Empty(column) => put_column(text, column, b" empty\n"),
         RowFault::NotNumber(column) => put_column(text, column, b" not a number\n"),
         RowFault::TooWide(column) => put_column(text, column, b" too wide\n"),
+        RowFault::NoHart => text.put(b": hart not there\n"),
     }
 }
 

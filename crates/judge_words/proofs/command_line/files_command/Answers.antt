@@ -18,10 +18,12 @@ with_choices-requires c =
     let ram =
     adds_rule c.in_ok-arg-4.ensures pc.0 pc.1 c.option_or.ensures.rule c.option_or.ensures.local in
     let io = adds_rule c.in_ok-arg-5.ensures ram.0 ram.1 c.option-2.ensures.rule c.option-2.ensures.local in
-    let max_image =
+    let harts =
     adds_rule c.in_ok-arg-6.ensures io.0 io.1 c.option_or-2.ensures.rule c.option_or-2.ensures.local in
-    (adds_rule c.in_ok-files.ensures max_image.0 max_image.1 c.option_or-3.ensures.rule
-    c.option_or-3.ensures.local).1
+    let max_image =
+    adds_rule c.in_ok-arg-7.ensures harts.0 harts.1 c.option_or-3.ensures.rule c.option_or-3.ensures.local in
+    (adds_rule c.in_ok-files.ensures max_image.0 max_image.1 c.option_or-4.ensures.rule
+    c.option_or-4.ensures.local).1
 
 pub returns : goal.returns
 returns c =
@@ -36,11 +38,13 @@ returns c =
     let ram =
     adds_rule c.in_ok-arg-4.ensures pc.0 pc.1 c.option_or.ensures.rule c.option_or.ensures.local in
     let io = adds_rule c.in_ok-arg-5.ensures ram.0 ram.1 c.option-2.ensures.rule c.option-2.ensures.local in
-    let max_image =
+    let harts =
     adds_rule c.in_ok-arg-6.ensures io.0 io.1 c.option_or-2.ensures.rule c.option_or-2.ensures.local in
+    let max_image =
+    adds_rule c.in_ok-arg-7.ensures harts.0 harts.1 c.option_or-3.ensures.rule c.option_or-3.ensures.local in
     let max_trace =
-    adds_rule c.in_ok-files.ensures max_image.0 max_image.1 c.option_or-3.ensures.rule
-    c.option_or-3.ensures.local in
+    adds_rule c.in_ok-files.ensures max_image.0 max_image.1 c.option_or-4.ensures.rule
+    c.option_or-4.ensures.local in
     let choices =
     c.in_ok-with_choices.ensures.0 ∙ ap (λ (app : App). with_rules app choices_rules) max_trace.0 in
     IfOk-weaker c.with_sharing.result _ _

@@ -1,50 +1,74 @@
-use Rattle.std.proofs.Common.{◌≡◌, sym, Ok}
+use Rattle.std.proofs.Common.{◌∙◌, [], ap, sym, subst, length, List, All}
+use Rattle.std.proofs.lemmas.List.Elements.{All-from_recursion}
 use Rattle.std.proofs.lemmas.Result.{err_from_is_err_and}
+use Rattle.hart_step.specs.declared.state.Core.{Core}
+use Rattle.hart_step.specs.Cores.{IsSound}
+use Rattle.state_text.specs.Laws.{IsOver}
 use Rattle.state_text.specs.Memory.{memory_of}
-use Rattle.state_text.specs.Texts.{core_with, state_in}
 use Rattle.state_text.specs.Views.{remaining_of}
-use Rattle.state_text.proofs.OneText.{has_state}
-use Rattle.state_text.proofs.Sound.{sound_core}
-use Rattle.state_text.proofs.States.{no_head, no_numbers, no_memory, all_read}
+use Rattle.state_text.proofs.OneText.{has_cores}
+use Rattle.state_text.proofs.States.{all_read, no_cores, no_front, no_memory, wrong_harts}
 use Rattle.state_text.proofs.state.read_state.Goals as goal
 
-pub returns-in_err-head-clause-exact : goal.returns-in_err-head-clause-exact
-returns-in_err-head-clause-exact c =
-    let p = err_from_is_err_and c.from_residual.result c.from_residual.ensures.1 in
-    rw (p.1, p.2) (no_head c.args.map c.args.choices c.args.bytes.now _ (sym c.in_err-head.ensures))
+pub returns-then-not-says_harts-clause-exact : goal.returns-then-not-says_harts-clause-exact
+returns-then-not-says_harts-clause-exact c =
+    wrong_harts c.args.map c.args.choices c.args.harts c.args.bytes.now c.says_harts.result c.says_harts.ensures
+    c.if-not-says_harts.true
 
-pub returns-in_err-numbers-clause-exact : goal.returns-in_err-numbers-clause-exact
-returns-in_err-numbers-clause-exact c =
-    let p = err_from_is_err_and c.from_residual-in_err-numbers.result c.from_residual-in_err-numbers.ensures.1 in
+pub returns-in_err-remaining-clause-exact : goal.returns-in_err-remaining-clause-exact
+returns-in_err-remaining-clause-exact c =
+    let p = err_from_is_err_and c.from_residual.result c.from_residual.ensures.1 in
     rw (p.1, p.2)
-    (no_numbers c.args.map c.args.choices c.args.bytes.now c.in_ok-head.head (remaining_of c.in_ok-head.remaining) _
-    (sym c.in_ok-head.ensures) (sym c.in_err-numbers.ensures))
+    (no_front c.args.map c.args.choices c.args.harts c.args.bytes.now c.says_harts.result _ c.says_harts.ensures
+    c.if-not-says_harts.false (sym c.in_err-remaining.ensures))
+
+pub returns-in_err-cores-clause-exact : goal.returns-in_err-cores-clause-exact
+returns-in_err-cores-clause-exact c =
+    let p = err_from_is_err_and c.from_residual-in_err-cores.result c.from_residual-in_err-cores.ensures.1 in
+    rw (p.1, p.2)
+    (no_cores c.args.map c.args.choices c.args.harts c.args.bytes.now c.says_harts.result
+    (remaining_of c.in_ok-remaining.remaining) _ c.says_harts.ensures c.if-not-says_harts.false
+    (sym c.in_ok-remaining.ensures) c.in_err-cores.ensures)
 
 pub returns-in_err-pieces-clause-exact : goal.returns-in_err-pieces-clause-exact
 returns-in_err-pieces-clause-exact c =
     let p = err_from_is_err_and c.from_residual-in_err-pieces.result c.from_residual-in_err-pieces.ensures.1 in
     rw (p.1, p.2)
-    (no_memory c.args.map c.args.choices c.args.bytes.now c.in_ok-head.head c.in_ok-numbers.numbers
-    (remaining_of c.in_ok-head.remaining) (remaining_of c.in_ok-numbers.remaining) _
-    (record { headed = sym c.in_ok-head.ensures; numbered = sym c.in_ok-numbers.ensures })
+    (no_memory c.args.map c.args.choices c.args.harts c.args.bytes.now c.in_ok-cores.cores.items
+    (remaining_of c.in_ok-remaining.remaining) (remaining_of c.in_ok-cores.remaining) _
+    (record {
+      said = sym c.says_harts.ensures ∙ c.if-not-says_harts.false;
+      fronted = sym c.in_ok-remaining.ensures;
+      read = c.in_ok-cores.ensures;
+    })
     c.in_err-pieces.ensures.exact)
-
-pub core_with-core-requires : goal.core_with-core-requires
-core_with-core-requires c =
-    let core = core_with c.args.map c.args.choices c.in_ok-head.head c.in_ok-numbers.numbers in
-    let bytes = memory_of c.in_ok-pieces.pieces in
-    let whole : state_in c.args.map c.args.choices c.args.bytes.now ≡ Ok (core, bytes) =
-    all_read c.args.map c.args.choices c.args.bytes.now c.in_ok-head.head c.in_ok-numbers.numbers
-    (remaining_of c.in_ok-head.remaining) (remaining_of c.in_ok-numbers.remaining) bytes
-    (record { headed = sym c.in_ok-head.ensures; numbered = sym c.in_ok-numbers.ensures })
-    c.in_ok-pieces.ensures.exact in
-    sound_core c.args.map c.args.choices c.args.bytes.now core bytes
-    (has_state c.args.map c.args.choices c.args.bytes.now core bytes whole)
 
 pub returns-clause-exact : goal.returns-clause-exact
 returns-clause-exact c =
-    rw c.core_with-core.ensures.value
-    (all_read c.args.map c.args.choices c.args.bytes.now c.in_ok-head.head c.in_ok-numbers.numbers
-    (remaining_of c.in_ok-head.remaining) (remaining_of c.in_ok-numbers.remaining) (memory_of c.in_ok-pieces.pieces)
-    (record { headed = sym c.in_ok-head.ensures; numbered = sym c.in_ok-numbers.ensures })
-    c.in_ok-pieces.ensures.exact)
+    all_read c.args.map c.args.choices c.args.harts c.args.bytes.now c.in_ok-cores.cores.items
+    (remaining_of c.in_ok-remaining.remaining) (remaining_of c.in_ok-cores.remaining) (memory_of c.in_ok-pieces.pieces)
+    (record {
+      said = sym c.says_harts.ensures ∙ c.if-not-says_harts.false;
+      fronted = sym c.in_ok-remaining.ensures;
+      read = c.in_ok-cores.ensures;
+    })
+    c.in_ok-pieces.ensures.exact
+
+pub returns-clause-count : goal.returns-clause-count
+returns-clause-count c =
+    let has = has_cores c.args.map c.args.choices c.args.harts [] (remaining_of c.in_ok-remaining.remaining)
+    c.in_ok-cores.cores.items (remaining_of c.in_ok-cores.remaining) c.in_ok-cores.ensures in
+    ap (λ (cores : List Core). length cores) has.all ∙ has.count
+
+pub returns-clause-sound : goal.returns-clause-sound
+returns-clause-sound c =
+    let has = has_cores c.args.map c.args.choices c.args.harts [] (remaining_of c.in_ok-remaining.remaining)
+    c.in_ok-cores.cores.items (remaining_of c.in_ok-cores.remaining) c.in_ok-cores.ensures in
+    subst (All IsSound) (sym has.all) (All-from_recursion IsSound has.read has.sound)
+
+pub returns-clause-over : goal.returns-clause-over
+returns-clause-over c =
+    let has = has_cores c.args.map c.args.choices c.args.harts [] (remaining_of c.in_ok-remaining.remaining)
+    c.in_ok-cores.cores.items (remaining_of c.in_ok-cores.remaining) c.in_ok-cores.ensures in
+    subst (All (IsOver c.args.map c.args.choices)) (sym has.all)
+    (All-from_recursion (IsOver c.args.map c.args.choices) has.read has.over)
