@@ -5,17 +5,17 @@ use Rattle.std.proofs.lemmas.List.{length-map}
 use Rattle.board_core.specs.declared.event.Event.{Event}
 use Rattle.hart_words.specs.Memory.{Bytes}
 use Rattle.rvfi_rows.specs.declared.segment.Segment.{Segment}
-use Rattle.rvfi_rows.specs.Columns.{ColumnList}
+use Rattle.rvfi_rows.specs.Columns.{TraceColumns}
 use Rattle.rvfi_rows.specs.Rows.{RowReading, rows_of}
 use Rattle.rvfi_rows.specs.Segments.{segment_lines}
-use Rattle.hart_step.specs.declared.hart.Hart.{Hart}
+use Rattle.hart_set.specs.declared.set.HartSet.{HartSet}
 use Rattle.hart_step.specs.declared.state.Core.{Core}
-use Rattle.hart_step.specs.Harts.{state_of}
-use Rattle.hart_step.specs.Rows.{HartState}
+use Rattle.hart_step.specs.HartSets.{set_state_of}
+use Rattle.hart_step.specs.HartSets.{SetState}
 use Rattle.boundary_guess.specs.Cuts.{lines_of_pieces}
 use Rattle.boundary_guess.specs.Guesses.{guesses_of}
 use Rattle.segment_judge.specs.declared.found.Found.{Found}
-use Rattle.segment_judge.specs.Judgements.{Judgement, by_hart}
+use Rattle.segment_judge.specs.Judgements.{Judgement, by_set}
 use Rattle.verdict_join.specs.Founds.{candidates}
 use Rattle.verdict_join.specs.Joins.{Candidate, Sameness, joined}
 use Rattle.verdict_join.specs.Laws.{HasVerdict, IsLawfulCandidate, TellsApart, rows_through}
@@ -24,30 +24,30 @@ use Rattle.judge_run.specs.Events.{AnyEvents, pieces_rows}
 use Rattle.verdict_join.proofs.Coded.{through}
 use Rattle.verdict_join.proofs.Lawful.{candidates_rows, guess_for_each, left_lawful, pieces_read}
 
-over_rows : (start : HartState) (segments : List (Candidate Core)) (same : Sameness Core) (rows : List RowReading)
-    → TellsApart same → All (IsLawfulCandidate by_hart) segments → rows_through segments ≡ rows
-    → HasVerdict by_hart start rows (joined by_hart same segments start)
+over_rows : (start : SetState) (segments : List (Candidate (List Core))) (same : Sameness (List Core)) (rows : List RowReading)
+    → TellsApart same → All (IsLawfulCandidate by_set) segments → rows_through segments ≡ rows
+    → HasVerdict by_set start rows (joined by_set same segments start)
 over_rows start segments same rows tells lawful is =
-    subst (λ rows. HasVerdict by_hart start rows (joined by_hart same segments start)) is
-    (joins_any_guesses by_hart same segments start tells lawful)
+    subst (λ rows. HasVerdict by_set start rows (joined by_set same segments start)) is
+    (joins_any_guesses by_set same segments start tells lawful)
 
-pub any_events : (start : HartState) (columns : ColumnList) (pieces : List (List (List ℕ))) (guesses : List HartState)
-    (events : List Event) (founds : List (Found (Judgement Core)))
+pub any_events : (start : SetState) (columns : TraceColumns) (pieces : List (List (List ℕ))) (guesses : List SetState)
+    (events : List Event) (founds : List (Found (Judgement (List Core))))
     → AnyEvents start columns pieces guesses events founds
 any_events start columns pieces guesses events founds one_each left same tells =
     let rows = pieces_rows columns pieces in
     let enough : length guesses ≡ length rows = one_each ∙ sym (length-map pieces (rows_of columns)) in
     over_rows start (candidates rows guesses founds) same (rows_of columns (lines_of_pieces pieces)) tells
-    (left_lawful by_hart rows guesses (length pieces) events founds left)
+    (left_lawful by_set rows guesses (length pieces) events founds left)
     (candidates_rows 0 rows guesses founds enough ∙ pieces_read columns pieces)
 
 -- there is a guess for each segment
-pub guesses_for_each : {M : Type 0} (bytes_of : M → Bytes) (start : HartState) (columns : ColumnList)
-    (segments : List Segment) (guesses : List (Hart M))
-    → map (state_of bytes_of) guesses ≡ guesses_of start columns (map segment_lines segments)
+pub guesses_for_each : {M : Type 0} (bytes_of : M → Bytes) (start : SetState) (columns : TraceColumns)
+    (segments : List Segment) (guesses : List (HartSet Core M))
+    → map (set_state_of bytes_of) guesses ≡ guesses_of start columns (map segment_lines segments)
     → length guesses ≡ length segments
 guesses_for_each bytes_of start columns segments guesses is =
-    sym (length-map guesses (state_of bytes_of)) ∙ ap length is
+    sym (length-map guesses (set_state_of bytes_of)) ∙ ap length is
     ∙ guess_for_each start columns (map segment_lines segments) ∙ length-map segments segment_lines
 
 -- the lines of segments that were read are as before

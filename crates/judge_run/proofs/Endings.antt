@@ -14,17 +14,17 @@ use Rattle.trace_lines.specs.declared.line_taker.LineTaker.{LineTaker}
 use Rattle.trace_lines.specs.Lines.{RemainingLines, file_lines}
 use Rattle.trace_lines.specs.Pieces.{piece_view, front_of, back_of}
 use Rattle.trace_lines.specs.Takers.{Opens, TakesWhereKnown, remaining_lines_of, lines_left_after}
-use Rattle.rvfi_rows.specs.Columns.{ColumnList}
+use Rattle.rvfi_rows.specs.Columns.{TraceColumns}
 use Rattle.rvfi_rows.specs.Rows.{rows_of}
 use Rattle.trace_report.specs.declared.outcome.Outcome.{Outcome}
-use Rattle.hart_step.specs.Harts.{state_of}
-use Rattle.hart_step.specs.Rows.{HartState}
+use Rattle.hart_step.specs.HartSets.{set_state_of}
+use Rattle.hart_step.specs.HartSets.{SetState}
 use Rattle.hart_step.specs.declared.state.Core.{Core}
 use Rattle.judge_run.specs.declared.answer.Answer.{Answer}
 use Rattle.judge_run.specs.declared.stop.Stop.{Stop}
 use Rattle.judge_run.specs.declared.stop.Stop.TheVariants.{Known, ReadFault, NoMemory}
 use Rattle.hart_words.specs.Memory.{Bytes}
-use Rattle.segment_judge.specs.Judgements.{by_hart}
+use Rattle.segment_judge.specs.Judgements.{by_set}
 use Rattle.segment_judge.specs.Laws.{Conclusion, conclusion_from}
 use Rattle.judge_run.specs.declared.progress.Progress.{Progress}
 use Rattle.judge_run.specs.declared.progress.TraceEnd.{TraceEnd}
@@ -49,14 +49,14 @@ first_columns : (job : JobView) (left first : RemainingLines) → first ≡ fron
 first_columns job left first front =
     sym (columns_of_front job left.lines left.ending) ∙ ap (λ view. columns_in job view) (sym front)
 
--- no row was judged yet, and the hart is where the run starts
-pub record IsAtStart {M : Type 0} (bytes_of : M → Bytes) (start : HartState) (progress : Progress M) : Type 0 where
-  pub state : state_of bytes_of progress.hart ≡ start
+-- no row was judged yet, and the harts is where the run starts
+pub record IsAtStart {M : Type 0} (bytes_of : M → Bytes) (start : SetState) (progress : Progress M) : Type 0 where
+  pub state : set_state_of bytes_of progress.harts ≡ start
   pub rows : progress.counts.rows ≡ 0
   pub valid : progress.counts.valid ≡ 0
 
 -- what the first line and then the others come to, from the start
-lines_give : {M : Type 0} {bytes_of : M → Bytes} {start : HartState} {first : RemainingLines} {columns : ColumnList}
+lines_give : {M : Type 0} {bytes_of : M → Bytes} {start : SetState} {first : RemainingLines} {columns : TraceColumns}
     (job : JobView) (left : RemainingLines) (progress : Progress M) → first ≡ front_of 1 left
     → columns_in job first ≡ Ok columns → IsAtStart bytes_of start progress
     → lines_answer job start left
@@ -64,13 +64,13 @@ lines_give : {M : Type 0} {bytes_of : M → Bytes} {start : HartState} {first : 
 unfolding lines_answer end_after back_of
 lines_give {M} {bytes_of} {start} {first} {columns} job left progress front named at_start =
     let here : columns_in job left ≡ Ok columns = first_columns job left first front ∙ named in
-    let judged : Conclusion Core = conclusion_from by_hart start (rows_of columns (drop 1 left.lines)) in
+    let judged : Conclusion (List Core) = conclusion_from by_set start (rows_of columns (drop 1 left.lines)) in
     rw (here, at_start.state, at_start.rows, at_start.valid)
     (ap
     (λ whole. Ok (answer_with job (record { ruling = ruling_at_end job left.ending whole; state = judged.end })))
     (sym (counted_from_none judged.verdict)))
 
-lines_stop : (job : JobView) (start : HartState) (left first : RemainingLines) (stop : Option Outcome)
+lines_stop : (job : JobView) (start : SetState) (left first : RemainingLines) (stop : Option Outcome)
     → first ≡ front_of 1 left → columns_in job first ≡ Err stop → lines_answer job start left ≡ Err stop
 unfolding lines_answer
 lines_stop job start left first stop front stopped =
@@ -78,7 +78,7 @@ lines_stop job start left first stop front stopped =
     rw here refl
 
 -- where a text is there, the trace is that text
-text_decides : (job : JobView) (start : HartState) (trace : Option (List ℕ)) (text : List ℕ) (answer : Step AnswerView)
+text_decides : (job : JobView) (start : SetState) (trace : Option (List ℕ)) (text : List ℕ) (answer : Step AnswerView)
     → trace ≡ Some text → lines_answer job start (file_lines job.max_trace text) ≡ answer
     → trace_answer job start trace ≡ answer
 unfolding trace_answer
@@ -113,8 +113,8 @@ is_there {taker = taker} {first = first} (Some files) after header missing =
         cc
 
 -- what the rest of a told file comes to, after its first line
-pub trace_told : {M : Type 0} {bytes_of : M → Bytes} {name : List ℕ} {job : JobView} {start : HartState}
-    {taker : LineTaker} {first : Piece} {columns : ColumnList} (files : Option Files) (progress : Progress M)
+pub trace_told : {M : Type 0} {bytes_of : M → Bytes} {name : List ℕ} {job : JobView} {start : SetState}
+    {taker : LineTaker} {first : Piece} {columns : TraceColumns} (files : Option Files) (progress : Progress M)
     (end : TraceEnd M) → TakesHeader files name job taker first progress.taker
     → columns_in job (piece_view first) ≡ Ok columns → IsAtStart bytes_of start progress
     → IsEndTold job columns bytes_of (file_of files (string_bytes progress.taker.name)) progress end
@@ -152,9 +152,9 @@ seen_as {X} {Y} view x y (Some files) meant same is = is ∙ ap (λ (y : Y). Ok 
 
 -- a header that stops the run
 pub trace_stops : {X : Type 0} {name : List ℕ} {job : JobView} {taker after : LineTaker} {first : Piece}
-    (view : X → AnswerView) (files : Option Files) (start : HartState) (stop : Stop)
+    (view : X → AnswerView) (files : Option Files) (start : SetState) (stop : Stop)
     → TakesHeader files name job taker first after
-    → MeantBy {X = ColumnList} {Y = ColumnList} (λ columns. columns) (Err stop) (columns_in job (piece_view first))
+    → MeantBy {X = TraceColumns} {Y = TraceColumns} (λ columns. columns) (Err stop) (columns_in job (piece_view first))
     → MeantWhereKnown files view (Err stop) (λ files. trace_answer job start (files name))
 trace_stops view None start stop header meant = tt
 trace_stops view (Some files) start ReadFault header meant = tt
@@ -195,7 +195,7 @@ not_missed None name is missing = missing
 not_missed (Some files) name is missing = cc
 
 -- a file that is missed is one that the trace lacks
-pub trace_lacks : (known_files : Option Files) (name : List ℕ) (job : JobView) (start : HartState)
+pub trace_lacks : (known_files : Option Files) (name : List ℕ) (job : JobView) (start : SetState)
     → IsMissing known_files name → LacksFile known_files (λ files. trace_answer job start (files name))
 unfolding trace_answer
 trace_lacks None name job start missing = missing

@@ -2,11 +2,13 @@
 use Rattle.std.proofs.Common.{◌≡◌, ◌∙◌, ◌≤◌, ◌^◌, ◌+◌, ◌*◌, ℕ, false, List, ◌∷◌, length, nat_lt, Option, Some, None, Ok, refl}
 use Rattle.std.proofs.Common.{ap, ap₂, arith}
 use Rattle.std.proofs.lemmas.Bool.{le-ltb}
-use Rattle.std.specs.Prelude.{unwrap_or}
+use Rattle.std.specs.Prelude.{replicate, unwrap_or}
 use Rattle.outside_ports.specs.Ports.{Files}
 use Rattle.judge_words.specs.Job.{IsMadeJob, JobView, job_of}
 use Rattle.judge_words.specs.declared.job.Command.{Command}
+use Rattle.hart_words.specs.declared.choices.Choices.{Choices}
 use Rattle.hart_words.specs.Choices.{plain_choices}
+use Rattle.hart_words.specs.Memory.{Bytes}
 use Rattle.judge_words.specs.declared.values.TheConstants.{FIRST_PC}
 use Rattle.judge_words.specs.declared.job.Command.TheVariants.{Make}
 use Rattle.judge_words.proofs.MadeJobs.{made_plain}
@@ -16,18 +18,19 @@ use Rattle.trace_lines.specs.declared.piece.Ending.TheVariants.{End}
 use Rattle.trace_lines.specs.Lines.{RemainingLines, file_lines}
 use Rattle.rvfi_rows.specs.declared.verdict.Verdict.{Verdict}
 use Rattle.rvfi_rows.specs.declared.verdict.Verdict.TheVariants.{Agrees}
-use Rattle.rvfi_rows.specs.Columns.{ColumnList, header_columns}
-use Rattle.rvfi_rows.specs.Rows.{rows_of}
+use Rattle.rvfi_rows.specs.Columns.{TraceColumns, header_columns}
+use Rattle.rvfi_rows.specs.Rows.{RowReading, rows_of}
 use Rattle.trace_report.specs.declared.outcome.Ruling.{Ruling}
 use Rattle.trace_report.specs.declared.outcome.Ruling.TheVariants as rulings
 use Rattle.hart_step.specs.Cores.{core_at_reset}
 use Rattle.hart_step.specs.declared.state.Core.{Core}
-use Rattle.hart_step.specs.Rows.{HartState}
-use Rattle.segment_judge.specs.Judgements.{by_hart, judgement_of}
+use Rattle.hart_step.specs.HartSets.{SetState}
+use Rattle.segment_judge.specs.Judgements.{by_hart, by_set, judgement_of}
 use Rattle.segment_judge.specs.Laws.{Conclusion, conclusion_from}
+use Rattle.segment_judge.proofs.Alone.{judges_alone, rows_first}
 use Rattle.made_runs.specs.Laws.{MadeRunAgrees}
 use Rattle.made_runs.specs.Lines.{made_left, made_lines}
-use Rattle.made_runs.specs.Shows.{header_line, made_columns}
+use Rattle.made_runs.specs.Shows.{header_line, made_columns, trace_columns}
 use Rattle.made_runs.specs.States.{IsMadeMap}
 use Rattle.made_runs.proofs.ImageTexts.{image_len}
 use Rattle.made_runs.proofs.MadeTexts.{texts_agree}
@@ -52,7 +55,7 @@ unfolding made_image
 made_is_text number = (refl, refl)
 
 -- no state is written of what is made
-made_by_line : (job : JobView) (number rows : ℕ) (ruling : Ruling) (state : Option HartState)
+made_by_line : (job : JobView) (number rows : ℕ) (ruling : Ruling) (state : Option SetState)
     → job.command ≡ Make number rows
     → ◌≡◌ {A = AnswerView}
     (record { outcome = outcome_of job ruling; state = state_written job.command ruling state })
@@ -64,28 +67,32 @@ made_by_line job number rows ruling state made =
       state = state_written command ruling state;
     }) made
 
+-- the columns of what is made, as the job has them
+abbrev job_columns : JobView → TraceColumns
+job_columns job = record { named = made_columns; harts = job.harts }
+
 -- a trace whose lines are a header and rows
-lines_are : {number count : ℕ} (job : JobView) (start : HartState) (rows : List (List ℕ)) (verdict : Verdict)
+lines_are : {number count : ℕ} (job : JobView) (start : SetState) (rows : List (List ℕ)) (verdict : Verdict)
     → job.command ≡ Make number count → header_columns header_line ≡ Ok made_columns
-    → (conclusion_from by_hart start (rows_of made_columns rows)).verdict ≡ verdict
+    → (conclusion_from by_set start (rows_of (job_columns job) rows)).verdict ≡ verdict
     → lines_answer job start (record { lines = header_line ∷ rows; ending = End })
     ≡ Ok (answer_by_line (outcome_of job (ruling_at_end job End verdict)))
 unfolding lines_answer columns_in
 lines_are {number} {count} job start rows verdict made named is =
-    let judged : Conclusion Core = conclusion_from by_hart start (rows_of made_columns rows) in
+    let judged : Conclusion (List Core) = conclusion_from by_set start (rows_of (job_columns job) rows) in
     rw named
     (ap (λ (given : AnswerView). Ok given)
     (made_by_line job number count (ruling_at_end job End judged.verdict) judged.end made)
     ∙ ap (λ verdict. Ok (answer_by_line (outcome_of job (ruling_at_end job End verdict)))) is)
 
-trace_is : (job : JobView) (start : HartState) (text : List ℕ) (left : RemainingLines)
+trace_is : (job : JobView) (start : SetState) (text : List ℕ) (left : RemainingLines)
     → file_lines job.max_trace text ≡ left
     → trace_answer job start (Some text) ≡ lines_answer job start left
 unfolding trace_answer
 trace_is job start text left is = ap (lines_answer job start) is
 
 -- the image, then the trace
-both_are : (job : JobView) (image trace : Option (List ℕ)) (start : HartState) → start_of job image ≡ Ok start
+both_are : (job : JobView) (image trace : Option (List ℕ)) (start : SetState) → start_of job image ≡ Ok start
     → job_answer job image trace ≡ trace_answer job start trace
 unfolding job_answer
 both_are job image trace start read = rw read refl
@@ -96,17 +103,30 @@ words_ask : (words : List (List ℕ)) (files : Files) (job : JobView) → job_of
 unfolding answer answer_step_of
 words_ask words files job asked = rw asked refl
 
--- the verdict on what is made, from where it starts
+-- the verdict on what is made by so many harts, with these settings
+verdict_by : JobView → (ℕ → Option ℕ) → List RowReading → Option ℕ → Choices → ℕ → Verdict
+verdict_by job bytes readings pc choices harts =
+    (judgement_of by_set (replicate harts (core_at_reset (unwrap_or pc FIRST_PC) job.map choices)) readings
+    (λ a. unwrap_or (bytes a) 0)).verdict
+
+-- the verdict on what is made, from where it starts: that of its one harts alone
 verdict_is : (job : JobView) (number rows : ℕ) (bytes : ℕ → Option ℕ) → job.pc ≡ None → job.choices ≡ plain_choices
+    → job.harts ≡ 1
     → (judgement_of by_hart (core_at_reset FIRST_PC job.map plain_choices)
-    (rows_of made_columns (made_lines number rows)) (λ a. unwrap_or (bytes a) 0)).verdict ≡ Agrees rows rows
-    → (conclusion_from by_hart (start_at job bytes FIRST_PC) (rows_of made_columns (made_lines number rows))).verdict
-    ≡ Agrees rows rows
-unfolding conclusion_from
-verdict_is job number rows bytes pc choices is =
-    ap₂
-    (λ pc choices. (judgement_of by_hart (core_at_reset (unwrap_or pc FIRST_PC) job.map choices)
-    (rows_of made_columns (made_lines number rows)) (λ a. unwrap_or (bytes a) 0)).verdict) pc choices
+    (rows_of trace_columns (made_lines number rows)) (λ a. unwrap_or (bytes a) 0)).verdict ≡ Agrees rows rows
+    → (conclusion_from by_set (start_at job bytes FIRST_PC)
+    (rows_of (job_columns job) (made_lines number rows))).verdict ≡ Agrees rows rows
+unfolding conclusion_from verdict_by
+verdict_is job number rows bytes pc choices one is =
+    let lines = made_lines number rows in
+    let readings = rows_of trace_columns lines in
+    let core = core_at_reset FIRST_PC job.map plain_choices in
+    let memory : Bytes = λ a. unwrap_or (bytes a) 0 in
+    ap (λ harts. verdict_by job bytes (rows_of (record { named = made_columns; harts = harts }) lines) job.pc job.choices
+    job.harts) one
+    ∙ ap (verdict_by job bytes readings job.pc job.choices) one
+    ∙ ap₂ (λ pc choices. verdict_by job bytes readings pc choices 1) pc choices
+    ∙ ap (λ judgement. judgement.verdict) (judges_alone readings core memory (rows_first trace_columns lines refl))
     ∙ is
 
 -- the texts that are made agree
@@ -124,12 +144,12 @@ job_agrees job number rows made plain =
     let is : IsMadeMap job.map = record { base = plain.base; size = plain.size } in
     let run : MadeRunAgrees job.map number rows job.max_trace =
     texts_agree job.map number rows job.max_trace is (omega arith) trace_fits in
-    let start : HartState = start_at job run.image.bytes FIRST_PC in
+    let start : SetState = start_at job run.image.bytes FIRST_PC in
     both_are job (Some (made_image number)) (Some (made_trace number rows)) start
     (start_is job (made_image number) run.image.bytes image_fits (made_is_text number) run.image.image)
     ∙ trace_is job start (made_trace number rows) (made_left number rows) run.lines
     ∙ lines_are job start (made_lines number rows) (Agrees rows rows) made run.columns
-    (verdict_is job number rows run.image.bytes plain.pc plain.choices run.verdict)
+    (verdict_is job number rows run.image.bytes plain.pc plain.choices plain.harts run.verdict)
 
 pub made_agree : (words : List (List ℕ)) (job : JobView) (files : Files) (number rows : ℕ) → job_of words ≡ Some job
     → job.command ≡ Make number rows

@@ -19,15 +19,15 @@ use Rattle.rvfi_rows.specs.declared.fault.RowFault.{RowFault}
 use Rattle.rvfi_rows.specs.declared.segment.Segment.{Segment}
 use Rattle.rvfi_rows.specs.declared.verdict.Verdict.{Verdict}
 use Rattle.rvfi_rows.specs.declared.verdict.Verdict.TheVariants.{Agrees, Differs, Refused}
-use Rattle.rvfi_rows.specs.Columns.{ColumnList}
-use Rattle.rvfi_rows.specs.Rows.{rows_of}
+use Rattle.rvfi_rows.specs.Columns.{TraceColumns}
+use Rattle.rvfi_rows.specs.Rows.{RowReading, rows_of}
 use Rattle.rvfi_rows.proofs.PortRows.{rows_append, rows_few}
 use Rattle.rvfi_rows.specs.Segments.{row_count_of, segment_lines}
-use Rattle.hart_step.specs.declared.hart.Hart.{Hart}
+use Rattle.hart_set.specs.declared.set.HartSet.{HartSet}
 use Rattle.hart_step.specs.declared.state.Core.{Core}
-use Rattle.hart_step.specs.Harts.{CanStep, state_of}
-use Rattle.hart_step.specs.Rows.{HartState}
-use Rattle.segment_judge.specs.Judgements.{by_hart, verdict_after_rows, judgement_of}
+use Rattle.hart_step.specs.HartSets.{SetCanStep, set_state_of}
+use Rattle.hart_step.specs.HartSets.{SetState}
+use Rattle.segment_judge.specs.Judgements.{by_set, verdict_after_rows, judgement_of}
 use Rattle.segment_judge.specs.Laws.{Conclusion, conclusion_from, conclusion_then}
 use Rattle.segment_judge.proofs.Parts.{counted_twice, in_parts}
 use Rattle.verdict_join.specs.Walks.{IsWithinRows}
@@ -47,6 +47,9 @@ use Rattle.judge_run.specs.Taking.{TakesSegments, TakesAfter, TakesAfterWhereKno
 use Rattle.judge_run.specs.Taking.{more_turns}
 use Rattle.judge_run.specs.Parts.{CanContinueWith, FollowsPart, FollowsPartBy, HoldsAfter, IsEndTold, IsNearerEnd}
 use Rattle.judge_run.specs.Parts.{IsOver}
+use Rattle.judge_run.specs.Starts.{CanGoOn}
+use Rattle.state_text.specs.declared.state.TheConstants.{MOST_HARTS}
+use Rattle.judge_run.proofs.Outside.{row_keeps_many, rows_keep}
 use Rattle.judge_run.specs.Parts.{IsPartCounted, LeadsFromWhereKnown, PassesPart}
 use Rattle.judge_run.specs.Parts.{PassesWhereKnown, TracePosition, lookahead_lines, end_after, end_with}
 use Rattle.judge_run.specs.Parts.{end_of, position_of, remaining_rows, segments_ahead}
@@ -63,24 +66,24 @@ counted_from_none (Differs row difference) = let first : 0 + row ≡ row = omega
 counted_from_none (Refused row fault) = let first : 0 + row ≡ row = omega arith in rw first refl
 
 -- what lines come to from a state
-abbrev concluded : ColumnList → HartState → List (List ℕ) → Conclusion Core
-concluded columns state lines = conclusion_from by_hart state (rows_of columns lines)
+abbrev concluded : TraceColumns → SetState → List (List ℕ) → Conclusion (List Core)
+concluded columns state lines = conclusion_from by_set state (rows_of columns lines)
 
 -- a ruling and a state
-abbrev ruled : Ruling → Option HartState → RowsEnd
+abbrev ruled : Ruling → Option SetState → RowsEnd
 ruled ruling state = record { ruling = ruling; state = state }
 
 -- rows, and those after them
-parts_come_to : (state : HartState) (columns : ColumnList) (first rest : List (List ℕ))
+parts_come_to : (state : SetState) (columns : TraceColumns) (first rest : List (List ℕ))
     → concluded columns state (first ++ rest)
     ≡ conclusion_then (concluded columns state first) (λ now. concluded columns now rest)
 parts_come_to state columns first rest =
-    ap (conclusion_from by_hart state) (rows_append columns first rest)
-    ∙ in_parts by_hart state (rows_of columns first) (rows_of columns rest)
+    ap (conclusion_from by_set state) (rows_append columns first rest)
+    ∙ in_parts by_set state (rows_of columns first) (rows_of columns rest)
 
 -- a part whose rows agree: all rows come to what those after it do
-on_with : {rows valid : ℕ} {state : HartState} (job : JobView) (reached : TracePosition) (ending : Ending)
-    (first : Conclusion Core) (next : HartState → Conclusion Core) → first.verdict ≡ Agrees rows valid
+on_with : {rows valid : ℕ} {state : SetState} (job : JobView) (reached : TracePosition) (ending : Ending)
+    (first : Conclusion (List Core)) (next : SetState → Conclusion (List Core)) → first.verdict ≡ Agrees rows valid
     → first.end ≡ Some state
     → ruled
     (ruling_at_end job ending
@@ -94,7 +97,7 @@ on_with {rows} {valid} {state} job reached ending first next agrees ends =
     (ap (λ verdict. ruled (ruling_at_end job ending verdict) (next state).end)
     (sym (counted_twice reached.rows reached.valid rows valid (next state).verdict)))
 
-goes_on : {rows valid : ℕ} {state : HartState} (job : JobView) (columns : ColumnList) (reached : TracePosition)
+goes_on : {rows valid : ℕ} {state : SetState} (job : JobView) (columns : TraceColumns) (reached : TracePosition)
     (lines : List (List ℕ)) (left : RemainingLines)
     → (concluded columns reached.state lines).verdict ≡ Agrees rows valid
     → (concluded columns reached.state lines).end ≡ Some state
@@ -107,13 +110,13 @@ goes_on job columns reached lines left agrees ends =
     agrees ends)
 
 -- a verdict that ends a trace does so however that ends
-however : (job : JobView) (one other : Ending) (rows valid : ℕ) (first : Conclusion Core)
+however : (job : JobView) (one other : Ending) (rows valid : ℕ) (first : Conclusion (List Core))
     → EndsWhereAgrees first.verdict first.end → first.end ≡ None
     → ruling_at_end job one (verdict_after_rows rows valid first.verdict)
     ≡ ruling_at_end job other (verdict_after_rows rows valid first.verdict)
 however job one other rows valid first fits none = by first.verdict first.end fits none
   where
-    by : (verdict : Verdict) (end : Option HartState) → EndsWhereAgrees verdict end → end ≡ None
+    by : (verdict : Verdict) (end : Option SetState) → EndsWhereAgrees verdict end → end ≡ None
         → ruling_at_end job one (verdict_after_rows rows valid verdict)
         ≡ ruling_at_end job other (verdict_after_rows rows valid verdict)
     by (Agrees n m) None fits none = absurd fits
@@ -122,7 +125,7 @@ however job one other rows valid first fits none = by first.verdict first.end fi
     by (Refused row fault) end fits none = refl
 
 -- a part that ends the trace
-ends_here : (job : JobView) (columns : ColumnList) (reached : TracePosition) (lines : List (List ℕ))
+ends_here : (job : JobView) (columns : TraceColumns) (reached : TracePosition) (lines : List (List ℕ))
     (left : RemainingLines) → (concluded columns reached.state lines).end ≡ None
     → ruled
     (ruling_at_end job endings.More
@@ -136,28 +139,28 @@ ends_here job columns reached lines left none =
     ∙ first_alone first (λ now. concluded columns now left.lines) none in
     ap₂ ruled
     (however job endings.More left.ending reached.rows reached.valid first
-    (conclusion_ends by_hart reached.state (rows_of columns lines)) none
-    ∙ ap (λ (all : Conclusion Core). ruling_at_end job left.ending
+    (conclusion_ends by_set reached.state (rows_of columns lines)) none
+    ∙ ap (λ (all : Conclusion (List Core)). ruling_at_end job left.ending
     (verdict_after_rows reached.rows reached.valid all.verdict)) (sym whole))
-    (sym none ∙ ap (λ (all : Conclusion Core). all.end) (sym whole))
+    (sym none ∙ ap (λ (all : Conclusion (List Core)). all.end) (sym whole))
   where
-    first_alone : (first : Conclusion Core) (next : HartState → Conclusion Core) → first.end ≡ None
+    first_alone : (first : Conclusion (List Core)) (next : SetState → Conclusion (List Core)) → first.end ≡ None
         → conclusion_then first next ≡ first
     first_alone first next none = by first.verdict first.end none
       where
-        by : (verdict : Verdict) (end : Option HartState) → end ≡ None
+        by : (verdict : Verdict) (end : Option SetState) → end ≡ None
             → conclusion_then (record { verdict = verdict; end = end }) next ≡ record { verdict = verdict; end = end }
         by verdict None none = refl
         by verdict (Some state) none = cc
 
 -- no row comes to nothing
-nothing_comes : (columns : ColumnList) (state : HartState)
+nothing_comes : (columns : TraceColumns) (state : SetState)
     → concluded columns state [] ≡ record { verdict = Agrees 0 0; end = Some state }
 unfolding conclusion_from judgement_of after_writes rows_of
 nothing_comes columns state = refl
 
 -- where no row is left, what was reached is all
-ends_with : (job : JobView) (columns : ColumnList) (reached : TracePosition) (ending : Ending)
+ends_with : (job : JobView) (columns : TraceColumns) (reached : TracePosition) (ending : Ending)
     → ruled (ruling_at_end job ending (Agrees reached.rows reached.valid)) (Some reached.state)
     ≡ end_after job columns reached (record { lines = []; ending = ending })
 unfolding end_after
@@ -167,11 +170,11 @@ ends_with job columns reached ending =
     let counted : Agrees (reached.rows + 0) (reached.valid + 0) ≡ Agrees reached.rows reached.valid =
     rw (rows, valid) refl in
     ap (λ verdict. ruled (ruling_at_end job ending verdict) (Some reached.state)) (sym counted)
-    ∙ ap (λ (conclusion : Conclusion Core). ruled
+    ∙ ap (λ (conclusion : Conclusion (List Core)). ruled
     (ruling_at_end job ending (verdict_after_rows reached.rows reached.valid conclusion.verdict))
     conclusion.end) (sym (nothing_comes columns reached.state))
 
-over_with : (job : JobView) (columns : ColumnList) (reached : TracePosition) (ending : Ending) (left : RemainingLines)
+over_with : (job : JobView) (columns : TraceColumns) (reached : TracePosition) (ending : Ending) (left : RemainingLines)
     → more_turns ending ≡ 0
     → ruled (ruling_at_end job ending (Agrees reached.rows reached.valid)) (Some reached.state)
     ≡ end_after job columns reached (with_lines_before [] (remaining_after ending left))
@@ -184,12 +187,12 @@ no_lines_ahead : (ahead : Lookahead) → ahead.part.items ≡ [] → ahead.next.
 no_lines_ahead ahead part next = ap₂ (λ one other. flat_map segment_lines one ++ flat_map segment_lines other) part next
 
 pub over_passes : {M : Type 0} (bytes_of : M → Bytes) (file : Option (List ℕ)) (job : JobView)
-    (columns : ColumnList) (remaining : Remaining M) → IsOver remaining.lookahead
+    (columns : TraceColumns) (remaining : Remaining M) → IsOver remaining.lookahead
     → PassesWhereKnown job columns bytes_of file remaining
     (Ends (record {
       verdict = Agrees remaining.progress.counts.rows remaining.progress.counts.valid;
       ending = remaining.lookahead.ending;
-      hart = Some remaining.progress.hart;
+      harts = Some remaining.progress.harts;
     }))
 over_passes bytes_of None job columns remaining over = tt
 over_passes bytes_of (Some file) job columns remaining over =
@@ -201,20 +204,20 @@ over_passes bytes_of (Some file) job columns remaining over =
     (sym (no_lines_ahead ahead over.part over.next))
 
 -- no state is after rows that do not agree
-none_where_it_differs : (first : Conclusion Core) (row : ℕ) (difference : Difference)
+none_where_it_differs : (first : Conclusion (List Core)) (row : ℕ) (difference : Difference)
     → first.verdict ≡ Differs row difference → EndsWhereAgrees first.verdict first.end → first.end ≡ None
 none_where_it_differs first row difference is fits =
     by first.end (subst (λ verdict. EndsWhereAgrees verdict first.end) is fits)
   where
-    by : (end : Option HartState) → EndsWhereAgrees (Differs row difference) end → end ≡ None
+    by : (end : Option SetState) → EndsWhereAgrees (Differs row difference) end → end ≡ None
     by None fits = refl
     by (Some state) fits = absurd fits
 
-none_where_refused : (first : Conclusion Core) (row : ℕ) (fault : RowFault) → first.verdict ≡ Refused row fault
+none_where_refused : (first : Conclusion (List Core)) (row : ℕ) (fault : RowFault) → first.verdict ≡ Refused row fault
     → EndsWhereAgrees first.verdict first.end → first.end ≡ None
 none_where_refused first row fault is fits = by first.end (subst (λ verdict. EndsWhereAgrees verdict first.end) is fits)
   where
-    by : (end : Option HartState) → EndsWhereAgrees (Refused row fault) end → end ≡ None
+    by : (end : Option SetState) → EndsWhereAgrees (Refused row fault) end → end ≡ None
     by None fits = refl
     by (Some state) fits = absurd fits
 
@@ -240,7 +243,7 @@ remaining_moves file ahead now before after read takes =
 pub record PartIsDone {M : Type 0} (bytes_of : M → Bytes) (ram_of : M → Span) (columns : Columns) (window : ℕ)
     (file : Option (List ℕ)) (remaining : Remaining M) (done : Settled M) : Type 0 where
   pub settled : IsSettled bytes_of ram_of columns remaining.lookahead.part.items
-      (state_of bytes_of remaining.progress.hart) done.joined
+      (set_state_of bytes_of remaining.progress.harts) done.joined
   pub read : IsReadPart columns remaining.lookahead.next.items done.lookahead.part
   pub takes : TakesAfterWhereKnown file remaining.lookahead.ending remaining.progress.taker
       (flat_map segment_lines done.lookahead.next.items) done.lookahead.ending done.taker
@@ -274,17 +277,17 @@ part_passes {M} {bytes_of} {ram_of} {columns} (Some file) job remaining done pas
         (same_lines done.lookahead.part.items remaining.lookahead.next.items is.read.lines) is.takes
 
     fits : EndsWhereAgrees (concluded columns reached.state lines).verdict (concluded columns reached.state lines).end
-    fits = conclusion_ends by_hart reached.state (rows_of columns lines)
+    fits = conclusion_ends by_set reached.state (rows_of columns lines)
 
-    continues : (rows valid : ℕ) (hart : Hart M) (next : Remaining M)
-        → IsPartCounted remaining.progress.counts done rows valid hart next
+    continues : (rows valid : ℕ) (harts : HartSet Core M) (next : Remaining M)
+        → IsPartCounted remaining.progress.counts done rows valid harts next
         → (concluded columns reached.state lines).verdict ≡ Agrees rows valid
-        → (concluded columns reached.state lines).end ≡ Some (state_of bytes_of hart)
+        → (concluded columns reached.state lines).end ≡ Some (set_state_of bytes_of harts)
         → end_with job columns bytes_of file next ≡ whole
-    continues rows valid hart next counted agrees state =
+    continues rows valid harts next counted agrees state =
         let position : position_of bytes_of next.progress
-        ≡ record { rows = reached.rows + rows; valid = reached.valid + valid; state = state_of bytes_of hart } =
-        rw (counted.rows_are, counted.valid_are, counted.hart_is) refl in
+        ≡ record { rows = reached.rows + rows; valid = reached.valid + valid; state = set_state_of bytes_of harts } =
+        rw (counted.rows_are, counted.valid_are, counted.harts_are) refl in
         let left : remaining_rows file next.lookahead next.progress.taker ≡ after =
         ap₂ (λ lookahead taker. remaining_rows file lookahead taker) counted.lookahead counted.taker in
         ap₂ (end_after job columns) position left
@@ -296,7 +299,7 @@ part_passes {M} {bytes_of} {ram_of} {columns} (Some file) job remaining done pas
         ≡ record {
           verdict = verdict_after_rows reached.rows reached.valid verdict;
           ending = endings.More;
-          hart = None;
+          harts = None;
         }
         → end_of job bytes_of end ≡ whole
     ends verdict end concludes none is =
@@ -307,30 +310,30 @@ part_passes {M} {bytes_of} {ram_of} {columns} (Some file) job remaining done pas
         ≡ whole) concludes
         (ends_here job columns reached lines after none ∙ ap (end_after job columns reached) moves)
 
-    by : (verdict : Verdict) (end : Option (Hart M)) (passed : Passed M)
+    by : (verdict : Verdict) (end : Option (HartSet Core M)) (passed : Passed M)
         → (concluded columns reached.state lines).verdict ≡ verdict
-        → (concluded columns reached.state lines).end ≡ option_map (state_of bytes_of) end
+        → (concluded columns reached.state lines).end ≡ option_map (set_state_of bytes_of) end
         → FollowsPartBy remaining.progress.counts done verdict end passed
         → PassesPart job columns bytes_of file remaining passed
-    by (Agrees rows valid) (Some hart) (Continue next) agrees state counted =
+    by (Agrees rows valid) (Some harts) (Continue next) agrees state counted =
         let name = ap (λ (taker : LineTaker). taker.name) counted.taker ∙ is.takes.name in
-        (continues rows valid hart next counted agrees state, name)
-    by (Agrees rows valid) (Some hart) (Ends end) agrees state follows = absurd follows
+        (continues rows valid harts next counted agrees state, name)
+    by (Agrees rows valid) (Some harts) (Ends end) agrees state follows = absurd follows
     by (Agrees rows valid) None (Continue next) agrees none follows = absurd follows
     by (Agrees rows valid) None (Ends end) agrees none follows = ends (Agrees rows valid) end agrees none follows
-    by (Differs row difference) hart (Continue next) differs state follows = absurd follows
-    by (Differs row difference) hart (Ends end) differs state follows =
+    by (Differs row difference) harts (Continue next) differs state follows = absurd follows
+    by (Differs row difference) harts (Ends end) differs state follows =
         ends (Differs row difference) end differs
         (none_where_it_differs (concluded columns reached.state lines) row difference differs fits) follows
-    by (Refused row fault) hart (Continue next) refused state follows = absurd follows
-    by (Refused row fault) hart (Ends end) refused state follows =
+    by (Refused row fault) harts (Continue next) refused state follows = absurd follows
+    by (Refused row fault) harts (Ends end) refused state follows =
         ends (Refused row fault) end refused
         (none_where_refused (concluded columns reached.state lines) row fault refused fits) follows
 
 -- ---- how far it is to the end
 
 -- a part has no more rows than four times the bytes that are left
-pub part_rows : {M : Type 0} (window : ℕ) (ram_of : M → Span) (columns : ColumnList) (remaining : Remaining M)
+pub part_rows : {M : Type 0} (window : ℕ) (ram_of : M → Span) (columns : TraceColumns) (remaining : Remaining M)
     → CanContinueWith window ram_of remaining
     → row_count_of columns remaining.lookahead.part.items ≤ 4611686018427387904
 part_rows window ram_of columns remaining going =
@@ -368,6 +371,21 @@ same_taken segments endings taken = rw (segments, endings) taken
 as_many : (one other : List Segment) → map segment_lines one ≡ map segment_lines other → length one ≡ length other
 as_many one other same = sym (length-map one segment_lines) ∙ ap length same ∙ length-map other segment_lines
 
+-- there are as many harts after rows as before them
+still_few : {M : Type 0} (bytes_of : M → Bytes) (end : Option (HartSet Core M)) (start : SetState) (rows : List RowReading)
+    → length start.core ≤ MOST_HARTS → option_map (set_state_of bytes_of) end ≡ (conclusion_from by_set start rows).end
+    → IfSome end (λ harts. length harts.cores.items ≤ MOST_HARTS)
+still_few bytes_of None start rows few same = tt
+still_few bytes_of (Some harts) start rows few same =
+    subst (λ end. IfSome end (λ state. length state.core ≤ MOST_HARTS)) (sym same)
+    (rows_keep (λ state. length state.core ≤ MOST_HARTS)
+    (λ state shown few. omega (arith, few, row_keeps_many state shown)) rows start few)
+
+go_on : {M : Type 0} (ram_of : M → Span) (end : Option (HartSet Core M)) → IfSome end (SetCanStep ram_of)
+    → IfSome end (λ harts. length harts.cores.items ≤ MOST_HARTS) → IfSome end (CanGoOn ram_of)
+go_on ram_of None can_step few = tt
+go_on ram_of (Some harts) can_step few = record { can_step = can_step; few = few }
+
 pub part_nears : {M : Type 0} {bytes_of : M → Bytes} {ram_of : M → Span} {columns : Columns} {window : ℕ}
     {file : Option (List ℕ)} (remaining : Remaining M) (done : Settled M) (passed : Passed M)
     → CanContinueWith window ram_of remaining
@@ -375,9 +393,11 @@ pub part_nears : {M : Type 0} {bytes_of : M → Bytes} {ram_of : M → Span} {co
     → FollowsPart remaining.progress.counts done passed → IsNearerEnd window ram_of remaining passed
 part_nears {M} {bytes_of} {ram_of} {columns} {window} remaining done passed going left is follows =
     by done.joined.verdict done.joined.end passed
-    (lines_within (state_of bytes_of remaining.progress.hart) columns ahead.part.items done.joined.verdict
+    (lines_within (set_state_of bytes_of remaining.progress.harts) columns ahead.part.items done.joined.verdict
     is.settled.verdict)
-    is.settled.can_step follows
+    (go_on ram_of done.joined.end is.settled.can_step
+    (still_few bytes_of done.joined.end (set_state_of bytes_of remaining.progress.harts) (rows_of columns first)
+    going.can_go_on.few is.settled.end)) follows
   where
     ahead : Lookahead
     ahead = remaining.lookahead
@@ -426,17 +446,17 @@ part_nears {M} {bytes_of} {ram_of} {columns} {window} remaining done passed goin
         ≡ record {
           verdict = verdict_after_rows remaining.progress.counts.rows remaining.progress.counts.valid verdict;
           ending = endings.More;
-          hart = None;
+          harts = None;
         }
-        → IfSome end.hart (CanStep ram_of)
+        → IfSome end.harts (CanGoOn ram_of)
     no_hart end verdict is =
-        subst (λ (end : TraceEnd M). IfSome end.hart (CanStep ram_of)) (sym is) tt
+        subst (λ (end : TraceEnd M). IfSome end.harts (CanGoOn ram_of)) (sym is) tt
 
-    by : (verdict : Verdict) (end : Option (Hart M)) (passed : Passed M)
+    by : (verdict : Verdict) (end : Option (HartSet Core M)) (passed : Passed M)
         → IsWithinRows (row_count_of columns ahead.part.items) verdict
-        → IfSome end (CanStep ram_of) → FollowsPartBy remaining.progress.counts done verdict end passed
+        → IfSome end (CanGoOn ram_of) → FollowsPartBy remaining.progress.counts done verdict end passed
         → IsNearerEnd window ram_of remaining passed
-    by (Agrees rows valid) (Some hart) (Continue next) within can_step counted =
+    by (Agrees rows valid) (Some harts) (Continue next) within can_go_on counted =
         let part = ap (λ (lookahead : Lookahead). length lookahead.part.items) counted.lookahead in
         let more_ahead = ap (λ (lookahead : Lookahead). length lookahead.next.items) counted.lookahead in
         let lines = ap (λ lookahead. length (lookahead_lines lookahead)) counted.lookahead in
@@ -444,7 +464,7 @@ part_nears {M} {bytes_of} {ram_of} {columns} {window} remaining done passed goin
         let room = ap room_of counted.taker in
         let few = rows_few columns ahead.part.items in (
           record {
-            can_step = subst (CanStep ram_of) (sym counted.hart_is) can_step;
+            can_go_on = subst (CanGoOn ram_of) (sym counted.harts_are) can_go_on;
             room =
                 omega (
                   arith,
@@ -474,30 +494,31 @@ part_nears {M} {bytes_of} {ram_of} {columns} {window} remaining done passed goin
             room,
           ),
         )
-    by (Agrees rows valid) (Some hart) (Ends end) within can_step follows = absurd follows
-    by (Agrees rows valid) None (Continue next) within can_step follows = absurd follows
-    by (Agrees rows valid) None (Ends end) within can_step follows = no_hart end (Agrees rows valid) follows
-    by (Differs row difference) hart (Continue next) within can_step follows = absurd follows
-    by (Differs row difference) hart (Ends end) within can_step follows =
+    by (Agrees rows valid) (Some harts) (Ends end) within can_go_on follows = absurd follows
+    by (Agrees rows valid) None (Continue next) within can_go_on follows = absurd follows
+    by (Agrees rows valid) None (Ends end) within can_go_on follows = no_hart end (Agrees rows valid) follows
+    by (Differs row difference) harts (Continue next) within can_go_on follows = absurd follows
+    by (Differs row difference) harts (Ends end) within can_go_on follows =
         no_hart end (Differs row difference) follows
-    by (Refused row fault) hart (Continue next) within can_step follows = absurd follows
-    by (Refused row fault) hart (Ends end) within can_step follows = no_hart end (Refused row fault) follows
+    by (Refused row fault) harts (Continue next) within can_go_on follows = absurd follows
+    by (Refused row fault) harts (Ends end) within can_go_on follows = no_hart end (Refused row fault) follows
 
--- a copy of a hart has its state
-pub same_state : {M : Type 0} (bytes_of : M → Bytes) (one other : Hart M) → one.core ≡ other.core
-    → bytes_of one.mem ≡ bytes_of other.mem → state_of bytes_of one ≡ state_of bytes_of other
-same_state bytes_of one other core bytes = rw (core, bytes) refl
+-- a copy of harts has their state
+pub same_state : {M : Type 0} (bytes_of : M → Bytes) (one other : HartSet Core M)
+    → one.cores.items ≡ other.cores.items
+    → bytes_of one.mem ≡ bytes_of other.mem → set_state_of bytes_of one ≡ set_state_of bytes_of other
+same_state bytes_of one other cores bytes = rw (cores, bytes) refl
 
 -- ---- parts, one after the other
 
 -- parts lead from these first rows to what remains, and the file that they are of is there
 pub record LeadsInFile {M : Type 0} (bytes_of : M → Bytes) (files : Option Files) (job : JobView)
-    (columns : ColumnList) (first : Progress M) (remaining : Remaining M) : Type 0 where
+    (columns : TraceColumns) (first : Progress M) (remaining : Remaining M) : Type 0 where
   pub file_exists : IsThere files (string_bytes first.taker.name)
   pub leads : LeadsFromWhereKnown job columns bytes_of (file_of files (string_bytes first.taker.name)) first remaining
 
 -- a part more, or the end
-pub parts_lead : {M : Type 0} {bytes_of : M → Bytes} {job : JobView} {columns : ColumnList} {first : Progress M}
+pub parts_lead : {M : Type 0} {bytes_of : M → Bytes} {job : JobView} {columns : TraceColumns} {first : Progress M}
     (files : Option Files) (remaining next : Remaining M)
     → LeadsInFile bytes_of files job columns first remaining
     → PassesWhereKnown job columns bytes_of (file_of files (string_bytes remaining.progress.taker.name)) remaining
@@ -520,7 +541,7 @@ parts_lead {M} {bytes_of} {job} {columns} {first} (Some files) remaining next is
         record { end = here.0 ∙ leads.end; name = here.1 ∙ leads.name }
 
 -- the end is what all rows come to, from the first
-pub end_told : {M : Type 0} {bytes_of : M → Bytes} {job : JobView} {columns : ColumnList} {first : Progress M}
+pub end_told : {M : Type 0} {bytes_of : M → Bytes} {job : JobView} {columns : TraceColumns} {first : Progress M}
     (files : Option Files) (remaining : Remaining M) (end : TraceEnd M)
     → LeadsInFile bytes_of files job columns first remaining
     → PassesWhereKnown job columns bytes_of (file_of files (string_bytes remaining.progress.taker.name)) remaining
@@ -540,7 +561,7 @@ end_told {M} {bytes_of} {job} {columns} {first} (Some files) remaining end is pa
         here ∙ leads.end
 
 -- the file that is there stays there
-pub exists_after_part : {M : Type 0} {bytes_of : M → Bytes} {job : JobView} {columns : ColumnList} {first : Progress M}
+pub exists_after_part : {M : Type 0} {bytes_of : M → Bytes} {job : JobView} {columns : TraceColumns} {first : Progress M}
     (files : Option Files) (remaining : Remaining M) → LeadsInFile bytes_of files job columns first remaining
     → IsThere files (string_bytes remaining.progress.taker.name)
 exists_after_part None remaining is = tt

@@ -1,6 +1,7 @@
 -- How a run ends, and what follows for its status and its bytes.
 use Rattle.std.proofs.Common.{◌≡◌, ℕ, ◌<◌, ◌≤◌, ◌⊎◌, ◌↔◌, inl, inr, Bool, true, false, List, Option, Some, None, IfSome}
 use Rattle.std.proofs.Common.{is_none, Result, Ok, Err, refl, sym, ap, ap₂, subst, ◌∙◌, arith, codes, string_bytes}
+use Rattle.std.proofs.lemmas.List.Elements.{All-weaker}
 use Rattle.outside_ports.specs.Counts.{Rose}
 use Rattle.outside_ports.specs.Ports.{Files}
 use Rattle.judge_words.specs.Job.{JobView, command_by, job_of, job_view}
@@ -9,7 +10,7 @@ use Rattle.judge_words.specs.declared.job.Command.TheVariants.{Make}
 use Rattle.rvfi_rows.specs.declared.verdict.Verdict.{Verdict}
 use Rattle.rvfi_rows.specs.declared.verdict.Verdict.TheVariants.{Agrees, Differs, Refused}
 use Rattle.hart_words.specs.declared.map.Map.{Map}
-use Rattle.hart_step.specs.Rows.{HartState}
+use Rattle.hart_step.specs.HartSets.{SetState}
 use Rattle.page_image.specs.Bytes.{byte_of}
 use Rattle.state_text.specs.Laws.{IsZeroOutside}
 use Rattle.trace_maker.specs.Texts.{made_image, made_trace}
@@ -25,10 +26,11 @@ use Rattle.judge_run.specs.Answer.{job_answer, trace_answer}
 use Rattle.judge_run.specs.Stops.{CountsStop, IsJobs, IsJobsAnswer, LacksFile, MeantWhereKnown, MissesStop}
 use Rattle.judge_run.specs.Stops.{is_no_job_ruling}
 use Rattle.judge_run.specs.declared.start.Start.{Start}
-use Rattle.judge_run.specs.Starts.{start_view}
+use Rattle.judge_run.specs.Starts.{CanBegin, start_view}
 use Rattle.judge_run.specs.Ends.{BacksFound, Ends, EndsBy, EndsOverFiles, EndsOverMade, HasStateReadBack, IsAnswer, IsFilesAnswer}
-use Rattle.judge_run.specs.Ends.{IsMadeAnswer, IsReadBack, IsWordsAnswer, OutsideState, Writes, WritesFound, answer_view}
-use Rattle.judge_run.proofs.Outside.{IsOver, row_leaves, trace_keeps}
+use Rattle.judge_run.specs.Ends.{HasZerosOutside, IsMadeAnswer, IsReadBack, IsWordsAnswer}
+use Rattle.judge_run.specs.Ends.{OutsideState, Writes, WritesFound, answer_view}
+use Rattle.judge_run.proofs.Outside.{IsOverRam, row_leaves, trace_keeps}
 use Rattle.judge_run.proofs.Steps.{AsksForFiles, files_are_not_made, judged_as, lacks_none}
 
 -- the text of such an answer was written, whole or in front
@@ -168,22 +170,24 @@ counts_on (Err ReadFault) before mid now same counts =
 
 -- a state that was written after rows is read back, since memory outside RAM was 0 and stays so
 pub read_back : (known_files : Option Files) (job : JobView) (start : Start) (trace : List ℕ)
-    (found : Result Answer Stop) → IsZeroOutside start.core.map.ram (byte_of start.image)
+    (found : Result Answer Stop) → CanBegin start
     → MeantWhereKnown known_files answer_view found (λ files. trace_answer job (start_view start) (files trace))
     → BacksFound answer_view found → IsReadBackFound known_files found
-read_back known_files job start trace (Err stop) zero meant backs = tt
-read_back None job start trace (Ok given) zero meant backs = λ files known. cc
-read_back (Some here) job start trace (Ok given) zero meant backs = λ files known.
+read_back known_files job start trace (Err stop) begins meant backs = tt
+read_back None job start trace (Ok given) begins meant backs = λ files known. cc
+read_back (Some here) job start trace (Ok given) begins meant backs = λ files known.
     by (answer_view given).state
-    (trace_keeps (IsOver start.core.map) job (start_view start) (here trace) (answer_view given)
-    (λ state shown over. row_leaves start.core.map state shown over) (refl, zero) meant) backs
+    (trace_keeps (IsOverRam start.image.ram) job (start_view start) (here trace) (answer_view given)
+    (λ state shown over. row_leaves start.image.ram state shown over) (begins.can_step.maps, begins.outside) meant)
+    backs
   where
-    by : (state : Option HartState) → IfSome state (IsOver start.core.map)
-        → IfSome state (λ state. IsZeroOutside state.core.map.ram state.bytes → IsReadBack state)
-        → IfSome state IsReadBack
+    by : (state : Option SetState) → IfSome state (IsOverRam start.image.ram)
+        → IfSome state (λ state. HasZerosOutside state → IsReadBack state) → IfSome state IsReadBack
     by None over backs = tt
     by (Some state) over backs =
-        backs (subst (λ (map : Map). IsZeroOutside map.ram state.bytes) (sym over.0) over.1)
+        backs
+        (All-weaker (λ core. start.image.ram ≡ core.map.ram) (λ core. IsZeroOutside core.map.ram state.bytes)
+        (λ core has. subst (λ span. IsZeroOutside span state.bytes) has over.1) state.core over.0)
 
 -- ---- what a run of a job comes to is what a run of its words does
 

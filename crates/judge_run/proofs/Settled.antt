@@ -3,30 +3,27 @@ use Rattle.std.proofs.Common.{◌≡◌, ℕ, zero, suc, ◌+◌, ◌-◌, ◌^�
 use Rattle.std.proofs.Common.{length}
 use Rattle.std.proofs.Common.{map, take, Option, Some, None, option_map, Result, Ok, Err, IfOk, IfSome, refl, sym, ap}
 use Rattle.std.proofs.Common.{ap₂, ◌∙◌, subst, arith}
-use Rattle.std.specs.List.{flat_map}
+use Rattle.std.specs.List.{All, flat_map}
 use Rattle.std.proofs.lemmas.List.{length-append, length-drop, length-map, take-append-drop, take_all}
 use Rattle.std.proofs.lemmas.List.Concat.{flat_map-append}
-use Rattle.hart_words.specs.declared.options.Marks.TheVariants.{Fault}
 use Rattle.hart_words.specs.declared.span.Span.{Span}
 use Rattle.hart_words.specs.Memory.{Bytes}
 use Rattle.rvfi_rows.specs.declared.segment.Segment.{Segment}
 use Rattle.rvfi_rows.specs.declared.verdict.Verdict.{Verdict}
 use Rattle.rvfi_rows.specs.declared.verdict.Verdict.TheVariants.{Agrees, Differs, Refused}
-use Rattle.rvfi_rows.specs.Columns.{ColumnList}
+use Rattle.rvfi_rows.specs.Columns.{TraceColumns}
 use Rattle.rvfi_rows.specs.Rows.{RowReading, rows_of}
 use Rattle.rvfi_rows.specs.Segments.{line_count_of, row_count_of, segment_lines}
 use Rattle.rvfi_rows.proofs.PortRows.{count-append}
-use Rattle.hart_step.specs.declared.hart.Hart.{Hart}
+use Rattle.hart_set.specs.declared.set.HartSet.{HartSet}
 use Rattle.hart_step.specs.declared.state.Core.{Core}
-use Rattle.hart_step.specs.Harts.{CanStep, state_of}
-use Rattle.hart_step.specs.Rows.{HartState}
+use Rattle.hart_step.specs.HartSets.{SetCanStep, SetHoldsWords, SetState, set_state_of}
 use Rattle.hart_step.specs.Cores.{IsSound}
 use Rattle.boundary_guess.specs.Guesses.{guesses_of}
-use Rattle.boundary_guess.specs.Truth.{ShowChanges}
-use Rattle.hart_step.specs.Harts.{HoldsWords}
+use Rattle.boundary_guess.specs.Truth.{SetNoMarks, ShowChanges}
 use Rattle.segment_judge.specs.declared.found.Found.{Found}
 use Rattle.segment_judge.specs.declared.judged.Judged.{Judged as JudgedSegment}
-use Rattle.segment_judge.specs.Judgements.{by_hart, verdict_after_rows}
+use Rattle.segment_judge.specs.Judgements.{by_set, verdict_after_rows}
 use Rattle.segment_judge.specs.Laws.{Conclusion, conclusion_after_end, conclusion_from, verdict_of_both}
 use Rattle.segment_judge.proofs.Parts.{counted_twice, uncounted}
 use Rattle.verdict_join.specs.declared.joined.Joined.{Joined as JoinedSegments}
@@ -51,16 +48,16 @@ use Rattle.judge_run.specs.Settling.{LeadsToRound, LeadsToBy, SettlesInRounds}
 
 -- ---- a round in code is one of the definitions
 
-pub is_round : {M : Type 0} {bytes_of : M → Bytes} {ram_of : M → Span} {columns : ColumnList}
-    {segments : List Segment} {guesses : List (Hart M)} {founds : List (Found (JudgedSegment M))} {start : HartState}
-    (round : Round M) → map (state_of bytes_of) guesses ≡ guesses_of start columns (map segment_lines segments)
+pub is_round : {M : Type 0} {bytes_of : M → Bytes} {ram_of : M → Span} {columns : TraceColumns}
+    {segments : List Segment} {guesses : List (HartSet Core M)} {founds : List (Found (JudgedSegment M))} {start : SetState}
+    (round : Round M) → map (set_state_of bytes_of) guesses ≡ guesses_of start columns (map segment_lines segments)
     → AreLeft bytes_of ram_of columns segments guesses founds
-    → AreJudgedInTurn by_hart (candidates_of bytes_of columns segments guesses founds)
+    → AreJudgedInTurn by_set (candidates_of bytes_of columns segments guesses founds)
     → WalksThem bytes_of true (candidates_of bytes_of columns segments guesses founds) start round
     → IsRound start columns (map segment_lines segments) (round_of bytes_of round)
 is_round {M} {bytes_of} {ram_of} {columns} {segments} {guesses} {founds} {start} round guessed left judged walks =
     let rows : List (List RowReading) = map (rows_of_segment columns) segments in
-    let states : List HartState = map (state_of bytes_of) guesses in
+    let states : List SetState = map (set_state_of bytes_of) guesses in
     let pieces = map segment_lines segments in
     let all = map (found_of rows states) founds in
     let read = read_twice columns segments in
@@ -72,13 +69,13 @@ is_round {M} {bytes_of} {ram_of} {columns} {segments} {guesses} {founds} {start}
       founds = all;
       left =
           subst
-          (λ n. Leaves by_hart (map (rows_of columns) pieces) (guesses_of start columns pieces) n left.events all)
+          (λ n. Leaves by_set (map (rows_of columns) pieces) (guesses_of start columns pieces) n left.events all)
           (sym (length-map segments segment_lines))
-          (subst (λ states. Leaves by_hart (map (rows_of columns) pieces) states (length segments) left.events all)
+          (subst (λ states. Leaves by_set (map (rows_of columns) pieces) states (length segments) left.events all)
           guessed
-          (subst (λ rows. Leaves by_hart rows states (length segments) left.events all) read left.events_are.leave));
-      judged = subst (AreJudgedInTurn by_hart) is judged;
-      walked = λ same tells. walks same tells ∙ ap (λ segments. walk by_hart same true segments start) is;
+          (subst (λ rows. Leaves by_set rows states (length segments) left.events all) read left.events_are.leave));
+      judged = subst (AreJudgedInTurn by_set) is judged;
+      walked = λ same tells. walks same tells ∙ ap (λ segments. walk by_set same true segments start) is;
     }
 
 -- ---- segments that are left
@@ -123,9 +120,9 @@ lines_left count segments few =
 -- ---- rounds so far
 
 -- whatever rounds settle what is left, some settle all, and come to what was counted and to what these come to
-pub record Extends (columns : ColumnList) (pieces : List (List (List ℕ))) (start : HartState) (before now : ℕ)
-    (tally : Tally) (state : HartState) (rest : List (Joined Core)) : Type 0 where
-  pub rounds : List (Joined Core)
+pub record Extends (columns : TraceColumns) (pieces : List (List (List ℕ))) (start : SetState) (before now : ℕ)
+    (tally : Tally) (state : SetState) (rest : List (Joined (List Core))) : Type 0 where
+  pub rounds : List (Joined (List Core))
   pub are : AreRounds start columns pieces rounds
   pub counted : before + length rounds ≡ now + length rest
   pub verdict : (rounds_conclude start rounds).verdict
@@ -133,36 +130,36 @@ pub record Extends (columns : ColumnList) (pieces : List (List (List ℕ))) (sta
   pub end : (rounds_conclude start rounds).end ≡ (rounds_conclude state rest).end
   pub rejudged : rejudged_in rounds ≡ tally.rejudged + rejudged_in rest
 
-pub record SoFar {M : Type 0} (bytes_of : M → Bytes) (columns : ColumnList) (segments : List Segment)
-    (start : HartState) (before now : ℕ) (settling : Settling M) : Type 0 where
-  pub extend : (rest : List (Joined Core))
-      → AreRounds (state_of bytes_of settling.hart) columns
+pub record SoFar {M : Type 0} (bytes_of : M → Bytes) (columns : TraceColumns) (segments : List Segment)
+    (start : SetState) (before now : ℕ) (settling : Settling M) : Type 0 where
+  pub extend : (rest : List (Joined (List Core)))
+      → AreRounds (set_state_of bytes_of settling.harts) columns
       (map segment_lines (drop settling.tally.settled segments)) rest
-      → Extends columns (map segment_lines segments) start before now settling.tally (state_of bytes_of settling.hart)
+      → Extends columns (map segment_lines segments) start before now settling.tally (set_state_of bytes_of settling.harts)
       rest
 
 -- the round over the segments that are left, of which there are some
-pub record IsNextRound {M : Type 0} (bytes_of : M → Bytes) (ram_of : M → Span) (columns : ColumnList)
+pub record IsNextRound {M : Type 0} (bytes_of : M → Bytes) (ram_of : M → Span) (columns : TraceColumns)
     (segments : List Segment) (settling : Settling M) (round : Round M) : Type 0 where
   pub left : settling.tally.settled < length segments
   pub over : IsRoundOver bytes_of ram_of columns (drop settling.tally.settled segments)
-      (state_of bytes_of settling.hart) round
+      (set_state_of bytes_of settling.harts) round
 
-pub so_far_begins : {M : Type 0} (bytes_of : M → Bytes) (columns : ColumnList) (segments : List Segment)
-    (hart : Hart M) (tally : Tally) (count : ℕ) → IsNewTally tally
-    → SoFar bytes_of columns segments (state_of bytes_of hart) count count (record { hart = hart; tally = tally })
-so_far_begins bytes_of columns segments hart tally count new = record {
+pub so_far_begins : {M : Type 0} (bytes_of : M → Bytes) (columns : TraceColumns) (segments : List Segment)
+    (harts : HartSet Core M) (tally : Tally) (count : ℕ) → IsNewTally tally
+    → SoFar bytes_of columns segments (set_state_of bytes_of harts) count count (record { harts = harts; tally = tally })
+so_far_begins bytes_of columns segments harts tally count new = record {
   extend =
       λ rest are. record {
         rounds = rest;
         are =
-            subst (λ n. AreRounds (state_of bytes_of hart) columns (map segment_lines (drop n segments)) rest)
+            subst (λ n. AreRounds (set_state_of bytes_of harts) columns (map segment_lines (drop n segments)) rest)
             new.settled are;
         counted = refl;
         verdict =
-            sym (uncounted (rounds_conclude (state_of bytes_of hart) rest).verdict)
+            sym (uncounted (rounds_conclude (set_state_of bytes_of harts) rest).verdict)
             ∙ sym
-            (ap₂ (λ rows valid. verdict_after_rows rows valid (rounds_conclude (state_of bytes_of hart) rest).verdict)
+            (ap₂ (λ rows valid. verdict_after_rows rows valid (rounds_conclude (set_state_of bytes_of harts) rest).verdict)
             new.rows new.valid);
         end = refl;
         rejudged = omega (arith, new.rejudged);
@@ -170,13 +167,13 @@ so_far_begins bytes_of columns segments hart tally count new = record {
 }
 
 -- the rounds from this one on
-this_and_rest : {M : Type 0} {bytes_of : M → Bytes} {ram_of : M → Span} {columns : ColumnList}
-    {segments : List Segment} {settling : Settling M} {round : Round M} (rest : List (Joined Core))
+this_and_rest : {M : Type 0} {bytes_of : M → Bytes} {ram_of : M → Span} {columns : TraceColumns}
+    {segments : List Segment} {settling : Settling M} {round : Round M} (rest : List (Joined (List Core)))
     → IsNextRound bytes_of ram_of columns segments settling round
     → GoOn (round_of bytes_of round).end rest
     (λ after_round. AreRounds after_round columns
     (map segment_lines (drop (settling.tally.settled + round.settled) segments)) rest)
-    → AreRounds (state_of bytes_of settling.hart) columns (map segment_lines (drop settling.tally.settled segments))
+    → AreRounds (set_state_of bytes_of settling.harts) columns (map segment_lines (drop settling.tally.settled segments))
     (round_of bytes_of round ∷ rest)
 unfolding AreRounds
 this_and_rest {M} {bytes_of} {ram_of} {columns} {segments} {settling} {round} rest next on =
@@ -194,7 +191,7 @@ this_and_rest {M} {bytes_of} {ram_of} {columns} {segments} {settling} {round} re
     )
 
 -- what they come to
-concludes_on : (state after_round : HartState) (round : Joined Core) (rest : List (Joined Core))
+concludes_on : (state after_round : SetState) (round : Joined (List Core)) (rest : List (Joined (List Core)))
     → round.end ≡ Some after_round
     → rounds_conclude state (round ∷ rest)
     ≡ record {
@@ -208,7 +205,7 @@ concludes_on state after_round round rest is =
     ap (λ end. conclusion_after_end end (record { verdict = round.verdict; end = round.end })
     (λ after_round. rounds_conclude after_round rest)) is
 
-concludes_here : (state : HartState) (round : Joined Core) → round.end ≡ None
+concludes_here : (state : SetState) (round : Joined (List Core)) → round.end ≡ None
     → rounds_conclude state (round ∷ []) ≡ record { verdict = round.verdict; end = round.end }
 unfolding rounds_conclude
 concludes_here state round is =
@@ -216,21 +213,21 @@ concludes_here state round is =
     (λ after_round. rounds_conclude after_round [])) is
 
 -- a round that agrees
-so_far_on : {M : Type 0} {bytes_of : M → Bytes} {ram_of : M → Span} {columns : ColumnList} {segments : List Segment}
-    {start : HartState} {before now : ℕ} {settling : Settling M} {round : Round M} {rows valid : ℕ} {hart : Hart M}
+so_far_on : {M : Type 0} {bytes_of : M → Bytes} {ram_of : M → Span} {columns : TraceColumns} {segments : List Segment}
+    {start : SetState} {before now : ℕ} {settling : Settling M} {round : Round M} {rows valid : ℕ} {harts : HartSet Core M}
     (next : Settling M) → IsNextRound bytes_of ram_of columns segments settling round
     → SoFar bytes_of columns segments start before now settling → round.verdict ≡ Agrees rows valid
-    → round.end ≡ Some hart → IsCountedOn settling.tally round rows valid hart next
+    → round.end ≡ Some harts → IsCountedOn settling.tally round rows valid harts next
     → SoFar bytes_of columns segments start before (now + 1) next
 unfolding rejudged_in
-so_far_on {M} {bytes_of} {ram_of} {columns} {segments} {start} {before} {now} {settling} {round} {rows} {valid} {hart}
+so_far_on {M} {bytes_of} {ram_of} {columns} {segments} {start} {before} {now} {settling} {round} {rows} {valid} {harts}
     next is_next so_far agrees ends counted =
     let this = round_of bytes_of round in
-    let state = state_of bytes_of settling.hart in
-    let after_round = state_of bytes_of next.hart in
+    let state = set_state_of bytes_of settling.harts in
+    let after_round = set_state_of bytes_of next.harts in
     let tally = settling.tally in
     let end : this.end ≡ Some after_round =
-    ap (option_map (state_of bytes_of)) (ends ∙ ap (λ (hart : Hart M). Some hart) (sym counted.hart_is)) in
+    ap (option_map (set_state_of bytes_of)) (ends ∙ ap (λ (harts : HartSet Core M). Some harts) (sym counted.harts_are)) in
     record {
       extend =
           λ rest are.
@@ -255,23 +252,23 @@ so_far_on {M} {bytes_of} {ram_of} {columns} {segments} {start} {before} {now} {s
             verdict =
                 whole.verdict
                 ∙ ap (verdict_after_rows tally.counts.rows tally.counts.valid)
-                (ap (λ (conclusion : Conclusion Core). conclusion.verdict) conclude ∙ verdict)
+                (ap (λ (conclusion : Conclusion (List Core)). conclusion.verdict) conclude ∙ verdict)
                 ∙ counted_twice tally.counts.rows tally.counts.valid rows valid last
                 ∙ ap₂ (λ rows valid. verdict_after_rows rows valid last) (sym counted.rows_are) (sym counted.valid_are);
-            end = whole.end ∙ ap (λ (conclusion : Conclusion Core). conclusion.end) conclude;
+            end = whole.end ∙ ap (λ (conclusion : Conclusion (List Core)). conclusion.end) conclude;
             rejudged = omega (arith, whole.rejudged, counted.rejudged);
           };
     }
 
 -- all segments are settled
-pub so_far_all : {M : Type 0} {bytes_of : M → Bytes} {columns : ColumnList} {segments : List Segment}
-    {start : HartState} {before now : ℕ} {settling : Settling M} (joined : JoinedSegments M)
+pub so_far_all : {M : Type 0} {bytes_of : M → Bytes} {columns : TraceColumns} {segments : List Segment}
+    {start : SetState} {before now : ℕ} {settling : Settling M} (joined : JoinedSegments M)
     → length segments ≤ settling.tally.settled → SoFar bytes_of columns segments start before now settling
     → joined
     ≡ record {
       verdict =
           Agrees settling.tally.counts.rows settling.tally.counts.valid;
-      end = Some settling.hart;
+      end = Some settling.harts;
       rejudged = settling.tally.rejudged;
     }
     → SettlesInRounds bytes_of columns segments start before now joined
@@ -291,7 +288,7 @@ so_far_all {M} {bytes_of} {columns} {segments} {start} {before} {now} {settling}
       are = whole.are;
       counted = omega (arith, whole.counted);
       verdict = ap (λ (joined : JoinedSegments M). joined.verdict) is ∙ sym counted ∙ sym whole.verdict;
-      end = ap (λ (joined : JoinedSegments M). option_map (state_of bytes_of) joined.end) is ∙ sym whole.end;
+      end = ap (λ (joined : JoinedSegments M). option_map (set_state_of bytes_of) joined.end) is ∙ sym whole.end;
       rejudged = omega (arith, ap (λ (joined : JoinedSegments M). joined.rejudged) is, whole.rejudged);
     }
   where
@@ -302,8 +299,8 @@ so_far_all {M} {bytes_of} {columns} {segments} {start} {before} {now} {settling}
     nothing_after (suc count) (x ∷ xs) all = nothing_after count xs (omega (arith, all))
 
 -- the last round
-so_far_ends : {M : Type 0} {bytes_of : M → Bytes} {ram_of : M → Span} {columns : ColumnList} {segments : List Segment}
-    {start : HartState} {before now : ℕ} {settling : Settling M} {round : Round M} (joined : JoinedSegments M)
+so_far_ends : {M : Type 0} {bytes_of : M → Bytes} {ram_of : M → Span} {columns : TraceColumns} {segments : List Segment}
+    {start : SetState} {before now : ℕ} {settling : Settling M} {round : Round M} (joined : JoinedSegments M)
     → IsNextRound bytes_of ram_of columns segments settling round
     → SoFar bytes_of columns segments start before now settling → round.end ≡ None
     → joined
@@ -319,9 +316,9 @@ unfolding rejudged_in
 so_far_ends {M} {bytes_of} {ram_of} {columns} {segments} {start} {before} {now} {settling} {round} joined is_next
     so_far ends is =
     let this = round_of bytes_of round in
-    let state = state_of bytes_of settling.hart in
+    let state = set_state_of bytes_of settling.harts in
     let tally = settling.tally in
-    let end : this.end ≡ None = ap (option_map (state_of bytes_of)) ends in
+    let end : this.end ≡ None = ap (option_map (set_state_of bytes_of)) ends in
     let stops : GoOn this.end []
     (λ after_round. AreRounds after_round columns
     (map segment_lines (drop (tally.settled + round.settled) segments)) []) =
@@ -338,33 +335,33 @@ so_far_ends {M} {bytes_of} {ram_of} {columns} {segments} {start} {before} {now} 
       verdict =
           ap (λ (joined : JoinedSegments M). joined.verdict) is
           ∙ ap (verdict_after_rows tally.counts.rows tally.counts.valid)
-          (sym (ap (λ (conclusion : Conclusion Core). conclusion.verdict) conclude)) ∙ sym whole.verdict;
+          (sym (ap (λ (conclusion : Conclusion (List Core)). conclusion.verdict) conclude)) ∙ sym whole.verdict;
       end =
-          ap (λ (joined : JoinedSegments M). option_map (state_of bytes_of) joined.end) is ∙ sym end
-          ∙ sym (ap (λ (conclusion : Conclusion Core). conclusion.end) conclude) ∙ sym whole.end;
+          ap (λ (joined : JoinedSegments M). option_map (set_state_of bytes_of) joined.end) is ∙ sym end
+          ∙ sym (ap (λ (conclusion : Conclusion (List Core)). conclusion.end) conclude) ∙ sym whole.end;
       rejudged = omega (arith, ap (λ (joined : JoinedSegments M). joined.rejudged) is, whole.rejudged);
     }
 
 -- ---- where a round leads
 
--- its verdict agrees just where there is a hart after it
-pub ends_where_agrees : {M : Type 0} (bytes_of : M → Bytes) (verdict : Verdict) (end : Option (Hart M))
-    (conclusion : Conclusion Core) → verdict ≡ conclusion.verdict
-    → option_map (state_of bytes_of) end ≡ conclusion.end → EndsWhereAgrees conclusion.verdict conclusion.end
-    → EndsWhereAgrees verdict (option_map (state_of bytes_of) end)
+-- its verdict agrees just where there are harts after it
+pub ends_where_agrees : {M : Type 0} (bytes_of : M → Bytes) (verdict : Verdict) (end : Option (HartSet Core M))
+    (conclusion : Conclusion (List Core)) → verdict ≡ conclusion.verdict
+    → option_map (set_state_of bytes_of) end ≡ conclusion.end → EndsWhereAgrees conclusion.verdict conclusion.end
+    → EndsWhereAgrees verdict (option_map (set_state_of bytes_of) end)
 ends_where_agrees bytes_of verdict end conclusion is ends fits =
-    subst (λ verdict. EndsWhereAgrees verdict (option_map (state_of bytes_of) end)) (sym is)
+    subst (λ verdict. EndsWhereAgrees verdict (option_map (set_state_of bytes_of) end)) (sym is)
     (subst (EndsWhereAgrees conclusion.verdict) (sym ends) fits)
 
 -- a round that goes on, or ends
-abbrev pub Followed : {M : Type 0} → (M → Bytes) → ColumnList → List Segment → HartState → ℕ → ℕ → AfterRound M → Type 0
+abbrev pub Followed : {M : Type 0} → (M → Bytes) → TraceColumns → List Segment → SetState → ℕ → ℕ → AfterRound M → Type 0
 Followed bytes_of columns segments start before now (Continue next) =
     SoFar bytes_of columns segments start before now next
 Followed bytes_of columns segments start before now (Ends joined) =
     SettlesInRounds bytes_of columns segments start before now joined
 
-round_follows : {M : Type 0} {bytes_of : M → Bytes} {ram_of : M → Span} {columns : ColumnList}
-    {segments : List Segment} {start : HartState} {before now : ℕ} {settling : Settling M} {round : Round M}
+round_follows : {M : Type 0} {bytes_of : M → Bytes} {ram_of : M → Span} {columns : TraceColumns}
+    {segments : List Segment} {start : SetState} {before now : ℕ} {settling : Settling M} {round : Round M}
     (next : AfterRound M) → IsNextRound bytes_of ram_of columns segments settling round
     → SoFar bytes_of columns segments start before now settling → LeadsToRound settling.tally round next
     → Followed bytes_of columns segments start before (now + 1) next
@@ -372,14 +369,14 @@ round_follows {M} {bytes_of} {ram_of} {columns} {segments} {start} {before} {now
     leads =
     by round.verdict round.end next refl refl
     (ends_where_agrees bytes_of round.verdict round.end conclusion is_next.over.verdict is_next.over.end
-    (conclusion_ends by_hart (state_of bytes_of settling.hart) rows)) leads
+    (conclusion_ends by_set (set_state_of bytes_of settling.harts) rows)) leads
   where
     rows : List RowReading
     rows =
         rows_of columns (flat_map segment_lines (take round.settled (drop settling.tally.settled segments)))
 
-    conclusion : Conclusion Core
-    conclusion = conclusion_from by_hart (state_of bytes_of settling.hart) rows
+    conclusion : Conclusion (List Core)
+    conclusion = conclusion_from by_set (set_state_of bytes_of settling.harts) rows
 
     ended : Verdict → JoinedSegments M
     ended verdict = record {
@@ -392,25 +389,25 @@ round_follows {M} {bytes_of} {ram_of} {columns} {segments} {start} {before} {now
         → joined ≡ ended verdict → SettlesInRounds bytes_of columns segments start before (now + 1) joined
     ends_with verdict joined is none leads = so_far_ends joined is_next so_far none (leads ∙ ap ended (sym is))
 
-    by : (verdict : Verdict) (end : Option (Hart M)) (next : AfterRound M) → round.verdict ≡ verdict
-        → round.end ≡ end → EndsWhereAgrees verdict (option_map (state_of bytes_of) end)
+    by : (verdict : Verdict) (end : Option (HartSet Core M)) (next : AfterRound M) → round.verdict ≡ verdict
+        → round.end ≡ end → EndsWhereAgrees verdict (option_map (set_state_of bytes_of) end)
         → LeadsToBy settling.tally round verdict end next
         → Followed bytes_of columns segments start before (now + 1) next
     by (Agrees rows valid) None next is none fits leads = absurd fits
-    by (Agrees rows valid) (Some hart) (Continue next) is some fits counted =
+    by (Agrees rows valid) (Some harts) (Continue next) is some fits counted =
         so_far_on next is_next so_far is some counted
-    by (Agrees rows valid) (Some hart) (Ends joined) is some fits leads = absurd leads
-    by (Differs row difference) (Some hart) next is some fits leads = absurd fits
+    by (Agrees rows valid) (Some harts) (Ends joined) is some fits leads = absurd leads
+    by (Differs row difference) (Some harts) next is some fits leads = absurd fits
     by (Differs row difference) None (Continue next) is none fits leads = absurd leads
     by (Differs row difference) None (Ends joined) is none fits leads =
         ends_with (Differs row difference) joined is none leads
-    by (Refused row fault) (Some hart) next is some fits leads = absurd fits
+    by (Refused row fault) (Some harts) next is some fits leads = absurd fits
     by (Refused row fault) None (Continue next) is none fits leads = absurd leads
     by (Refused row fault) None (Ends joined) is none fits leads = ends_with (Refused row fault) joined is none leads
 
 -- ---- what was counted
 
-pub rows_split : (columns : ColumnList) (count : ℕ) (segments : List Segment)
+pub rows_split : (columns : TraceColumns) (count : ℕ) (segments : List Segment)
     → row_count_of columns segments
     ≡ row_count_of columns (take count segments) + row_count_of columns (drop count segments)
 rows_split columns count segments =
@@ -418,8 +415,8 @@ rows_split columns count segments =
     ∙ count-append columns (take count segments) (drop count segments)
 
 -- a round is a part
-part_of_round : {M : Type 0} (bytes_of : M → Bytes) (ram_of : M → Span) (columns : ColumnList)
-    (segments : List Segment) (start : HartState) (round : Round M) → 0 < length segments
+part_of_round : {M : Type 0} (bytes_of : M → Bytes) (ram_of : M → Span) (columns : TraceColumns)
+    (segments : List Segment) (start : SetState) (round : Round M) → 0 < length segments
     → IsRoundOver bytes_of ram_of columns segments start round → IsPartOver bytes_of ram_of columns segments start round
 part_of_round bytes_of ram_of columns segments start round left over =
     let some = over.settles_one left in
@@ -435,23 +432,23 @@ part_of_round bytes_of ram_of columns segments start round left over =
       can_step = over.can_step;
     }
 
-part_of_next : {M : Type 0} {bytes_of : M → Bytes} {ram_of : M → Span} {columns : ColumnList} {segments : List Segment}
+part_of_next : {M : Type 0} {bytes_of : M → Bytes} {ram_of : M → Span} {columns : TraceColumns} {segments : List Segment}
     {settling : Settling M} {round : Round M} → IsNextRound bytes_of ram_of columns segments settling round
-    → IsPartOver bytes_of ram_of columns (drop settling.tally.settled segments) (state_of bytes_of settling.hart) round
+    → IsPartOver bytes_of ram_of columns (drop settling.tally.settled segments) (set_state_of bytes_of settling.harts) round
 part_of_next {M} {bytes_of} {ram_of} {columns} {segments} {settling} {round} next =
     let dropped = length-drop settling.tally.settled segments in
-    part_of_round bytes_of ram_of columns (drop settling.tally.settled segments) (state_of bytes_of settling.hart) round
+    part_of_round bytes_of ram_of columns (drop settling.tally.settled segments) (set_state_of bytes_of settling.harts) round
     (omega (arith, dropped, next.left)) next.over
 
 -- a part counts no more rows than its segments have
-part_within : {M : Type 0} {bytes_of : M → Bytes} {ram_of : M → Span} {columns : ColumnList} {segments : List Segment}
-    {start : HartState} (round : Round M) → IsPartOver bytes_of ram_of columns segments start round
+part_within : {M : Type 0} {bytes_of : M → Bytes} {ram_of : M → Span} {columns : TraceColumns} {segments : List Segment}
+    {start : SetState} (round : Round M) → IsPartOver bytes_of ram_of columns segments start round
     → IsWithinRows (row_count_of columns (take round.settled segments)) round.verdict
 part_within {M} {bytes_of} {ram_of} {columns} {segments} {start} round over =
     lines_within start columns (take round.settled segments) round.verdict over.verdict
 
 -- nor does the next round
-pub next_within : {M : Type 0} {bytes_of : M → Bytes} {ram_of : M → Span} {columns : ColumnList}
+pub next_within : {M : Type 0} {bytes_of : M → Bytes} {ram_of : M → Span} {columns : TraceColumns}
     {segments : List Segment} {settling : Settling M} (round : Round M) (most : ℕ)
     → row_count_of columns segments ≤ most → IsNextRound bytes_of ram_of columns segments settling round
     → IsWithinRows most round.verdict
@@ -462,15 +459,15 @@ next_within {M} {bytes_of} {ram_of} {columns} {segments} {settling} round most a
     few_within (row_count_of columns (take round.settled (drop settled segments))) most round.verdict
     (part_within round (part_of_next next)) (omega (arith, first, second, at_most))
 
-abbrev pub IsTalliedAfter : {M : Type 0} → (M → Span) → ColumnList → List Segment → Tally → AfterRound M → Type 0
+abbrev pub IsTalliedAfter : {M : Type 0} → (M → Span) → TraceColumns → List Segment → Tally → AfterRound M → Type 0
 IsTalliedAfter ram_of columns segments tally (Continue next) =
-    IsTallied columns segments next.tally × ((tally.settled < next.tally.settled) × CanStep ram_of next.hart)
+    IsTallied columns segments next.tally × ((tally.settled < next.tally.settled) × SetCanStep ram_of next.harts)
 IsTalliedAfter ram_of columns segments tally (Ends joined) = Unit {0}
 
-part_tallied : {M : Type 0} {bytes_of : M → Bytes} {ram_of : M → Span} {columns : ColumnList}
+part_tallied : {M : Type 0} {bytes_of : M → Bytes} {ram_of : M → Span} {columns : TraceColumns}
     {segments : List Segment} {round : Round M} (settling : Settling M) (next : AfterRound M)
     → IsTallied columns segments settling.tally
-    → IsPartOver bytes_of ram_of columns (drop settling.tally.settled segments) (state_of bytes_of settling.hart)
+    → IsPartOver bytes_of ram_of columns (drop settling.tally.settled segments) (set_state_of bytes_of settling.harts)
     round → LeadsToRound settling.tally round next → IsTalliedAfter ram_of columns segments settling.tally next
 part_tallied {M} {bytes_of} {ram_of} {columns} {segments} {round} settling next tallied over leads =
     by round.verdict round.end next (part_within round over) over.can_step leads
@@ -481,10 +478,10 @@ part_tallied {M} {bytes_of} {ram_of} {columns} {segments} {round} settling next 
     rest : List Segment
     rest = drop settling.tally.settled segments
 
-    by : (verdict : Verdict) (end : Option (Hart M)) (next : AfterRound M)
-        → IsWithinRows (row_count_of columns (take round.settled rest)) verdict → IfSome end (CanStep ram_of)
+    by : (verdict : Verdict) (end : Option (HartSet Core M)) (next : AfterRound M)
+        → IsWithinRows (row_count_of columns (take round.settled rest)) verdict → IfSome end (SetCanStep ram_of)
         → LeadsToBy tally round verdict end next → IsTalliedAfter ram_of columns segments tally next
-    by (Agrees rows valid) (Some hart) (Continue next) within can_step counted =
+    by (Agrees rows valid) (Some harts) (Continue next) within can_step counted =
         let dropped = length-drop tally.settled segments in
         let parts = rows_split columns round.settled rest in
         let after_round =
@@ -495,9 +492,9 @@ part_tallied {M} {bytes_of} {ram_of} {columns} {segments} {round} settling next 
             rows = omega (arith, tallied.rows, within.0, parts, after_round, counted.rows_are);
             again = omega (arith, tallied.again, over.again, counted.rejudged, counted.settled);
           },
-          (omega (arith, over.at_least_1, counted.settled), subst (CanStep ram_of) (sym counted.hart_is) can_step),
+          (omega (arith, over.at_least_1, counted.settled), subst (SetCanStep ram_of) (sym counted.harts_are) can_step),
         )
-    by (Agrees rows valid) (Some hart) (Ends joined) within can_step leads = tt
+    by (Agrees rows valid) (Some harts) (Ends joined) within can_step leads = tt
     by (Agrees rows valid) None (Continue next) within can_step leads = absurd leads
     by (Agrees rows valid) None (Ends joined) within can_step leads = tt
     by (Differs row difference) end (Continue next) within can_step leads = absurd leads
@@ -506,13 +503,13 @@ part_tallied {M} {bytes_of} {ram_of} {columns} {segments} {round} settling next 
     by (Refused row fault) end (Ends joined) within can_step leads = tt
 
 -- where a round leads, with what was settled before
-pub record LeadsOn {M : Type 0} (bytes_of : M → Bytes) (ram_of : M → Span) (columns : ColumnList)
-    (segments : List Segment) (start : HartState) (before now : ℕ) (tally : Tally) (next : AfterRound M) : Type 0 where
+pub record LeadsOn {M : Type 0} (bytes_of : M → Bytes) (ram_of : M → Span) (columns : TraceColumns)
+    (segments : List Segment) (start : SetState) (before now : ℕ) (tally : Tally) (next : AfterRound M) : Type 0 where
   pub follows : Followed bytes_of columns segments start before now next
   pub tallied : IsTalliedAfter ram_of columns segments tally next
 
-pub leads_on : {M : Type 0} {bytes_of : M → Bytes} {ram_of : M → Span} {columns : ColumnList} {segments : List Segment}
-    {start : HartState} {before now later : ℕ} {settling : Settling M} (next : AfterRound M)
+pub leads_on : {M : Type 0} {bytes_of : M → Bytes} {ram_of : M → Span} {columns : TraceColumns} {segments : List Segment}
+    {start : SetState} {before now later : ℕ} {settling : Settling M} (next : AfterRound M)
     → settling.tally.settled < length segments → IsTallied columns segments settling.tally
     → SoFar bytes_of columns segments start before now settling
     → LeadsBy bytes_of ram_of columns segments settling next → later ≡ now + 1
@@ -529,8 +526,8 @@ leads_on {M} {bytes_of} {ram_of} {columns} {segments} {start} {before} {now} {la
     }
 
 -- what the join of a round promises of it
-pub record PromisesRound {M E : Type 0} (bytes_of : M → Bytes) (ram_of : M → Span) (columns : ColumnList)
-    (segments : List Segment) (guesses : List (Hart M)) (founds : List (Found (JudgedSegment M))) (start : HartState)
+pub record PromisesRound {M E : Type 0} (bytes_of : M → Bytes) (ram_of : M → Span) (columns : TraceColumns)
+    (segments : List Segment) (guesses : List (HartSet Core M)) (founds : List (Found (JudgedSegment M))) (start : SetState)
     (result : Result (Round M) E) : Type 0 where
   pub walks : IfOk result (WalksThem bytes_of true (candidates_of bytes_of columns segments guesses founds) start)
   pub within : IfOk result (λ round. round.settled ≤ length segments)
@@ -538,20 +535,20 @@ pub record PromisesRound {M E : Type 0} (bytes_of : M → Bytes) (ram_of : M →
   pub at_most_1_again : IfOk result (λ round. round.rejudged ≤ 1)
   pub verdict : IfOk result
       (λ round. round.verdict
-      ≡ (conclusion_from by_hart start
+      ≡ (conclusion_from by_set start
       (rows_of columns (flat_map segment_lines (take round.settled segments)))).verdict)
   pub end : IfOk result
-      (λ round. option_map (state_of bytes_of) round.end
-      ≡ (conclusion_from by_hart start
+      (λ round. option_map (set_state_of bytes_of) round.end
+      ≡ (conclusion_from by_set start
       (rows_of columns (flat_map segment_lines (take round.settled segments)))).end)
-  pub can_step : IfOk result (λ round. IfSome round.end (CanStep ram_of))
+  pub can_step : IfOk result (λ round. IfSome round.end (SetCanStep ram_of))
 
-pub round_over : {M E : Type 0} {bytes_of : M → Bytes} {ram_of : M → Span} {columns : ColumnList}
-    {segments : List Segment} {guesses : List (Hart M)} {founds : List (Found (JudgedSegment M))} {start : HartState}
+pub round_over : {M E : Type 0} {bytes_of : M → Bytes} {ram_of : M → Span} {columns : TraceColumns}
+    {segments : List Segment} {guesses : List (HartSet Core M)} {founds : List (Found (JudgedSegment M))} {start : SetState}
     (result : Result (Round M) E)
-    → map (state_of bytes_of) guesses ≡ guesses_of start columns (map segment_lines segments)
+    → map (set_state_of bytes_of) guesses ≡ guesses_of start columns (map segment_lines segments)
     → AreLeft bytes_of ram_of columns segments guesses founds
-    → AreJudgedInTurn by_hart (candidates_of bytes_of columns segments guesses founds)
+    → AreJudgedInTurn by_set (candidates_of bytes_of columns segments guesses founds)
     → PromisesRound bytes_of ram_of columns segments guesses founds start result
     → IfOk result (IsRoundOver bytes_of ram_of columns segments start)
 round_over (Ok round) guessed left judged promised = record {
@@ -567,17 +564,17 @@ round_over (Err error) guessed left judged promised = tt
 
 -- ---- what rounds that settle all come to
 
-pub record ComeTo {M : Type 0} (bytes_of : M → Bytes) (columns : ColumnList) (segments : List Segment)
-    (start : HartState) (before now : ℕ) (joined : JoinedSegments M) : Type 0 where
+pub record ComeTo {M : Type 0} (bytes_of : M → Bytes) (columns : TraceColumns) (segments : List Segment)
+    (start : SetState) (before now : ℕ) (joined : JoinedSegments M) : Type 0 where
   pub verdict : joined.verdict
-      ≡ (conclusion_from by_hart start (rows_of columns (flat_map segment_lines segments))).verdict
-  pub end : option_map (state_of bytes_of) joined.end
-      ≡ (conclusion_from by_hart start (rows_of columns (flat_map segment_lines segments))).end
+      ≡ (conclusion_from by_set start (rows_of columns (flat_map segment_lines segments))).verdict
+  pub end : option_map (set_state_of bytes_of) joined.end
+      ≡ (conclusion_from by_set start (rows_of columns (flat_map segment_lines segments))).end
   pub at_most_segments : now ≤ before + length segments
   pub one_round : 0 < length segments → before < now
   pub count : (now ≡ before + joined.rejudged) ⊎ (now ≡ before + joined.rejudged + 1)
 
-pub come_to : {M : Type 0} {bytes_of : M → Bytes} {columns : ColumnList} {segments : List Segment} {start : HartState}
+pub come_to : {M : Type 0} {bytes_of : M → Bytes} {columns : TraceColumns} {segments : List Segment} {start : SetState}
     {before now : ℕ} (joined : JoinedSegments M) → SettlesInRounds bytes_of columns segments start before now joined
     → ComeTo bytes_of columns segments start before now joined
 come_to {M} {bytes_of} {columns} {segments} {start} {before} {now} joined settles =
@@ -585,11 +582,11 @@ come_to {M} {bytes_of} {columns} {segments} {start} {before} {now} joined settle
     let all = settle_all start columns pieces settles.rounds settles.are in
     let count = length-map segments segment_lines in
     let whole : rounds_conclude start settles.rounds
-    ≡ conclusion_from by_hart start (rows_of columns (flat_map segment_lines segments)) =
-    all.conclude ∙ ap (λ lines. conclusion_from by_hart start (rows_of columns lines)) (sym (through segments)) in
+    ≡ conclusion_from by_set start (rows_of columns (flat_map segment_lines segments)) =
+    all.conclude ∙ ap (λ lines. conclusion_from by_set start (rows_of columns lines)) (sym (through segments)) in
     record {
-      verdict = settles.verdict ∙ ap (λ (conclusion : Conclusion Core). conclusion.verdict) whole;
-      end = settles.end ∙ ap (λ (conclusion : Conclusion Core). conclusion.end) whole;
+      verdict = settles.verdict ∙ ap (λ (conclusion : Conclusion (List Core)). conclusion.verdict) whole;
+      end = settles.end ∙ ap (λ (conclusion : Conclusion (List Core)). conclusion.end) whole;
       at_most_segments = omega (arith, settles.counted, all.at_most_pieces, count);
       one_round =
           λ some. let rounds = all.at_least_one (omega (arith, count, some)) in omega (arith, settles.counted, rounds);
@@ -602,9 +599,9 @@ come_to {M} {bytes_of} {columns} {segments} {start} {before} {now} joined settle
     by (inl is) = inl (omega (arith, settles.counted, settles.rejudged, is))
     by (inr is) = inr (omega (arith, settles.counted, settles.rejudged, is))
 
-pub none_rejudged : {M : Type 0} {bytes_of : M → Bytes} {columns : ColumnList} {segments : List Segment}
-    {start : HartState} {before now : ℕ} (joined : JoinedSegments M) → IsSound start.core → HoldsWords start
-    → start.core.choices.marks ≡ Fault → ShowChanges (rows_of columns (flat_map segment_lines segments))
+pub none_rejudged : {M : Type 0} {bytes_of : M → Bytes} {columns : TraceColumns} {segments : List Segment}
+    {start : SetState} {before now : ℕ} (joined : JoinedSegments M) → All IsSound start.core → SetHoldsWords start
+    → SetNoMarks start.core → ShowChanges (rows_of columns (flat_map segment_lines segments))
     → SettlesInRounds bytes_of columns segments start before now joined → joined.rejudged ≡ 0
 none_rejudged {M} {bytes_of} {columns} {segments} {start} joined sound words faults shows settles =
     let shown : ShowsFrom start columns (map segment_lines segments) =
@@ -618,15 +615,15 @@ none_rejudged {M} {bytes_of} {columns} {segments} {start} joined sound words fau
     settles.rejudged ∙ none_again start columns (map segment_lines segments) settles.rounds settles.are shown
 
 -- what is promised of segments that rounds settled, in one
-pub record PromisesRounds {M E : Type 0} (bytes_of : M → Bytes) (ram_of : M → Span) (columns : ColumnList)
-    (segments : List Segment) (start : HartState) (before now : ℕ) (result : Result (JoinedSegments M) E)
+pub record PromisesRounds {M E : Type 0} (bytes_of : M → Bytes) (ram_of : M → Span) (columns : TraceColumns)
+    (segments : List Segment) (start : SetState) (before now : ℕ) (result : Result (JoinedSegments M) E)
     : Type 0 where
   pub settles : IfOk result (SettlesInRounds bytes_of columns segments start before now)
-  pub can_step : IfOk result (λ joined. IfSome joined.end (CanStep ram_of))
+  pub can_step : IfOk result (λ joined. IfSome joined.end (SetCanStep ram_of))
 
-pub settled_by_rounds : {M E : Type 0} {bytes_of : M → Bytes} {ram_of : M → Span} {columns : ColumnList}
-    {segments : List Segment} {start : HartState} {before now : ℕ} (result : Result (JoinedSegments M) E)
-    → IsSound start.core → HoldsWords start
+pub settled_by_rounds : {M E : Type 0} {bytes_of : M → Bytes} {ram_of : M → Span} {columns : TraceColumns}
+    {segments : List Segment} {start : SetState} {before now : ℕ} (result : Result (JoinedSegments M) E)
+    → All IsSound start.core → SetHoldsWords start
     → PromisesRounds bytes_of ram_of columns segments start before now result
     → IfOk result (IsSettled bytes_of ram_of columns segments start)
 settled_by_rounds (Err error) sound words promised = tt

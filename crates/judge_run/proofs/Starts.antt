@@ -1,6 +1,11 @@
 -- Where a run starts, by what was read of an image.
 use Rattle.std.proofs.Common.{◌≡◌, ℕ, true, false, List, length, nat_lt, Option, Some, None, IsSome, Result, Ok, Err}
-use Rattle.std.proofs.Common.{refl, sym, ap, ◌∙◌, [], ◌+◌, arith, IsTrue, is_some, subst}
+use Rattle.std.proofs.Common.{refl, sym, ap, ◌∙◌, [], ◌∷◌, ◌+◌, ◌<◌, ◌≤◌, arith, IsTrue, is_some, map, replicate, subst}
+use Rattle.std.specs.Global.{Global}
+use Rattle.std.specs.Prelude.{Vec}
+use Rattle.std.specs.List.{All}
+use Rattle.std.proofs.lemmas.List.Elements.{All-cons, All-head, All-nil, All-tail, All-weaker}
+use Rattle.std.proofs.lemmas.List.{length-map, length-replicate}
 use Rattle.std.proofs.lemmas.Bool.Decides.{nat_tests}
 use Rattle.hart_step.specs.Cores.{IsSound, core_at_reset}
 use Rattle.image_text.specs.declared.pieces.Pieces.{Pieces}
@@ -9,6 +14,7 @@ use Rattle.judge_run.specs.Starts.{CanBegin, IsStartOf}
 use Rattle.judge_run.specs.declared.start.Start.{Start}
 use Rattle.page_image.specs.Bytes.{byte_of}
 use Rattle.state_text.specs.declared.state.State.{State}
+use Rattle.state_text.specs.declared.state.TheConstants.{MOST_HARTS}
 use Rattle.std.specs.Prelude.{unwrap_or}
 use Rattle.std.proofs.lemmas.Bool.{ltb-false}
 use Rattle.std.proofs.lemmas.List.{take_all}
@@ -34,14 +40,15 @@ use Rattle.hart_words.specs.declared.span.Span.{Span}
 use Rattle.hart_words.specs.Memory.{Bytes}
 use Rattle.hart_words.specs.Spans.{LiesIn, is_in}
 use Rattle.hart_step.specs.declared.state.Core.{Core}
-use Rattle.hart_step.specs.Rows.{HartState}
+use Rattle.hart_step.specs.HartSets.{SetState}
 use Rattle.state_text.specs.declared.fault.StateFault.{StateFault}
 use Rattle.state_text.specs.declared.fault.StateError.{StateError}
 use Rattle.state_text.specs.declared.fault.StateError.TheVariants as states
 use Rattle.state_text.specs.Laws.{IsZeroOutside}
+use Rattle.judge_run.specs.Starts.{HaveSettings}
 use Rattle.state_text.specs.Memory.{memory_of}
 use Rattle.state_text.specs.Texts.{state_fault, state_in}
-use Rattle.state_text.proofs.OneText.{has_state}
+use Rattle.state_text.specs.Laws.{IsOver}
 use Rattle.judge_run.specs.declared.stop.Stop.{Stop}
 use Rattle.judge_run.specs.Answer.{core_from, elf_start, image_start, outcome_of, required_text, saved_start, start_at}
 use Rattle.judge_run.specs.Answer.{start_in, start_of, text_start}
@@ -82,96 +89,115 @@ outside_none ram bytes inside a out = by (bytes a) refl
         absurd cc
 
 -- what the text describes is the memory
-pub text_read : (job : JobView) (bytes : ℕ → Option ℕ) (core : Core) (read : Result (ℕ → Option ℕ) ImageFault)
-    → core ≡ core_at_reset (unwrap_or job.pc FIRST_PC) job.map job.choices → read ≡ Ok bytes
-    → text_start job read ≡ Ok (record { core = core; bytes = λ a. unwrap_or (bytes a) 0 })
-text_read job bytes core read begins is = ap (text_start job) is ∙ rw begins refl
+pub text_read : (job : JobView) (bytes : ℕ → Option ℕ) (cores : List Core) (read : Result (ℕ → Option ℕ) ImageFault)
+    → cores ≡ replicate job.harts (core_at_reset (unwrap_or job.pc FIRST_PC) job.map job.choices) → read ≡ Ok bytes
+    → text_start job read ≡ Ok (record { core = cores; bytes = λ a. unwrap_or (bytes a) 0 })
+text_read job bytes cores read begins is = ap (text_start job) is ∙ rw begins refl
 
-pub text_refused : {X : Type 0} (job : JobView) (view : X → HartState) (error : ImageError)
+pub text_refused : {X : Type 0} (job : JobView) (view : X → SetState) (error : ImageError)
     (read : Result (ℕ → Option ℕ) ImageFault) → FailsAs (image_fault error) read
     → MeantBy view (Err (image_stop job error)) (text_start job read)
 text_refused job view (errors.Fault fault) read refused = ap (text_start job) refused
 text_refused job view errors.NoMemory read refused = tt
 
 -- the same of an ELF file
-pub elf_read : (job : JobView) (bytes : ℕ → Option ℕ) (entry : ℕ) (core : Core)
+pub elf_read : (job : JobView) (bytes : ℕ → Option ℕ) (entry : ℕ) (cores : List Core)
     (read : Result ((ℕ → Option ℕ) × ℕ) ElfFault)
-    → core ≡ core_at_reset (unwrap_or job.pc entry) job.map job.choices → read ≡ Ok (bytes, entry)
-    → elf_start job read ≡ Ok (record { core = core; bytes = λ a. unwrap_or (bytes a) 0 })
-elf_read job bytes entry core read begins is = ap (elf_start job) is ∙ rw begins refl
+    → cores ≡ replicate job.harts (core_at_reset (unwrap_or job.pc entry) job.map job.choices)
+    → read ≡ Ok (bytes, entry) → elf_start job read ≡ Ok (record { core = cores; bytes = λ a. unwrap_or (bytes a) 0 })
+elf_read job bytes entry cores read begins is = ap (elf_start job) is ∙ rw begins refl
 
-pub elf_refused : {X : Type 0} (job : JobView) (view : X → HartState) (error : ElfError)
+pub elf_refused : {X : Type 0} (job : JobView) (view : X → SetState) (error : ElfError)
     (read : Result ((ℕ → Option ℕ) × ℕ) ElfFault) → FailsAs (elf_fault error) read
     → MeantBy view (Err (elf_stop job error)) (elf_start job read)
 elf_refused job view (elf.Fault fault) read refused = ap (elf_start job) refused
 elf_refused job view elf.NoMemory read refused = tt
 
 -- the same of a saved state
-pub saved_read : (job : JobView) (core begun : Core) (bytes : Bytes) (read : Result (Core × Bytes) StateFault)
-    → begun ≡ core_from job.pc core → read ≡ Ok (core, bytes)
+pub saved_read : (job : JobView) (cores begun : List Core) (bytes : Bytes)
+    (read : Result (List Core × Bytes) StateFault) → begun ≡ map (core_from job.pc) cores → read ≡ Ok (cores, bytes)
     → saved_start job read ≡ Ok (record { core = begun; bytes = bytes })
-saved_read job core begun bytes read begins is = ap (saved_start job) is ∙ rw begins refl
+saved_read job cores begun bytes read begins is = ap (saved_start job) is ∙ rw begins refl
 
-pub saved_refused : {X : Type 0} (job : JobView) (view : X → HartState) (error : StateError)
-    (read : Result (Core × Bytes) StateFault) → FailsAs (state_fault error) read
+pub saved_refused : {X : Type 0} (job : JobView) (view : X → SetState) (error : StateError)
+    (read : Result (List Core × Bytes) StateFault) → FailsAs (state_fault error) read
     → MeantBy view (Err (state_stop job error)) (saved_start job read)
 saved_refused job view (states.Fault fault) read refused = ap (saved_start job) refused
 saved_refused job view states.NoMemory read refused = tt
 
--- the map and the choices of a saved state are those that it was read over
-pub saved_map : (map : Map) (choices : Choices) (text : List ℕ) (core : Core) (bytes : Bytes)
-    → state_in map choices text ≡ Ok (core, bytes) → core.map ≡ map
-saved_map map choices text core bytes is =
-    ap (λ (core : Core). core.map) (sym (has_state map choices text core bytes is).same)
+-- a hart at reset for each number
+pub all_at_reset : (core : Core) (cores : List Core) (count harts : ℕ) → cores ≡ replicate count core → count ≡ harts
+    → cores ≡ replicate harts core
+all_at_reset core cores count harts is same = is ∙ ap (λ n. replicate n core) same
 
-pub saved_choices : (map : Map) (choices : Choices) (text : List ℕ) (core : Core) (bytes : Bytes)
-    → state_in map choices text ≡ Ok (core, bytes) → core.choices ≡ choices
-saved_choices map choices text core bytes is =
-    ap (λ (core : Core). core.choices) (sym (has_state map choices text core bytes is).same)
+pub as_many_at_reset : (core : Core) (cores : List Core) (count : ℕ) → cores ≡ replicate count core
+    → length cores ≡ count
+as_many_at_reset core cores count is = ap (λ (xs : List Core). length xs) is ∙ length-replicate count core
 
 -- a saved state was read
-pub record ReadsSaved (map : Map) (choices : Choices) (text : List ℕ) (state : State) : Type 0 where
-  pub read : state_in map choices text ≡ Ok (state.core, memory_of state.pieces)
+pub record ReadsSaved (map : Map) (choices : Choices) (harts : ℕ) (text : List ℕ) (state : State) : Type 0 where
+  pub read : state_in map choices harts text ≡ Ok (state.cores.items, memory_of state.pieces)
   pub inside : (a : ℕ) → IsTrue (is_some (byte_at state.pieces a)) → LiesIn a map.ram
+  pub some : 0 < length state.cores.items
+  pub few : length state.cores.items ≤ MOST_HARTS
+  pub over : HaveSettings map choices state.cores.items
+
+maps_begun : (over : Map) (choices : Choices) (given : Option ℕ) (cores : List Core) → HaveSettings over choices cores
+    → All (λ core. core.map ≡ over) (map (core_from given) cores)
+maps_begun over choices given [] all = All-nil (λ core. core.map ≡ over)
+maps_begun over choices given (core ∷ cores) all =
+    let first = All-head (IsOver over choices) core cores all in
+    All-cons (λ core. core.map ≡ over) (core_from given core) (map (core_from given) cores) first.map_is
+    (maps_begun over choices given cores (All-tail (IsOver over choices) core cores all))
 
 -- so a run may begin there
-pub saved_begins : {text : List ℕ} {map : Map} {choices : Choices} {state : State} (given : Option ℕ) (begun : Core)
-    → ReadsSaved map choices text state → begun ≡ core_from given state.core → IsSound begun
-    → IsStartOf map (record { core = begun; pieces = state.pieces })
-saved_begins {text} {map} {choices} {state} given begun reads begins sound =
+pub saved_begins : {text : List ℕ} {over : Map} {choices : Choices} {harts : ℕ} {state : State} (given : Option ℕ)
+    (begun : Vec Core Global) → ReadsSaved over choices harts text state
+    → begun.items ≡ map (core_from given) state.cores.items → All IsSound begun.items
+    → IsStartOf over (record { cores = begun; pieces = state.pieces })
+saved_begins {text} {over} {choices} {harts} {state} given begun reads begins sound =
+    let cores = state.cores.items in
+    let many : length begun.items ≡ length cores =
+    ap (λ (xs : List Core). length xs) begins ∙ length-map cores (core_from given) in
     record {
+      some = omega (arith, many, reads.some);
+      few = omega (arith, many, reads.few);
       sound = sound;
-      map =
-          ap (λ (core : Core). core.map) begins
-          ∙ saved_map map choices text state.core (memory_of state.pieces) reads.read;
-      outside = outside_none map.ram (byte_at state.pieces) reads.inside;
+      maps = subst (All (λ core. core.map ≡ over)) (sym begins)
+          (maps_begun over choices given cores reads.over);
+      outside = outside_none over.ram (byte_at state.pieces) reads.inside;
     }
 
-pub begins_built : {map : Map} {state : State} (start : Start) → IsStartOf map state → start.core ≡ state.core
-    → start.image.ram ≡ map.ram → byte_of start.image ≡ memory_of state.pieces → CanBegin start
-begins_built {map} {state} start is core ram bytes =
-    let same : start.core.map ≡ map = ap (λ (core : Core). core.map) core ∙ is.map in
+pub begins_built : {over : Map} {state : State} (start : Start) → IsStartOf over state
+    → start.cores.items ≡ state.cores.items → start.image.ram ≡ over.ram
+    → byte_of start.image ≡ memory_of state.pieces → CanBegin start
+begins_built {over} {state} start is cores ram bytes =
     record {
-      sound =
-          subst IsSound (sym core) is.sound;
-      ram = ram ∙ ap (λ (map : Map). map.ram) (sym same);
-      outside =
-          subst (λ (map : Map). IsZeroOutside map.ram (byte_of start.image)) (sym same)
-          (subst (IsZeroOutside map.ram) (sym bytes) is.outside);
+      can_step =
+          record {
+            some = omega (arith, is.some, ap (λ (xs : List Core). length xs) cores);
+            sound = subst (All IsSound) (sym cores) is.sound;
+            maps = subst (All (λ core. start.image.ram ≡ core.map.ram)) (sym cores)
+                (All-weaker (λ core. core.map ≡ over) (λ core. start.image.ram ≡ core.map.ram)
+                (λ core has. ram ∙ ap (λ (m : Map). m.ram) (sym has)) state.cores.items is.maps);
+          };
+      few = omega (arith, is.few, ap (λ (xs : List Core). length xs) cores);
+      outside = subst (λ span. IsZeroOutside span (byte_of start.image)) (sym ram)
+          (subst (IsZeroOutside over.ram) (sym bytes) is.outside);
     }
 
 -- what stops the reading of a whole file stops the run
-pub whole_refused : {X Y : Type 0} {job : JobView} {file : List ℕ} {front : Front} (pieces : Y → HartState)
-    (view : X → HartState) (stop : Stop) → IsReadWhole job file front
+pub whole_refused : {X Y : Type 0} {job : JobView} {file : List ℕ} {front : Front} (pieces : Y → SetState)
+    (view : X → SetState) (stop : Stop) → IsReadWhole job file front
     → MeantBy pieces (Err stop) (image_start job front.bytes.items)
     → MeantBy view (Err stop) (start_in job file)
 whole_refused pieces view (Known outcome) is meant = whole is ∙ meant
 whole_refused pieces view ReadFault is meant = tt
 whole_refused pieces view NoMemory is meant = tt
 
-pub whole_built : {job : JobView} {file : List ℕ} {front : Front} {read start : HartState} → IsReadWhole job file front
+pub whole_built : {job : JobView} {file : List ℕ} {front : Front} {read start : SetState} → IsReadWhole job file front
     → image_start job front.bytes.items ≡ Ok read → start ≡ read → start_in job file ≡ Ok start
-whole_built is meant same = whole is ∙ meant ∙ ap (λ (s : HartState). Ok s) (sym same)
+whole_built is meant same = whole is ∙ meant ∙ ap (λ (s : SetState). Ok s) (sym same)
 
 -- the front of a file that is there was read
 pub record ReadsFront (files : Option Files) (name : List ℕ) (job : JobView) (front : Front) : Type 0 where
@@ -179,7 +205,7 @@ pub record ReadsFront (files : Option Files) (name : List ℕ) (job : JobView) (
   pub is_front : IsFront (file_of files name) job.max_image front
 
 -- where a run starts from a told file, by its front
-pub start_told : {X : Type 0} {name : List ℕ} {job : JobView} {front : Front} (view : X → HartState)
+pub start_told : {X : Type 0} {name : List ℕ} {job : JobView} {front : Front} (view : X → SetState)
     (files : Option Files) (result : Result X Stop) → ReadsFront files name job front
     → ((file : List ℕ) → HasFront file job.max_image front → MeantBy view result (start_in job file))
     → MeantWhereKnown files view result (λ files. start_of job (files name))

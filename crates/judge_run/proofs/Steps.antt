@@ -8,7 +8,7 @@ use Rattle.judge_words.specs.declared.job.Job.{Job}
 use Rattle.judge_words.specs.declared.job.Command.{Command}
 use Rattle.judge_words.specs.declared.job.Command.TheVariants.{Judge, Make}
 use Rattle.judge_words.specs.declared.job.Product.{Product}
-use Rattle.hart_step.specs.Rows.{HartState}
+use Rattle.hart_step.specs.HartSets.{SetState}
 use Rattle.hart_step.specs.declared.state.Core.{Core}
 use Rattle.hart_words.specs.Memory.{Bytes}
 use Rattle.state_text.specs.declared.fault.StateFault.{StateFault}
@@ -42,7 +42,7 @@ stopped_by : (job : JobView) (image trace : Option (List ℕ)) (stop : Option Ou
 unfolding job_answer
 stopped_by job image trace stop refused = rw refused refl
 
-pub job_stop : {X : Type 0} (view : X → HartState) (known_files : Option Files) (job : JobView) (image trace : List ℕ)
+pub job_stop : {X : Type 0} (view : X → SetState) (known_files : Option Files) (job : JobView) (image trace : List ℕ)
     (stop : Stop) → MeantWhereKnown known_files view (Err stop) (λ files. start_of job (files image))
     → MeantWhereKnown {X = Answer} known_files answer_view (Err stop)
     (λ files. job_answer job (files image) (files trace))
@@ -59,7 +59,7 @@ lacks_start None job image trace lacks = lacks
 lacks_start (Some files) job image trace lacks = stopped_by job (files image) (files trace) None lacks
 
 -- the trace decides where there is a start
-goes_on : (job : JobView) (image trace : Option (List ℕ)) (start : HartState) → start_of job image ≡ Ok start
+goes_on : (job : JobView) (image trace : Option (List ℕ)) (start : SetState) → start_of job image ≡ Ok start
     → job_answer job image trace ≡ trace_answer job start trace
 unfolding job_answer
 goes_on job image trace start read = rw read refl
@@ -70,11 +70,11 @@ along view result one other same meant =
     let P : Step _ → Type 0 = λ step. MeantBy view result step in subst P same meant
 
 -- the image of a job was read, and the run starts where this shows
-pub record ReadsImage {X : Type 0} (view : X → HartState) (files : Option Files) (job : JobView) (name : List ℕ)
+pub record ReadsImage {X : Type 0} (view : X → SetState) (files : Option Files) (job : JobView) (name : List ℕ)
     (image : X) : Type 0 where
   pub read : MeantWhereKnown files view (Ok image) (λ files. start_of job (files name))
 
-pub job_trace : {X : Type 0} {view : X → HartState} {job : JobView} {name : List ℕ} {image : X} (files : Option Files)
+pub job_trace : {X : Type 0} {view : X → SetState} {job : JobView} {name : List ℕ} {image : X} (files : Option Files)
     (trace : List ℕ) (result : Result Answer Stop) → ReadsImage view files job name image
     → MeantWhereKnown files answer_view result (λ files. trace_answer job (view image) (files trace))
     → MeantWhereKnown files answer_view result (λ files. job_answer job (files name) (files trace))
@@ -84,7 +84,7 @@ job_trace {X} {view} {job} {name} {image} (Some files) trace result image_is mea
     (job_answer job (files name) (files trace))
     (sym (goes_on job (files name) (files trace) (view image) image_is.read)) meant
 
-lacks_trace : {X : Type 0} {view : X → HartState} {job : JobView} {name : List ℕ} {image : X} (files : Option Files)
+lacks_trace : {X : Type 0} {view : X → SetState} {job : JobView} {name : List ℕ} {image : X} (files : Option Files)
     (trace : List ℕ) → ReadsImage view files job name image
     → LacksFile files (λ files. trace_answer job (view image) (files trace))
     → LacksFile files (λ files. job_answer job (files name) (files trace))
@@ -101,7 +101,7 @@ missed_start files job image trace NoMemory before now misses = misses
 missed_start files job image trace ReadFault before now misses =
     λ rise. lacks_start files job image trace (misses rise)
 
-pub missed_trace : {X : Type 0} {view : X → HartState} {job : JobView} {name : List ℕ} {image : X} {before mid : ℕ}
+pub missed_trace : {X : Type 0} {view : X → SetState} {job : JobView} {name : List ℕ} {image : X} {before mid : ℕ}
     (files : Option Files) (trace : List ℕ) (result : Result Answer Stop) (now : ℕ)
     → ReadsImage view files job name image → mid ≡ before
     → MissesStop result files (λ files. trace_answer job (view image) (files trace)) mid now
@@ -153,10 +153,10 @@ start_lacks_none : (job : JobView) (text : List ℕ) → start_in job text ≡ E
 unfolding start_in
 start_lacks_none job text lacks =
     by (nat_lt job.max_image (length text)) (is_elf text) (is_saved text) (elf_of job.map.ram text)
-    (state_in job.map job.choices text) (image_of job.map.ram text) lacks
+    (state_in job.map job.choices job.harts text) (image_of job.map.ram text) lacks
   where
     by : (large elf saved : Bool) (file : Result ((ℕ → Option ℕ) × ℕ) ElfFault)
-        (state : Result (Core × Bytes) StateFault) (image : Result (ℕ → Option ℕ) ImageFault)
+        (state : Result (List Core × Bytes) StateFault) (image : Result (ℕ → Option ℕ) ImageFault)
         → (if large then Err (Some (outcome_of job (ImageTooLarge job.max_image)))
         else if elf then elf_start job file else if saved then saved_start job state else text_start job image)
         ≡ Err None → ⊥
@@ -168,7 +168,7 @@ start_lacks_none job text lacks =
     by false false false file state (Err fault) lacks = cc
     by false false false file state (Ok bytes) lacks = cc
 
-lines_lack_none : (job : JobView) (start : HartState) (lines : List (List ℕ)) (ending : Ending)
+lines_lack_none : (job : JobView) (start : SetState) (lines : List (List ℕ)) (ending : Ending)
     → lines_answer job start (record { lines = lines; ending = ending }) ≡ Err None → ⊥
 unfolding lines_answer columns_in
 lines_lack_none job start [] ending lacks = cc
@@ -182,7 +182,7 @@ pub lacks_none : (job : JobView) (image trace : List ℕ) → job_answer job (So
 unfolding job_answer start_of trace_answer
 lacks_none job image trace lacks = by (start_in job image) refl
   where
-    by : (read : Step HartState) → start_in job image ≡ read → ⊥
+    by : (read : Step SetState) → start_in job image ≡ read → ⊥
     by (Err None) is = start_lacks_none job image is
     by (Err (Some outcome)) is = let stopped = rw is at lacks in cc
     by (Ok start) is =

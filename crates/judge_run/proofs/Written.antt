@@ -1,15 +1,26 @@
 -- What was written of an answer.
-use Rattle.std.proofs.Common.{◌≡◌, ℕ, inr, List, ◌++◌, length, take, Option, Some, option_map, refl, sym, ap, ◌∙◌}
+use Rattle.std.proofs.Common.{◌≡◌, ◌<◌, ℕ, inr, IfSome, List, [], ◌∷◌, ◌++◌, length, take, Option, Some, Ok, option_map, refl, sym, ap, ◌∙◌}
+use Rattle.std.proofs.Common.{arith, subst}
+use Rattle.std.specs.List.{All}
+use Rattle.std.proofs.lemmas.List.Elements.{All-head}
+use Rattle.hart_words.specs.declared.choices.Choices.{Choices}
+use Rattle.hart_words.specs.declared.map.Map.{Map}
+use Rattle.hart_words.specs.declared.span.Span.{Span}
+use Rattle.hart_words.specs.Memory.{Bytes}
+use Rattle.hart_set.specs.declared.set.HartSet.{HartSet}
+use Rattle.hart_step.specs.declared.state.Core.{Core}
+use Rattle.state_text.specs.Laws.{IsOver, IsZeroOutside}
 use Rattle.std.proofs.Math.Seq.{take-append_seam}
 use Rattle.outside_ports.specs.Counts.{Rose}
-use Rattle.hart_step.specs.Rows.{HartState}
-use Rattle.state_text.specs.Texts.{saved_text}
+use Rattle.hart_step.specs.HartSets.{SetState}
+use Rattle.state_text.specs.Texts.{saved_text, state_in}
 use Rattle.state_text.specs.Writes.{WritesFront as WritesStateFront}
 use Rattle.judge_run.specs.Answer.{AnswerView, bytes_by}
-use Rattle.judge_run.specs.Ends.{Writes}
+use Rattle.judge_run.specs.Ends.{HasZerosOutside, IsReadBack, Writes}
+use Rattle.judge_run.specs.Starts.{CanGoOn}
 
 -- a front of a state's text, in place of the outcome's line
-pub state_front : {before now : Option (List ℕ)} {faults later : ℕ} (given : AnswerView) (state : HartState)
+pub state_front : {before now : Option (List ℕ)} {faults later : ℕ} (given : AnswerView) (state : SetState)
     → given.state ≡ Some state → WritesStateFront (saved_text state.core state.bytes) before now → Rose faults later
     → Writes given 5 before now faults later
 state_front {before} {now} given state is wrote rose =
@@ -28,3 +39,27 @@ state_front {before} {now} given state is wrote rose =
           (sym is);
       rose = rose;
     })
+
+-- harts over one map have memory that is 0 outside its RAM
+pub zeros_over : (map : Map) (choices : Choices) (cores : List Core) (bytes : Bytes) → 0 < length cores
+    → All (IsOver map choices) cores → All (λ core. IsZeroOutside core.map.ram bytes) cores
+    → IsZeroOutside map.ram bytes
+zeros_over map choices [] bytes some over zeros = absurd (omega (arith, some))
+zeros_over map choices (core ∷ cores) bytes some over zeros =
+    subst (λ (map : Map). IsZeroOutside map.ram bytes) (All-head (IsOver map choices) core cores over).map_is
+    (All-head (λ core. IsZeroOutside core.map.ram bytes) core cores zeros)
+
+-- the text of a state that an answer has is read back where memory is 0 outside RAM
+pub backs : (given : AnswerView) (state : SetState) → given.state ≡ Some state → 0 < length state.core
+    → ((map : Map) (choices : Choices) → All (IsOver map choices) state.core → IsZeroOutside map.ram state.bytes
+    → state_in map choices (length state.core) (saved_text state.core state.bytes) ≡ Ok (state.core, state.bytes))
+    → IfSome given.state (λ state. HasZerosOutside state → IsReadBack state)
+backs given state is some back =
+    subst (λ (state : Option SetState). IfSome state (λ state. HasZerosOutside state → IsReadBack state)) (sym is)
+    (λ zeros map choices over. back map choices over (zeros_over map choices state.core state.bytes some over zeros))
+
+-- harts that can be stepped on are some
+pub some_there : {M : Type 0} (ram_of : M → Span) {given : Option (HartSet Core M)} {harts : HartSet Core M}
+    → given ≡ Some harts → IfSome given (CanGoOn ram_of) → 0 < length harts.cores.items
+some_there {M} ram_of is goes =
+    (subst (λ (harts : Option (HartSet Core M)). IfSome harts (CanGoOn ram_of)) is goes).can_step.some

@@ -1,7 +1,7 @@
 -- The answer of a run: what the words, the image and the trace come to.
 use Rattle.std.specs.Prelude.{ℕ, Bool, nat_lt, ◌==◌, ◌&&◌, if◌then◌else◌, List, [], ◌∷◌, drop, length, slice_index}
 use Rattle.std.specs.Prelude.{Option}
-use Rattle.std.specs.Prelude.{Some, None, is_some, option_and_then, Result, Ok, Err, unwrap_or}
+use Rattle.std.specs.Prelude.{Some, None, is_some, map, option_and_then, replicate, Result, Ok, Err, unwrap_or}
 use Rattle.std.specs.List.{starts_with}
 use Rattle.outside_ports.specs.Ports.{Files}
 use Rattle.judge_words.specs.Job.{JobView, job_of}
@@ -20,7 +20,7 @@ use Rattle.trace_lines.specs.Lines.{RemainingLines, file_lines}
 use Rattle.rvfi_rows.specs.declared.fault.HeaderFault.{HeaderFault}
 use Rattle.rvfi_rows.specs.declared.verdict.Verdict.{Verdict}
 use Rattle.rvfi_rows.specs.declared.verdict.Verdict.TheVariants.{Agrees, Differs, Refused}
-use Rattle.rvfi_rows.specs.Columns.{ColumnList, header_columns}
+use Rattle.rvfi_rows.specs.Columns.{ColumnList, TraceColumns, header_columns}
 use Rattle.rvfi_rows.specs.Rows.{RowReading, rows_of}
 use Rattle.hart_words.specs.Results.{◌>>=◌}
 use Rattle.trace_report.specs.declared.outcome.Made.{Made}
@@ -31,8 +31,8 @@ use Rattle.trace_report.specs.Report.{report_of}
 use Rattle.hart_words.specs.Memory.{Bytes}
 use Rattle.hart_step.specs.declared.state.Core.{Core}
 use Rattle.hart_step.specs.Cores.{core_at_reset}
-use Rattle.hart_step.specs.Rows.{HartState}
-use Rattle.segment_judge.specs.Judgements.{by_hart}
+use Rattle.hart_step.specs.HartSets.{SetState}
+use Rattle.segment_judge.specs.Judgements.{by_set}
 use Rattle.segment_judge.specs.Laws.{Conclusion, conclusion_from}
 use Rattle.state_text.specs.declared.fault.StateFault.{StateFault}
 use Rattle.state_text.specs.Lines.{version_line}
@@ -41,10 +41,10 @@ use Rattle.state_text.specs.Texts.{saved_text, state_in}
 -- what a run comes to: an outcome, and the state whose text is written in place of the outcome's line, where one is
 pub record AnswerView : Type 0 where
   pub outcome : Outcome
-  pub state : Option HartState
+  pub state : Option SetState
 
 -- the bytes that are written: the outcome's line, or the text of the state
-abbrev pub bytes_by : Outcome → Option HartState → List ℕ
+abbrev pub bytes_by : Outcome → Option SetState → List ℕ
 bytes_by outcome None = report_of outcome
 bytes_by outcome (Some state) = saved_text state.core state.bytes
 
@@ -52,7 +52,7 @@ abbrev pub answer_bytes : AnswerView → List ℕ
 answer_bytes answer = bytes_by answer.outcome answer.state
 
 -- an answer by its parts
-abbrev pub answer_of : Outcome → Option HartState → AnswerView
+abbrev pub answer_of : Outcome → Option SetState → AnswerView
 answer_of outcome state = record { outcome = outcome; state = state }
 
 -- an outcome with its line
@@ -90,21 +90,21 @@ abbrev pub required_job : Option JobView → Step JobView
 required_job None = Err (Some (record { made = None; ruling = rulings.NoJob }))
 required_job (Some job) = Ok job
 
--- where a run starts: a hart at reset, over the image, and 0 elsewhere; the first pc is the one that the words give, or
--- else the image's
-abbrev pub start_at : JobView → (ℕ → Option ℕ) → ℕ → HartState
+-- where a run starts: so many harts at reset as the words say, over the image, and 0 elsewhere; the first pc is the one
+-- that the words give, or else the image's
+abbrev pub start_at : JobView → (ℕ → Option ℕ) → ℕ → SetState
 start_at job bytes pc = record {
-  core = core_at_reset (unwrap_or job.pc pc) job.map job.choices;
+  core = replicate job.harts (core_at_reset (unwrap_or job.pc pc) job.map job.choices);
   bytes = λ address. unwrap_or (bytes address) 0;
 }
 
 -- a Verilog text has no first pc of its own
-abbrev pub text_start : JobView → Result (ℕ → Option ℕ) ImageFault → Step HartState
+abbrev pub text_start : JobView → Result (ℕ → Option ℕ) ImageFault → Step SetState
 text_start job (Err fault) = Err (Some (outcome_of job (rulings.ImageFault fault)))
 text_start job (Ok bytes) = Ok (start_at job bytes FIRST_PC)
 
 -- an ELF file has its entry point
-abbrev pub elf_start : JobView → Result ((ℕ → Option ℕ) × ℕ) ElfFault → Step HartState
+abbrev pub elf_start : JobView → Result ((ℕ → Option ℕ) × ℕ) ElfFault → Step SetState
 elf_start job (Err fault) = Err (Some (outcome_of job (rulings.ElfFault fault)))
 elf_start job (Ok image) = Ok (start_at job image.0 image.1)
 
@@ -112,10 +112,10 @@ elf_start job (Ok image) = Ok (start_at job image.0 image.1)
 abbrev pub core_from : Option ℕ → Core → Core
 core_from pc core = record core { pc = unwrap_or pc core.pc }
 
--- a saved state has a hart and its memory
-abbrev pub saved_start : JobView → Result (Core × Bytes) StateFault → Step HartState
+-- a saved state has harts and their memory; a pc that the words give is that of every hart
+abbrev pub saved_start : JobView → Result (List Core × Bytes) StateFault → Step SetState
 saved_start job (Err fault) = Err (Some (outcome_of job (rulings.StateFault fault)))
-saved_start job (Ok saved) = Ok (record { core = core_from job.pc saved.0; bytes = saved.1 })
+saved_start job (Ok saved) = Ok (record { core = map (core_from job.pc) saved.0; bytes = saved.1 })
 
 -- the first four bytes are those of an ELF file
 abbrev pub is_elf : List ℕ → Bool
@@ -128,19 +128,19 @@ abbrev pub is_saved : List ℕ → Bool
 is_saved image = starts_with (λ a b. a == b) image version_line
 
 -- an image is an ELF file or a saved state by its first bytes, and else a Verilog text
-abbrev pub image_start : JobView → List ℕ → Step HartState
+abbrev pub image_start : JobView → List ℕ → Step SetState
 image_start job image =
     if is_elf image then elf_start job (elf_of job.map.ram image)
-    else if is_saved image then saved_start job (state_in job.map job.choices image)
+    else if is_saved image then saved_start job (state_in job.map job.choices job.harts image)
     else text_start job (image_of job.map.ram image)
 
 -- an image of too many bytes is refused before anything else in it
-unfoldable pub start_in : JobView → List ℕ → Step HartState
+unfoldable pub start_in : JobView → List ℕ → Step SetState
 start_in job image =
     if nat_lt job.max_image (length image) then Err (Some (outcome_of job (rulings.ImageTooLarge job.max_image)))
     else image_start job image
 
-unfoldable pub start_of : JobView → Option (List ℕ) → Step HartState
+unfoldable pub start_of : JobView → Option (List ℕ) → Step SetState
 start_of job image = do
   bytes ← required_text image
   start_in job bytes
@@ -162,29 +162,29 @@ ruling_at_end job endings.More (Agrees rows valid) = rulings.Verdict (Agrees row
 ruling_at_end job ending (Differs row difference) = rulings.Verdict (Differs row difference)
 ruling_at_end job ending (Refused row fault) = rulings.Verdict (Refused row fault)
 
-abbrev pub as_columns : JobView → Result ColumnList HeaderFault → Step ColumnList
+abbrev pub as_columns : JobView → Result ColumnList HeaderFault → Step TraceColumns
 as_columns job (Err fault) = Err (Some (outcome_of job (rulings.HeaderFault fault)))
-as_columns job (Ok columns) = Ok columns
+as_columns job (Ok columns) = Ok (record { named = columns; harts = job.harts })
 
 -- the columns that the first line names; where there is no line, the ending decides
-unfoldable pub columns_in : JobView → RemainingLines → Step ColumnList
+unfoldable pub columns_in : JobView → RemainingLines → Step TraceColumns
 columns_in job left = by_first left.lines
   where
-    by_first : List (List ℕ) → Step ColumnList
+    by_first : List (List ℕ) → Step TraceColumns
     by_first [] = Err (Some (outcome_of job (without_header job left.ending)))
     by_first (header ∷ rows) = as_columns job (header_columns header)
 
 -- what all rows come to: the ruling on them, and the state after them where they agree
 pub record RowsEnd : Type 0 where
   pub ruling : Ruling
-  pub state : Option HartState
+  pub state : Option SetState
 
 -- the same of what was judged, where the trace ends so
-abbrev pub rows_end : JobView → Ending → Conclusion Core → RowsEnd
+abbrev pub rows_end : JobView → Ending → Conclusion (List Core) → RowsEnd
 rows_end job ending judged = record { ruling = ruling_at_end job ending judged.verdict; state = judged.end }
 
 -- the state that is written: the last one, where the words ask for it and the ruling is that the rows agree
-abbrev pub state_written : {N : Type 0} → Command N → Ruling → Option HartState → Option HartState
+abbrev pub state_written : {N : Type 0} → Command N → Ruling → Option SetState → Option SetState
 state_written (Judge image trace State) (rulings.Verdict (Agrees rows valid)) state = state
 state_written command ruling state = None
 
@@ -195,15 +195,15 @@ answer_with job end = record {
   state = state_written job.command end.ruling end.state;
 }
 
--- The first line is the header, each other a row. A hart is stepped by all rows in order, from the start, and each is
--- compared with what it did.
-unfoldable pub lines_answer : JobView → HartState → RemainingLines → Step AnswerView
+-- The first line is the header, each other a row. Rows step their harts in order, from the start, and each is compared
+-- with what its hart did.
+unfoldable pub lines_answer : JobView → SetState → RemainingLines → Step AnswerView
 lines_answer job start left = do
   columns ← columns_in job left
-  let judged = conclusion_from by_hart start (rows_of columns (drop 1 left.lines))
+  let judged = conclusion_from by_set start (rows_of columns (drop 1 left.lines))
   Ok (answer_with job (rows_end job left.ending judged))
 
-unfoldable pub trace_answer : JobView → HartState → Option (List ℕ) → Step AnswerView
+unfoldable pub trace_answer : JobView → SetState → Option (List ℕ) → Step AnswerView
 trace_answer job start trace = do
   text ← required_text trace
   lines_answer job start (file_lines job.max_trace text)

@@ -1,13 +1,14 @@
 -- How a run of the judge ends.
 use Rattle.std.specs.Prelude.{◌≡◌, ℕ, ◌<◌, ◌⊎◌, false, true, List, ◌++◌, take, Option, Some, None, IfSome, option_map}
-use Rattle.std.specs.Prelude.{Result, Ok, Err, is_none}
+use Rattle.std.specs.Prelude.{All, Result, Ok, Err, is_none, length}
+use Rattle.hart_words.specs.declared.choices.Choices.{Choices}
+use Rattle.hart_words.specs.declared.map.Map.{Map}
 use Rattle.outside_ports.specs.Counts.{Rose}
 use Rattle.outside_ports.specs.Ports.{Files}
 use Rattle.judge_words.specs.Job.{JobView, job_of}
 use Rattle.trace_report.specs.Report.{status_of}
 use Rattle.trace_maker.specs.Texts.{made_image, made_trace}
-use Rattle.hart_step.specs.Harts.{CanStep, state_of}
-use Rattle.hart_step.specs.Rows.{HartState}
+use Rattle.hart_step.specs.HartSets.{SetState, set_state_of}
 use Rattle.page_layers.specs.Memories.{layered_bytes, layered_ram}
 use Rattle.state_text.specs.Laws.{IsZeroOutside}
 use Rattle.state_text.specs.Texts.{saved_text, state_in}
@@ -16,6 +17,7 @@ use Rattle.judge_run.specs.declared.stop.Stop.{Stop}
 use Rattle.judge_run.specs.declared.stop.Stop.TheVariants.{Known, ReadFault, NoMemory}
 use Rattle.judge_run.specs.Answer.{AnswerView, Step, answer, answer_bytes, answer_by_line, answer_of_step, is_made}
 use Rattle.judge_run.specs.Answer.{job_answer}
+use Rattle.judge_run.specs.Starts.{CanGoOn, HaveSettings}
 use Rattle.judge_run.specs.Stops.{LacksFile, is_no_job}
 
 -- what contracts see of the outside at one moment: the shelf's faults and misses, what the sink holds, its faults
@@ -41,16 +43,21 @@ sink_moment held_of faults_of out =
 
 -- an answer in code, as it is defined
 abbrev pub answer_view : Answer → AnswerView
-answer_view given = record { outcome = given.outcome; state = option_map (state_of layered_bytes) given.hart }
+answer_view given = record { outcome = given.outcome; state = option_map (set_state_of layered_bytes) given.harts }
 
--- the hart whose state is written can be stepped on
+-- the harts whose state is written can be stepped on, and are no more than a state may have
 abbrev pub CanStepOn : Answer → Type 0
-CanStepOn given = IfSome given.hart (CanStep layered_ram)
+CanStepOn given = IfSome given.harts (CanGoOn layered_ram)
 
--- the text of a state is read again as that state
-abbrev pub IsReadBack : HartState → Type 0
+-- the text of a state is read again as that state, over the map and by the choices that its harts have
+abbrev pub IsReadBack : SetState → Type 0
 IsReadBack state =
-    state_in state.core.map state.core.choices (saved_text state.core state.bytes) ≡ Ok (state.core, state.bytes)
+    (map : Map) (choices : Choices) → HaveSettings map choices state.core
+    → state_in map choices (length state.core) (saved_text state.core state.bytes) ≡ Ok (state.core, state.bytes)
+
+-- memory is 0 outside the RAM of each hart's map
+abbrev pub HasZerosOutside : SetState → Type 0
+HasZerosOutside state = All (λ core. IsZeroOutside core.map.ram state.bytes) state.core
 
 -- the text of an answer was written whole, and the status is its own
 pub record Wrote (Is : AnswerView → Type 0) (before now : OutsideState) (status : ℕ) : Type 0 where
@@ -164,7 +171,7 @@ WritesFound view (Err NoMemory) status before now faults later = WritesNone 6 st
 -- the state that is written of what was found is read back, where its memory is 0 outside RAM
 abbrev pub BacksFound : {X : Type 0} → (X → AnswerView) → Result X Stop → Type 0
 BacksFound view (Ok given) =
-    IfSome (view given).state (λ state. IsZeroOutside state.core.map.ram state.bytes → IsReadBack state)
+    IfSome (view given).state (λ state. HasZerosOutside state → IsReadBack state)
 BacksFound view (Err stop) = Unit {0}
 
 -- the status and the bytes are those of the answer

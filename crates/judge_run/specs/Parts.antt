@@ -12,13 +12,14 @@ use Rattle.trace_lines.specs.Takers.{remaining_lines_of, room_of}
 use Rattle.rvfi_rows.specs.declared.row_counts.RowCounts.{RowCounts}
 use Rattle.rvfi_rows.specs.declared.verdict.Verdict.{Verdict}
 use Rattle.rvfi_rows.specs.declared.verdict.Verdict.TheVariants.{Agrees}
-use Rattle.rvfi_rows.specs.Columns.{ColumnList}
+use Rattle.rvfi_rows.specs.Columns.{TraceColumns}
 use Rattle.rvfi_rows.specs.Rows.{rows_of}
 use Rattle.rvfi_rows.specs.Segments.{line_count_of, segment_lines}
-use Rattle.hart_step.specs.declared.hart.Hart.{Hart}
-use Rattle.hart_step.specs.Harts.{CanStep, state_of}
-use Rattle.hart_step.specs.Rows.{HartState}
-use Rattle.segment_judge.specs.Judgements.{by_hart, verdict_after_rows}
+use Rattle.hart_set.specs.declared.set.HartSet.{HartSet}
+use Rattle.hart_step.specs.declared.state.Core.{Core}
+use Rattle.hart_step.specs.HartSets.{set_state_of}
+use Rattle.hart_step.specs.HartSets.{SetState}
+use Rattle.segment_judge.specs.Judgements.{by_set, verdict_after_rows}
 use Rattle.segment_judge.specs.Laws.{conclusion_from}
 use Rattle.judge_run.specs.declared.parts.Settled.{Settled}
 use Rattle.judge_run.specs.declared.progress.Lookahead.{Lookahead}
@@ -28,18 +29,19 @@ use Rattle.judge_run.specs.declared.progress.TraceEnd.{TraceEnd}
 use Rattle.judge_run.specs.declared.progress.Passed.{Passed}
 use Rattle.judge_run.specs.declared.progress.Passed.TheVariants.{Continue, Ends}
 use Rattle.judge_run.specs.Answer.{RowsEnd, ruling_at_end}
+use Rattle.judge_run.specs.Starts.{CanGoOn}
 use Rattle.judge_run.specs.Taking.{remaining_after, with_lines_before, more_turns}
 
 -- how many rows were judged, how many of them are valid, and the state after them
 pub record TracePosition : Type 0 where
   pub rows : ℕ
   pub valid : ℕ
-  pub state : HartState
+  pub state : SetState
 
 -- what all rows come to, by what was reached and the lines that are left
-unfoldable pub end_after : JobView → ColumnList → TracePosition → RemainingLines → RowsEnd
+unfoldable pub end_after : JobView → TraceColumns → TracePosition → RemainingLines → RowsEnd
 end_after job columns reached left =
-    let rest = conclusion_from by_hart reached.state (rows_of columns left.lines) in
+    let rest = conclusion_from by_set reached.state (rows_of columns left.lines) in
     record {
       ruling =
           ruling_at_end job left.ending (verdict_after_rows reached.rows reached.valid rest.verdict);
@@ -50,18 +52,18 @@ end_after job columns reached left =
 abbrev pub end_of : {M : Type 0} → JobView → (M → Bytes) → TraceEnd M → RowsEnd
 end_of job bytes_of end = record {
   ruling = ruling_at_end job end.ending end.verdict;
-  state = option_map (state_of bytes_of) end.hart;
+  state = option_map (set_state_of bytes_of) end.harts;
 }
 
 abbrev pub position_of : {M : Type 0} → (M → Bytes) → Progress M → TracePosition
 position_of bytes_of progress = record {
   rows = progress.counts.rows;
   valid = progress.counts.valid;
-  state = state_of bytes_of progress.hart;
+  state = set_state_of bytes_of progress.harts;
 }
 
 -- what all rows come to, by what was reached and what is left of a file
-abbrev pub end_in : {M : Type 0} → JobView → ColumnList → (M → Bytes) → List ℕ → Progress M → RowsEnd
+abbrev pub end_in : {M : Type 0} → JobView → TraceColumns → (M → Bytes) → List ℕ → Progress M → RowsEnd
 end_in job columns bytes_of file progress =
     end_after job columns (position_of bytes_of progress) (remaining_lines_of file progress.taker)
 
@@ -75,13 +77,13 @@ remaining_rows file lookahead taker =
     with_lines_before (lookahead_lines lookahead) (remaining_after lookahead.ending (remaining_lines_of file taker))
 
 -- what all rows come to, by what was reached and the rows that are left
-abbrev pub end_with : {M : Type 0} → JobView → ColumnList → (M → Bytes) → List ℕ → Remaining M → RowsEnd
+abbrev pub end_with : {M : Type 0} → JobView → TraceColumns → (M → Bytes) → List ℕ → Remaining M → RowsEnd
 end_with job columns bytes_of file remaining =
     end_after job columns (position_of bytes_of remaining.progress)
     (remaining_rows file remaining.lookahead remaining.progress.taker)
 
 -- a part changes nothing of what all rows come to, or that is known after it
-abbrev pub PassesPart : {M : Type 0} → JobView → ColumnList → (M → Bytes) → List ℕ → Remaining M → Passed M → Type 0
+abbrev pub PassesPart : {M : Type 0} → JobView → TraceColumns → (M → Bytes) → List ℕ → Remaining M → Passed M → Type 0
 PassesPart job columns bytes_of file remaining (Continue next) =
     (end_with job columns bytes_of file next ≡ end_with job columns bytes_of file remaining)
     × (next.progress.taker.name ≡ remaining.progress.taker.name)
@@ -89,35 +91,35 @@ PassesPart job columns bytes_of file remaining (Ends end) =
     end_of job bytes_of end ≡ end_with job columns bytes_of file remaining
 
 -- where the file is told
-abbrev pub PassesWhereKnown : {M : Type 0} → JobView → ColumnList → (M → Bytes) → Option (List ℕ) → Remaining M
+abbrev pub PassesWhereKnown : {M : Type 0} → JobView → TraceColumns → (M → Bytes) → Option (List ℕ) → Remaining M
     → Passed M → Type 0
 PassesWhereKnown job columns bytes_of None remaining passed = Unit {0}
 PassesWhereKnown job columns bytes_of (Some file) remaining passed =
     PassesPart job columns bytes_of file remaining passed
 
 -- parts lead from where nothing was taken ahead to what remains
-pub record LeadsFrom {M : Type 0} (job : JobView) (columns : ColumnList) (bytes_of : M → Bytes) (file : List ℕ)
+pub record LeadsFrom {M : Type 0} (job : JobView) (columns : TraceColumns) (bytes_of : M → Bytes) (file : List ℕ)
     (first : Progress M) (remaining : Remaining M) : Type 0 where
   pub end : end_with job columns bytes_of file remaining ≡ end_in job columns bytes_of file first
   pub name : remaining.progress.taker.name ≡ first.taker.name
 
-abbrev pub LeadsFromWhereKnown : {M : Type 0} → JobView → ColumnList → (M → Bytes) → Option (List ℕ) → Progress M
+abbrev pub LeadsFromWhereKnown : {M : Type 0} → JobView → TraceColumns → (M → Bytes) → Option (List ℕ) → Progress M
     → Remaining M → Type 0
 LeadsFromWhereKnown job columns bytes_of None first remaining = Unit {0}
 LeadsFromWhereKnown job columns bytes_of (Some file) first remaining =
     LeadsFrom job columns bytes_of file first remaining
 
 -- the end is what all rows come to, where the file is told
-abbrev pub IsEndTold : {M : Type 0} → JobView → ColumnList → (M → Bytes) → Option (List ℕ) → Progress M → TraceEnd M
+abbrev pub IsEndTold : {M : Type 0} → JobView → TraceColumns → (M → Bytes) → Option (List ℕ) → Progress M → TraceEnd M
     → Type 0
 IsEndTold job columns bytes_of None progress end = Unit {0}
 IsEndTold job columns bytes_of (Some file) progress end =
     end_of job bytes_of end ≡ end_in job columns bytes_of file progress
 
--- the hart can be stepped on, and counts stay in 64 bits, for no more lines are left than bytes, each of four rows at
+-- the harts can be stepped on and are few, and counts stay in 64 bits, for no more lines are left than bytes, each of four rows at
 -- most
 pub record CanContinue {M : Type 0} (ram_of : M → Span) (progress : Progress M) : Type 0 where
-  pub can_step : CanStep ram_of progress.hart
+  pub can_go_on : CanGoOn ram_of progress.harts
   pub room : progress.counts.rows + 4 * room_of progress.taker < 2 ^ 62
 
 -- no row was taken ahead, and more may follow
@@ -138,7 +140,7 @@ segments_ahead lookahead = length lookahead.part.items + length lookahead.next.i
 
 -- the same of all that remains, of which no more segments than a window were taken ahead
 pub record CanContinueWith {M : Type 0} (window : ℕ) (ram_of : M → Span) (remaining : Remaining M) : Type 0 where
-  pub can_step : CanStep ram_of remaining.progress.hart
+  pub can_go_on : CanGoOn ram_of remaining.progress.harts
   pub room : remaining.progress.counts.rows
       + 4 * (length (lookahead_lines remaining.lookahead) + room_of remaining.progress.taker) < 2 ^ 62
   pub within_window : segments_ahead remaining.lookahead ≤ window
@@ -153,28 +155,28 @@ pub record HoldsAfter (window : ℕ) (taker : LineTaker) (lookahead : Lookahead)
   pub ending : more_turns now.ending ≤ more_turns lookahead.ending
   pub nonempty_where_more : more_turns now.ending ≤ segments_ahead lookahead + length now.next.items
 
--- a part of so many rows was counted on, with this hart after it and what was taken meanwhile
-pub record IsPartCounted {M : Type 0} (counts : RowCounts) (settled : Settled M) (rows valid : ℕ) (hart : Hart M)
+-- a part of so many rows was counted on, with these harts after it and what was taken meanwhile
+pub record IsPartCounted {M : Type 0} (counts : RowCounts) (settled : Settled M) (rows valid : ℕ) (harts : HartSet Core M)
     (next : Remaining M) : Type 0 where
-  pub hart_is : next.progress.hart ≡ hart
+  pub harts_are : next.progress.harts ≡ harts
   pub rows_are : next.progress.counts.rows ≡ counts.rows + rows
   pub valid_are : next.progress.counts.valid ≡ counts.valid + valid
   pub taker : next.progress.taker ≡ settled.taker
   pub lookahead : next.lookahead ≡ settled.lookahead
 
--- where a part leads, after so many rows: on from the hart after it where its rows agree, else to the end of all
-abbrev pub FollowsPartBy : {M : Type 0} → RowCounts → Settled M → Verdict → Option (Hart M) → Passed M → Type 0
-FollowsPartBy counts settled (Agrees rows valid) (Some hart) (Continue next) =
-    IsPartCounted counts settled rows valid hart next
-FollowsPartBy counts settled (Agrees rows valid) (Some hart) (Ends end) = ⊥
-FollowsPartBy counts settled verdict hart (Continue next) = ⊥
-FollowsPartBy counts settled verdict hart (Ends end) =
+-- where a part leads, after so many rows: on from the harts after it where its rows agree, else to the end of all
+abbrev pub FollowsPartBy : {M : Type 0} → RowCounts → Settled M → Verdict → Option (HartSet Core M) → Passed M → Type 0
+FollowsPartBy counts settled (Agrees rows valid) (Some harts) (Continue next) =
+    IsPartCounted counts settled rows valid harts next
+FollowsPartBy counts settled (Agrees rows valid) (Some harts) (Ends end) = ⊥
+FollowsPartBy counts settled verdict harts (Continue next) = ⊥
+FollowsPartBy counts settled verdict harts (Ends end) =
     end
     ≡ record {
       verdict =
           verdict_after_rows counts.rows counts.valid verdict;
       ending = endings.More;
-      hart = None;
+      harts = None;
     }
 
 abbrev pub FollowsPart : {M : Type 0} → RowCounts → Settled M → Passed M → Type 0
@@ -186,8 +188,8 @@ distance_to_end remaining =
     3 * room_of remaining.progress.taker + 2 * length remaining.lookahead.next.items
     + length remaining.lookahead.part.items + more_turns remaining.lookahead.ending
 
--- after a part that is not the last it is less, and the hart after the last can be stepped on
+-- after a part that is not the last it is less, and the harts after the last can be stepped on
 abbrev pub IsNearerEnd : {M : Type 0} → ℕ → (M → Span) → Remaining M → Passed M → Type 0
 IsNearerEnd window ram_of remaining (Continue next) =
     CanContinueWith window ram_of next × (distance_to_end next < distance_to_end remaining)
-IsNearerEnd window ram_of remaining (Ends end) = IfSome end.hart (CanStep ram_of)
+IsNearerEnd window ram_of remaining (Ends end) = IfSome end.harts (CanGoOn ram_of)

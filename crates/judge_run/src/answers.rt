@@ -1,20 +1,20 @@
 //! From what the rows of a trace come to, to what is written.
 
 ghost use Rattle.std.specs.Prelude.{◌≡◌, IfOk, IfSome, false, option_map};
-ghost use Rattle.hart_step.specs.Harts.{CanStep, state_of};
+ghost use Rattle.hart_step.specs.HartSets.{set_state_of};
 ghost use Rattle.judge_words.specs.Job.{job_view};
 ghost use Rattle.page_layers.specs.Memories.{layered_bytes, layered_ram};
-ghost use Rattle.state_text.specs.Laws.{IsZeroOutside};
 ghost use Rattle.judge_run.specs.Answer.{answer_by_line, answer_with, state_written};
-ghost use Rattle.judge_run.specs.Ends.{BacksFound, CanStepOn, IsReadBack, Writes, WritesFound, answer_view};
+ghost use Rattle.judge_run.specs.Ends.{BacksFound, CanStepOn, HasZerosOutside, IsReadBack, Writes, WritesFound, answer_view};
 ghost use Rattle.judge_run.specs.Parts.{end_of};
+ghost use Rattle.judge_run.specs.Starts.{CanGoOn};
 ghost use Rattle.judge_run.specs.Stops.{is_no_job};
 
 use crate::answer::Answer;
 use crate::outcomes::{outcome_of, ruling_at_end};
 use crate::progress::TraceEnd;
 use crate::stop::Stop;
-use hart_step::Hart;
+use hart_step::Harts;
 use hart_words::NoMemory;
 use judge_words::{Command, Job, Product};
 use outside_ports::{Sink, write_all};
@@ -25,7 +25,7 @@ use trace_report::{Outcome, Ruling, report, status};
 
 /// What a job comes to by what the rows of its trace do.
 pub fn answer_with<'a>(job: &Job, end: TraceEnd<Layered<'a>>) -> Result<Answer<'a>, NoMemory>
-    requires { IfSome end.hart (CanStep layered_ram) }
+    requires { IfSome end.harts (CanGoOn layered_ram) }
     ensures answer { IfOk result (λ answer. answer_view answer
         ≡ answer_with (job_view job.now)
         (end_of (job_view job.now) layered_bytes end.entry)) }
@@ -33,25 +33,25 @@ pub fn answer_with<'a>(job: &Job, end: TraceEnd<Layered<'a>>) -> Result<Answer<'
     ensures jobs { IfOk result (λ answer. is_no_job answer.outcome ≡ false) }
 {
     let ruling = ruling_at_end(job, end.ending, end.verdict);
-    let hart = copy_of(hart_written(job, ruling, end.hart))?;
+    let harts = copy_of(harts_written(job, ruling, end.harts))?;
     Ok(Answer {
         outcome: outcome_of(job, ruling),
-        hart,
+        harts,
     })
 }
 
-/// The hart whose state is written: the last one, where the words ask for it and the ruling is that
+/// The harts whose state is written: the last ones, where the words ask for it and the ruling is that
 /// the rows agree.
-fn hart_written<'a>(
+fn harts_written<'a>(
     job: &Job,
     ruling: Ruling,
-    hart: Option<Hart<Layered<'a>>>,
-) -> Option<Hart<Layered<'a>>>
-    requires { IfSome hart (CanStep layered_ram) }
-    ensures state { option_map (state_of layered_bytes) result
+    harts: Option<Harts<Layered<'a>>>,
+) -> Option<Harts<Layered<'a>>>
+    requires { IfSome harts (CanGoOn layered_ram) }
+    ensures state { option_map (set_state_of layered_bytes) result
         ≡ state_written (job_view job.now).command ruling
-        (option_map (state_of layered_bytes) hart.entry) }
-    ensures can_step { IfSome result (CanStep layered_ram) }
+        (option_map (set_state_of layered_bytes) harts.entry) }
+    ensures can_step { IfSome result (CanGoOn layered_ram) }
 {
     match (&job.command, ruling) {
         (
@@ -60,23 +60,23 @@ fn hart_written<'a>(
                 ..
             },
             Ruling::Verdict(Verdict::Agrees { .. }),
-        ) => hart,
+        ) => harts,
         _ => None,
     }
 }
 
-/// The same hart, over a copy of its memory. What was written is a layer in the copy, whose pages
+/// The same harts, over a copy of their memory. What was written is a layer in the copy, whose pages
 /// are found in their order.
 #[tactic(auto, using(crate::proofs::Passing::same_state))]
-fn copy_of<'a>(hart: Option<Hart<Layered<'a>>>) -> Result<Option<Hart<Layered<'a>>>, NoMemory>
-    requires { IfSome hart (CanStep layered_ram) }
-    ensures state { IfOk result (λ other. option_map (state_of layered_bytes) other
-        ≡ option_map (state_of layered_bytes) hart.entry) }
-    ensures can_step { IfOk result (λ other. IfSome other (CanStep layered_ram)) }
+fn copy_of<'a>(harts: Option<Harts<Layered<'a>>>) -> Result<Option<Harts<Layered<'a>>>, NoMemory>
+    requires { IfSome harts (CanGoOn layered_ram) }
+    ensures state { IfOk result (λ other. option_map (set_state_of layered_bytes) other
+        ≡ option_map (set_state_of layered_bytes) harts.entry) }
+    ensures can_step { IfOk result (λ other. IfSome other (CanGoOn layered_ram)) }
 {
-    match hart {
+    match harts {
         None => Ok(None),
-        Some(hart) => Ok(Some(hart.copy()?)),
+        Some(harts) => Ok(Some(harts.copy()?)),
     }
 }
 
@@ -102,11 +102,11 @@ fn write_answer<O: Sink>(answer: &Answer<'_>, out: &mut O) -> u8
     ensures written { Writes (answer_view answer.now) result (O.held out.old) (O.held out.new)
         (O.faults out.old) (O.faults out.new) }
     ensures back { IfSome (answer_view answer.now).state
-        (λ state. IsZeroOutside state.core.map.ram state.bytes → IsReadBack state) }
+        (λ state. HasZerosOutside state → IsReadBack state) }
 {
-    match &answer.hart {
+    match &answer.harts {
         None => write_outcome(&answer.outcome, out),
-        Some(hart) => match write_state(hart, out) {
+        Some(harts) => match write_state(harts, out) {
             Ok(()) => status(&answer.outcome),
             Err(_) => 5,
         },

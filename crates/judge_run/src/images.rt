@@ -1,11 +1,13 @@
 //! From an image to where a run starts.
 
-ghost use Rattle.std.specs.Prelude.{◌≡◌, ◌%◌, ℕ, List, IfOk, unwrap_or};
+ghost use Rattle.std.specs.Prelude.{◌≡◌, ◌<◌, ◌≤◌, ◌%◌, ℕ, List, IfOk, length, map, replicate, unwrap_or};
+ghost use Rattle.std.specs.List.{All};
 ghost use Rattle.outside_ports.specs.Front.{HasFront};
 ghost use Rattle.hart_step.specs.Cores.{IsSound, core_at_reset};
 ghost use Rattle.image_text.specs.Image.{image_of};
 ghost use Rattle.elf_image.specs.Image.{elf_of};
 ghost use Rattle.judge_words.specs.Job.{job_view, IsLawful};
+ghost use Rattle.state_text.specs.declared.state.TheConstants.{MOST_HARTS};
 ghost use Rattle.state_text.specs.Texts.{state_in};
 ghost use Rattle.judge_run.specs.Answer.{core_from, elf_start, image_start, is_elf, is_saved, saved_start, start_in, start_of, text_start};
 ghost use Rattle.judge_run.specs.Starts.{CanBegin, IsStartOf, start_view, state_view};
@@ -16,6 +18,7 @@ use crate::start::Start;
 use crate::stop::Stop;
 use elf_image::{ElfError, read_elf};
 use hart_step::Core;
+use hart_words::NoMemory;
 use image_text::{ImageError, read_image};
 use judge_words::{FIRST_PC, Job};
 use outside_ports::{Front, ReadError, Shelf, read_front};
@@ -71,13 +74,13 @@ fn start_in(alloc: Global, job: &Job, front: &Front) -> Result<Start, Stop>
     match PageImage::build(alloc, &state.pieces, job.map.ram) {
         Ok(image) => Ok(Start {
             image,
-            core: state.core,
+            cores: state.cores,
         }),
         Err(_) => Err(Stop::NoMemory),
     }
 }
 
-/// The hart and the memory that an image says.
+/// The harts and the memory that an image says.
 fn image_state(alloc: Global, job: &Job, image: &[u8]) -> Result<State, Stop>
     requires { IsLawful (job_view job.now) }
     ensures meant { MeantBy state_view result (image_start (job_view job.now) image.now) }
@@ -108,7 +111,7 @@ fn is_saved(image: &[u8]) -> bool
     image.starts_with(b"rvstate 1\n")
 }
 
-/// A hart at reset where an ELF file begins, over its segments.
+/// Harts at reset where an ELF file begins, over its segments.
 #[tactic(auto, using(crate::proofs::Starts::elf_read, crate::proofs::Starts::elf_refused))]
 fn elf_state(alloc: Global, job: &Job, image: &[u8]) -> Result<State, Stop>
     requires { IsLawful (job_view job.now) }
@@ -120,7 +123,7 @@ fn elf_state(alloc: Global, job: &Job, image: &[u8]) -> Result<State, Stop>
 {
     match read_elf(alloc, image, job.map.ram) {
         Ok((pieces, entry)) => Ok(State {
-            core: core_at_reset(job, entry),
+            cores: cores_at_reset(alloc, job, entry)?,
             pieces,
         }),
         Err(error) => Err(elf_stop(job, error)),
@@ -132,21 +135,22 @@ fn elf_state(alloc: Global, job: &Job, image: &[u8]) -> Result<State, Stop>
 fn saved_state(alloc: Global, job: &Job, image: &[u8]) -> Result<State, Stop>
     requires { IsLawful (job_view job.now) }
     ensures meant { MeantBy state_view result
-        (saved_start (job_view job.now) (state_in job.now.map job.now.choices image.now)) }
+        (saved_start (job_view job.now)
+        (state_in job.now.map job.now.choices job.now.harts image.now)) }
     ensures start { IfOk result (IsStartOf job.now.map) }
     ensures jobs { IsJobs result }
     ensures read { WasRead result }
 {
-    match read_state(alloc, image, job.map, job.choices) {
+    match read_state(alloc, image, job.map, job.choices, job.harts) {
         Ok(state) => Ok(State {
-            core: core_from(job, state.core),
+            cores: cores_from(job, state.cores),
             pieces: state.pieces,
         }),
         Err(error) => Err(state_stop(job, error)),
     }
 }
 
-/// A hart at reset at the first pc, over a Verilog text.
+/// Harts at reset at the first pc, over a Verilog text.
 #[tactic(auto, using(crate::proofs::Starts::text_read, crate::proofs::Starts::text_refused))]
 fn text_state(alloc: Global, job: &Job, image: &[u8]) -> Result<State, Stop>
     requires { IsLawful (job_view job.now) }
@@ -158,11 +162,31 @@ fn text_state(alloc: Global, job: &Job, image: &[u8]) -> Result<State, Stop>
 {
     match read_image(alloc, image, job.map.ram) {
         Ok(pieces) => Ok(State {
-            core: core_at_reset(job, FIRST_PC),
+            cores: cores_at_reset(alloc, job, FIRST_PC)?,
             pieces,
         }),
         Err(error) => Err(image_stop(job, error)),
     }
+}
+
+/// So many harts at reset as the words say, at the first pc: the one that they give, or else this
+/// one.
+fn cores_at_reset(alloc: Global, job: &Job, pc: u64) -> Result<Vec<Core>, NoMemory>
+    requires lawful { IsLawful (job_view job.now) }
+    requires even { pc % 2 ≡ 0 }
+    ensures cores { IfOk result (λ cores. cores.items ≡ replicate job.now.harts
+        (core_at_reset (unwrap_or (job_view job.now).pc pc) job.now.map job.now.choices)) }
+    ensures some { IfOk result (λ cores. 0 < length cores.items) }
+    ensures few { IfOk result (λ cores. length cores.items ≤ MOST_HARTS) }
+    ensures sound { IfOk result (λ cores. All IsSound cores.items) }
+    ensures maps { IfOk result (λ cores. All (λ core. core.map ≡ job.now.map) cores.items) }
+{
+    let core = core_at_reset(job, pc);
+    let mut cores = Vec::new(alloc);
+    for _ in 0..job.harts {
+        cores.push(core)?;
+    }
+    Ok(cores)
 }
 
 /// A hart at reset at the first pc: the one that the words give, or else this one.
@@ -179,6 +203,20 @@ fn core_at_reset(job: &Job, pc: u64) -> Core
         None => pc,
     };
     Core::reset(first, job.map, job.choices)
+}
+
+/// Harts at the first pc that the words give, or else where they stand.
+fn cores_from(job: &Job, cores: Vec<Core>) -> Vec<Core>
+    requires lawful { IsLawful (job_view job.now) }
+    requires sound { All IsSound cores.items }
+    ensures cores { result.items ≡ map (core_from (job_view job.now).pc) cores.items }
+    ensures sound { All IsSound result.items }
+{
+    let mut cores = cores;
+    for number in 0..cores.len() {
+        cores[number] = core_from(job, cores[number]);
+    }
+    cores
 }
 
 /// A hart at the first pc that the words give, or else where it stands.

@@ -3,10 +3,10 @@
 ghost use Rattle.std.specs.Prelude.{◌≡◌, ℕ, List, Option, Some};
 ghost use Rattle.board_core.specs.declared.event.Event.{Event};
 ghost use Rattle.outside_ports.specs.Ports.{Files};
-ghost use Rattle.rvfi_rows.specs.Columns.{ColumnList};
+ghost use Rattle.rvfi_rows.specs.Columns.{TraceColumns};
 ghost use Rattle.rvfi_rows.specs.declared.verdict.Verdict.TheVariants.{Agrees};
 ghost use Rattle.hart_step.specs.declared.state.Core.{Core};
-ghost use Rattle.hart_step.specs.Rows.{HartState};
+ghost use Rattle.hart_step.specs.HartSets.{SetState};
 ghost use Rattle.segment_judge.specs.declared.found.Found.{Found};
 ghost use Rattle.segment_judge.specs.Judgements.{Judgement};
 ghost use Rattle.judge_words.specs.Job.{JobView, job_of};
@@ -17,12 +17,13 @@ ghost use Rattle.judge_run.specs.Answer.{answer, answer_by_line};
 ghost use Rattle.judge_run.specs.Pieces.{RunsGoOn};
 ghost use Rattle.judge_run.specs.Events.{AnyEvents};
 
-/// However the lines are cut, whatever is guessed of the hart before each piece, and whatever
+/// However the lines are cut, whatever is guessed of the harts before each piece, and whatever
 /// claims, looks and posts the workers make in whichever order: the join of what these leave found
-/// has the verdict of one hart that is stepped by all rows in order, and the state after them.
+/// has the verdict of the harts that are stepped by all rows in order, and the state after them.
 pub fn any_events()
-    ensures { (start : HartState) (columns : ColumnList) (pieces : List (List (List ℕ)))
-        (guesses : List HartState) (events : List Event) (founds : List (Found (Judgement Core)))
+    ensures { (start : SetState) (columns : TraceColumns) (pieces : List (List (List ℕ)))
+        (guesses : List SetState) (events : List Event)
+        (founds : List (Found (Judgement (List Core))))
         → AnyEvents start columns pieces guesses events founds }
 {}
 
@@ -45,6 +46,6 @@ pub fn made_traces_agree()
 /// is read back as the state is a clause of `judge`, for every state that a run writes.
 pub fn runs_go_on()
     ensures { (first second : JobView) (image : Option (List ℕ)) (trace after header : List ℕ)
-        (lines more : List (List ℕ)) (ending : Ending) (saved : HartState)
+        (lines more : List (List ℕ)) (ending : Ending) (saved : SetState)
         → RunsGoOn first second image trace after header lines more ending saved }
 {}

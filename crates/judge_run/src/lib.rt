@@ -30,6 +30,8 @@ pub use rounds::settle;
 #[cfg(test)]
 mod failure_tests;
 #[cfg(test)]
+mod hart_tests;
+#[cfg(test)]
 mod limit_tests;
 #[cfg(test)]
 mod program_tests;

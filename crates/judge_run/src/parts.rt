@@ -2,7 +2,7 @@
 
 ghost use Rattle.std.specs.Prelude.{◌≡◌, ◌≤◌, ◌<◌, ◌+◌, ◌^◌, IfOk, IfSome, IsSome, length, string_bytes};
 ghost use Rattle.std.specs.List.{flat_map};
-ghost use Rattle.hart_step.specs.Harts.{CanStep, state_of};
+ghost use Rattle.hart_step.specs.HartSets.{SetCanStep, set_state_of};
 ghost use Rattle.judge_words.specs.Job.{IsLawful, job_view};
 ghost use Rattle.outside_ports.specs.Faults.{CountsFault, CountsMiss};
 ghost use Rattle.outside_ports.specs.Ports.{IsThere, file_of};
@@ -16,7 +16,7 @@ use crate::progress::{Lookahead, Remaining};
 use crate::rounds::settle_in_rounds;
 use crate::taken::{Asked, Taken, take_after};
 use crate::workers::Workers;
-use hart_step::Hart;
+use hart_step::Harts;
 use hart_words::{NoMemory, PhysMem};
 use judge_words::Job;
 use outside_ports::{Gate, Shelf};
@@ -58,7 +58,7 @@ where
         (string_bytes remaining.progress.taker.name) }
     ensures known_files { H.known_files shelf.new ≡ H.known_files shelf.old }
     ensures settled { IfOk result (λ settled. IsSettled M.bytes M.ram columns.now
-        remaining.lookahead.part.items (state_of M.bytes remaining.progress.hart) settled.joined) }
+        remaining.lookahead.part.items (set_state_of M.bytes remaining.progress.harts) settled.joined) }
     ensures read { IfOk result
         (λ settled. IsReadPart columns.now remaining.lookahead.next.items settled.lookahead.part) }
     ensures takes { let file = file_of (H.known_files shelf.old)
@@ -82,13 +82,13 @@ where
     let Lookahead { part, next, .. } = lookahead;
     let current: &[Segment] = &part;
     let mut unread = Some(next);
-    let mut start = Some(progress.hart);
+    let mut start = Some(progress.harts);
     let mut from = Some(progress.taker);
     let mut read = || -> Result<Vec<Segment>, NoMemory>
         requires { IsSome unread }
     { read_from(workers, columns, &mut unread) };
     let mut settle = || -> Result<Joined<M>, NoMemory>
-        requires { IsSome start × (IfSome start (CanStep M.ram) × ((length current.now < 2 ^ 32)
+        requires { IsSome start × (IfSome start (SetCanStep M.ram) × ((length current.now < 2 ^ 32)
             × (line_count_of current.now < 2 ^ 60))) }
     { settle_from(workers, columns, current, &mut start) };
     let mut take = || take_from(workers.alloc, job, asked, &mut from, shelf);
@@ -176,25 +176,25 @@ where
     (a, b, c)
 }
 
-/// Settles a part from a hart before it, which is taken out of its place.
+/// Settles a part from the harts before it, which are taken out of their place.
 fn settle_from<R, G: Gate, M: PhysMem + Drop + Send + Sync>(
     workers: &Workers<R, G>,
     columns: &Columns,
     part: &[Segment],
-    start: &mut Option<Hart<M>>,
+    start: &mut Option<Harts<M>>,
 ) -> Result<Joined<M>, NoMemory>
 where
     R: Threads + Sync,
     requires is_some { IsSome start.old }
-    requires can_step { IfSome start.old (CanStep M.ram) }
+    requires can_step { IfSome start.old (SetCanStep M.ram) }
     requires below_2_to_32 { length part.now < 2 ^ 32 }
     requires lines { line_count_of part.now < 2 ^ 60 }
-    ensures { IfSome start.old (λ hart. IfOk result
-        (IsSettled M.bytes M.ram columns.now part.now (state_of M.bytes hart))) }
+    ensures { IfSome start.old (λ harts. IfOk result
+        (IsSettled M.bytes M.ram columns.now part.now (set_state_of M.bytes harts))) }
 {
     match start.take() {
         None => unreachable!(),
-        Some(hart) => settle_part(workers, hart, columns, part),
+        Some(harts) => settle_part(workers, harts, columns, part),
     }
 }
 
@@ -261,17 +261,17 @@ fn read_part<R: Threads + Sync, G: Gate>(
 /// Settles a part.
 fn settle_part<R, G: Gate, M: PhysMem + Drop + Send + Sync>(
     workers: &Workers<R, G>,
-    start: Hart<M>,
+    start: Harts<M>,
     columns: &Columns,
     part: &[Segment],
 ) -> Result<Joined<M>, NoMemory>
 where
     R: Threads + Sync,
-    requires can_step { CanStep M.ram start }
+    requires can_step { SetCanStep M.ram start }
     requires below_2_to_32 { length part.now < 2 ^ 32 }
     requires lines { line_count_of part.now < 2 ^ 60 }
     ensures { IfOk result
-        (IsSettled M.bytes M.ram columns.now part.now (state_of M.bytes start)) }
+        (IsSettled M.bytes M.ram columns.now part.now (set_state_of M.bytes start)) }
 {
     settle_from_blank::<R, G, M, Brand>(workers, start, columns, part, Blank::new(1))
 }
@@ -279,21 +279,21 @@ where
 /// The same, with rounds counted from a blank. Nobody asks for the count.
 fn settle_from_blank<R, G: Gate, M: PhysMem + Drop + Send + Sync, L: Ledger>(
     workers: &Workers<R, G>,
-    start: Hart<M>,
+    start: Harts<M>,
     columns: &Columns,
     part: &[Segment],
     blank: Blank,
 ) -> Result<Joined<M>, NoMemory>
 where
     R: Threads + Sync,
-    requires can_step { CanStep M.ram start }
+    requires can_step { SetCanStep M.ram start }
     requires below_2_to_32 { length part.now < 2 ^ 32 }
     requires lines { line_count_of part.now < 2 ^ 60 }
     requires name { blank.name ≡ L.name }
     requires parts { blank.parts ≡ L.parts }
     requires nonempty { 0 < blank.parts }
     ensures { IfOk result
-        (IsSettled M.bytes M.ram columns.now part.now (state_of M.bytes start)) }
+        (IsSettled M.bytes M.ram columns.now part.now (set_state_of M.bytes start)) }
 {
     let mut steps = Steps::<L>::new(blank);
     settle_in_rounds(workers, start, columns, part, &mut steps)

@@ -4,7 +4,7 @@ ghost use Rattle.std.specs.Prelude.{Decides};
 ghost use Rattle.judge_run.specs.Parts.{HoldsNone, IsOver};
 
 use crate::taken::is_more;
-use hart_step::Hart;
+use hart_step::Harts;
 use rvfi_rows::{RowCounts, Segment, Verdict};
 use std::alloc::Global;
 use trace_lines::{Ending, LineTaker};
@@ -13,8 +13,8 @@ use trace_lines::{Ending, LineTaker};
 #[derive(Drop)]
 pub(crate) struct Progress<M> {
     pub taker: LineTaker,
-    /// The hart after the rows that were judged.
-    pub hart: Hart<M>,
+    /// The harts after the rows that were judged.
+    pub harts: Harts<M>,
     /// How many rows these are.
     pub counts: RowCounts,
 }
@@ -46,8 +46,8 @@ pub(crate) struct TraceEnd<M> {
     pub verdict: Verdict,
     /// How the lines end, or `More` where a row before their end does not agree.
     pub ending: Ending,
-    /// The hart after all rows, where they agree.
-    pub hart: Option<Hart<M>>,
+    /// The harts after all rows, where they agree.
+    pub harts: Option<Harts<M>>,
 }
 
 /// Where a part leads.

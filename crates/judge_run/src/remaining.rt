@@ -1,13 +1,13 @@
 //! Judging the rows of a trace that remain, part by part.
 
 ghost use Rattle.std.specs.Prelude.{◌≡◌, ◌<◌, ◌^◌, IfOk, IfSome, string_bytes};
-ghost use Rattle.hart_step.specs.Harts.{CanStep};
 ghost use Rattle.judge_words.specs.Job.{IsLawful, job_view};
 ghost use Rattle.outside_ports.specs.Faults.{CountsFault, CountsMiss};
 ghost use Rattle.outside_ports.specs.Ports.{IsThere, file_of};
 ghost use Rattle.trace_lines.specs.Errors.{is_read_fault};
 ghost use Rattle.verdict_join.specs.Walks.{IsWithinRows};
 ghost use Rattle.judge_run.specs.Parts.{CanContinue, CanContinueWith, FollowsPart, IsEndTold, IsNearerEnd, PassesWhereKnown};
+ghost use Rattle.judge_run.specs.Starts.{CanGoOn};
 
 use crate::parts::{Settled, settle_and_take};
 use crate::progress::{Lookahead, Passed, Progress, Remaining, TraceEnd};
@@ -38,7 +38,7 @@ where
     ensures meant { let file = file_of (H.known_files shelf.old)
         (string_bytes progress.taker.name) in
         IfOk result (IsEndTold (job_view job.now) columns.now M.bytes file progress) }
-    ensures can_step { IfOk result (λ end. IfSome end.hart (CanStep M.ram)) }
+    ensures can_step { IfOk result (λ end. IfSome end.harts (CanGoOn M.ram)) }
     ensures faults { CountsFault is_read_fault result (H.faults shelf.old) (H.faults shelf.new) }
     ensures misses { CountsMiss is_read_fault result (H.known_files shelf.old)
         (string_bytes progress.taker.name) (H.misses shelf.old) (H.misses shelf.new) }
@@ -88,7 +88,7 @@ where
                 valid: counts.valid,
             },
             ending: remaining.lookahead.ending,
-            hart: Some(remaining.progress.hart),
+            harts: Some(remaining.progress.harts),
         }));
     }
     let settled = match settle_and_take(workers, job, columns, remaining, shelf) {
@@ -98,7 +98,7 @@ where
     Ok(passed_with(counts, settled))
 }
 
-/// Where a part leads, after so many rows: on from the hart after it where its rows agree.
+/// Where a part leads, after so many rows: on from the harts after it where its rows agree.
 fn passed_with<M: Drop>(counts: RowCounts, settled: Settled<M>) -> Passed<M>
     requires below_2_to_62 { counts.rows < 2 ^ 62 }
     requires within { IsWithinRows (2 ^ 62) settled.joined.verdict }
@@ -110,10 +110,10 @@ fn passed_with<M: Drop>(counts: RowCounts, settled: Settled<M>) -> Passed<M>
         taker,
     } = settled;
     match (joined.verdict, joined.end) {
-        (Verdict::Agrees { rows, valid }, Some(hart)) => {
+        (Verdict::Agrees { rows, valid }, Some(harts)) => {
             let progress = Progress {
                 taker,
-                hart,
+                harts,
                 counts: counts.plus(RowCounts { rows, valid }),
             };
             Passed::Continue(Remaining {
@@ -124,7 +124,7 @@ fn passed_with<M: Drop>(counts: RowCounts, settled: Settled<M>) -> Passed<M>
         (verdict, _) => Passed::Ends(TraceEnd {
             verdict: verdict_after_rows(counts, verdict),
             ending: Ending::More,
-            hart: None,
+            harts: None,
         }),
     }
 }

@@ -2,20 +2,18 @@
 
 ghost use Rattle.std.specs.Prelude.{◌≡◌, ◌≤◌, ◌<◌, ◌+◌, ◌⊎◌, ◌^◌, IfOk, IfSome, length, option_map};
 ghost use Rattle.std.specs.List.{flat_map};
-ghost use Rattle.hart_words.specs.declared.options.Marks.TheVariants.{Fault};
-ghost use Rattle.hart_step.specs.Harts.{CanStep, state_of};
+ghost use Rattle.hart_step.specs.HartSets.{SetCanStep, SetHoldsWords, set_state_of};
 ghost use Rattle.rvfi_rows.specs.Rows.{rows_of};
 ghost use Rattle.rvfi_rows.specs.Segments.{line_count_of, segment_lines};
-ghost use Rattle.boundary_guess.specs.Truth.{ShowChanges};
-ghost use Rattle.hart_step.specs.Harts.{HoldsWords};
-ghost use Rattle.segment_judge.specs.Judgements.{by_hart};
+ghost use Rattle.boundary_guess.specs.Truth.{SetNoMarks, ShowChanges};
+ghost use Rattle.segment_judge.specs.Judgements.{by_set};
 ghost use Rattle.segment_judge.specs.Laws.{conclusion_from};
 ghost use Rattle.judge_run.specs.Settling.{IsTallied, LeadsBy, SettlesInRounds};
 
 use crate::segments::judge_round;
 use crate::tally::{AfterRound, Settling, Tally};
 use crate::workers::Workers;
-use hart_step::{Hart, hold_words};
+use hart_step::{Harts, set_holds_words};
 use hart_words::{NoMemory, PhysMem};
 use outside_ports::Gate;
 use rvfi_rows::{Columns, Segment};
@@ -25,15 +23,15 @@ use std::sync::ledger::Ledger;
 use std::thread::Threads;
 use verdict_join::Joined;
 
-/// The verdict on the rows of the lines of segments under these columns, and the hart after them
-/// where they agree. The hart before each segment is guessed, workers judge them side by side, and
+/// The verdict on the rows of the lines of segments under these columns, and the harts after them
+/// where they agree. The harts before each segment are guessed, workers judge them side by side, and
 /// the verdicts are joined from the true state up to the first segment that has to be judged again;
 /// what is left is guessed anew from there, in a further round. There are as many rounds as there
 /// are segments judged again, or one more. Each counts one on `steps`.
 pub fn settle<R, G: Gate, M: PhysMem + Drop + Send + Sync, L: Ledger>(
     rt: &R,
     alloc: Global,
-    start: Hart<M>,
+    start: Harts<M>,
     columns: &Columns,
     segments: &[Segment],
     workers: u32,
@@ -42,18 +40,18 @@ pub fn settle<R, G: Gate, M: PhysMem + Drop + Send + Sync, L: Ledger>(
 ) -> Result<Joined<M>, NoMemory>
 where
     R: Threads + Sync,
-    requires can_step { CanStep M.ram start }
+    requires can_step { SetCanStep M.ram start }
     requires workers { (1 ≤ workers) × (workers ≤ 64) }
     requires below_2_to_32 { length segments.now < 2 ^ 32 }
     requires lines { line_count_of segments.now < 2 ^ 60 }
     ensures verdict { IfOk result (λ joined. joined.verdict
-        ≡ (conclusion_from by_hart (state_of M.bytes start)
+        ≡ (conclusion_from by_set (set_state_of M.bytes start)
         (rows_of columns.now (flat_map segment_lines segments.now))).verdict) }
-    ensures end { IfOk result (λ joined. option_map (state_of M.bytes) joined.end
-        ≡ (conclusion_from by_hart (state_of M.bytes start)
+    ensures end { IfOk result (λ joined. option_map (set_state_of M.bytes) joined.end
+        ≡ (conclusion_from by_set (set_state_of M.bytes start)
         (rows_of columns.now (flat_map segment_lines segments.now))).end) }
     ensures rounds { IfOk result (SettlesInRounds M.bytes columns.now segments.now
-        (state_of M.bytes start) steps.old steps.new) }
+        (set_state_of M.bytes start) steps.old steps.new) }
     // Where memory runs out too.
     ensures at_most_segments { steps.new ≤ steps.old + length segments.now }
     ensures one_round { 0 < length segments.now → IfOk result (λ joined. steps.old < steps.new) }
@@ -61,10 +59,10 @@ where
         ⊎ (steps.new ≡ steps.old + joined.rejudged + 1)) }
     // Where the valid rows show what they change, no segment is judged again. No row shows the
     // entries of page tables that a hart sets.
-    ensures none { (state_of M.bytes start).core.choices.marks ≡ Fault
+    ensures none { SetNoMarks start.cores.items
         → ShowChanges (rows_of columns.now (flat_map segment_lines segments.now))
         → IfOk result (λ joined. joined.rejudged ≡ 0) }
-    ensures can_step { IfOk result (λ joined. IfSome joined.end (CanStep M.ram)) }
+    ensures can_step { IfOk result (λ joined. IfSome joined.end (SetCanStep M.ram)) }
 {
     let workers = Workers {
         rt,
@@ -78,28 +76,31 @@ where
 /// The same by these workers.
 pub fn settle_in_rounds<R, G: Gate, M: PhysMem + Drop + Send + Sync, L: Ledger>(
     workers: &Workers<R, G>,
-    start: Hart<M>,
+    start: Harts<M>,
     columns: &Columns,
     segments: &[Segment],
     steps: &mut Steps<L>,
 ) -> Result<Joined<M>, NoMemory>
 where
     R: Threads + Sync,
-    requires can_step { CanStep M.ram start }
+    requires can_step { SetCanStep M.ram start }
     requires below_2_to_32 { length segments.now < 2 ^ 32 }
     requires lines { line_count_of segments.now < 2 ^ 60 }
     ensures rounds { IfOk result (SettlesInRounds M.bytes columns.now segments.now
-        (state_of M.bytes start) steps.old steps.new) }
-    ensures can_step { IfOk result (λ joined. IfSome joined.end (CanStep M.ram)) }
+        (set_state_of M.bytes start) steps.old steps.new) }
+    ensures can_step { IfOk result (λ joined. IfSome joined.end (SetCanStep M.ram)) }
     ensures at_most_all { steps.new ≤ steps.old + length segments.now }
-    ensures words { HoldsWords (state_of M.bytes start) }
+    ensures words { SetHoldsWords (set_state_of M.bytes start) }
 {
-    hold_words(&start);
+    set_holds_words(&start);
     let tally = Tally::new();
-    let mut settling = Settling { hart: start, tally };
+    let mut settling = Settling {
+        harts: start,
+        tally,
+    };
     'rounds: loop {
         if segments.len() <= settling.tally.settled {
-            return Ok(settling.tally.agreement(settling.hart));
+            return Ok(settling.tally.agreement(settling.harts));
         }
         match settle_some(workers, columns, segments, settling, steps) {
             Ok(AfterRound::Continue(next)) => settling = next,
@@ -119,7 +120,7 @@ fn settle_some<R, G: Gate, M: PhysMem + Drop + Send + Sync, L: Ledger>(
 ) -> Result<AfterRound<M>, NoMemory>
 where
     R: Threads + Sync,
-    requires can_step { CanStep M.ram settling.hart }
+    requires can_step { SetCanStep M.ram settling.harts }
     requires left { settling.tally.settled < length segments.now }
     requires below_2_to_32 { length segments.now < 2 ^ 32 }
     requires lines { line_count_of segments.now < 2 ^ 60 }
@@ -128,8 +129,8 @@ where
     ensures steps { IfOk result (λ following. steps.new ≡ steps.old + 1) }
     ensures at_most_one { steps.new ≤ steps.old + 1 }
 {
-    let Settling { hart, tally } = settling;
+    let Settling { harts, tally } = settling;
     let left = &segments[tally.settled..];
-    let round = judge_round(workers, hart, columns, left, steps)?;
+    let round = judge_round(workers, harts, columns, left, steps)?;
     Ok(tally.following(round))
 }

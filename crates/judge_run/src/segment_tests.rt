@@ -3,14 +3,15 @@
 
 ghost use Rattle.std.specs.Prelude.{◌≡◌, ◌≤◌, ◌<◌, ◌^◌, IsTrue, length};
 ghost use Rattle.std.specs.List.{All};
-ghost use Rattle.hart_step.specs.Harts.{CanStep};
+ghost use Rattle.hart_step.specs.HartSets.{SetCanStep};
 ghost use Rattle.line_text.specs.Lines.{IsLine};
 ghost use Rattle.page_layers.specs.Memories.{layered_ram};
 ghost use Rattle.rvfi_rows.specs.Segments.{line_count_of};
 
 use crate::settle;
 use boundary_guess::cut;
-use hart_step::Hart;
+use hart_set::HartSet;
+use hart_step::{Core, Harts};
 use hart_words::{Choices, Map, Span};
 use image_text::read_image;
 use line_text::Lines;
@@ -199,13 +200,13 @@ fn hold_told(rt: &impl Abort, told: &Told, wanted: Wanted) {
 /// Settles segments by so many workers.
 fn settle_few<R: Threads + Sync, L: Ledger>(
     rt: &R,
-    start: (Global, Hart<Layered>),
+    start: (Global, Harts<Layered>),
     columns: &Columns,
     segments: &[Segment],
     workers: u32,
     blank: Blank,
 ) -> Result<Told, Fail>
-    requires can_step { CanStep layered_ram start.1 }
+    requires can_step { SetCanStep layered_ram start.1 }
     requires name { blank.name ≡ L.name }
     requires parts { blank.parts ≡ L.parts }
     requires positive { 0 < blank.parts }
@@ -243,7 +244,8 @@ fn settle_cut<R: Threads + Sync>(
     let pieces = read_image(alloc, image, map.ram).map_err(|_| Fail::from("no image"))?;
     let image = PageImage::build(alloc, &pieces, map.ram)?;
     let memory = Layered::over(alloc, &image);
-    let start = (alloc, Hart::reset(memory, CODE, map, Choices::plain()));
+    let core = Core::reset(CODE, map, Choices::plain());
+    let start = (alloc, HartSet::reset(alloc, core, 1, memory)?);
     let columns = read_header(alloc, lines.0)?;
     let segments = cut(alloc, lines.1, most)?;
     settle_few::<R, Brand>(rt, start, &columns, &segments, workers, Blank::new(1))

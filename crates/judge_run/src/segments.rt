@@ -2,11 +2,11 @@
 
 ghost use Rattle.std.specs.Prelude.{◌≡◌, ◌+◌, ◌<◌, ◌≤◌, ◌^◌, IfOk, IfSome, length, option_map};
 ghost use Rattle.std.specs.List.{All};
-ghost use Rattle.hart_step.specs.Harts.{CanStep, state_of};
+ghost use Rattle.hart_step.specs.HartSets.{SetCanStep, set_state_of};
 ghost use Rattle.rvfi_rows.specs.Rows.{rows_of};
 ghost use Rattle.rvfi_rows.specs.Segments.{line_count_of};
 ghost use Rattle.segment_judge.specs.Founds.{IsLawfulFound};
-ghost use Rattle.segment_judge.specs.Judgements.{by_hart};
+ghost use Rattle.segment_judge.specs.Judgements.{by_set};
 ghost use Rattle.segment_judge.specs.Laws.{conclusion_from};
 ghost use Rattle.verdict_join.specs.Joining.{candidates_of};
 ghost use Rattle.verdict_join.specs.Laws.{AreJudgedInTurn};
@@ -15,7 +15,7 @@ ghost use Rattle.judge_run.specs.Settling.{IsRoundOver};
 
 use crate::workers::Workers;
 use boundary_guess::guesses;
-use hart_step::Hart;
+use hart_step::Harts;
 use hart_words::{NoMemory, PhysMem};
 use outside_ports::Gate;
 use rvfi_rows::{Columns, Segment};
@@ -30,18 +30,18 @@ use verdict_join::{Round, join_round};
 /// first that does not agree or has to be judged again.
 pub fn judge_round<R, G: Gate, M: PhysMem + Drop + Send + Sync, L: Ledger>(
     workers: &Workers<R, G>,
-    start: Hart<M>,
+    start: Harts<M>,
     columns: &Columns,
     segments: &[Segment],
     steps: &mut Steps<L>,
 ) -> Result<Round<M>, NoMemory>
 where
     R: Threads + Sync,
-    requires can_step { CanStep M.ram start }
+    requires can_step { SetCanStep M.ram start }
     requires below_2_to_32 { length segments.now < 2 ^ 32 }
     requires lines { line_count_of segments.now < 2 ^ 60 }
     ensures over { IfOk result
-        (IsRoundOver M.bytes M.ram columns.now segments.now (state_of M.bytes start)) }
+        (IsRoundOver M.bytes M.ram columns.now segments.now (set_state_of M.bytes start)) }
     ensures steps { IfOk result (λ round. steps.new ≡ steps.old + 1) }
     ensures at_most_one { steps.new ≤ steps.old + 1 }
 {
@@ -57,7 +57,7 @@ where
 /// that does not agree from its guess, each is judged.
 fn find_by_workers<R, G: Gate, M: PhysMem + Drop + Send + Sync, L: Ledger>(
     workers: &Workers<R, G>,
-    guesses: &[Hart<M>],
+    guesses: &[Harts<M>],
     columns: &Columns,
     segments: &[Segment],
     steps: &mut Steps<L>,
@@ -66,12 +66,12 @@ where
     R: Threads + Sync,
     requires below_2_to_32 { length segments.now < 2 ^ 32 }
     requires one_each { length guesses.now ≡ length segments.now }
-    requires guesses { All (CanStep M.ram) guesses.now }
+    requires guesses { All (SetCanStep M.ram) guesses.now }
     ensures lawful { IfOk result (λ founds. All
         (IsLawfulFound M.bytes M.ram columns.now segments.now guesses.now) founds.items) }
     ensures events { IfOk result (λ founds.
         AreLeft M.bytes M.ram columns.now segments.now guesses.now founds.items) }
-    ensures judged { IfOk result (λ founds. AreJudgedInTurn by_hart
+    ensures judged { IfOk result (λ founds. AreJudgedInTurn by_set
         (candidates_of M.bytes columns.now segments.now guesses.now founds.items)) }
     ensures steps { IfOk result (λ founds. steps.new ≡ steps.old + 1) }
     ensures at_most_one { steps.new ≤ steps.old + 1 }

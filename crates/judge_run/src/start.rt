@@ -3,9 +3,9 @@
 use hart_step::Core;
 use page_image::PageImage;
 
-/// A hart before its first step, and the image of its memory.
+/// Harts before their first step, and the image of their memory.
 #[derive(Drop)]
 pub struct Start {
     pub image: PageImage,
-    pub core: Core,
+    pub cores: Vec<Core>,
 }

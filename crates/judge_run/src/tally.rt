@@ -6,7 +6,7 @@ ghost use Rattle.segment_judge.specs.Judgements.{verdict_after_rows};
 ghost use Rattle.verdict_join.specs.Walks.{IsWithinRows};
 ghost use Rattle.judge_run.specs.Settling.{IsNewTally, LeadsToRound};
 
-use hart_step::Hart;
+use hart_step::Harts;
 use rvfi_rows::{RowCounts, Verdict};
 use verdict_join::{Joined, Round};
 
@@ -18,10 +18,10 @@ pub(crate) struct Tally {
     pub rejudged: u32,
 }
 
-/// The segments that rounds settled so far: what was counted of them, and the hart after them.
+/// The segments that rounds settled so far: what was counted of them, and the harts after them.
 #[derive(Drop)]
 pub(crate) struct Settling<M> {
-    pub hart: Hart<M>,
+    pub harts: Harts<M>,
     pub tally: Tally,
 }
 
@@ -46,11 +46,11 @@ impl Tally {
         }
     }
 
-    /// What segments come to that agree, with this hart after them.
-    pub fn agreement<M>(self, hart: Hart<M>) -> Joined<M>
+    /// What segments come to that agree, with these harts after them.
+    pub fn agreement<M>(self, harts: Harts<M>) -> Joined<M>
         ensures { result ≡ record {
           verdict = Agrees self.counts.rows self.counts.valid;
-          end = Some hart;
+          end = Some harts;
           rejudged = self.rejudged;
         } }
     {
@@ -59,7 +59,7 @@ impl Tally {
                 rows: self.counts.rows,
                 valid: self.counts.valid,
             },
-            end: Some(hart),
+            end: Some(harts),
             rejudged: self.rejudged,
         }
     }
@@ -75,13 +75,13 @@ impl Tally {
         let settled = self.settled + round.settled;
         let rejudged = self.rejudged + round.rejudged;
         match (round.verdict, round.end) {
-            (Verdict::Agrees { rows, valid }, Some(hart)) => {
+            (Verdict::Agrees { rows, valid }, Some(harts)) => {
                 let tally = Tally {
                     counts: self.counts.plus(RowCounts { rows, valid }),
                     settled,
                     rejudged,
                 };
-                AfterRound::Continue(Settling { hart, tally })
+                AfterRound::Continue(Settling { harts, tally })
             }
             (verdict, _) => AfterRound::Ends(Joined {
                 verdict: verdict_after_rows(self.counts, verdict),

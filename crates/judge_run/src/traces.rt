@@ -16,7 +16,7 @@ use crate::remaining::judge_rows;
 use crate::start::Start;
 use crate::stop::{Stop, line_stop};
 use crate::workers::Workers;
-use hart_step::Hart;
+use hart_set::HartSet;
 use judge_words::Job;
 use outside_ports::{Gate, Shelf};
 use page_layers::Layered;
@@ -58,10 +58,11 @@ where
         Ok(columns) => columns,
         Err(stop) => return Err(stop),
     };
+    let cores = Vec::from_slice(workers.alloc, start.cores.as_slice())?;
     let progress = Progress {
         taker,
-        hart: Hart {
-            core: start.core,
+        harts: HartSet {
+            cores,
             mem: Layered::over(workers.alloc, &start.image),
         },
         counts: RowCounts::zero(),
@@ -86,7 +87,7 @@ fn columns_in(alloc: Global, job: &Job, piece: &Piece) -> Result<Columns, Stop>
     match piece.lines.get(0) {
         None => Err(Stop::Known(outcome_of(job, without_header(job, piece.ending)))),
         Some(header) => match read_header(alloc, header) {
-            Ok(columns) => Ok(columns),
+            Ok(columns) => Ok(columns.with_harts(job.harts)),
             Err(HeaderError::NoMemory) => Err(Stop::NoMemory),
             Err(HeaderError::Fault(fault)) => {
                 Err(Stop::Known(outcome_of(job, Ruling::HeaderFault(fault))))

@@ -40,7 +40,7 @@ returns-clause-ends g c =
       faults = counts_on c.judge_trace-found.result _ _ _ c.in-Ok.ensures.faults c.judge_trace-found.ensures.faults;
       misses = missed_trace files trace c.judge_trace-found.result _ image_is c.in-Ok.ensures.misses misses;
       back =
-          read_back files job c.in-Ok.start trace c.judge_trace-found.result c.in-Ok.ensures.begins.outside meant
+          read_back files job c.in-Ok.start trace c.judge_trace-found.result c.in-Ok.ensures.begins meant
           c.write_found-2.ensures.back;
     })
     c.write_found-2.ensures.written

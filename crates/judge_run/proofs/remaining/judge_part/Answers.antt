@@ -1,7 +1,7 @@
 use Rattle.std.proofs.Common.{◌≡◌, true, false, ◌∙◌, string_bytes, sym}
 use Rattle.judge_words.specs.Job.{job_view}
 use Rattle.outside_ports.specs.Ports.{file_of}
-use Rattle.hart_step.specs.Harts.{state_of}
+use Rattle.hart_step.specs.HartSets.{set_state_of}
 use Rattle.rvfi_rows.specs.Segments.{row_count_of}
 use Rattle.judge_run.proofs.Passing.{PartIsDone, over_passes, part_rows, part_nears, part_passes}
 use Rattle.verdict_join.proofs.Passed.{few_within, lines_within}
@@ -13,7 +13,7 @@ passed_with-requires-clause-within g c =
     let part = remaining.lookahead.part.items in
     let verdict = c.in-Ok.settled.joined.verdict in
     few_within (row_count_of c.args.columns.now part) 4611686018427387904 verdict
-    (lines_within (state_of g.M.PhysMem.bytes remaining.progress.hart) c.args.columns.now part verdict
+    (lines_within (set_state_of g.M.PhysMem.bytes remaining.progress.harts) c.args.columns.now part verdict
     c.in-Ok.ensures.settled.verdict)
     (part_rows c.args.job.now.sharing.window g.M.PhysMem.ram c.args.columns.now remaining c.requires.going)
 

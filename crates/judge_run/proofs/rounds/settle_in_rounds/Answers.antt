@@ -1,5 +1,5 @@
 use Rattle.std.proofs.Common.{arith, subst}
-use Rattle.hart_step.specs.Harts.{state_of}
+use Rattle.hart_step.specs.HartSets.{set_state_of}
 use Rattle.judge_run.proofs.Settled.{LeadsOn, leads_on, so_far_all, so_far_begins}
 use Rattle.judge_run.proofs.rounds.settle_in_rounds.Goals as goal
 
@@ -33,7 +33,7 @@ rounds-preserved g c =
     let on =
     subst
     (LeadsOn g.M.PhysMem.bytes g.M.PhysMem.ram c.args.columns.now c.args.segments.now
-    (state_of g.M.PhysMem.bytes c.args.start) c.args.steps.now c.settle_some.new.steps c.rounds.settling.tally)
+    (set_state_of g.M.PhysMem.bytes c.args.start) c.args.steps.now c.settle_some.new.steps c.rounds.settling.tally)
     c.in-Ok-Continue.field-0-is leads in
     record {
       can_step = on.tallied.1.1;
@@ -52,6 +52,6 @@ returns-in-Ok-Ends-clause-rounds g c =
     let ends =
     subst
     (LeadsOn g.M.PhysMem.bytes g.M.PhysMem.ram c.args.columns.now c.args.segments.now
-    (state_of g.M.PhysMem.bytes c.args.start) c.args.steps.now c.settle_some.new.steps c.rounds.settling.tally)
+    (set_state_of g.M.PhysMem.bytes c.args.start) c.args.steps.now c.settle_some.new.steps c.rounds.settling.tally)
     c.in-Ok-Ends.field-0-is leads in
     ends.follows

@@ -1,5 +1,5 @@
 use Rattle.std.proofs.Common.{◌+◌, ◌-◌, ◌≤◌, length}
-use Rattle.hart_step.specs.Harts.{CanStep, state_of}
+use Rattle.hart_step.specs.HartSets.{SetCanStep, set_state_of}
 use Rattle.judge_run.specs.Settling.{IsTallied}
 use Rattle.judge_run.proofs.Settled.{SoFar}
 use Rattle.judge_run.proofs.rounds.settle_in_rounds.Given as goal
@@ -7,10 +7,10 @@ use Rattle.judge_run.proofs.rounds.settle_in_rounds.Given as goal
 -- whatever rounds settle what is left, some settle all
 abbrev pub invariant-rounds : goal.invariant-rounds
 invariant-rounds g l = record {
-  can_step : CanStep g.M.PhysMem.ram l.settling.hart;
+  can_step : SetCanStep g.M.PhysMem.ram l.settling.harts;
   tallied : IsTallied l.columns l.segments l.settling.tally;
   at_most_settled : l.steps ≤ l.initial.steps + l.settling.tally.settled;
-  so_far : SoFar g.M.PhysMem.bytes l.columns l.segments (state_of g.M.PhysMem.bytes l.initial.settling.hart)
+  so_far : SoFar g.M.PhysMem.bytes l.columns l.segments (set_state_of g.M.PhysMem.bytes l.initial.settling.harts)
       l.initial.steps l.steps l.settling;
 }
 

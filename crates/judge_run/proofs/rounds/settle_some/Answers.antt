@@ -1,5 +1,5 @@
 use Rattle.std.proofs.Common.{◌^◌, arith, subst}
-use Rattle.hart_step.specs.Harts.{state_of}
+use Rattle.hart_step.specs.HartSets.{set_state_of}
 use Rattle.rvfi_rows.proofs.PortRows.{rows_few}
 use Rattle.judge_run.specs.Settling.{IsRoundOver}
 use Rattle.judge_run.proofs.Settled.{IsNextRound, lines_left, next_within, sliced}
@@ -18,7 +18,7 @@ following-requires-clause-within g c =
       over =
           subst
           (λ left. IsRoundOver g.M.PhysMem.bytes g.M.PhysMem.ram c.args.columns.now left
-          (state_of g.M.PhysMem.bytes c.args.settling.hart) c.in_ok-round.round)
+          (set_state_of g.M.PhysMem.bytes c.args.settling.harts) c.in_ok-round.round)
           (sliced c.args.segments.now c.args.settling.tally.settled) c.in_ok-round.ensures.over;
     } in
     next_within c.in_ok-round.round (2 ^ 62)
@@ -34,7 +34,7 @@ returns-clause-leads g c = record {
   over =
       subst
       (λ left. IsRoundOver g.M.PhysMem.bytes g.M.PhysMem.ram c.args.columns.now left
-      (state_of g.M.PhysMem.bytes c.args.settling.hart) c.in_ok-round.round)
+      (set_state_of g.M.PhysMem.bytes c.args.settling.harts) c.in_ok-round.round)
       (sliced c.args.segments.now c.args.settling.tally.settled) c.in_ok-round.ensures.over;
   leads = c.following.ensures;
 }

@@ -1,9 +1,10 @@
-use Rattle.std.proofs.Common.{◌∙◌, IfOk, ap, length, map, subst, sym}
+use Rattle.std.proofs.Common.{◌≡◌, ◌∙◌, ◌<◌, IfOk, List, ap, length, map, subst, sym}
 use Rattle.std.specs.List.{All}
+use Rattle.hart_step.specs.declared.state.Core.{Core}
 use Rattle.hart_step.specs.Cores.{IsSound}
-use Rattle.hart_step.specs.Harts.{CanStep, state_of}
+use Rattle.hart_step.specs.HartSets.{SetCanStep, set_state_of}
 use Rattle.segment_judge.specs.Founds.{IsLawfulFound}
-use Rattle.segment_judge.specs.Judgements.{by_hart}
+use Rattle.segment_judge.specs.Judgements.{by_set}
 use Rattle.verdict_join.specs.Joining.{candidates_of}
 use Rattle.verdict_join.specs.Laws.{AreJudgedInTurn}
 use Rattle.judge_run.specs.Events.{AreLeft}
@@ -21,9 +22,12 @@ find_by_workers-requires-clause-one_each g c = λ κs lives.
 
 pub join_round-requires-clause-can_step : goal.join_round-requires-clause-can_step
 join_round-requires-clause-can_step g c = record {
-  sound = subst IsSound (sym c.in_ok-start.ensures.core) c.requires.can_step.sound;
-  ram =
-      c.in_ok-start.ensures.ram ∙ c.requires.can_step.ram ∙ sym (ap (λ core. core.map.ram) c.in_ok-start.ensures.core);
+  some = subst (λ (cores : List Core). 0 < length cores) (sym c.in_ok-start.ensures.cores) c.requires.can_step.some;
+  sound = subst (All IsSound) (sym c.in_ok-start.ensures.cores) c.requires.can_step.sound;
+  maps =
+      subst (λ ram. All (λ core. ram ≡ core.map.ram) c.in_ok-start.start.cores.items) (sym c.in_ok-start.ensures.ram)
+      (subst (All (λ core. g.M.PhysMem.ram c.args.start.mem ≡ core.map.ram)) (sym c.in_ok-start.ensures.cores)
+      c.requires.can_step.maps);
 }
 
 pub join_round-requires-clause-one_each : goal.join_round-requires-clause-one_each
@@ -34,7 +38,7 @@ join_round-requires-clause-one_each g c =
 
 pub join_round-requires-clause-guesses : goal.join_round-requires-clause-guesses
 join_round-requires-clause-guesses g c =
-    subst (λ guesses. All (CanStep g.M.PhysMem.ram) guesses) (sym c.deref-2.ensures.value)
+    subst (λ guesses. All (SetCanStep g.M.PhysMem.ram) guesses) (sym c.deref-2.ensures.value)
     c.in_ok-guesses.ensures.can_step
 
 pub join_round-requires-clause-lawful : goal.join_round-requires-clause-lawful
@@ -51,16 +55,16 @@ returns-clause-over g c =
     let columns = c.args.columns.now in
     let segments = c.args.segments.now in
     let founds = c.in_ok-founds.founds.items in
-    let start = state_of bytes_of c.in_ok-start.start in
+    let start = set_state_of bytes_of c.in_ok-start.start in
     let same =
-    same_state bytes_of c.in_ok-start.start c.args.start c.in_ok-start.ensures.core c.in_ok-start.ensures.bytes in
-    let guessed = ap (map (state_of bytes_of)) c.deref-2.ensures.value ∙ c.in_ok-guesses.ensures.guesses in
+    same_state bytes_of c.in_ok-start.start c.args.start c.in_ok-start.ensures.cores c.in_ok-start.ensures.bytes in
+    let guessed = ap (map (set_state_of bytes_of)) c.deref-2.ensures.value ∙ c.in_ok-guesses.ensures.guesses in
     let alike = c.deref.ensures.value ∙ sym c.deref-2.ensures.value in
     let left =
     subst (λ guesses. AreLeft bytes_of g.M.PhysMem.ram columns segments guesses founds) alike
     c.in_ok-founds.ensures.events in
     let judged =
-    subst (λ guesses. AreJudgedInTurn by_hart (candidates_of bytes_of columns segments guesses founds)) alike
+    subst (λ guesses. AreJudgedInTurn by_set (candidates_of bytes_of columns segments guesses founds)) alike
     c.in_ok-founds.ensures.judged in
     let round = c.join_round.ensures in
     let promised : PromisesRound bytes_of g.M.PhysMem.ram columns segments c.deref-2.result.now founds start

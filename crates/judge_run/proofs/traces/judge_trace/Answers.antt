@@ -1,11 +1,12 @@
-use Rattle.std.proofs.Common.{◌∙◌, Ok, ap, subst, string_bytes, sym}
+use Rattle.std.proofs.Common.{◌∙◌, List, Ok, ap, subst, string_bytes, sym}
+use Rattle.hart_step.specs.declared.state.Core.{Core}
 use Rattle.judge_words.specs.Job.{job_view}
 use Rattle.outside_ports.specs.Ports.{IsMissing, file_of}
 use Rattle.judge_run.specs.Starts.{start_view}
 use Rattle.page_layers.specs.Memories.{layered_bytes}
 use Rattle.judge_run.specs.Answer.{answer_with, trace_answer}
 use Rattle.judge_run.specs.Ends.{answer_view}
-use Rattle.hart_step.specs.Rows.{HartState}
+use Rattle.hart_step.specs.HartSets.{SetState}
 use Rattle.hart_words.specs.Memory.{Bytes}
 use Rattle.judge_run.specs.Parts.{IsEndTold, end_of}
 use Rattle.judge_run.specs.declared.progress.Progress.{Progress}
@@ -48,7 +49,7 @@ returns-in-Ok-judge_rows-clause-meant g c =
     let progress : Progress _ =
     record {
       taker = c.in-Ok.taken.1;
-      hart = record { core = c.args.start.now.core; mem = c.over.result };
+      harts = record { cores = c.in_ok-cores.cores; mem = c.over.result };
       counts = c.zero.result;
     } in
     let header : TakesHeader files c.args.name.now job c.in_ok-taker.taker c.in-Ok.taken.0 progress.taker =
@@ -57,10 +58,13 @@ returns-in-Ok-judge_rows-clause-meant g c =
       file_exists = c.in-Ok.ensures.file_exists opens.cursor;
       takes = c.in-Ok.ensures.takes;
     } in
-    let state : Bytes → HartState = λ bytes. record { core = c.args.start.now.core; bytes = bytes } in
+    let state : List Core → Bytes → SetState = λ cores bytes. record { core = cores; bytes = bytes } in
     let at_start : IsAtStart layered_bytes start progress =
     record {
-      state = ap state c.over.ensures.bytes;
+      state =
+          ap (λ cores. state cores (layered_bytes c.over.result))
+          (c.in_ok-cores.ensures.items ∙ c.as_slice.ensures.value)
+          ∙ ap (state c.args.start.now.cores.items) c.over.ensures.bytes;
       rows = c.zero.ensures.rows;
       valid = c.zero.ensures.valid;
     } in
