@@ -1,0 +1,4 @@
+pub mod Others
+pub mod Retired
+pub mod Own
+pub mod Rows
