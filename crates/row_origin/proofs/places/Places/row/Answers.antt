@@ -1,0 +1,13 @@
+use Rattle.std.proofs.Common.{ap, sym, ◌∙◌}
+use Rattle.std.specs.Option.{option_copied}
+use Rattle.row_origin.proofs.Placed.{found_at}
+use Rattle.row_origin.proofs.places.Places.row.Goals as goal
+
+pub returns-in-Some : goal.returns-in-Some
+returns-in-Some c =
+    c.row.ensures
+    ∙ found_at c.args.self.now c.args.number c.args.place _ (sym c.get.ensures.value ∙ ap option_copied c.in-Some.is)
+
+pub returns-in-None : goal.returns-in-None
+returns-in-None c =
+    found_at c.args.self.now c.args.number c.args.place _ (sym c.get.ensures.value ∙ ap option_copied c.in-None.is)
