@@ -1,20 +1,25 @@
 #!/usr/bin/env python3
-"""Tries what reads and writes rows of several harts: harts_test.py [PROGRAM].
+"""Tries what reads and writes rows of several harts: harts_test.py [PROGRAM [FOLDER]].
 
 The log of qemu is that of harts.s with two harts, stored, and harts.hex is its image. What is
 merged is made here, and cut out of the rows of that log. Where PROGRAM is given, a judge that knows
---harts, it judges them: whole, altered, and in pieces.
+--harts, it judges them: whole, altered, and in pieces. So it does the runs of three programs with
+four harts that are stored: a spin lock, a ticket lock and a queue. Where FOLDER is given, only the
+runs of these three are tried, as qemu/four.sh left them there.
 """
 import gzip
+import re
 import subprocess
 import sys
 import tempfile
 from pathlib import Path
+from typing import NamedTuple
 
 TESTS = Path(__file__).resolve().parent
 CONTRIB = TESTS.parent
 sys.path.insert(0, str(CONTRIB))
 import qemu_log  # noqa: E402  # found by the line before
+from cover import name_of, size_of  # noqa: E402
 
 LOG, IMAGE = (TESTS / "qemu" / it for it in ("harts.log.gz", "harts.hex"))
 IO = ["--io", "0x100000:0xff01000"]
@@ -22,6 +27,12 @@ MERGE = CONTRIB / "merge_rows.py"
 START = 0x80000000
 ORDER = "187 rows of 2 harts in 27 turns: 6 SC stored, 3 failed\n"
 ROWS = 187
+FOUR = [
+    # a program of four harts, what the first hart loads to a0 at the end, how many SC store
+    ("spin", 12, 12),
+    ("ticket", 12, 0),
+    ("queue", 0x050505050505, 36),
+]
 faults = []
 
 
@@ -325,6 +336,137 @@ def judged_pieces(judge, out):
     check("pieces.py", pieces.stdout.endswith(f"\nagrees {ROWS}\n"), pieces)
 
 
+class Read(NamedTuple):
+    """A read of bytes that another hart wrote last, and what it had found without that write."""
+
+    row: int
+    name: str
+    hart: int
+    rd: int
+    data: int
+
+
+class Four:
+    """A run of four harts: its rows, and what is expected of them by their own fields alone."""
+
+    def __init__(self, image, trace):
+        self.lines = trace.read_text().splitlines()
+        names = self.lines[0].split(",")
+        self.rows = [dict(zip(names, it.split(","))) for it in self.lines[1:]]
+        self.harts = [int(it["hart"], 0) for it in self.rows]
+        self.names = [name_of(int(it["insn"], 0)) for it in self.rows]
+        self.memory, self.before, self.writer = qemu_log.image_bytes(image), {}, {}
+        self.reads = [it for at in range(len(self.rows)) for it in self.access(at)]
+
+    def value(self, row, name):
+        return int(self.rows[row - 1][name], 0)
+
+    def access(self, at):
+        """Follows memory through a row; gives its read, where it is of what another hart wrote."""
+        row, hart, name = self.rows[at], self.harts[at], self.names[at]
+        address, size = int(row["mem_addr"] or "0", 0), size_of(int(row["insn"], 0))
+        if address < START:
+            return
+        places = range(address, address + size)
+        if int(row["mem_rmask"], 0):
+            now = [self.memory.get(it, 0) for it in places]
+            old = [byte if self.writer.get(it, hart) == hart else self.before[it]
+                   for it, byte in zip(places, now)]
+            data = int.from_bytes(bytes(old), "little")
+            is_negative = not name.endswith("u") and old[-1] & 0x80
+            if old != now:
+                yield Read(at + 1, name, hart, data - (is_negative and 1 << 8 * size), data)
+        if int(row["mem_wmask"], 0):
+            for it, byte in zip(places, int(row["mem_wdata"], 0).to_bytes(8, "little")):
+                self.before[it], self.writer[it] = self.memory.get(it, 0), hart
+                self.memory[it] = byte
+
+    def conditional(self, result):
+        """The first SC that gives this, and whose hart looks at it in the next row."""
+        return next(at for at, (row, after) in enumerate(zip(self.rows, self.rows[1:]), 1)
+                    if self.names[at - 1].startswith("sc.") and int(row["rd_wdata"], 0) == result
+                    and (row["hart"], row["rd_addr"]) == (after["hart"], after["rs1_addr"]))
+
+    def next_pc(self, row, hart):
+        """Where a hart is that has its next row after this one."""
+        return next(int(it["pc_rdata"], 0) for it, whose in zip(self.rows[row:], self.harts[row:])
+                    if whose == hart)
+
+
+def four_harts(judge, folder):
+    """The runs of four harts that a folder has, whole and altered."""
+    for name, wanted, stored in FOUR:
+        image, trace = folder / f"{name}.hex", judge.folder / f"{name}.csv"
+        log = gzip.decompress((folder / f"{name}.log.gz").read_bytes()).decode("latin-1")
+        ran = run(CONTRIB / "qemu_log.py", "--harts", 4, "-o", trace, text=log)
+        check(f"qemu_log.py, {name}", ran.returncode == 0
+              and "4 harts: judge with --harts 4\n" in ran.stderr, ran.stderr)
+        four = Four(image, trace)
+        contended(name, four, trace, wanted, stored)
+        judged_four(name, judge, image, four)
+        altered_four(name, judge, image, four, stored)
+
+
+def contended(name, four, trace, wanted, stored):
+    """Each hart takes part, and finds what others wrote; the end is as it should be."""
+    ran = run(TESTS / "memory_order.py", trace)
+    found = re.fullmatch(rf"{len(four.rows)} rows of 4 harts in (\d+) turns: {stored} SC stored, "
+                         r"(\d+) failed\n", ran.stdout)
+    check(f"{name}: its order", found and int(found[1]) > 40
+          and (int(found[2]) > 0) == (stored > 0), ran.stdout + ran.stderr)
+    check(f"{name}: each hart finds what others wrote",
+          {it.hart for it in four.reads} == {*range(4)})
+    ends = [(hart, int(it["rd_wdata"], 0)) for it, hart in zip(four.rows, four.harts)
+            if it["rd_addr"] == "0xa"]
+    check(f"{name}: its end", ends == [(0, wanted)], ends)
+
+
+def judged_four(name, judge, image, four):
+    """A run of four harts as it is, with several sets of words, and as one of other harts."""
+    for words in ["--harts 4", "--harts 4 --segment 1 --workers 8", "--harts 4 --segment 7 "
+                  "--workers 3", "--harts 4 --reserve 8", "--harts 8 --segment 50 --window 1"]:
+        judge.wants(f"{name} {words}", f"agrees {len(four.rows)}", image, four.lines, *IO,
+                    *words.split())
+    for count in 1, 2, 3:
+        first = next(row for row, hart in enumerate(four.harts, 1) if hart >= count)
+        judge.wants(f"{name}, {count} of its harts", f"refused trace: row {first}: hart not there",
+                    image, four.lines, "--harts", str(count), *IO)
+
+
+def altered_four(name, judge, image, four, stored):
+    """A run of four harts with one field that is another."""
+    def wants(signal, expected, found, row, *words, at=None, **fields):
+        expected, found = (it % 2 ** 64 for it in (expected, found))
+        judge.wants(f"{name}, row {row}, {fields}", f"differs row {at or row}: {signal} expected "
+                    f"0x{expected:016x} found 0x{found:016x}", image,
+                    altered(four.lines, row, **(fields or {signal: hex(found)})), "--harts", "4",
+                    *IO, *words)
+
+    pieces = ["--segment", "16", "--workers", "3"]
+    if stored:
+        failed, row = four.conditional(1), four.conditional(0)
+        for words in [], pieces:
+            wants("rd_wdata", 1, 0, failed, *words)
+            # An SC may fail where it could have stored, but then it stores nothing,
+            wants("mem_wmask", 0, four.value(row, "mem_wmask"), row, *words, rd_wdata="0x1")
+            # and its hart goes on with what it gave.
+            wants("rs1_rdata", 1, 0, row, *words, at=row + 1, rd_wdata="0x1", mem_wmask="0x0",
+                  mem_wdata="")
+    kinds = {}
+    for read in four.reads:
+        kinds.setdefault(read.name, read)
+    check(f"{name}: a load and an AMO find what others wrote",
+          {it[:2] for it in kinds} >= {"am", "lw"}, kinds)
+    for row, _, _, rd, data in kinds.values():
+        wants("rd_wdata", four.value(row, "rd_wdata"), rd, row)
+        wants("mem_rdata", four.value(row, "mem_rdata"), data, row, *pieces)
+    row = next(it.row for it in four.reads if it.hart == 0)
+    pc = four.value(row, "pc_rdata")
+    for hart in 1, 2, 3:
+        if (expected := four.next_pc(row, hart)) != pc:
+            wants("pc_rdata", expected, pc, row, *pieces, hart=hex(hart))
+
+
 def judged_examples(judge):
     """The example of the documents, and a store that stands where it retired."""
     examples = TESTS / "examples"
@@ -358,6 +500,9 @@ def faults_of_states(folder):
 def main():
     with tempfile.TemporaryDirectory() as folder:
         folder = Path(folder)
+        if len(sys.argv) > 2:
+            four_harts(Judge(str(Path(sys.argv[1]).resolve()), folder), Path(sys.argv[2]))
+            return 1 if faults else 0
         log, out = log_to_rows(folder)
         other_orders(folder, out)
         faults_of_logs(log)
@@ -374,6 +519,7 @@ def main():
             judged_starts(judge, log)
             judged_pieces(judge, out)
             judged_examples(judge)
+            four_harts(judge, TESTS / "qemu")
     return 1 if faults else 0
 
 

@@ -191,6 +191,9 @@ test_qemu_harts() {
     expect 'harts.s, one hart' "agrees $(($(wc -l <"$out") - 1))" "$folder/harts.elf" "$out" \
         --io 0x100000:0xff01000
     test_qemu_interrupts
+    sh "$tests/qemu/four.sh" "$folder" || fail 'programs of four harts: no run in qemu'
+    [ -z "$knows_harts" ] || python3 "$tests/harts_test.py" "$program" "$folder" ||
+        fail 'programs of four harts, run here'
 }
 
 # A hart that interrupts another: they share no memory, so that the rows of each agree alone, without
@@ -691,8 +694,8 @@ if can_run 'rows of several harts' python3; then
     fi
 fi
 can_run 'several harts in qemu' python3 riscv64-unknown-elf-as riscv64-unknown-elf-ld timeout \
-    qemu-system-riscv64 && has_version 'several harts in qemu' qemu-system-riscv64 'version 7\.' &&
-    test_qemu_harts
+    riscv64-unknown-elf-objcopy gzip qemu-system-riscv64 &&
+    has_version 'several harts in qemu' qemu-system-riscv64 'version 7\.' && test_qemu_harts
 if can_run 'the start of firmware' python3; then
     python3 "$tests/boot_test.py" || fail "the start of firmware"
 fi

@@ -6,6 +6,7 @@ set -eu
 here=$(cd "$(dirname "$0")" && pwd)
 harts=$2
 cd "$1"
+ulimit -f 200000  # blocks of 512 bytes: a program that goes astray must not fill the disk
 riscv64-unknown-elf-as -march=rv64ima_zicsr --defsym HARTS="$harts" -o harts.o "$here/${3:-harts.s}"
 riscv64-unknown-elf-ld -n --no-warn-rwx-segments --section-start=.init=0x80000000 \
     -o harts.elf harts.o
