@@ -443,7 +443,7 @@ mod tests {
             (Signal::Valid, 0, "valid", 1),
             (Signal::Rs2Rdata, 11, "rs2_rdata", 64),
             (Signal::MemWmask, 18, "mem_wmask", 8),
-            (mask, 51, "csr_mepc_wmask", 64),
+            (mask, 52, "csr_mepc_wmask", 64),
         ] {
             assert_eq!(rt; signal.index(), index);
             assert!(rt; signal.is_named(name.as_bytes()));
