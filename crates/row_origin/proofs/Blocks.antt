@@ -10,23 +10,23 @@ use Rattle.row_origin.specs.declared.block.Block.{Block}
 use Rattle.row_origin.specs.Places.{BlockFits, as_row, laid_over, row_in}
 
 -- no row at a place of a block of zeros
-pub none_in : (block : Block) → block.rows ≡ replicate 64 0 → (place : ℕ) → row_in block place ≡ None
+pub none_in : (block : Block) → block.rows ≡ replicate 32 0 → (place : ℕ) → row_in block place ≡ None
 unfolding row_in
 none_in block is place = ap (λ rows. as_row (slice_index rows place)) is ∙ ap as_row zeros
   where
-    zeros : slice_index (replicate 64 0) place ≡ 0
-    zeros = elim (cases_lt place 64) [
-      | inl within ↦ get_or-replicate 64 place 0 0 within
-      | inr past ↦ get_or_past (replicate 64 0) place 0 past
+    zeros : slice_index (replicate 32 0) place ≡ 0
+    zeros = elim (cases_lt place 32) [
+      | inl within ↦ get_or-replicate 32 place 0 0 within
+      | inr past ↦ get_or_past (replicate 32 0) place 0 past
     ]
 
 -- nor after the last place
-pub none_past : (block : Block) (place : ℕ) → 64 ≤ place → row_in block place ≡ None
+pub none_past : (block : Block) (place : ℕ) → 32 ≤ place → row_in block place ≡ None
 unfolding row_in
 none_past block place past = ap as_row (get_or_past block.rows place 0 (rw block.full past))
 
 -- a row is put at a place
-pub row_set : (old new : Block) (place row q : ℕ) → place < 64 → new.rows ≡ set old.rows place row
+pub row_set : (old new : Block) (place row q : ℕ) → place < 32 → new.rows ≡ set old.rows place row
     → row_in new q ≡ (if place == q then as_row row else row_in old q)
 unfolding row_in
 row_set old new place row q below is = elim (eqb_tells place q) [
@@ -41,7 +41,7 @@ row_set old new place row q below is = elim (eqb_tells place q) [
       ∙ ap (λ test. if test then as_row row else as_row (slice_index old.rows q)) (sym apart.0)
 ]
   where
-    block_full : length old.rows ≡ 64
+    block_full : length old.rows ≡ 32
     block_full = old.full
 
 -- a place below the next is below this one, unless it is this one
@@ -88,7 +88,7 @@ laid_more base place q later start now next row is had puts = elim (eqb_tells pl
 ]
 
 -- every place
-pub all_laid : (base : ℕ) (later start now : Block) (place : ℕ) → place ≡ 64
+pub all_laid : (base : ℕ) (later start now : Block) (place : ℕ) → place ≡ 32
     → ((p : ℕ) → row_in now p ≡ laid_up_to base place later start p)
     → (q : ℕ) → row_in now q ≡ laid_over base (row_in later q) (row_in start q)
 all_laid base later start now place end had q = elim (cases_lt q place) [
@@ -102,7 +102,7 @@ found_row n row true is found = cc
 found_row n row false is found = let same : n ≡ row = cc in omega (arith, same, eqb-false n 0 is)
 
 -- a row of a block that fits
-pub row_fits : (base place : ℕ) (block : Block) (row : Option ℕ) → place < 64 → BlockFits base block
+pub row_fits : (base place : ℕ) (block : Block) (row : Option ℕ) → place < 32 → BlockFits base block
     → row ≡ row_in block place → IfSome row (λ found. (0 < found) × (base + found < 2 ^ 64))
 unfolding row_in
 row_fits base place block None within fits is = tt

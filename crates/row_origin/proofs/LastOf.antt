@@ -23,7 +23,7 @@ pub of_no_row : (last : Last) → ((hart number : ℕ) → row_at last.registers
 unfolding last_row
 of_no_row last registers bytes = record {
   registers = λ hart number. registers hart number;
-  bytes = λ address. bytes (address / 64) (address % 64);
+  bytes = λ address. bytes (address / 32) (address % 32);
 }
 
 pub of_none_more : (last : Last) (trail : Trail) → IsLastOf last trail → IsLastOf last (trail ++ None ∷ [])
@@ -56,7 +56,7 @@ of_one_more before after registers bytes facts wrote row same_registers same_byt
           (same_registers hart number ∙ are.registers hart number) is (one hart number);
       bytes =
           λ address. last_row_added (writes_byte address) facts trail row _ _
-          (same_bytes (address / 64) (address % 64) ∙ are.bytes address) is
+          (same_bytes (address / 32) (address % 32) ∙ are.bytes address) is
           (two address
           ∙ ap (λ writes. if is_written writes address then as_row row else byte_at bytes address) same_writes);
     }
@@ -78,8 +78,8 @@ of_more_rows before later after registers bytes base same_registers same_bytes o
           (one hart number);
       bytes =
           λ address. last_row_laid (writes_byte address) first second base _ _ _
-          (same_bytes (address / 64) (address % 64) ∙ are.bytes address) (those.bytes address) from
-          (two (address / 64) (address % 64));
+          (same_bytes (address / 32) (address % 32) ∙ are.bytes address) (those.bytes address) from
+          (two (address / 32) (address % 32));
     }
 
 -- two that have the same places are as before
@@ -87,18 +87,18 @@ pub as_before : (before after : Last) → AreSame before.registers after.registe
     → IsAsBefore before after
 as_before before after registers bytes = record {
   registers = registers;
-  bytes = λ address. bytes (address / 64) (address % 64);
+  bytes = λ address. bytes (address / 32) (address % 32);
 }
 
 -- places of bytes can be counted on, where each byte's row can
-address_of : (number place : ℕ) → place < 64
-    → ((number * 64 + place) / 64 ≡ number) × ((number * 64 + place) % 64 ≡ place)
+address_of : (number place : ℕ) → place < 32
+    → ((number * 32 + place) / 32 ≡ number) × ((number * 32 + place) % 32 ≡ place)
 address_of number place within = (grind arith, grind arith)
 
 pub bytes_fit : (last : Last) (base : ℕ) → CountsFrom base last → PlacesFit base last.bytes
 bytes_fit last base counts number place row within found =
     let at = address_of number place within in
-    counts.bytes (number * 64 + place) row (rw (at.0, at.1) found)
+    counts.bytes (number * 32 + place) row (rw (at.0, at.1) found)
 
 pub registers_fit : (last : Last) (base : ℕ) → CountsFrom base last → PlacesFit base last.registers
 registers_fit last base counts number place row within found = counts.registers number place row found

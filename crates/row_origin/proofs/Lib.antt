@@ -4,3 +4,4 @@ pub mod Trails
 pub mod LastOf
 pub mod Read
 pub mod Laid
+pub mod Histories

@@ -3,3 +3,5 @@ pub mod Sources
 pub mod Origins
 pub mod Places
 pub mod Last
+pub mod DifferingRows
+pub mod Histories

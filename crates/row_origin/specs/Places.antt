@@ -1,4 +1,4 @@
--- The last row at each of many places, in blocks of 64.
+-- The last row at each of many places, in blocks of 32.
 use Rattle.std.specs.Prelude.{◌≡◌, ℕ, ◌+◌, ◌<◌, ◌^◌, ◌==◌, if◌then◌else◌, Option, Some, None, option_map, nat_eq}
 use Rattle.std.specs.Prelude.{slice_index}
 use Rattle.std.specs.HashMap.{get}

@@ -4,9 +4,9 @@ ghost use Rattle.std.specs.Prelude.{◌≡◌, length};
 ghost use Rattle.row_origin.specs.declared.block.TheConstants.{BLOCK_PLACES};
 
 /// How many places a block has.
-pub const BLOCK_SIZE: u64 = 64;
+pub const BLOCK_SIZE: u64 = 32;
 /// The same as a length of arrays.
-const BLOCK_PLACES: usize = 64;
+const BLOCK_PLACES: usize = 32;
 
 /// The last row at each place, 0 where there is none: rows are numbered from 1.
 #[derive(Clone, Copy)]

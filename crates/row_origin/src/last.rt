@@ -18,8 +18,8 @@ use hart_words::{NoMemory, Read, Write};
 use rvfi_rows::{Accessed, Effects, Expected, Stepped};
 use std::alloc::Global;
 
-/// A write has at most 255 bytes, which lie in at most 5 blocks.
-const MOST_BLOCKS: usize = 5;
+/// A write has at most 255 bytes, which lie in at most 9 blocks.
+const MOST_BLOCKS: usize = 9;
 
 /// For each register of each hart, and for each byte, the row that wrote it last. Rows are numbered
 /// from 1.
@@ -27,7 +27,7 @@ const MOST_BLOCKS: usize = 5;
 pub struct Last {
     /// By the number of the hart, and that of the register.
     registers: Places,
-    /// By the address divided by 64, and the rest.
+    /// By the address divided by 32, and the rest.
     bytes: Places,
 }
 
@@ -37,7 +37,7 @@ impl Last {
     ghost use Rattle.row_origin.specs.Last.{CountsFrom, IsAsBefore, IsLastOf, byte_in, register_in};
     ghost use Rattle.row_origin.specs.Origins.{byte_origins, bytes_in, origins_in, origins_of, register_origins, registers_in};
     ghost use Rattle.row_origin.specs.Sources.{addresses_from, addresses_of, in_order, load_of, one_part, parts_in, parts_of, registers_read, two_parts};
-    ghost use Rattle.row_origin.specs.Trails.{Trail, facts_of};
+    ghost use Rattle.row_origin.specs.Trails.{RowFacts, Trail, facts_of};
 
     /// Those of no row. It takes no memory.
     pub fn empty(alloc: Global) -> Last
@@ -50,7 +50,7 @@ impl Last {
     }
 
     /// Adds what the step of one row more did. A refused one changes nothing.
-    pub fn add(&mut self, stepped: &Stepped, hart: u32, row: u64) -> Result<(), NoMemory>
+    pub fn add(&mut self, stepped: &Stepped, hart: u64, row: u64) -> Result<(), NoMemory>
         requires { All (λ (write : Write). IsNarrow write.pa write.len) stepped.now.wrote }
         ensures ok { OnOk result ((trail : Trail) → IsLastOf self.old trail
             → length trail + 1 ≡ row
@@ -82,25 +82,35 @@ impl Last {
     }
 
     /// Who wrote what a row read, given what its step did.
-    pub fn of(&self, stepped: &Stepped, hart: u32) -> Origins
+    pub fn of(&self, stepped: &Stepped, hart: u64) -> Origins
         requires { All (λ (read : Read). IsNarrow read.pa read.len) stepped.now.seen }
         ensures { (trail : Trail) → IsLastOf self.now trail
             → origins_in result ≡ origins_of trail (facts_of stepped.now hart) }
     {
+        self.origins_of(&stepped.expected, stepped.seen.as_slice(), hart)
+    }
+
+    /// The same, given what the row's hart did and all that its step read.
+    pub(crate) fn origins_of(&self, expected: &Expected, reads: &[Read], hart: u64) -> Origins
+        requires { All (λ (read : Read). IsNarrow read.pa read.len) reads.now }
+        ensures { (trail : Trail) (facts : RowFacts) → IsLastOf self.now trail
+            → facts.hart ≡ hart → facts.expected ≡ expected.now → facts.reads ≡ reads.now
+            → origins_in result ≡ origins_of trail facts }
+    {
         let mut origins = Origins::none();
-        if let Some(effects) = effects(&stepped.expected) {
+        if let Some(effects) = effects(expected) {
             self.put_sources(effects, hart, &mut origins);
-            self.put_load(effects, stepped.seen.as_slice(), &mut origins);
+            self.put_load(effects, reads, &mut origins);
         }
         origins
     }
 
     /// The row that wrote a register last.
-    fn register(&self, hart: u32, number: u8) -> Option<u64>
+    fn register(&self, hart: u64, number: u8) -> Option<u64>
         requires { number < BLOCK_SIZE }
         ensures { result ≡ register_in self.now hart number }
     {
-        self.registers.row(u64::from(hart), u64::from(number))
+        self.registers.row(hart, u64::from(number))
     }
 
     /// The row that wrote the byte at an address last.
@@ -111,7 +121,7 @@ impl Last {
     }
 
     /// Adds the registers that an instruction read, rs1 first, once where both are one.
-    fn put_sources(&self, effects: &Effects, hart: u32, origins: &mut Origins)
+    fn put_sources(&self, effects: &Effects, hart: u64, origins: &mut Origins)
         requires { registers_in origins.old ≡ [] }
         ensures registers { registers_in origins.new ≡ register_origins
             (λ number. register_in self.now hart number)
@@ -125,7 +135,7 @@ impl Last {
     }
 
     /// Adds a register that an instruction read, unless it is x0.
-    fn put_source(&self, number: u8, hart: u32, origins: &mut Origins)
+    fn put_source(&self, number: u8, hart: u64, origins: &mut Origins)
         requires { length (registers_in origins.old) < MOST_REGISTERS }
         ensures registers { registers_in origins.new ≡ registers_in origins.old
             ++ register_origins (λ number. register_in self.now hart number)
@@ -246,7 +256,7 @@ impl Last {
 }
 
 /// Notes the register that a row's step wrote.
-fn note_register(registers: &mut Places, expected: &Expected, hart: u32, row: u64)
+fn note_register(registers: &mut Places, expected: &Expected, hart: u64, row: u64)
     requires { 1 ≤ spare registers.old.blocks }
     ensures { (q number : ℕ) → row_at registers.new q number
         ≡ (if is_kept number && (hart == q) && (register_written expected.now == number)
@@ -255,7 +265,7 @@ fn note_register(registers: &mut Places, expected: &Expected, hart: u32, row: u6
     if let Some(effects) = effects(expected) {
         if is_kept(effects.rd) {
             let number = u64::from(effects.rd);
-            registers.fill(u64::from(hart), number, number + 1, row);
+            registers.fill(hart, number, number + 1, row);
         }
     }
 }
@@ -263,10 +273,10 @@ fn note_register(registers: &mut Places, expected: &Expected, hart: u32, row: u6
 /// Notes the bytes that a row's step wrote.
 fn note_writes(bytes: &mut Places, writes: &[Write], row: u64)
     requires narrow { All (λ (write : Write). IsNarrow write.pa write.len) writes.now }
-    requires room { 5 * length writes.now ≤ spare bytes.old.blocks }
+    requires room { 9 * length writes.now ≤ spare bytes.old.blocks }
     ensures rows { (address : ℕ) → byte_at bytes.new address
         ≡ (if is_written writes.now address then as_row row else byte_at bytes.old address) }
-    ensures room { spare bytes.old.blocks ≤ spare bytes.new.blocks + 5 * length writes.now }
+    ensures room { spare bytes.old.blocks ≤ spare bytes.new.blocks + 9 * length writes.now }
 {
     if let Some((write, rest)) = writes.split_first() {
         note_write(bytes, write.pa, write.len, row);
@@ -277,10 +287,10 @@ fn note_writes(bytes: &mut Places, writes: &[Write], row: u64)
 /// Notes that a row's step wrote so many bytes from an address on.
 fn note_write(bytes: &mut Places, pa: u64, len: u8, row: u64)
     requires narrow { IsNarrow pa len }
-    requires room { 5 ≤ spare bytes.old.blocks }
+    requires room { 9 ≤ spare bytes.old.blocks }
     ensures rows { (address : ℕ) → byte_at bytes.new address
         ≡ (if is_within pa len address then as_row row else byte_at bytes.old address) }
-    ensures room { spare bytes.old.blocks ≤ spare bytes.new.blocks + 5 }
+    ensures room { spare bytes.old.blocks ≤ spare bytes.new.blocks + 9 }
 {
     let end = pa + u64::from(len);
     for number in pa / BLOCK_SIZE..(end + (BLOCK_SIZE - 1)) / BLOCK_SIZE {

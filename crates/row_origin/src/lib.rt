@@ -7,12 +7,18 @@
 #![tactic(auto)]
 
 mod block;
+mod differing_row;
+mod history;
+mod kept;
 mod last;
 pub mod laws;
 mod origins;
 mod places;
 mod sources;
 
+pub use differing_row::DifferingRow;
+pub use history::History;
+pub use kept::{follow, history_if, note_difference, note_row};
 pub use last::Last;
 pub use origins::{ByteOrigin, MOST_BYTES, MOST_REGISTERS, Origins, RegisterOrigin};
 

@@ -5,7 +5,7 @@ use hart_words::NoMemory;
 use std::alloc::Global;
 use std::collections::HashMap;
 
-/// The last row at each place. Places lie in blocks of 64; a block has a number.
+/// The last row at each place. Places lie in blocks of 32; a block has a number.
 #[derive(Drop)]
 pub struct Places {
     blocks: HashMap<u64, Block>,

@@ -9,10 +9,10 @@ use Rattle.row_origin.proofs.last.note_write.Given as goal
 -- the blocks up to this one were filled
 abbrev pub invariant-loop-number : goal.invariant-loop-number
 invariant-loop-number l = record {
-  from : l.pa / 64 ≤ l.number;
-  room : spare l.fn.bytes.blocks + l.pa / 64 ≤ spare l.bytes.blocks + l.number;
+  from : l.pa / 32 ≤ l.number;
+  room : spare l.fn.bytes.blocks + l.pa / 32 ≤ spare l.bytes.blocks + l.number;
   rows : (address : ℕ)
       → byte_at l.bytes address
-      ≡ (if is_within l.pa l.len address && nat_lt (address / 64) l.number then as_row l.row
+      ≡ (if is_within l.pa l.len address && nat_lt (address / 32) l.number then as_row l.row
       else byte_at l.fn.bytes address);
 }

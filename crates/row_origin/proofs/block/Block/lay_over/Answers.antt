@@ -13,6 +13,6 @@ loop-place-preserved c =
 
 pub returns : goal.returns
 returns c =
-    let end : c.loop-place.place ≡ 64 = omega arith in
+    let end : c.loop-place.place ≡ 32 = omega arith in
     all_laid c.args.base c.args.later.now c.args.self.now c.loop-place.self c.loop-place.place end
     c.loop-place.invariant
