@@ -95,6 +95,7 @@ read_words() {
         [ -z "$all_plain" ] || { take_plain "$word"; continue; }
         case $word in
             --) all_plain=1 ;;
+            --origin) take_flag "$word" ;;
             --*=*) take_option "${word%%=*}" "${word#*=}" ;;
             --*)
                 case ${1--} in
@@ -121,10 +122,22 @@ take_plain() {
     esac
 }
 
-take_option() {
-    case $seen in *" $1 "*) reason="$1 stands twice"; return ;; esac
+# A flag of judge alone, which has no value.
+take_flag() {
+    [ "$command" = judge ] || { reason="$1 is no option of $command"; return; }
+    take_name "$1"
+}
+
+# An option, which stands at most once.
+take_name() {
+    case $seen in *" $1 "*) reason="$1 stands twice"; return 1 ;; esac
     seen="$seen$1 "
+}
+
+take_option() {
+    take_name "$1" || return
     case $1 in
+        --origin) reason="--origin is of judge alone, and has no value" ;;
         --workers) check_range "$1" "$2" 1 64 ;;
         --segment) check_range "$1" "$2" 1 1048576 ;;
         --window) check_range "$1" "$2" 1 1024 ;;

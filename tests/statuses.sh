@@ -40,9 +40,22 @@ expect 3 'refused image: line 2: bad byte' judge bad.hex agrees.csv
 expect 4 'refused trace: no column pc_rdata' judge "an image.hex" bad.csv
 expect 5 '' judge "an image.hex" missing.csv
 
+# auipc x1,0; sb x1,1(x1); lhu x2,0(x1), whose value is another in the trace.
+printf '@80000000 97 00 00 00 a3 80 10 00 03 d1 00 00' >reads.hex
+printf '%s\n' insn,pc_rdata,rd_addr,rd_wdata 0x97,0x80000000,1,0x80000000 \
+    0x1080a3,0x80000004,0,0 0xd103,0x80000008,2,1 >reads.csv
+difference='differs row 3: rd_wdata expected 0x0000000000000097 found 0x0000000000000001'
+expect 1 "$difference" judge reads.hex reads.csv
+expect 1 "$difference
+origin x1 row 1
+origin byte 0x0000000080000000 image
+origin byte 0x0000000080000001 row 2" judge reads.hex reads.csv --origin
+expect 0 'agrees 1' judge --origin "an image.hex" agrees.csv
+
 expect 1 'differs row 1: rd_wdata expected 0x0000000000000005 found 0x0000000000000006' \
     state "an image.hex" differs.csv
 expect 2 'refused words' state "an image.hex"
+expect 2 'refused words' state "an image.hex" agrees.csv --origin
 expect 5 '' state "an image.hex" missing.csv
 
 # A state is written, and a run begins from it.

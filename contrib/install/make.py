@@ -8,9 +8,10 @@ import sys
 from pathlib import Path
 
 USAGE = Path(__file__).resolve().parents[2] / "bin" / "usage.txt"
-OPTION = re.compile(r"  (--[\w-]+) (\S+) +(.*)")
+OPTION = re.compile(r"  (--[\w-]+)(?: (\S+))? +(.*)")  # a flag has no value
 COMMANDS = ("judge", "state", "make")
 OF_MAKE = ("--workers", "--segment", "--window")
+OF_JUDGE = ("--origin",)
 WORDS = re.compile(r": (\w+) or (\w+) \(")  # where an option's value is one of two words
 
 
@@ -37,7 +38,8 @@ def man(version):
     yield f".SH DESCRIPTION\n{roff(about)}"
     yield ".SH OPTIONS"
     for name, value, text in options:
-        yield f".TP\n.BI {roff(name)} \" {roff(value)}\"\n{roff(text)}"
+        label = f'.BI {roff(name)} " {roff(value)}"' if value else f".B {roff(name)}"
+        yield f".TP\n{label}\n{roff(text)}"
     yield f".PP\n{roff(numbers.rpartition(' Status:')[0])}"
     yield ".SH EXIT STATUS"
     for number, text in statuses:
@@ -54,6 +56,8 @@ def words_of(text):
 def bash(_):
     options = parts(USAGE.read_text(encoding="utf-8"))[2]
     names = [it[0] for it in options]
+    of_state = [it for it in names if it not in OF_JUDGE]
+    flags = "|".join(name for name, value, _text in options if not value)
     values = "\n".join(f"            {name}) values='{words_of(text)}' ;;"
                        for name, _value, text in options if words_of(text))
     yield f"""# Completion of rvjudge for bash, made by contrib/install/make.py.
@@ -64,9 +68,10 @@ _rvjudge() {{
         mapfile -t COMPREPLY < <(compgen -W '{' '.join(COMMANDS)}' -- "$word")
     elif [[ $word == -* ]]; then
         local names='{' '.join(names)}'
+        [ "${{COMP_WORDS[1]}}" != state ] || names='{' '.join(of_state)}'
         [ "${{COMP_WORDS[1]}}" != make ] || names='{' '.join(OF_MAKE)}'
         mapfile -t COMPREPLY < <(compgen -W "$names" -- "$word")
-    elif [ "${{COMP_WORDS[1]}}" != make ] && [[ $before == -* ]]; then
+    elif [ "${{COMP_WORDS[1]}}" != make ] && [[ $before == -* && ! $before =~ ^({flags})$ ]]; then
         local values=
         case $before in
 {values}
@@ -88,7 +93,8 @@ def zsh(_):
             if name in names:
                 words = f"({words_of(text)})" if words_of(text) else ""
                 text = re.sub(r"[\[\]':]", " ", text)
-                yield f"        '{name}=[{text}]:{value.replace(':', ' and ')}:{words}'"
+                taken = f"=[{text}]:{value.replace(':', ' and ')}:{words}" if value else f"[{text}]"
+                yield f"        '{name}{taken}'"
 
     yield f"""#compdef rvjudge rvjudge-unproved
 # Completion of rvjudge for zsh, made by contrib/install/make.py.
@@ -97,7 +103,10 @@ if (( CURRENT == 2 )); then
     compadd {' '.join(COMMANDS)}
 elif [[ $words[2] != make ]]; then
     options=("""
-    yield from specs([it[0] for it in options])
+    yield from specs([it[0] for it in options if it[0] not in OF_JUDGE])
+    yield """    )
+    [[ $words[2] == state ]] || options+=("""
+    yield from specs(OF_JUDGE)
     yield """    )
     _arguments $options ':command:' ':image:_files' ':trace:_files'
 else

@@ -2,14 +2,15 @@
 """Holds the documents to the judge: documents.py PROGRAM [WORD..].
 
 A line of a document that is indented by four blanks, begins with bin/rvjudge judge, or with
-bin/rvjudge-unproved, and names files in folders is run, in the top folder, and the line after it
-must be what the judge prints. Lines with one of the WORDs, which the judge does not know, are left
-out. Each image and trace in examples/ must be named. After a paragraph that ends in `FILE`: the
-whole text of that file must stand, indented by four blanks. Prints how many lines were run; the
-status is 1 where anything is not so.
+bin/rvjudge-unproved, and names files in folders is run, in the top folder, and the indented lines
+after it must be what the judge prints. Lines with one of the WORDs, which the judge does not know,
+are left out. Each image and trace in examples/ must be named. After a paragraph that ends in
+`FILE`: the whole text of that file must stand, indented by four blanks. Prints how many commands
+were run; the status is 1 where anything is not so.
 """
 import subprocess
 import sys
+from itertools import takewhile
 from pathlib import Path
 
 TOP = Path(__file__).resolve().parents[2]
@@ -19,10 +20,16 @@ EXAMPLES = "contrib/tests/examples"
 
 
 def runs(text):
-    """The words of each command and the line that stands after it."""
+    """The words of each command and the lines that stand after it."""
     lines = text.split("\n")
-    return [(line.split()[1:], after.strip()) for line, after in zip(lines, lines[1:])
+    return [(line.split()[1:], printed(lines[at + 1:])) for at, line in enumerate(lines)
             if line.startswith(COMMANDS) and all("/" in word for word in line.split()[2:4])]
+
+
+def printed(lines):
+    """The lines at the front that are indented and no command, without their indent."""
+    shown = takewhile(lambda line: line.startswith("    ") and not line.startswith(COMMANDS), lines)
+    return "\n".join(line.strip() for line in shown)
 
 
 def shown_files(text):
@@ -62,7 +69,7 @@ def main():
         print(f"documents: {text}", file=sys.stderr)
     if not count:
         print("documents: no line is run", file=sys.stderr)
-    print(f"documents: {count} lines as they are printed")
+    print(f"documents: {count} commands as they are shown")
     return 1 if found or not count else 0
 
 

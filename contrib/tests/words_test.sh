@@ -126,6 +126,23 @@ judge i t --harts x
 judge i t --harts=
 judge i t --harts
 judge i t --harts 1 --harts 1
+judge i t --origin
+judge --origin i t
+judge i --origin t --pc 0x80000000
+judge i t --pc 0x80000000 --origin --harts 1
+judge i t --origin=
+judge i t --origin=x
+judge i t --origin x
+judge i t --origin --origin
+judge i t --origin --origin=x
+judge i t --origins
+judge i t --orig
+judge i t --pc --origin
+judge i --pc --origin t
+judge i -- --origin
+judge i t -- --origin
+judge --origin i
+--origin judge i t
 judge i t --workers 0
 judge i t --workers 64
 judge i t --workers 65
@@ -156,6 +173,10 @@ state i t --misaligned done --mtval zero --ad set --reserve 8 --bits on
 state i t --misaligned DONE
 state i t --harts 2
 state i t --harts 9
+state i t --origin
+state --origin i t
+state i t --origin=x
+state i -- --origin
 state i t --workers 2 --segment 1 --window 1
 state i t --workers 65
 state i t --pc 0 --pc 0
@@ -174,6 +195,9 @@ make 7 10 --ad fault
 make 7 10 --reserve 64
 make 7 10 --bits off
 make 7 10 --harts 1
+make 7 10 --origin
+make --origin 7 10
+make 7 10 --origin=x
 make 7 10 --workers 2
 make 7 10 --workers 2 --workers 2
 LISTS
@@ -194,6 +218,7 @@ expect_told 1 'differs row 1: pc_rdata expected 0x0000000080000004 found 0x00000
     state i t --pc 0x80000004
 expect_told 5 '' 'rvjudge: none: there is no such file' state i none
 expect_told 2 'refused words' "rvjudge: --workers: 65 is not in 1 to 64" judge i t --workers 65
+expect_told 2 'refused words' 'rvjudge: --origin is no option of state' state i t --origin
 expect_told 2 'refused words' 'usage: rvjudge judge IMAGE TRACE' --help
 expect_told 2 'refused words' 'version of the test' --version
 expect_told 5 '' 'rvjudge: none: there is no such file' judge i none

@@ -1,5 +1,5 @@
 -- The outcome of a told trace.
-use Rattle.std.proofs.Common.{◌≡◌, ℕ, suc, true, List, [], ◌∷◌, length, drop, nat_le, Option, Some, None, IsSome, Ok}
+use Rattle.std.proofs.Common.{◌≡◌, ℕ, suc, Bool, true, List, [], ◌∷◌, length, drop, nat_le, Option, Some, None, IsSome, Ok}
 use Rattle.std.proofs.Common.{Err, refl, sym, ap, subst, ◌∙◌, arith, string_bytes}
 use Rattle.std.proofs.lemmas.Bool.{le-leb}
 use Rattle.outside_ports.specs.Faults.{MissesWhere}
@@ -15,7 +15,7 @@ use Rattle.trace_lines.specs.Lines.{RemainingLines, file_lines}
 use Rattle.trace_lines.specs.Pieces.{piece_view, front_of, back_of}
 use Rattle.trace_lines.specs.Takers.{Opens, TakesWhereKnown, remaining_lines_of, lines_left_after}
 use Rattle.rvfi_rows.specs.Columns.{TraceColumns}
-use Rattle.rvfi_rows.specs.Rows.{rows_of}
+use Rattle.rvfi_rows.specs.Rows.{RowReading, rows_of}
 use Rattle.trace_report.specs.declared.outcome.Outcome.{Outcome}
 use Rattle.hart_step.specs.HartSets.{set_state_of}
 use Rattle.hart_step.specs.HartSets.{SetState}
@@ -24,13 +24,17 @@ use Rattle.judge_run.specs.declared.answer.Answer.{Answer}
 use Rattle.judge_run.specs.declared.stop.Stop.{Stop}
 use Rattle.judge_run.specs.declared.stop.Stop.TheVariants.{Known, ReadFault, NoMemory}
 use Rattle.hart_words.specs.Memory.{Bytes}
+use Rattle.row_origin.specs.Histories.{HistoryView, IsKept, history_of}
+use Rattle.segment_judge.specs.Histories.{history_at, history_from, trail_from}
+use Rattle.segment_judge.proofs.Histories.{history_told}
 use Rattle.segment_judge.specs.Judgements.{by_set}
 use Rattle.segment_judge.specs.Laws.{Conclusion, conclusion_from}
 use Rattle.judge_run.specs.declared.progress.Progress.{Progress}
 use Rattle.judge_run.specs.declared.progress.TraceEnd.{TraceEnd}
 use Rattle.judge_run.specs.Parts.{IsEndTold, end_after, end_in, end_of, position_of}
 use Rattle.judge_run.proofs.Passing.{counted_from_none}
-use Rattle.judge_run.specs.Answer.{AnswerView, RowsEnd, Step, answer_with, columns_in, lines_answer, ruling_at_end}
+use Rattle.judge_run.specs.PartHistories.{IsHistoryTold, history_in}
+use Rattle.judge_run.specs.Answer.{asks_origins, AnswerView, RowsEnd, Step, answer_with, columns_in, lines_answer, ruling_at_end}
 use Rattle.judge_run.specs.Answer.{trace_answer}
 use Rattle.judge_run.specs.Stops.{MeantBy, MeantWhereKnown, MissesStop, LacksFile, line_stop}
 
@@ -55,19 +59,25 @@ pub record IsAtStart {M : Type 0} (bytes_of : M → Bytes) (start : SetState) (p
   pub rows : progress.counts.rows ≡ 0
   pub valid : progress.counts.valid ≡ 0
 
+-- what rows did up to the verdict on them, as the trail of all of them tells it
+abbrev rows_told : SetState → List RowReading → HistoryView
+rows_told start rows = history_at (trail_from start rows) (conclusion_from by_set start rows).verdict
+
 -- what the first line and then the others come to, from the start
 lines_give : {M : Type 0} {bytes_of : M → Bytes} {start : SetState} {first : RemainingLines} {columns : TraceColumns}
     (job : JobView) (left : RemainingLines) (progress : Progress M) → first ≡ front_of 1 left
     → columns_in job first ≡ Ok columns → IsAtStart bytes_of start progress
     → lines_answer job start left
-    ≡ Ok (answer_with job (end_after job columns (position_of bytes_of progress) (back_of 1 left)))
+    ≡ Ok (answer_with job (end_after job columns (position_of bytes_of progress) (back_of 1 left))
+    (rows_told start (rows_of columns (drop 1 left.lines))))
 unfolding lines_answer end_after back_of
 lines_give {M} {bytes_of} {start} {first} {columns} job left progress front named at_start =
     let here : columns_in job left ≡ Ok columns = first_columns job left first front ∙ named in
     let judged : Conclusion (List Core) = conclusion_from by_set start (rows_of columns (drop 1 left.lines)) in
     rw (here, at_start.state, at_start.rows, at_start.valid)
     (ap
-    (λ whole. Ok (answer_with job (record { ruling = ruling_at_end job left.ending whole; state = judged.end })))
+    (λ whole. Ok (answer_with job (record { ruling = ruling_at_end job left.ending whole; state = judged.end })
+    (rows_told start (rows_of columns (drop 1 left.lines)))))
     (sym (counted_from_none judged.verdict)))
 
 lines_stop : (job : JobView) (start : SetState) (left first : RemainingLines) (stop : Option Outcome)
@@ -112,21 +122,39 @@ is_there {taker = taker} {first = first} (Some files) after header missing =
         ap (λ text. files (string_bytes text)) one.name ∙ e in
         cc
 
+-- what is left after the first line does what the trail of all rows tells
+rows_are_told : {M : Type 0} {start : SetState} (bytes_of : M → Bytes) (columns : TraceColumns) (file : List ℕ)
+    (progress : Progress M) (left : RemainingLines) → IsAtStart bytes_of start progress
+    → remaining_lines_of file progress.taker ≡ back_of 1 left
+    → history_in columns bytes_of file progress ≡ rows_told start (rows_of columns (drop 1 left.lines))
+unfolding back_of conclusion_from
+rows_are_told {start = start} bytes_of columns file progress left at_start back =
+    ap (λ (rest : RemainingLines). history_from (set_state_of bytes_of progress.harts) (rows_of columns rest.lines)) back
+    ∙ ap (λ state. history_from state (rows_of columns (drop 1 left.lines))) at_start.state
+    ∙ history_told (rows_of columns (drop 1 left.lines)) start
+
 -- what the rest of a told file comes to, after its first line
 pub trace_told : {M : Type 0} {bytes_of : M → Bytes} {name : List ℕ} {job : JobView} {start : SetState}
     {taker : LineTaker} {first : Piece} {columns : TraceColumns} (files : Option Files) (progress : Progress M)
-    (end : TraceEnd M) → TakesHeader files name job taker first progress.taker
+    (end : TraceEnd M) (given : AnswerView) → TakesHeader files name job taker first progress.taker
     → columns_in job (piece_view first) ≡ Ok columns → IsAtStart bytes_of start progress
     → IsEndTold job columns bytes_of (file_of files (string_bytes progress.taker.name)) progress end
-    → MeantWhereKnown files (λ given. given) (Ok (answer_with job (end_of job bytes_of end)))
-    (λ files. trace_answer job start (files name))
-trace_told None progress end header named reset gives = tt
-trace_told {M} {bytes_of} {name} {job} {start} {taker} {first} {columns} (Some files) progress end header named reset
-    gives = of (files (string_bytes taker.name)) refl header.file_exists header.takes
+    → IsKept (asks_origins job.command) (history_of []) progress.history
+    → IsHistoryTold (asks_origins job.command) columns bytes_of (file_of files (string_bytes progress.taker.name))
+    progress end
+    → ((history : HistoryView) → IsKept (asks_origins job.command) history end.history
+    → given ≡ answer_with job (end_of job bytes_of end) history)
+    → MeantWhereKnown files (λ given. given) (Ok given) (λ files. trace_answer job start (files name))
+trace_told None progress end given header named reset gives none kept seen = tt
+trace_told {M} {bytes_of} {name} {job} {start} {taker} {first} {columns} (Some files) progress end given header named
+    reset gives none kept seen = of (files (string_bytes taker.name)) refl header.file_exists header.takes
   where
+    asks : Bool
+    asks = asks_origins job.command
+
     of : (file : Option (List ℕ)) → files (string_bytes taker.name) ≡ file → IsSome file
         → TakesWhereKnown file 1 taker first progress.taker
-        → trace_answer job start (files name) ≡ Ok (answer_with job (end_of job bytes_of end))
+        → trace_answer job start (files name) ≡ Ok given
     of None e is one = absurd cc
     of (Some file) e is one =
         let here : files name ≡ Some file = ap files (sym header.opens.name) ∙ e in
@@ -139,10 +167,18 @@ trace_told {M} {bytes_of} {name} {job} {start} {taker} {first} {columns} (Some f
         let front : piece_view first ≡ front_of 1 (file_lines job.max_trace file) = one.taken ∙ ap (front_of 1) all in
         let back : remaining_lines_of file progress.taker ≡ back_of 1 (file_lines job.max_trace file) =
         one.left ∙ ap (back_of 1) all in
-        text_decides job start (files name) file (Ok (answer_with job (end_of job bytes_of end))) here
+        let rows = rows_of columns (drop 1 (file_lines job.max_trace file).lines) in
+        let told : history_in columns bytes_of file progress ≡ rows_told start rows =
+        rows_are_told bytes_of columns file progress (file_lines job.max_trace file) reset back in
+        let all_kept = (subst (λ file. IsHistoryTold asks columns bytes_of file progress end) again kept) [] none
+        reset.rows in
+        let seen_so = seen (rows_told start rows) (subst (λ view. IsKept asks view end.history) told all_kept) in
+        text_decides job start (files name) file (Ok given) here
         (lines_give job (file_lines job.max_trace file) progress front named reset
-        ∙ ap (λ left. Ok (answer_with job (end_after job columns (position_of bytes_of progress) left))) (sym back)
-        ∙ ap (λ (end : RowsEnd). Ok (answer_with job end)) (sym whole))
+        ∙ ap (λ left. Ok (answer_with job (end_after job columns (position_of bytes_of progress) left)
+        (rows_told start rows))) (sym back)
+        ∙ ap (λ (end : RowsEnd). Ok (answer_with job end (rows_told start rows))) (sym whole)
+        ∙ sym (ap (λ (given : AnswerView). Ok given) seen_so))
 
 -- what is meant by a view is meant by what it shows
 pub seen_as : {X Y : Type 0} (view : X → Y) (x : X) (y : Y) (files : Option Files) (meant : Files → Step Y)

@@ -1,6 +1,7 @@
 pub mod Starts
 pub mod Taking
 pub mod Passing
+pub mod PartHistories
 pub mod Endings
 pub mod Outside
 pub mod Written
@@ -8,5 +9,7 @@ pub mod Steps
 pub mod Runs
 pub mod AnyEvents
 pub mod Settled
+pub mod RoundHistories
 pub mod MadeAnswers
+pub mod Flagless
 pub mod Pieces

@@ -25,6 +25,8 @@ use Rattle.trace_report.specs.declared.outcome.Ruling.TheVariants as rulings
 use Rattle.hart_step.specs.Cores.{core_at_reset}
 use Rattle.hart_step.specs.declared.state.Core.{Core}
 use Rattle.hart_step.specs.HartSets.{SetState}
+use Rattle.row_origin.specs.Histories.{HistoryView}
+use Rattle.segment_judge.specs.Histories.{history_at, trail_from}
 use Rattle.segment_judge.specs.Judgements.{by_hart, by_set, judgement_of}
 use Rattle.segment_judge.specs.Laws.{Conclusion, conclusion_from}
 use Rattle.segment_judge.proofs.Alone.{judges_alone, rows_first}
@@ -37,7 +39,7 @@ use Rattle.made_runs.proofs.MadeTexts.{texts_agree}
 use Rattle.made_runs.proofs.TraceLines.{trace_len}
 use Rattle.judge_run.specs.Answer.{AnswerView, Step, answer, answer_by_line, answer_of_step, answer_step_of, columns_in}
 use Rattle.judge_run.specs.Answer.{image_in, is_elf, is_saved, job_answer, lines_answer, made_of, outcome_of, rows_end}
-use Rattle.judge_run.specs.Answer.{ruling_at_end, start_at, start_in, start_of, state_written, text_start, trace_answer}
+use Rattle.judge_run.specs.Answer.{asks_origins, origins_if, ruling_at_end, start_at, start_in, start_of, state_written, text_start, trace_answer}
 use Rattle.judge_run.specs.Answer.{trace_in}
 
 -- an image that is not too long and has no fault
@@ -55,16 +57,21 @@ unfolding made_image
 made_is_text number = (refl, refl)
 
 -- no state is written of what is made
-made_by_line : (job : JobView) (number rows : ℕ) (ruling : Ruling) (state : Option SetState)
+made_by_line : (job : JobView) (number rows : ℕ) (ruling : Ruling) (state : Option SetState) (history : HistoryView)
     → job.command ≡ Make number rows
     → ◌≡◌ {A = AnswerView}
-    (record { outcome = outcome_of job ruling; state = state_written job.command ruling state })
+    (record {
+      outcome = outcome_of job ruling;
+      state = state_written job.command ruling state;
+      origins = origins_if (asks_origins job.command) history;
+    })
     (answer_by_line (outcome_of job ruling))
-made_by_line job number rows ruling state made =
+made_by_line job number rows ruling state history made =
     ap
     (λ (command : Command (List ℕ)). record {
       outcome = outcome_of job ruling;
       state = state_written command ruling state;
+      origins = origins_if (asks_origins command) history;
     }) made
 
 -- the columns of what is made, as the job has them
@@ -82,7 +89,8 @@ lines_are {number} {count} job start rows verdict made named is =
     let judged : Conclusion (List Core) = conclusion_from by_set start (rows_of (job_columns job) rows) in
     rw named
     (ap (λ (given : AnswerView). Ok given)
-    (made_by_line job number count (ruling_at_end job End judged.verdict) judged.end made)
+    (made_by_line job number count (ruling_at_end job End judged.verdict) judged.end
+    (history_at (trail_from start (rows_of (job_columns job) rows)) judged.verdict) made)
     ∙ ap (λ verdict. Ok (answer_by_line (outcome_of job (ruling_at_end job End verdict)))) is)
 
 trace_is : (job : JobView) (start : SetState) (text : List ℕ) (left : RemainingLines)
@@ -98,7 +106,7 @@ unfolding job_answer
 both_are job image trace start read = rw read refl
 
 -- the words, then image and trace
-words_ask : (words : List (List ℕ)) (files : Files) (job : JobView) → job_of words ≡ Some job
+pub words_ask : (words : List (List ℕ)) (files : Files) (job : JobView) → job_of words ≡ Some job
     → answer words files ≡ answer_of_step (job_answer job (image_in job.command files) (trace_in job.command files))
 unfolding answer answer_step_of
 words_ask words files job asked = rw asked refl

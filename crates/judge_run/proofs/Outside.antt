@@ -42,7 +42,7 @@ use Rattle.judge_run.specs.Starts.{HaveSettings}
 use Rattle.judge_words.specs.Job.{JobView}
 use Rattle.judge_words.specs.declared.job.Command.{Command}
 use Rattle.judge_words.specs.declared.job.Command.TheVariants.{Judge, Make}
-use Rattle.judge_words.specs.declared.job.Product.TheVariants.{Line, State}
+use Rattle.judge_words.specs.declared.job.Product.TheVariants.{Line, State, Origins}
 use Rattle.trace_lines.specs.declared.piece.Ending.{Ending}
 use Rattle.trace_lines.specs.Lines.{RemainingLines, file_lines}
 use Rattle.trace_report.specs.declared.outcome.Ruling.{Ruling}
@@ -207,6 +207,7 @@ written_keeps P (Judge image trace State) (rulings.HeaderFault fault) state hold
 written_keeps P (Judge image trace State) (rulings.TooLong line) state holds = tt
 written_keeps P (Judge image trace State) (rulings.TraceTooLarge most) state holds = tt
 written_keeps P (Judge image trace Line) ruling state holds = tt
+written_keeps P (Judge image trace Origins) ruling state holds = tt
 written_keeps P (Make number rows) ruling state holds = tt
 
 lines_keep : (P : SetState → Type 0) (job : JobView) (start : SetState) (left : RemainingLines)

@@ -183,7 +183,7 @@ over_with job columns reached endings.End left none = ends_with job columns reac
 over_with job columns reached (endings.TooLong line) left none = ends_with job columns reached (endings.TooLong line)
 over_with job columns reached endings.TooLarge left none = ends_with job columns reached endings.TooLarge
 
-no_lines_ahead : (ahead : Lookahead) → ahead.part.items ≡ [] → ahead.next.items ≡ [] → lookahead_lines ahead ≡ []
+pub no_lines_ahead : (ahead : Lookahead) → ahead.part.items ≡ [] → ahead.next.items ≡ [] → lookahead_lines ahead ≡ []
 no_lines_ahead ahead part next = ap₂ (λ one other. flat_map segment_lines one ++ flat_map segment_lines other) part next
 
 pub over_passes : {M : Type 0} (bytes_of : M → Bytes) (file : Option (List ℕ)) (job : JobView)
@@ -193,6 +193,7 @@ pub over_passes : {M : Type 0} (bytes_of : M → Bytes) (file : Option (List ℕ
       verdict = Agrees remaining.progress.counts.rows remaining.progress.counts.valid;
       ending = remaining.lookahead.ending;
       harts = Some remaining.progress.harts;
+      history = remaining.progress.history;
     }))
 over_passes bytes_of None job columns remaining over = tt
 over_passes bytes_of (Some file) job columns remaining over =
@@ -204,7 +205,7 @@ over_passes bytes_of (Some file) job columns remaining over =
     (sym (no_lines_ahead ahead over.part over.next))
 
 -- no state is after rows that do not agree
-none_where_it_differs : (first : Conclusion (List Core)) (row : ℕ) (difference : Difference)
+pub none_where_it_differs : (first : Conclusion (List Core)) (row : ℕ) (difference : Difference)
     → first.verdict ≡ Differs row difference → EndsWhereAgrees first.verdict first.end → first.end ≡ None
 none_where_it_differs first row difference is fits =
     by first.end (subst (λ verdict. EndsWhereAgrees verdict first.end) is fits)
@@ -213,7 +214,7 @@ none_where_it_differs first row difference is fits =
     by None fits = refl
     by (Some state) fits = absurd fits
 
-none_where_refused : (first : Conclusion (List Core)) (row : ℕ) (fault : RowFault) → first.verdict ≡ Refused row fault
+pub none_where_refused : (first : Conclusion (List Core)) (row : ℕ) (fault : RowFault) → first.verdict ≡ Refused row fault
     → EndsWhereAgrees first.verdict first.end → first.end ≡ None
 none_where_refused first row fault is fits = by first.end (subst (λ verdict. EndsWhereAgrees verdict first.end) is fits)
   where
@@ -222,7 +223,7 @@ none_where_refused first row fault is fits = by first.end (subst (λ verdict. En
     by (Some state) fits = absurd fits
 
 -- what is left after a part, with the part before it, is what was left
-remaining_moves : (file : List ℕ) (ahead now : Lookahead) (before after : LineTaker)
+pub remaining_moves : (file : List ℕ) (ahead now : Lookahead) (before after : LineTaker)
     → flat_map segment_lines now.part.items ≡ flat_map segment_lines ahead.next.items
     → TakesAfter file ahead.ending before (flat_map segment_lines now.next.items) now.ending after
     → with_lines_before (flat_map segment_lines ahead.part.items) (remaining_rows file now after)
@@ -300,6 +301,7 @@ part_passes {M} {bytes_of} {ram_of} {columns} (Some file) job remaining done pas
           verdict = verdict_after_rows reached.rows reached.valid verdict;
           ending = endings.More;
           harts = None;
+          history = done.joined.history;
         }
         → end_of job bytes_of end ≡ whole
     ends verdict end concludes none is =
@@ -447,6 +449,7 @@ part_nears {M} {bytes_of} {ram_of} {columns} {window} remaining done passed goin
           verdict = verdict_after_rows remaining.progress.counts.rows remaining.progress.counts.valid verdict;
           ending = endings.More;
           harts = None;
+          history = done.joined.history;
         }
         → IfSome end.harts (CanGoOn ram_of)
     no_hart end verdict is =

@@ -20,7 +20,7 @@ use Rattle.image_text.specs.Image.{image_of}
 use Rattle.judge_words.specs.Job.{JobView}
 use Rattle.judge_words.specs.declared.job.Command.{Command}
 use Rattle.judge_words.specs.declared.job.Command.TheVariants.{Judge, Make}
-use Rattle.judge_words.specs.declared.job.Product.TheVariants.{Line, State}
+use Rattle.judge_words.specs.declared.job.Product.TheVariants.{Line, State, Origins}
 use Rattle.trace_lines.specs.declared.piece.Ending.{Ending}
 use Rattle.trace_lines.specs.declared.piece.Ending.TheVariants.{End}
 use Rattle.trace_lines.specs.Lines.{RemainingLines, file_lines}
@@ -32,6 +32,8 @@ use Rattle.rvfi_rows.specs.Rows.{RowReading, rows_of}
 use Rattle.rvfi_rows.proofs.PortRows.{rows_append}
 use Rattle.trace_report.specs.declared.outcome.Ruling.{Ruling}
 use Rattle.trace_report.specs.declared.outcome.Ruling.TheVariants as rulings
+use Rattle.row_origin.specs.Histories.{HistoryView}
+use Rattle.segment_judge.specs.Histories.{history_at, trail_from}
 use Rattle.segment_judge.specs.Judgements.{by_set, verdict_after_rows}
 use Rattle.segment_judge.specs.Laws.{Conclusion, conclusion_from, conclusion_then}
 use Rattle.segment_judge.proofs.Parts.{in_parts}
@@ -176,9 +178,9 @@ record IsWritten (judged : Conclusion (List Core)) (saved : SetState) : Type 0 w
   pub agreed : judged.verdict ≡ Agrees rows valid
   pub end : judged.end ≡ Some saved
 
-written_at_end : (job : JobView) (judged : Conclusion (List Core)) (saved : SetState)
-    → (answer_with job (rows_end job End judged)).state ≡ Some saved → IsWritten judged saved
-written_at_end job judged saved is = by job.command judged.verdict refl is
+written_at_end : (job : JobView) (judged : Conclusion (List Core)) (history : HistoryView) (saved : SetState)
+    → (answer_with job (rows_end job End judged) history).state ≡ Some saved → IsWritten judged saved
+written_at_end job judged history saved is = by job.command judged.verdict refl is
   where
     by : (command : Command (List ℕ)) (verdict : Verdict) → judged.verdict ≡ verdict
         → state_written command (ruling_at_end job End verdict) judged.end ≡ Some saved → IsWritten judged saved
@@ -187,6 +189,7 @@ written_at_end job judged saved is = by job.command judged.verdict refl is
     by (Judge image trace State) (Differs row difference) agreed is = cc
     by (Judge image trace State) (Refused row fault) agreed is = cc
     by (Judge image trace Line) verdict agreed is = cc
+    by (Judge image trace Origins) verdict agreed is = cc
     by (Make number rows) verdict agreed is = cc
 
 -- the first piece: its header has columns, and its rows agree
@@ -210,13 +213,20 @@ piece_judged job start saved header lines given is writes = by (header_columns h
         let columns : TraceColumns = record { named = names; harts = job.harts } in
         let judged : Conclusion (List Core) = conclusion_from by_set start (rows_of columns lines) in
         let whole = rw named at is in
-        let same : answer_with job (rows_end job End judged) ≡ given = cc in
+        let history = history_at (trail_from start (rows_of columns lines)) judged.verdict in
+        let same : answer_with job (rows_end job End judged) history ≡ given = cc in
         record {
           columns = columns;
           named = named;
           harts = refl;
-          written = written_at_end job judged saved (ap (λ (given : AnswerView). given.state) same ∙ writes);
+          written = written_at_end job judged history saved (ap (λ (given : AnswerView). given.state) same ∙ writes);
         }
+
+-- the answer by rows
+abbrev answer_over : JobView → Ending → SetState → List RowReading → AnswerView
+answer_over job ending start rows =
+    let judged : Conclusion (List Core) = conclusion_from by_set start rows in
+    answer_with job (rows_end job ending judged) (history_at (trail_from start rows) judged.verdict)
 
 -- a run over more lines, from where it begins
 answers : {columns : TraceColumns} (job : JobView) (image : Option (List ℕ)) (trace header : List ℕ)
@@ -224,12 +234,13 @@ answers : {columns : TraceColumns} (job : JobView) (image : Option (List ℕ)) (
     → file_lines job.max_trace trace ≡ record { lines = header ∷ more; ending = ending }
     → header_columns header ≡ Ok columns.named → columns.harts ≡ job.harts
     → job_answer job image (Some trace)
-    ≡ Ok (answer_with job (rows_end job ending (conclusion_from by_set start (rows_of columns more))))
+    ≡ Ok (answer_with job (rows_end job ending (conclusion_from by_set start (rows_of columns more)))
+    (history_at (trail_from start (rows_of columns more)) (conclusion_from by_set start (rows_of columns more)).verdict))
 unfolding job_answer trace_answer lines_answer columns_in
 answers {columns} job image trace header more ending start starts file named harts =
     rw (starts, file, named)
-    (ap (λ count. Ok (answer_with job (rows_end job ending (conclusion_from by_set start
-    (rows_of (record { named = columns.named; harts = count }) more))))) (sym harts))
+    (ap (λ count. Ok (answer_over job ending start (rows_of (record { named = columns.named; harts = count }) more)))
+    (sym harts))
 
 -- the first run's answer is that of its lines
 judged_lines : (job : JobView) (image : Option (List ℕ)) (trace : List ℕ) (left : RemainingLines) (start : SetState)

@@ -1,5 +1,5 @@
 -- Segments are settled in rounds.
-use Rattle.std.proofs.Common.{◌≡◌, ℕ, zero, suc, ◌+◌, ◌-◌, ◌^◌, ◌<◌, ◌≤◌, ◌⊎◌, inl, inr, true, List, [], ◌∷◌, drop}
+use Rattle.std.proofs.Common.{◌≡◌, ℕ, zero, suc, Bool, ◌+◌, ◌-◌, ◌^◌, ◌<◌, ◌≤◌, ◌⊎◌, inl, inr, true, List, [], ◌∷◌, drop}
 use Rattle.std.proofs.Common.{length}
 use Rattle.std.proofs.Common.{map, take, Option, Some, None, option_map, Result, Ok, Err, IfOk, IfSome, refl, sym, ap}
 use Rattle.std.proofs.Common.{ap₂, ◌∙◌, subst, arith}
@@ -21,6 +21,7 @@ use Rattle.hart_step.specs.HartSets.{SetCanStep, SetHoldsWords, SetState, set_st
 use Rattle.hart_step.specs.Cores.{IsSound}
 use Rattle.boundary_guess.specs.Guesses.{guesses_of}
 use Rattle.boundary_guess.specs.Truth.{SetNoMarks, ShowChanges}
+use Rattle.row_origin.specs.declared.history.History.{History}
 use Rattle.segment_judge.specs.declared.found.Found.{Found}
 use Rattle.segment_judge.specs.declared.judged.Judged.{Judged as JudgedSegment}
 use Rattle.segment_judge.specs.Judgements.{by_set, verdict_after_rows}
@@ -146,9 +147,10 @@ pub record IsNextRound {M : Type 0} (bytes_of : M → Bytes) (ram_of : M → Spa
       (set_state_of bytes_of settling.harts) round
 
 pub so_far_begins : {M : Type 0} (bytes_of : M → Bytes) (columns : TraceColumns) (segments : List Segment)
-    (harts : HartSet Core M) (tally : Tally) (count : ℕ) → IsNewTally tally
-    → SoFar bytes_of columns segments (set_state_of bytes_of harts) count count (record { harts = harts; tally = tally })
-so_far_begins bytes_of columns segments harts tally count new = record {
+    (harts : HartSet Core M) (tally : Tally) (history : Option History) (count : ℕ) → IsNewTally tally
+    → SoFar bytes_of columns segments (set_state_of bytes_of harts) count count
+    (record { harts = harts; tally = tally; history = history })
+so_far_begins bytes_of columns segments harts tally history count new = record {
   extend =
       λ rest are. record {
         rounds = rest;
@@ -270,6 +272,7 @@ pub so_far_all : {M : Type 0} {bytes_of : M → Bytes} {columns : TraceColumns} 
           Agrees settling.tally.counts.rows settling.tally.counts.valid;
       end = Some settling.harts;
       rejudged = settling.tally.rejudged;
+      history = settling.history;
     }
     → SettlesInRounds bytes_of columns segments start before now joined
 unfolding AreRounds rounds_conclude rejudged_in
@@ -310,6 +313,7 @@ so_far_ends : {M : Type 0} {bytes_of : M → Bytes} {ram_of : M → Span} {colum
       end =
           None;
       rejudged = settling.tally.rejudged + round.rejudged;
+      history = round.history;
     }
     → SettlesInRounds bytes_of columns segments start before (now + 1) joined
 unfolding rejudged_in
@@ -383,6 +387,7 @@ round_follows {M} {bytes_of} {ram_of} {columns} {segments} {start} {before} {now
       verdict = verdict_after_rows settling.tally.counts.rows settling.tally.counts.valid verdict;
       end = None;
       rejudged = settling.tally.rejudged + round.rejudged;
+      history = round.history;
     }
 
     ends_with : (verdict : Verdict) (joined : JoinedSegments M) → round.verdict ≡ verdict → round.end ≡ None
@@ -508,13 +513,13 @@ pub record LeadsOn {M : Type 0} (bytes_of : M → Bytes) (ram_of : M → Span) (
   pub follows : Followed bytes_of columns segments start before now next
   pub tallied : IsTalliedAfter ram_of columns segments tally next
 
-pub leads_on : {M : Type 0} {bytes_of : M → Bytes} {ram_of : M → Span} {columns : TraceColumns} {segments : List Segment}
+pub leads_on : {M : Type 0} {origin : Bool} {bytes_of : M → Bytes} {ram_of : M → Span} {columns : TraceColumns} {segments : List Segment}
     {start : SetState} {before now later : ℕ} {settling : Settling M} (next : AfterRound M)
     → settling.tally.settled < length segments → IsTallied columns segments settling.tally
     → SoFar bytes_of columns segments start before now settling
-    → LeadsBy bytes_of ram_of columns segments settling next → later ≡ now + 1
+    → LeadsBy origin bytes_of ram_of columns segments settling next → later ≡ now + 1
     → LeadsOn bytes_of ram_of columns segments start before later settling.tally next
-leads_on {M} {bytes_of} {ram_of} {columns} {segments} {start} {before} {now} {later} {settling} next left tallied so_far
+leads_on {M} {origin} {bytes_of} {ram_of} {columns} {segments} {start} {before} {now} {later} {settling} next left tallied so_far
     leads counted =
     let is_next : IsNextRound bytes_of ram_of columns segments settling leads.round =
     record { left = left; over = leads.over } in
@@ -524,6 +529,34 @@ leads_on {M} {bytes_of} {ram_of} {columns} {segments} {start} {before} {now} {la
           (round_follows next is_next so_far leads.leads);
       tallied = part_tallied settling next tallied (part_of_next is_next) leads.leads;
     }
+
+-- what is kept of its rows does not matter to what a round is over
+pub over_alike : {M : Type 0} {bytes_of : M → Bytes} {ram_of : M → Span} {columns : TraceColumns}
+    {segments : List Segment} {start : SetState} {round : Round M} (history : Option History)
+    → IsRoundOver bytes_of ram_of columns segments start round
+    → IsRoundOver bytes_of ram_of columns segments start (record round { history = history })
+over_alike history over = record {
+  is_round = over.is_round;
+  within = over.within;
+  settles_one = over.settles_one;
+  at_most_1_again = over.at_most_1_again;
+  verdict = over.verdict;
+  end = over.end;
+  can_step = over.can_step;
+}
+
+-- nor to what was settled
+pub settled_alike : {M : Type 0} {bytes_of : M → Bytes} {ram_of : M → Span} {columns : TraceColumns}
+    {segments : List Segment} {start : SetState} {joined : JoinedSegments M} (history : Option History)
+    → IsSettled bytes_of ram_of columns segments start joined
+    → IsSettled bytes_of ram_of columns segments start (record joined { history = history })
+settled_alike history settled = record {
+  verdict = settled.verdict;
+  end = settled.end;
+  can_step = settled.can_step;
+  again = settled.again;
+  once = settled.once;
+}
 
 -- what the join of a round promises of it
 pub record PromisesRound {M E : Type 0} (bytes_of : M → Bytes) (ram_of : M → Span) (columns : TraceColumns)

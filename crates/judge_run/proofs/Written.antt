@@ -35,7 +35,7 @@ state_front {before} {now} given state is wrote rose =
           wrote.held
           ∙ ap (λ front. option_map (λ bytes. bytes ++ front) before) (sym front)
           ∙ ap
-          (λ written. option_map (λ bytes. bytes ++ take (length wrote.front) (bytes_by given.outcome written)) before)
+          (λ written. option_map (λ bytes. bytes ++ take (length wrote.front) (bytes_by given.outcome given.origins written)) before)
           (sym is);
       rose = rose;
     })

@@ -1,14 +1,14 @@
 -- The answer of a run: what the words, the image and the trace come to.
 use Rattle.std.specs.Prelude.{ℕ, Bool, nat_lt, ◌==◌, ◌&&◌, if◌then◌else◌, List, [], ◌∷◌, drop, length, slice_index}
 use Rattle.std.specs.Prelude.{Option}
-use Rattle.std.specs.Prelude.{Some, None, is_some, map, option_and_then, replicate, Result, Ok, Err, unwrap_or}
+use Rattle.std.specs.Prelude.{true, false, Some, None, is_some, map, option_and_then, replicate, Result, Ok, Err, unwrap_or}
 use Rattle.std.specs.List.{starts_with}
 use Rattle.outside_ports.specs.Ports.{Files}
 use Rattle.judge_words.specs.Job.{JobView, job_of}
 use Rattle.judge_words.specs.declared.values.TheConstants.{FIRST_PC}
 use Rattle.judge_words.specs.declared.job.Command.{Command}
 use Rattle.judge_words.specs.declared.job.Command.TheVariants.{Judge, Make}
-use Rattle.judge_words.specs.declared.job.Product.TheVariants.{State}
+use Rattle.judge_words.specs.declared.job.Product.TheVariants.{Origins, State}
 use Rattle.trace_maker.specs.Texts.{made_image, made_trace}
 use Rattle.elf_image.specs.declared.fault.ElfFault.{ElfFault}
 use Rattle.elf_image.specs.Image.{elf_of}
@@ -27,37 +27,45 @@ use Rattle.trace_report.specs.declared.outcome.Made.{Made}
 use Rattle.trace_report.specs.declared.outcome.Outcome.{Outcome}
 use Rattle.trace_report.specs.declared.outcome.Ruling.{Ruling}
 use Rattle.trace_report.specs.declared.outcome.Ruling.TheVariants as rulings
-use Rattle.trace_report.specs.Report.{report_of}
+use Rattle.trace_report.specs.Report.{report_with}
 use Rattle.hart_words.specs.Memory.{Bytes}
 use Rattle.hart_step.specs.declared.state.Core.{Core}
 use Rattle.hart_step.specs.Cores.{core_at_reset}
 use Rattle.hart_step.specs.HartSets.{SetState}
+use Rattle.row_origin.specs.Histories.{HistoryView, origins_in_history}
+use Rattle.row_origin.specs.Origins.{OriginsView}
+use Rattle.segment_judge.specs.Histories.{history_at, trail_from}
 use Rattle.segment_judge.specs.Judgements.{by_set}
 use Rattle.segment_judge.specs.Laws.{Conclusion, conclusion_from}
 use Rattle.state_text.specs.declared.fault.StateFault.{StateFault}
 use Rattle.state_text.specs.Lines.{version_line}
 use Rattle.state_text.specs.Texts.{saved_text, state_in}
 
--- what a run comes to: an outcome, and the state whose text is written in place of the outcome's line, where one is
+-- what a run comes to: an outcome, the state whose text is written in place of the outcome's line, where one is, and the
+-- origins whose lines follow that line, where they are asked for
 pub record AnswerView : Type 0 where
   pub outcome : Outcome
   pub state : Option SetState
+  pub origins : Option OriginsView
 
--- the bytes that are written: the outcome's line, or the text of the state
-abbrev pub bytes_by : Outcome → Option SetState → List ℕ
-bytes_by outcome None = report_of outcome
-bytes_by outcome (Some state) = saved_text state.core state.bytes
+-- the bytes that are written: the outcome's line with those of origins, or the text of the state
+abbrev pub bytes_by : Outcome → Option OriginsView → Option SetState → List ℕ
+bytes_by outcome origins None = report_with outcome origins
+bytes_by outcome origins (Some state) = saved_text state.core state.bytes
 
 abbrev pub answer_bytes : AnswerView → List ℕ
-answer_bytes answer = bytes_by answer.outcome answer.state
+answer_bytes answer = bytes_by answer.outcome answer.origins answer.state
 
 -- an answer by its parts
-abbrev pub answer_of : Outcome → Option SetState → AnswerView
-answer_of outcome state = record { outcome = outcome; state = state }
+abbrev pub answer_of : Outcome → Option SetState → Option OriginsView → AnswerView
+answer_of outcome state origins = record { outcome = outcome; state = state; origins = origins }
 
--- an outcome with its line
+-- an outcome with its line, and those of origins
+abbrev pub answer_by_lines : Outcome → Option OriginsView → AnswerView
+answer_by_lines outcome origins = answer_of outcome None origins
+
 abbrev pub answer_by_line : Outcome → AnswerView
-answer_by_line outcome = answer_of outcome None
+answer_by_line outcome = answer_by_lines outcome None
 
 -- a step towards the answer: its value, or the outcome at once, or nothing where a file is missing
 abbrev pub Step : Type 0 → Type 0
@@ -188,20 +196,33 @@ abbrev pub state_written : {N : Type 0} → Command N → Ruling → Option SetS
 state_written (Judge image trace State) (rulings.Verdict (Agrees rows valid)) state = state
 state_written command ruling state = None
 
--- the answer by what the rows come to
-abbrev pub answer_with : JobView → RowsEnd → AnswerView
-answer_with job end = record {
+-- the words ask who wrote what a row that differs read
+abbrev pub asks_origins : {N : Type 0} → Command N → Bool
+asks_origins (Judge image trace Origins) = true
+asks_origins command = false
+
+-- who wrote what the differing row read, where it is asked for
+abbrev pub origins_if : Bool → HistoryView → Option OriginsView
+origins_if true history = origins_in_history history
+origins_if false history = None
+
+-- the answer by what the rows come to and what they did
+abbrev pub answer_with : JobView → RowsEnd → HistoryView → AnswerView
+answer_with job end history = record {
   outcome = outcome_of job end.ruling;
   state = state_written job.command end.ruling end.state;
+  origins = origins_if (asks_origins job.command) history;
 }
 
 -- The first line is the header, each other a row. Rows step their harts in order, from the start, and each is compared
--- with what its hart did.
+-- with what its hart did. The origins of a row that differs are those that the rows before it leave, each from the last
+-- row that wrote it.
 unfoldable pub lines_answer : JobView → SetState → RemainingLines → Step AnswerView
 lines_answer job start left = do
   columns ← columns_in job left
-  let judged = conclusion_from by_set start (rows_of columns (drop 1 left.lines))
-  Ok (answer_with job (rows_end job left.ending judged))
+  let rows = rows_of columns (drop 1 left.lines)
+  let judged = conclusion_from by_set start rows
+  Ok (answer_with job (rows_end job left.ending judged) (history_at (trail_from start rows) judged.verdict))
 
 unfoldable pub trace_answer : JobView → SetState → Option (List ℕ) → Step AnswerView
 trace_answer job start trace = do

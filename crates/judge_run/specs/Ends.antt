@@ -10,6 +10,7 @@ use Rattle.trace_report.specs.Report.{status_of}
 use Rattle.trace_maker.specs.Texts.{made_image, made_trace}
 use Rattle.hart_step.specs.HartSets.{SetState, set_state_of}
 use Rattle.page_layers.specs.Memories.{layered_bytes, layered_ram}
+use Rattle.row_origin.specs.Origins.{origins_in}
 use Rattle.state_text.specs.Laws.{IsZeroOutside}
 use Rattle.state_text.specs.Texts.{saved_text, state_in}
 use Rattle.judge_run.specs.declared.answer.Answer.{Answer}
@@ -43,7 +44,11 @@ sink_moment held_of faults_of out =
 
 -- an answer in code, as it is defined
 abbrev pub answer_view : Answer → AnswerView
-answer_view given = record { outcome = given.outcome; state = option_map (set_state_of layered_bytes) given.harts }
+answer_view given = record {
+  outcome = given.outcome;
+  state = option_map (set_state_of layered_bytes) given.harts;
+  origins = option_map origins_in given.origins;
+}
 
 -- the harts whose state is written can be stepped on, and are no more than a state may have
 abbrev pub CanStepOn : Answer → Type 0

@@ -1,5 +1,5 @@
 -- What segments that are judged from guesses come to, whatever was guessed, and in whichever order they were judged.
-use Rattle.std.specs.Prelude.{◌≡◌, ℕ, List, length, map}
+use Rattle.std.specs.Prelude.{◌≡◌, ℕ, Bool, List, length, map}
 use Rattle.board_core.specs.declared.event.Event.{Event}
 use Rattle.rvfi_rows.specs.Columns.{TraceColumns}
 use Rattle.rvfi_rows.specs.Rows.{RowReading, rows_of}
@@ -37,7 +37,8 @@ AnyEvents start columns pieces guesses events founds =
 -- workers at a board found this of segments: it was closed by a seat with this view, and these were their events
 pub record AreLeft {M : Type 0} (bytes_of : M → Bytes) (ram_of : M → Span) (columns : TraceColumns)
     (segments : List Segment) (guesses : List (HartSet Core M)) (founds : List (Found (JudgedSegment M))) : Type 0 where
+  pub origin : Bool
   pub view : View
   pub events : List Event
   pub events_are : AreEventsOf bytes_of ram_of
-      (record { columns = columns; segments = segments; guesses = guesses; founds = founds; view = view }) events
+      (record { origin = origin; columns = columns; segments = segments; guesses = guesses; founds = founds; view = view }) events

@@ -5,5 +5,6 @@ pub mod Ends
 pub mod Events
 pub mod Taking
 pub mod Parts
+pub mod PartHistories
 pub mod Settling
 pub mod Pieces

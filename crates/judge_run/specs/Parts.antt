@@ -163,6 +163,7 @@ pub record IsPartCounted {M : Type 0} (counts : RowCounts) (settled : Settled M)
   pub valid_are : next.progress.counts.valid ≡ counts.valid + valid
   pub taker : next.progress.taker ≡ settled.taker
   pub lookahead : next.lookahead ≡ settled.lookahead
+  pub history_is : next.progress.history ≡ settled.joined.history
 
 -- where a part leads, after so many rows: on from the harts after it where its rows agree, else to the end of all
 abbrev pub FollowsPartBy : {M : Type 0} → RowCounts → Settled M → Verdict → Option (HartSet Core M) → Passed M → Type 0
@@ -177,6 +178,7 @@ FollowsPartBy counts settled verdict harts (Ends end) =
           verdict_after_rows counts.rows counts.valid verdict;
       ending = endings.More;
       harts = None;
+      history = settled.joined.history;
     }
 
 abbrev pub FollowsPart : {M : Type 0} → RowCounts → Settled M → Passed M → Type 0

@@ -10,6 +10,7 @@ use Rattle.rvfi_rows.specs.Rows.{rows_of}
 use Rattle.trace_report.specs.declared.outcome.Ruling.TheVariants.{Verdict}
 use Rattle.hart_step.specs.declared.state.Core.{Core}
 use Rattle.hart_step.specs.HartSets.{SetState}
+use Rattle.segment_judge.specs.Histories.{history_at, trail_from}
 use Rattle.segment_judge.specs.Judgements.{by_set, verdict_after_rows}
 use Rattle.segment_judge.specs.Laws.{Conclusion, conclusion_from}
 use Rattle.state_text.specs.Texts.{saved_text}
@@ -44,7 +45,8 @@ counted_on rows valid judged = record { verdict = verdict_after_rows rows valid 
 
 -- The second run over a trace is what all rows come to from where the first began, less the first's rows and, after
 -- `agrees`, less its valid ones. Where its trace ends otherwise than at the end of the file, that stands in place of an
--- agreement, as in every run.
+-- agreement, as in every run. The rows that its origins name are its own, and what the first run wrote is where they
+-- begin.
 pub record GoesOn (second : JobView) (start saved : SetState) (trace header : List ℕ) (lines more : List (List ℕ))
     (ending : Ending) : Type 0 where
   pub columns : TraceColumns
@@ -56,7 +58,8 @@ pub record GoesOn (second : JobView) (start saved : SetState) (trace header : Li
   pub later : Conclusion (List Core)
   pub all : conclusion_from by_set start (rows_of columns (lines ++ more)) ≡ counted_on rows valid later
   pub answered : job_answer second (Some (saved_text saved.core saved.bytes)) (Some trace)
-      ≡ Ok (answer_with second (rows_end second ending later))
+      ≡ Ok (answer_with second (rows_end second ending later)
+      (history_at (trail_from saved (rows_of columns more)) later.verdict))
 
 -- however long the pieces are
 abbrev pub RunsGoOn : (first second : JobView) → Option (List ℕ) → (trace after header : List ℕ)

@@ -1,6 +1,6 @@
 -- Segments settled in rounds.
 use Rattle.std.specs.Prelude.{◌≡◌, ℕ, ◌+◌, ◌<◌, ◌≤◌, List, drop, length, map, take, Option, Some, None, option_map}
-use Rattle.std.specs.Prelude.{IfSome, Vec}
+use Rattle.std.specs.Prelude.{Bool, IfSome, Vec}
 use Rattle.std.specs.Global.{Global}
 use Rattle.std.specs.List.{All, flat_map}
 use Rattle.hart_words.specs.declared.span.Span.{Span}
@@ -17,6 +17,8 @@ use Rattle.hart_step.specs.declared.state.Core.{Core}
 use Rattle.hart_step.specs.HartSets.{SetCanStep, set_state_of}
 use Rattle.hart_step.specs.HartSets.{SetState}
 use Rattle.boundary_guess.specs.Truth.{SetNoMarks, ShowChanges}
+use Rattle.row_origin.specs.Histories.{Grows}
+use Rattle.segment_judge.specs.Histories.{history_from}
 use Rattle.segment_judge.specs.Judgements.{by_set, verdict_after_rows}
 use Rattle.segment_judge.specs.Laws.{conclusion_from}
 use Rattle.verdict_join.specs.declared.joined.Joined.{Joined as JoinedSegments}
@@ -48,6 +50,7 @@ pub record IsCountedOn {M : Type 0} (tally : Tally) (round : Round M) (rows vali
   pub valid_are : next.tally.counts.valid ≡ tally.counts.valid + valid
   pub settled : next.tally.settled ≡ tally.settled + round.settled
   pub rejudged : next.tally.rejudged ≡ tally.rejudged + round.rejudged
+  pub history_is : next.history ≡ round.history
 
 -- where a round leads: to the harts after it where its rows agree, else to the end of all
 abbrev pub LeadsToBy : {M : Type 0} → Tally → Round M → Verdict → Option (HartSet Core M) → AfterRound M → Type 0
@@ -61,6 +64,7 @@ LeadsToBy tally round verdict end (Ends joined) =
           verdict_after_rows tally.counts.rows tally.counts.valid verdict;
       end = None;
       rejudged = tally.rejudged + round.rejudged;
+      history = round.history;
     }
 
 abbrev pub LeadsToRound : {M : Type 0} → Tally → Round M → AfterRound M → Type 0
@@ -122,10 +126,14 @@ pub record IsReadPart (columns : Columns) (others : List Segment) (part : Vec Se
   pub read : All (IsRead columns) part.items
   pub lines : map segment_lines part.items ≡ map segment_lines others
 
--- a round leads on from what was settled
-pub record LeadsBy {M : Type 0} (bytes_of : M → Bytes) (ram_of : M → Span) (columns : TraceColumns)
+-- a round leads on from what was settled, with what all rows did in place of its own
+pub record LeadsBy {M : Type 0} (origin : Bool) (bytes_of : M → Bytes) (ram_of : M → Span) (columns : TraceColumns)
     (segments : List Segment) (settling : Settling M) (next : AfterRound M) : Type 0 where
   pub round : Round M
   pub over : IsRoundOver bytes_of ram_of columns (drop settling.tally.settled segments)
       (set_state_of bytes_of settling.harts) round
   pub leads : LeadsToRound settling.tally round next
+  pub history : Grows origin
+      (history_from (set_state_of bytes_of settling.harts)
+      (rows_of columns (flat_map segment_lines (take round.settled (drop settling.tally.settled segments)))))
+      settling.tally.counts.rows settling.history round.history

@@ -1,10 +1,12 @@
 //! From what the rows of a trace come to, to what is written.
 
-ghost use Rattle.std.specs.Prelude.{◌≡◌, IfOk, IfSome, false, option_map};
+ghost use Rattle.std.specs.Prelude.{◌≡◌, Bool, IfOk, IfSome, false, option_map};
 ghost use Rattle.hart_step.specs.HartSets.{set_state_of};
 ghost use Rattle.judge_words.specs.Job.{job_view};
 ghost use Rattle.page_layers.specs.Memories.{layered_bytes, layered_ram};
-ghost use Rattle.judge_run.specs.Answer.{answer_by_line, answer_with, state_written};
+ghost use Rattle.judge_run.specs.Answer.{answer_by_lines, answer_with, asks_origins, origins_if, state_written};
+ghost use Rattle.row_origin.specs.Histories.{HistoryView, IsKept};
+ghost use Rattle.row_origin.specs.Origins.{origins_in};
 ghost use Rattle.judge_run.specs.Ends.{BacksFound, CanStepOn, HasZerosOutside, IsReadBack, Writes, WritesFound, answer_view};
 ghost use Rattle.judge_run.specs.Parts.{end_of};
 ghost use Rattle.judge_run.specs.Starts.{CanGoOn};
@@ -19,25 +21,41 @@ use hart_words::NoMemory;
 use judge_words::{Command, Job, Product};
 use outside_ports::{Sink, write_all};
 use page_layers::Layered;
+use row_origin::{History, Origins};
 use rvfi_rows::Verdict;
 use state_text::write_state;
 use trace_report::{Outcome, Ruling, report, status};
 
-/// What a job comes to by what the rows of its trace do.
+/// What a job comes to by what the rows of its trace do, and with what these did, where it was asked
+/// for.
 pub fn answer_with<'a>(job: &Job, end: TraceEnd<Layered<'a>>) -> Result<Answer<'a>, NoMemory>
     requires { IfSome end.harts (CanGoOn layered_ram) }
-    ensures answer { IfOk result (λ answer. answer_view answer
-        ≡ answer_with (job_view job.now)
-        (end_of (job_view job.now) layered_bytes end.entry)) }
+    ensures answer { IfOk result (λ answer. (history : HistoryView)
+        → IsKept (asks_origins (job_view job.now).command) history end.entry.history
+        → answer_view answer ≡ answer_with (job_view job.now)
+        (end_of (job_view job.now) layered_bytes end.entry) history) }
     ensures can_step { IfOk result CanStepOn }
     ensures jobs { IfOk result (λ answer. is_no_job answer.outcome ≡ false) }
 {
     let ruling = ruling_at_end(job, end.ending, end.verdict);
+    let origins = origins_kept(&end.history);
     let harts = copy_of(harts_written(job, ruling, end.harts))?;
     Ok(Answer {
         outcome: outcome_of(job, ruling),
         harts,
+        origins,
     })
+}
+
+/// Who wrote what the row that differs read, where what rows did was kept.
+fn origins_kept(history: &Option<History>) -> Option<Origins>
+    ensures { (origin : Bool) (view : HistoryView) → IsKept origin view history.now
+        → option_map origins_in result ≡ origins_if origin view }
+{
+    match history {
+        None => None,
+        Some(history) => history.origins(),
+    }
 }
 
 /// The harts whose state is written: the last ones, where the words ask for it and the ruling is that
@@ -90,7 +108,7 @@ pub fn write_found<O: Sink>(found: &Result<Answer<'_>, Stop>, out: &mut O) -> u8
 {
     match found {
         Ok(answer) => write_answer(answer, out),
-        Err(Stop::Known(outcome)) => write_outcome(outcome, out),
+        Err(Stop::Known(outcome)) => write_outcome(outcome, None, out),
         Err(Stop::ReadFault) => 5,
         Err(Stop::NoMemory) => 6,
     }
@@ -105,7 +123,7 @@ fn write_answer<O: Sink>(answer: &Answer<'_>, out: &mut O) -> u8
         (λ state. HasZerosOutside state → IsReadBack state) }
 {
     match &answer.harts {
-        None => write_outcome(&answer.outcome, out),
+        None => write_outcome(&answer.outcome, answer.origins.as_ref(), out),
         Some(harts) => match write_state(harts, out) {
             Ok(()) => status(&answer.outcome),
             Err(_) => 5,
@@ -113,12 +131,14 @@ fn write_answer<O: Sink>(answer: &Answer<'_>, out: &mut O) -> u8
     }
 }
 
-/// Writes the line of an outcome, and gives its status, or 5 where a write failed.
-pub fn write_outcome<O: Sink>(outcome: &Outcome, out: &mut O) -> u8
-    ensures { Writes (answer_by_line outcome.now) result (O.held out.old) (O.held out.new)
-        (O.faults out.old) (O.faults out.new) }
+/// Writes the line of an outcome, with those of origins after it, and gives its status, or 5 where a
+/// write failed.
+pub fn write_outcome<O: Sink>(outcome: &Outcome, origins: Option<&Origins>, out: &mut O) -> u8
+    ensures { Writes
+        (answer_by_lines outcome.now (option_map (λ origins. origins_in origins.now) origins.entry))
+        result (O.held out.old) (O.held out.new) (O.faults out.old) (O.faults out.new) }
 {
-    let text = report(outcome);
+    let text = report(outcome, origins);
     let text = text.as_slice();
     let done = write_all(out, text);
     if done < text.len() {

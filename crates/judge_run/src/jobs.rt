@@ -4,12 +4,12 @@ ghost use Rattle.std.specs.Prelude.{◌≡◌, Some, IfOk, codes, map, string_by
 ghost use Rattle.judge_words.specs.Job.{IsLawful, job_view};
 ghost use Rattle.outside_ports.specs.Memory.{files_of};
 ghost use Rattle.trace_maker.specs.Texts.{made_image, made_trace};
-ghost use Rattle.judge_run.specs.Answer.{job_answer};
+ghost use Rattle.judge_run.specs.Answer.{asks_origins, job_answer};
 ghost use Rattle.judge_run.specs.Ends.{Ends, EndsOverFiles, EndsOverMade, moment_of, sink_moment};
 
 use crate::answers::{write_found, write_outcome};
 use crate::images::read_start;
-use crate::outcomes::no_job;
+use crate::outcomes::{asks_origins, no_job};
 use crate::traces::judge_trace;
 use crate::workers::Workers;
 use hart_words::NoMemory;
@@ -47,7 +47,7 @@ where
 {
     let job = match read_words(alloc, words) {
         Ok(job) => job,
-        Err(WordError::NotAJob) => return write_outcome(&no_job(), out),
+        Err(WordError::NotAJob) => return write_outcome(&no_job(), None, out),
         Err(WordError::NoMemory) => return 6,
     };
     let workers = Workers {
@@ -55,6 +55,7 @@ where
         alloc,
         gate,
         count: job.sharing.workers,
+        origin: asks_origins(&job),
     };
     match &job.command {
         Command::Judge { image, trace, .. } => {
@@ -79,6 +80,7 @@ fn run_files<R, H: Shelf, O: Sink, G: Gate>(
 where
     R: Threads + Sync,
     requires lawful { IsLawful (job_view job.now) }
+    requires asked { workers.now.origin ≡ asks_origins (job_view job.now).command }
     ensures known_files { H.known_files shelf.new ≡ H.known_files shelf.old }
     ensures ends { EndsOverFiles (H.known_files shelf.old)
         (λ files. job_answer (job_view job.now) (files names.entry.image.now)
@@ -106,6 +108,7 @@ fn run_made<R, O: Sink, G: Gate>(
 where
     R: Threads + Sync,
     requires lawful { IsLawful (job_view job.now) }
+    requires asked { workers.now.origin ≡ asks_origins (job_view job.now).command }
     ensures { EndsOverMade (job_view job.now) number rows (sink_moment O.held O.faults out.old)
         (sink_moment O.held O.faults out.new) result }
 {

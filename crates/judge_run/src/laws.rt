@@ -1,6 +1,6 @@
 //! What holds of every way to judge a trace in segments, and of what is made.
 
-ghost use Rattle.std.specs.Prelude.{◌≡◌, ℕ, List, Option, Some};
+ghost use Rattle.std.specs.Prelude.{◌≡◌, ℕ, false, List, Option, Some, None};
 ghost use Rattle.board_core.specs.declared.event.Event.{Event};
 ghost use Rattle.outside_ports.specs.Ports.{Files};
 ghost use Rattle.rvfi_rows.specs.Columns.{TraceColumns};
@@ -13,7 +13,7 @@ ghost use Rattle.judge_words.specs.Job.{JobView, job_of};
 ghost use Rattle.judge_words.specs.declared.job.Command.TheVariants.{Make};
 ghost use Rattle.trace_report.specs.declared.outcome.Ruling.TheVariants.{Verdict};
 ghost use Rattle.trace_lines.specs.declared.piece.Ending.{Ending};
-ghost use Rattle.judge_run.specs.Answer.{answer, answer_by_line};
+ghost use Rattle.judge_run.specs.Answer.{AnswerView, answer, answer_by_line, asks_origins};
 ghost use Rattle.judge_run.specs.Pieces.{RunsGoOn};
 ghost use Rattle.judge_run.specs.Events.{AnyEvents};
 
@@ -37,6 +37,14 @@ pub fn made_traces_agree()
           made = Some (record { number = number; rows = rows });
           ruling = Verdict (Agrees rows rows);
         })) }
+{}
+
+/// Where the words do not ask for origins, the answer has none: the bytes that are written are one
+/// line, or the text of a state, as they are with no such word.
+pub fn no_origins_without_the_flag()
+    ensures { (words : List (List ℕ)) (job : JobView) (files : Files) (given : AnswerView)
+        → job_of words ≡ Some job → asks_origins job.command ≡ false
+        → answer words files ≡ Some given → given.origins ≡ None }
 {}
 
 /// A trace may be judged in pieces, by runs that go on from one another: where a run's rows agree

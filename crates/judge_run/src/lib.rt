@@ -34,6 +34,8 @@ mod hart_tests;
 #[cfg(test)]
 mod limit_tests;
 #[cfg(test)]
+mod origin_tests;
+#[cfg(test)]
 mod program_tests;
 #[cfg(test)]
 mod segment_tests;

@@ -3,10 +3,10 @@
 ghost use Rattle.std.specs.Prelude.{◌≡◌, None, false};
 ghost use Rattle.judge_words.specs.Job.{job_view};
 ghost use Rattle.trace_report.specs.declared.outcome.Ruling.TheVariants.{NoJob};
-ghost use Rattle.judge_run.specs.Answer.{ruling_at_end, outcome_of, without_header};
+ghost use Rattle.judge_run.specs.Answer.{asks_origins, outcome_of, ruling_at_end, without_header};
 ghost use Rattle.judge_run.specs.Stops.{is_no_job, is_no_job_ruling};
 
-use judge_words::{Command, Job};
+use judge_words::{Command, Job, Product};
 use rvfi_rows::Verdict;
 use trace_lines::Ending;
 use trace_report::{Made, Outcome, Ruling};
@@ -24,6 +24,16 @@ pub fn outcome_of(job: &Job, ruling: Ruling) -> Outcome
         }),
     };
     Outcome { made, ruling }
+}
+
+/// Whether a job asks who wrote what a row that differs read.
+pub fn asks_origins(job: &Job) -> bool
+    ensures { result ≡ asks_origins (job_view job.now).command }
+{
+    match &job.command {
+        Command::Judge { product, .. } => matches!(product, Product::Origins),
+        Command::Make { .. } => false,
+    }
 }
 
 /// What words come to that ask for no job.

@@ -11,6 +11,8 @@ ghost use Rattle.trace_lines.specs.Errors.{is_read_fault};
 ghost use Rattle.judge_run.specs.Settling.{IsReadPart, IsSettled};
 ghost use Rattle.judge_run.specs.Taking.{TakesSegments, TakesAfterWhereKnown, taken_lines};
 ghost use Rattle.judge_run.specs.Parts.{CanContinueWith, HoldsAfter, segments_ahead};
+ghost use Rattle.judge_run.specs.PartHistories.{CanSettle, IsSettledFrom, part_history};
+ghost use Rattle.row_origin.specs.Histories.{Grows, IsKept};
 
 use crate::progress::{Lookahead, Remaining};
 use crate::rounds::settle_in_rounds;
@@ -20,7 +22,8 @@ use hart_step::Harts;
 use hart_words::{NoMemory, PhysMem};
 use judge_words::Job;
 use outside_ports::{Gate, Shelf};
-use rvfi_rows::{Columns, Segment, read_segments};
+use row_origin::{History, follow};
+use rvfi_rows::{Columns, RowCounts, Segment, read_segments};
 use segment_workers::Steps;
 use std::alloc::Global;
 use std::marker::Brand;
@@ -40,9 +43,19 @@ pub(crate) struct Settled<M> {
     pub taker: LineTaker,
 }
 
+/// What is known where a part begins: the harts there, how many rows there are before it, and what
+/// these did, where it is asked for.
+#[derive(Drop)]
+pub(crate) struct Reached<M> {
+    pub harts: Harts<M>,
+    pub counts: RowCounts,
+    pub history: Option<History>,
+}
+
 /// Settles the part that was read, reads the segments after it, and takes the lines of a further
 /// part. Several workers do so at once: one thread alone takes lines, guesses and joins, and the
 /// others read rows meanwhile.
+#[tactic(auto, using(rvfi_rows::proofs::PortRows::rows_few))]
 pub fn settle_and_take<R, G: Gate, H: Shelf, M: PhysMem + Drop + Send + Sync>(
     workers: &Workers<R, G>,
     job: &Job,
@@ -59,6 +72,9 @@ where
     ensures known_files { H.known_files shelf.new ≡ H.known_files shelf.old }
     ensures settled { IfOk result (λ settled. IsSettled M.bytes M.ram columns.now
         remaining.lookahead.part.items (set_state_of M.bytes remaining.progress.harts) settled.joined) }
+    ensures history { IfOk result (λ settled. Grows workers.now.origin
+        (part_history M.bytes columns.now remaining.lookahead.part.items remaining.progress.harts)
+        remaining.progress.counts.rows remaining.progress.history settled.joined.history) }
     ensures read { IfOk result
         (λ settled. IsReadPart columns.now remaining.lookahead.next.items settled.lookahead.part) }
     ensures takes { let file = file_of (H.known_files shelf.old)
@@ -82,14 +98,18 @@ where
     let Lookahead { part, next, .. } = lookahead;
     let current: &[Segment] = &part;
     let mut unread = Some(next);
-    let mut start = Some(progress.harts);
+    let mut start = Some(Reached {
+        harts: progress.harts,
+        counts: progress.counts,
+        history: progress.history,
+    });
     let mut from = Some(progress.taker);
     let mut read = || -> Result<Vec<Segment>, NoMemory>
         requires { IsSome unread }
     { read_from(workers, columns, &mut unread) };
     let mut settle = || -> Result<Joined<M>, NoMemory>
-        requires { IsSome start × (IfSome start (SetCanStep M.ram) × ((length current.now < 2 ^ 32)
-            × (line_count_of current.now < 2 ^ 60))) }
+        requires { IsSome start × (IfSome start (CanSettle M.ram columns.now current.now)
+            × ((length current.now < 2 ^ 32) × (line_count_of current.now < 2 ^ 60))) }
     { settle_from(workers, columns, current, &mut start) };
     let mut take = || take_from(workers.alloc, job, asked, &mut from, shelf);
     let (read, settled, taken) = all_at_once(workers, &mut read, &mut settle, &mut take);
@@ -176,25 +196,25 @@ where
     (a, b, c)
 }
 
-/// Settles a part from the harts before it, which are taken out of their place.
+/// Settles a part from what was reached before it, which is taken out of its place.
 fn settle_from<R, G: Gate, M: PhysMem + Drop + Send + Sync>(
     workers: &Workers<R, G>,
     columns: &Columns,
     part: &[Segment],
-    start: &mut Option<Harts<M>>,
+    start: &mut Option<Reached<M>>,
 ) -> Result<Joined<M>, NoMemory>
 where
     R: Threads + Sync,
     requires is_some { IsSome start.old }
-    requires can_step { IfSome start.old (SetCanStep M.ram) }
+    requires can_settle { IfSome start.old (CanSettle M.ram columns.now part.now) }
     requires below_2_to_32 { length part.now < 2 ^ 32 }
     requires lines { line_count_of part.now < 2 ^ 60 }
-    ensures { IfSome start.old (λ harts. IfOk result
-        (IsSettled M.bytes M.ram columns.now part.now (set_state_of M.bytes harts))) }
+    ensures { IfSome start.old (λ reached. IfOk result
+        (IsSettledFrom workers.now.origin M.bytes M.ram columns.now part.now reached)) }
 {
     match start.take() {
         None => unreachable!(),
-        Some(harts) => settle_part(workers, harts, columns, part),
+        Some(reached) => settle_part(workers, reached, columns, part),
     }
 }
 
@@ -258,25 +278,35 @@ fn read_part<R: Threads + Sync, G: Gate>(
     Ok(part)
 }
 
-/// Settles a part.
+/// Settles a part from what was reached before it.
 fn settle_part<R, G: Gate, M: PhysMem + Drop + Send + Sync>(
     workers: &Workers<R, G>,
-    start: Harts<M>,
+    reached: Reached<M>,
     columns: &Columns,
     part: &[Segment],
 ) -> Result<Joined<M>, NoMemory>
 where
     R: Threads + Sync,
-    requires can_step { SetCanStep M.ram start }
+    requires can_settle { CanSettle M.ram columns.now part.now reached }
     requires below_2_to_32 { length part.now < 2 ^ 32 }
     requires lines { line_count_of part.now < 2 ^ 60 }
     ensures { IfOk result
-        (IsSettled M.bytes M.ram columns.now part.now (set_state_of M.bytes start)) }
+        (IsSettledFrom workers.now.origin M.bytes M.ram columns.now part.now reached) }
 {
-    settle_from_blank::<R, G, M, Brand>(workers, start, columns, part, Blank::new(1))
+    let Reached {
+        harts,
+        counts,
+        mut history,
+    } = reached;
+    let blank = Blank::new(1);
+    let mut joined = settle_from_blank::<R, G, M, Brand>(workers, harts, columns, part, blank)?;
+    follow(&mut history, &joined.history, counts.rows)?;
+    joined.history = history;
+    Ok(joined)
 }
 
-/// The same, with rounds counted from a blank. Nobody asks for the count.
+/// Settles a part from the harts before it, with rounds counted from a blank. Nobody asks for the
+/// count.
 fn settle_from_blank<R, G: Gate, M: PhysMem + Drop + Send + Sync, L: Ledger>(
     workers: &Workers<R, G>,
     start: Harts<M>,
@@ -292,8 +322,10 @@ where
     requires name { blank.name ≡ L.name }
     requires parts { blank.parts ≡ L.parts }
     requires nonempty { 0 < blank.parts }
-    ensures { IfOk result
+    ensures settled { IfOk result
         (IsSettled M.bytes M.ram columns.now part.now (set_state_of M.bytes start)) }
+    ensures history { IfOk result (λ joined. IsKept workers.now.origin
+        (part_history M.bytes columns.now part.now start) joined.history) }
 {
     let mut steps = Steps::<L>::new(blank);
     settle_in_rounds(workers, start, columns, part, &mut steps)

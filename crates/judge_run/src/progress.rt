@@ -5,6 +5,7 @@ ghost use Rattle.judge_run.specs.Parts.{HoldsNone, IsOver};
 
 use crate::taken::is_more;
 use hart_step::Harts;
+use row_origin::History;
 use rvfi_rows::{RowCounts, Segment, Verdict};
 use std::alloc::Global;
 use trace_lines::{Ending, LineTaker};
@@ -17,6 +18,8 @@ pub(crate) struct Progress<M> {
     pub harts: Harts<M>,
     /// How many rows these are.
     pub counts: RowCounts,
+    /// What they did, where it is asked for.
+    pub history: Option<History>,
 }
 
 /// The rows that were taken ahead, in segments: those after the rows that were judged.
@@ -48,6 +51,8 @@ pub(crate) struct TraceEnd<M> {
     pub ending: Ending,
     /// The harts after all rows, where they agree.
     pub harts: Option<Harts<M>>,
+    /// What they did up to one that differs, where it is asked for.
+    pub history: Option<History>,
 }
 
 /// Where a part leads.

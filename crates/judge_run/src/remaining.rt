@@ -6,6 +6,7 @@ ghost use Rattle.outside_ports.specs.Faults.{CountsFault, CountsMiss};
 ghost use Rattle.outside_ports.specs.Ports.{IsThere, file_of};
 ghost use Rattle.trace_lines.specs.Errors.{is_read_fault};
 ghost use Rattle.verdict_join.specs.Walks.{IsWithinRows};
+ghost use Rattle.judge_run.specs.PartHistories.{IsHistoryTold, PassesHistory};
 ghost use Rattle.judge_run.specs.Parts.{CanContinue, CanContinueWith, FollowsPart, IsEndTold, IsNearerEnd, PassesWhereKnown};
 ghost use Rattle.judge_run.specs.Starts.{CanGoOn};
 
@@ -38,6 +39,9 @@ where
     ensures meant { let file = file_of (H.known_files shelf.old)
         (string_bytes progress.taker.name) in
         IfOk result (IsEndTold (job_view job.now) columns.now M.bytes file progress) }
+    ensures history { let file = file_of (H.known_files shelf.old)
+        (string_bytes progress.taker.name) in
+        IfOk result (IsHistoryTold workers.now.origin columns.now M.bytes file progress) }
     ensures can_step { IfOk result (λ end. IfSome end.harts (CanGoOn M.ram)) }
     ensures faults { CountsFault is_read_fault result (H.faults shelf.old) (H.faults shelf.new) }
     ensures misses { CountsMiss is_read_fault result (H.known_files shelf.old)
@@ -75,6 +79,9 @@ where
     ensures meant { let file = file_of (H.known_files shelf.old)
         (string_bytes remaining.progress.taker.name) in
         IfOk result (PassesWhereKnown (job_view job.now) columns.now M.bytes file remaining) }
+    ensures history { let file = file_of (H.known_files shelf.old)
+        (string_bytes remaining.progress.taker.name) in
+        IfOk result (PassesHistory workers.now.origin columns.now M.bytes file remaining) }
     ensures nearer { IfOk result (IsNearerEnd job.now.sharing.window M.ram remaining) }
     ensures faults { CountsFault is_read_fault result (H.faults shelf.old) (H.faults shelf.new) }
     ensures misses { CountsMiss is_read_fault result (H.known_files shelf.old)
@@ -89,6 +96,7 @@ where
             },
             ending: remaining.lookahead.ending,
             harts: Some(remaining.progress.harts),
+            history: remaining.progress.history,
         }));
     }
     let settled = match settle_and_take(workers, job, columns, remaining, shelf) {
@@ -115,6 +123,7 @@ fn passed_with<M: Drop>(counts: RowCounts, settled: Settled<M>) -> Passed<M>
                 taker,
                 harts,
                 counts: counts.plus(RowCounts { rows, valid }),
+                history: joined.history,
             };
             Passed::Continue(Remaining {
                 progress,
@@ -125,6 +134,7 @@ fn passed_with<M: Drop>(counts: RowCounts, settled: Settled<M>) -> Passed<M>
             verdict: verdict_after_rows(counts, verdict),
             ending: Ending::More,
             harts: None,
+            history: joined.history,
         }),
     }
 }

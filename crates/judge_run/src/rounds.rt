@@ -6,6 +6,8 @@ ghost use Rattle.hart_step.specs.HartSets.{SetCanStep, SetHoldsWords, set_state_
 ghost use Rattle.rvfi_rows.specs.Rows.{rows_of};
 ghost use Rattle.rvfi_rows.specs.Segments.{line_count_of, segment_lines};
 ghost use Rattle.boundary_guess.specs.Truth.{SetNoMarks, ShowChanges};
+ghost use Rattle.row_origin.specs.Histories.{IsKept};
+ghost use Rattle.segment_judge.specs.Histories.{history_from};
 ghost use Rattle.segment_judge.specs.Judgements.{by_set};
 ghost use Rattle.segment_judge.specs.Laws.{conclusion_from};
 ghost use Rattle.judge_run.specs.Settling.{IsTallied, LeadsBy, SettlesInRounds};
@@ -16,6 +18,7 @@ use crate::workers::Workers;
 use hart_step::{Harts, set_holds_words};
 use hart_words::{NoMemory, PhysMem};
 use outside_ports::Gate;
+use row_origin::{follow, history_if};
 use rvfi_rows::{Columns, Segment};
 use segment_workers::Steps;
 use std::alloc::Global;
@@ -27,7 +30,8 @@ use verdict_join::Joined;
 /// where they agree. The harts before each segment are guessed, workers judge them side by side, and
 /// the verdicts are joined from the true state up to the first segment that has to be judged again;
 /// what is left is guessed anew from there, in a further round. There are as many rounds as there
-/// are segments judged again, or one more. Each counts one on `steps`.
+/// are segments judged again, or one more. Each counts one on `steps`. With `origin` what the rows
+/// did is kept.
 pub fn settle<R, G: Gate, M: PhysMem + Drop + Send + Sync, L: Ledger>(
     rt: &R,
     alloc: Global,
@@ -36,6 +40,7 @@ pub fn settle<R, G: Gate, M: PhysMem + Drop + Send + Sync, L: Ledger>(
     segments: &[Segment],
     workers: u32,
     gate: &G,
+    origin: bool,
     steps: &mut Steps<L>,
 ) -> Result<Joined<M>, NoMemory>
 where
@@ -63,12 +68,16 @@ where
         → ShowChanges (rows_of columns.now (flat_map segment_lines segments.now))
         → IfOk result (λ joined. joined.rejudged ≡ 0) }
     ensures can_step { IfOk result (λ joined. IfSome joined.end (SetCanStep M.ram)) }
+    ensures history { IfOk result (λ joined. IsKept origin
+        (history_from (set_state_of M.bytes start)
+        (rows_of columns.now (flat_map segment_lines segments.now))) joined.history) }
 {
     let workers = Workers {
         rt,
         alloc,
         gate,
         count: workers,
+        origin,
     };
     settle_in_rounds(&workers, start, columns, segments, steps)
 }
@@ -91,16 +100,20 @@ where
     ensures can_step { IfOk result (λ joined. IfSome joined.end (SetCanStep M.ram)) }
     ensures at_most_all { steps.new ≤ steps.old + length segments.now }
     ensures words { SetHoldsWords (set_state_of M.bytes start) }
+    ensures history { IfOk result (λ joined. IsKept workers.now.origin
+        (history_from (set_state_of M.bytes start)
+        (rows_of columns.now (flat_map segment_lines segments.now))) joined.history) }
 {
     set_holds_words(&start);
     let tally = Tally::new();
     let mut settling = Settling {
         harts: start,
         tally,
+        history: history_if(workers.alloc, workers.origin),
     };
     'rounds: loop {
         if segments.len() <= settling.tally.settled {
-            return Ok(settling.tally.agreement(settling.harts));
+            return Ok(settling.tally.agreement(settling.harts, settling.history));
         }
         match settle_some(workers, columns, segments, settling, steps) {
             Ok(AfterRound::Continue(next)) => settling = next,
@@ -125,12 +138,19 @@ where
     requires below_2_to_32 { length segments.now < 2 ^ 32 }
     requires lines { line_count_of segments.now < 2 ^ 60 }
     requires tallied { IsTallied columns.now segments.now settling.tally }
-    ensures leads { IfOk result (LeadsBy M.bytes M.ram columns.now segments.now settling) }
+    ensures leads { IfOk result (LeadsBy workers.now.origin M.bytes M.ram columns.now segments.now
+        settling) }
     ensures steps { IfOk result (λ following. steps.new ≡ steps.old + 1) }
     ensures at_most_one { steps.new ≤ steps.old + 1 }
 {
-    let Settling { harts, tally } = settling;
+    let Settling {
+        harts,
+        tally,
+        mut history,
+    } = settling;
     let left = &segments[tally.settled..];
-    let round = judge_round(workers, harts, columns, left, steps)?;
+    let mut round = judge_round(workers, harts, columns, left, steps)?;
+    follow(&mut history, &round.history, tally.counts.rows)?;
+    round.history = history;
     Ok(tally.following(round))
 }

@@ -218,7 +218,7 @@ fn settle_few<R: Threads + Sync, L: Ledger>(
     let gate = CountGate::new(alloc, segments.len())?;
     let mut steps = Steps::<L>::new(blank);
     let joined = settle(
-        rt, alloc, start, columns, segments, workers, &gate, &mut steps,
+        rt, alloc, start, columns, segments, workers, &gate, false, &mut steps,
     )?;
     Ok(Told {
         verdict: joined.verdict,

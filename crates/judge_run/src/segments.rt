@@ -1,11 +1,13 @@
 //! Judging a trace in segments.
 
-ghost use Rattle.std.specs.Prelude.{◌≡◌, ◌+◌, ◌<◌, ◌≤◌, ◌^◌, IfOk, IfSome, length, option_map};
-ghost use Rattle.std.specs.List.{All};
+ghost use Rattle.std.specs.Prelude.{◌≡◌, ◌+◌, ◌<◌, ◌≤◌, ◌^◌, IfOk, IfSome, length, option_map, take};
+ghost use Rattle.std.specs.List.{All, flat_map};
 ghost use Rattle.hart_step.specs.HartSets.{SetCanStep, set_state_of};
 ghost use Rattle.rvfi_rows.specs.Rows.{rows_of};
-ghost use Rattle.rvfi_rows.specs.Segments.{line_count_of};
+ghost use Rattle.rvfi_rows.specs.Segments.{line_count_of, segment_lines};
+ghost use Rattle.row_origin.specs.Histories.{IsKept};
 ghost use Rattle.segment_judge.specs.Founds.{IsLawfulFound};
+ghost use Rattle.segment_judge.specs.Histories.{history_from};
 ghost use Rattle.segment_judge.specs.Judgements.{by_set};
 ghost use Rattle.segment_judge.specs.Laws.{conclusion_from};
 ghost use Rattle.verdict_join.specs.Joining.{candidates_of};
@@ -42,6 +44,10 @@ where
     requires lines { line_count_of segments.now < 2 ^ 60 }
     ensures over { IfOk result
         (IsRoundOver M.bytes M.ram columns.now segments.now (set_state_of M.bytes start)) }
+    ensures history { IfOk result (λ round. IsKept workers.now.origin
+        (history_from (set_state_of M.bytes start)
+        (rows_of columns.now (flat_map segment_lines (take round.settled segments.now))))
+        round.history) }
     ensures steps { IfOk result (λ round. steps.new ≡ steps.old + 1) }
     ensures at_most_one { steps.new ≤ steps.old + 1 }
 {
@@ -49,7 +55,15 @@ where
     let start = start.copy()?;
     let guesses = guesses(workers.alloc, &start, columns, segments)?;
     let founds = find_by_workers(workers, &guesses, columns, segments, steps)?;
-    join_round(workers.alloc, start, columns, segments, &guesses, founds)
+    join_round(
+        workers.alloc,
+        start,
+        columns,
+        segments,
+        &guesses,
+        founds,
+        workers.origin,
+    )
 }
 
 /// What the workers find of segments, from the guesses before them. The events of the board that
@@ -68,7 +82,7 @@ where
     requires one_each { length guesses.now ≡ length segments.now }
     requires guesses { All (SetCanStep M.ram) guesses.now }
     ensures lawful { IfOk result (λ founds. All
-        (IsLawfulFound M.bytes M.ram columns.now segments.now guesses.now) founds.items) }
+        (IsLawfulFound workers.now.origin M.bytes M.ram columns.now segments.now guesses.now) founds.items) }
     ensures events { IfOk result (λ founds.
         AreLeft M.bytes M.ram columns.now segments.now guesses.now founds.items) }
     ensures judged { IfOk result (λ founds. AreJudgedInTurn by_set
@@ -87,6 +101,7 @@ where
         columns,
         segments,
         workers.gate,
+        workers.origin,
         steps,
     )?;
     let _closed = board.close(seat);

@@ -7,6 +7,7 @@ ghost use Rattle.verdict_join.specs.Walks.{IsWithinRows};
 ghost use Rattle.judge_run.specs.Settling.{IsNewTally, LeadsToRound};
 
 use hart_step::Harts;
+use row_origin::History;
 use rvfi_rows::{RowCounts, Verdict};
 use verdict_join::{Joined, Round};
 
@@ -23,6 +24,8 @@ pub(crate) struct Tally {
 pub(crate) struct Settling<M> {
     pub harts: Harts<M>,
     pub tally: Tally,
+    /// What their rows did, where it is asked for.
+    pub history: Option<History>,
 }
 
 /// Where a round leads.
@@ -46,12 +49,13 @@ impl Tally {
         }
     }
 
-    /// What segments come to that agree, with these harts after them.
-    pub fn agreement<M>(self, harts: Harts<M>) -> Joined<M>
+    /// What segments come to that agree, with these harts after them, and what their rows did.
+    pub fn agreement<M>(self, harts: Harts<M>, history: Option<History>) -> Joined<M>
         ensures { result ≡ record {
           verdict = Agrees self.counts.rows self.counts.valid;
           end = Some harts;
           rejudged = self.rejudged;
+          history = history;
         } }
     {
         Joined {
@@ -61,10 +65,11 @@ impl Tally {
             },
             end: Some(harts),
             rejudged: self.rejudged,
+            history,
         }
     }
 
-    /// Where a round leads after these segments.
+    /// Where a round leads after these segments; what it has of the rows is what all of them did.
     pub fn following<M: Drop>(self, round: Round<M>) -> AfterRound<M>
         requires below_2_to_62 { self.counts.rows < 2 ^ 62 }
         requires within { IsWithinRows (2 ^ 62) round.verdict }
@@ -81,12 +86,17 @@ impl Tally {
                     settled,
                     rejudged,
                 };
-                AfterRound::Continue(Settling { harts, tally })
+                AfterRound::Continue(Settling {
+                    harts,
+                    tally,
+                    history: round.history,
+                })
             }
             (verdict, _) => AfterRound::Ends(Joined {
                 verdict: verdict_after_rows(self.counts, verdict),
                 end: None,
                 rejudged,
+                history: round.history,
             }),
         }
     }

@@ -3,7 +3,7 @@
 ghost use Rattle.std.specs.Prelude.{◌≡◌, IfOk};
 ghost use Rattle.judge_words.specs.Job.{job_view, IsLawful};
 ghost use Rattle.trace_lines.specs.Pieces.{piece_view};
-ghost use Rattle.judge_run.specs.Answer.{columns_in, trace_answer};
+ghost use Rattle.judge_run.specs.Answer.{asks_origins, columns_in, trace_answer};
 ghost use Rattle.judge_run.specs.Ends.{CanStepOn, answer_view};
 ghost use Rattle.judge_run.specs.Starts.{CanBegin, start_view};
 ghost use Rattle.judge_run.specs.Stops.{MeantBy, MeantWhereKnown, CountsStop, MissesStop, IsJobs, IsJobsAnswer, WasRead};
@@ -20,6 +20,7 @@ use hart_set::HartSet;
 use judge_words::Job;
 use outside_ports::{Gate, Shelf};
 use page_layers::Layered;
+use row_origin::history_if;
 use rvfi_rows::{Columns, HeaderError, RowCounts, read_header};
 use std::alloc::Global;
 use std::thread::Threads;
@@ -39,6 +40,7 @@ where
     R: Threads + Sync,
     requires lawful { IsLawful (job_view job.now) }
     requires begins { CanBegin start.now }
+    requires asked { workers.now.origin ≡ asks_origins (job_view job.now).command }
     ensures known_files { H.known_files shelf.new ≡ H.known_files shelf.old }
     ensures meant { MeantWhereKnown (H.known_files shelf.old) answer_view result
         (λ files. trace_answer (job_view job.now) (start_view start.entry.now) (files name.now)) }
@@ -66,6 +68,7 @@ where
             mem: Layered::over(workers.alloc, &start.image),
         },
         counts: RowCounts::zero(),
+        history: history_if(workers.alloc, workers.origin),
     };
     match judge_rows(workers, job, &columns, progress, shelf) {
         Ok(end) => {

@@ -1,3 +1,4 @@
 pub mod CommandLine
 pub mod Spans
 pub mod MadeJobs
+pub mod Flags

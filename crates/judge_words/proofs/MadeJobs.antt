@@ -15,10 +15,11 @@ use Rattle.judge_words.specs.Values.{◌>>=◌, at_most, harts_in, image_limit_i
 use Rattle.judge_words.specs.Values.{number_at_most, number_of_text, number_up_to, first_pc_in, span_in, trace_limit_in}
 use Rattle.judge_words.specs.Commands.{command_line, command_entered, values_given_to}
 use Rattle.hart_words.specs.Choices.{plain_choices}
-use Rattle.judge_words.specs.Job.{IsMadeJob, JobView, given_choices, files_job, job_from, job_of, made_job, sharing_of}
+use Rattle.judge_words.specs.Job.{IsMadeJob, JobView, given_choices, files_job, job_from, job_of, line_product}
+use Rattle.judge_words.specs.Job.{made_job, sharing_of}
 use Rattle.judge_words.specs.declared.job.Command.TheVariants.{Judge, Make}
 use Rattle.judge_words.specs.declared.job.Product.{Product}
-use Rattle.judge_words.specs.declared.job.Product.TheVariants.{Line, State}
+use Rattle.judge_words.specs.declared.job.Product.TheVariants.{State}
 use Rattle.judge_words.specs.declared.values.TheConstants.{MOST_IMAGE_BYTES, MOST_MADE_NUMBER, MOST_MADE_ROWS}
 use Rattle.judge_words.specs.declared.values.TheConstants.{MOST_TRACE_BYTES, RAM_BASE, RAM_SIZE}
 use Rattle.judge_words.specs.declared.job.Sharing.{Sharing}
@@ -177,7 +178,7 @@ made_plain words job number rows asked made =
     (values_given_to (codes "make") entered) job asked number rows made
   where
     go : (judge state make : Option (List Row)) → ForSome (job_from judge state make) IfMade
-    go (Some given) state make = files_named Line given
+    go (Some given) state make = files_named (line_product given) given
     go None (Some given) make = files_named State given
     go None None (Some given) = made_given given
     go None None None = λ job asked. cc

@@ -1,9 +1,11 @@
 -- The command line that the judge takes, as the crate `clap` reads it.
-use Rattle.std.specs.Prelude.{◌≡◌, List, [], ◌∷◌, Option, Some, None, true, false, codes, fold, if◌then◌else◌}
+use Rattle.std.specs.Prelude.{◌≡◌, Bool, List, [], ◌∷◌, Option, Some, None, true, false, codes, fold, if◌then◌else◌}
+use Rattle.std.specs.Option.{option_map_or}
 use Rattle.std.specs.Str.{bytes_eq}
-use Rattle.clap.specs.Walk.{Row, Rule, Text}
+use Rattle.clap.specs.Walk.{Row, Rule, Text, first_of}
 use Rattle.clap.specs.Simple.{App, new_app, new_rule, subcommand_of, with_rule, with_subcommand}
 use Rattle.clap.specs.Words.{app_of}
+use Rattle.clap.specs.declared.builder.action.ArgAction.TheVariants.{SetTrue}
 use Rattle.clap.specs.declared.builder.command.Command.{Command}
 use Rattle.clap.specs.declared.builder.command.Command.TheViews.{out-Command}
 use Rattle.clap.specs.Faults.{fault_of}
@@ -20,6 +22,10 @@ option_or name default = record (new_rule name) { long = Some name; defaults = d
 -- the same with no value where it is left out
 abbrev pub option_of : Text → Rule
 option_of name = record (new_rule name) { long = Some name }
+
+-- `--NAME` without a value
+abbrev pub flag_of : Text → Rule
+flag_of name = record (new_rule name) { long = Some name; action = Some SetTrue }
 
 -- the choices of the implementation that is judged
 abbrev pub choices_rules : List Rule
@@ -58,6 +64,10 @@ files_command name =
     ∷ []
     )) choices_rules) sharing_rules
 
+-- `judge`, which alone takes the flag `--origin`
+abbrev pub judge_command : App
+judge_command = with_rule (files_command (codes "judge")) (flag_of (codes "origin"))
+
 -- `make`, with two numbers
 abbrev pub make_command : App
 make_command =
@@ -75,7 +85,7 @@ IsCommand app command = (app_of command ≡ app) × ((out-Command command).has_g
 unfoldable pub command_line : App
 command_line =
     with_subcommand
-    (with_subcommand (with_subcommand (new_app (codes "rvjudge")) (files_command (codes "judge")).top)
+    (with_subcommand (with_subcommand (new_app (codes "rvjudge")) judge_command.top)
     (files_command (codes "state")).top) make_command.top
 
 -- what is found where there is no kind of error
@@ -91,3 +101,7 @@ command_entered line words = unless_refused (fault_of line words) (subcommand_of
 abbrev pub values_given_to : Text → Option (Text × List Row) → Option (List Row)
 values_given_to name None = None
 values_given_to name (Some entered) = if bytes_eq entered.0 name then Some entered.1 else None
+
+-- whether a flag of this name is given: its value is `true` where it is, and `false` where it is left out
+abbrev pub is_given : Text → List Row → Bool
+is_given name given = option_map_or (λ value. bytes_eq value (codes "true")) (first_of name given) false

@@ -1,12 +1,13 @@
 -- What the words of a command line ask for.
-use Rattle.std.specs.Prelude.{◌≡◌, ◌≤◌, ◌%◌, ℕ, List, Option, Some, None, IfSome, Result, Ok, Err, codes, string_bytes}
+use Rattle.std.specs.Prelude.{◌≡◌, ◌≤◌, ◌%◌, ℕ, List, Option, Some, None, IfSome, Result, Ok, Err, codes, if◌then◌else◌}
+use Rattle.std.specs.Prelude.{string_bytes}
 use Rattle.hart_words.specs.declared.map.Map.{Map}
 use Rattle.hart_words.specs.Map.{map_of}
 use Rattle.hart_words.specs.declared.choices.Choices.{Choices}
 use Rattle.hart_words.specs.Choices.{choices_of, plain_choices}
 use Rattle.hart_words.specs.Spans.{span_of}
 use Rattle.clap.specs.Walk.{Row, first_of}
-use Rattle.judge_words.specs.Commands.{command_line, command_entered, values_given_to}
+use Rattle.judge_words.specs.Commands.{command_line, command_entered, is_given, values_given_to}
 use Rattle.judge_words.specs.Values.{◌>>=◌, first_pc_in, span_in, io_in, image_limit_in, trace_limit_in, workers_in}
 use Rattle.judge_words.specs.Values.{segment_in, window_in, harts_in, made_number_in, made_rows_in, misaligned_in}
 use Rattle.judge_words.specs.Values.{trap_values_in, marks_in, block_size_in, bits_in}
@@ -17,7 +18,7 @@ use Rattle.judge_words.specs.declared.job.Sharing.{Sharing}
 use Rattle.judge_words.specs.declared.job.Command.{Command}
 use Rattle.judge_words.specs.declared.job.Command.TheVariants.{Judge, Make}
 use Rattle.judge_words.specs.declared.job.Product.{Product}
-use Rattle.judge_words.specs.declared.job.Product.TheVariants.{Line, State}
+use Rattle.judge_words.specs.declared.job.Product.TheVariants.{Line, Origins, State}
 use Rattle.judge_words.specs.declared.job.Job.{Job}
 use Rattle.judge_words.specs.declared.job.WordError.{WordError}
 use Rattle.judge_words.specs.declared.job.WordError.TheVariants.{NotAJob, NoMemory}
@@ -52,7 +53,7 @@ sharing_of given = do
   window ← first_of (codes "window") given >>= window_in
   Some (record { workers = workers; segment = segment; window = window })
 
--- the job over files that is given to a command, which gives this where the trace agrees
+-- the job over files that is given to a command, which writes this of the trace
 unfoldable pub files_job : Product → List Row → Option JobView
 files_job product given = do
   image ← first_of (codes "image") given
@@ -96,9 +97,13 @@ made_job given = do
     sharing = sharing;
   })
 
+-- what `judge` writes: with `--origin` who wrote what a differing row read, after the line
+abbrev pub line_product : List Row → Product
+line_product given = if is_given (codes "origin") given then Origins else Line
+
 -- the job of the command that was given anything: `judge`, `state` or `make`
 abbrev pub job_from : (judge state make : Option (List Row)) → Option JobView
-job_from (Some given) state make = files_job Line given
+job_from (Some given) state make = files_job (line_product given) given
 job_from None (Some given) make = files_job State given
 job_from None None (Some given) = made_job given
 job_from None None None = None

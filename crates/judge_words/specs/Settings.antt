@@ -4,7 +4,7 @@ use Rattle.judge_words.specs.declared.job.Settings.{Settings}
 use Rattle.judge_words.specs.declared.job.Command.TheVariants.{Judge}
 use Rattle.judge_words.specs.declared.job.Product.{Product}
 
--- the job that gives this, as it is defined
+-- the job that writes this of the trace, as it is defined
 abbrev pub settings_view : Product → Settings → JobView
 settings_view product settings = record {
   command = Judge settings.image.now settings.trace.now product;

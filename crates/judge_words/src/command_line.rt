@@ -3,25 +3,32 @@
 ghost use Rattle.std.specs.Prelude.{◌≡◌, IfOk, MatchResult, None, true, false, map, option_map, string_bytes};
 ghost use Rattle.clap.specs.Words.{Row, app_of, first_of, found_of, is_simple_and_free, rows_of, rule_of, subcommand_rows_of};
 ghost use Rattle.clap.specs.declared.builder.command.Command.TheViews.{out-Command};
-ghost use Rattle.judge_words.specs.Commands.{IsCommand, command_line, command_entered, values_given_to, files_command, make_command, option_of, option_or, required_word, choices_rules, sharing_rules, with_rules};
+ghost use Rattle.judge_words.specs.Commands.{IsCommand, command_line, command_entered, values_given_to, files_command, judge_command, make_command, flag_of, is_given, option_of, option_or, required_word, choices_rules, sharing_rules, with_rules};
 ghost use Rattle.judge_words.specs.declared.job.WordError.TheVariants.{NotAJob};
 
 use crate::job::WordError;
 use clap::error::ErrorKind;
-use clap::{Arg, ArgMatches, Command};
+use clap::{Arg, ArgAction, ArgMatches, Command};
 use std::alloc::{AllocError, Global};
 
 /// `rvjudge judge IMAGE TRACE [--pc A] [--ram B:S] [--io B:S] [--harts H] [--max-image M]
 /// [--max-trace M] [--misaligned trap|done] [--mtval value|zero] [--ad fault|set] [--reserve R] [--bits on|off]`,
 /// `rvjudge state` with the same, and `rvjudge make NUMBER ROWS`, each with
-/// `[--workers N] [--segment K] [--window W]`.
+/// `[--workers N] [--segment K] [--window W]`, and `judge` alone with `[--origin]`.
 pub fn command_line<'a>(alloc: Global) -> Result<Command<'a>, AllocError>
     ensures { IfOk result (λ line. app_of line ≡ command_line) }
 {
     Command::new(alloc, "rvjudge")
-        .subcommand(files_command(alloc, "judge")?)?
+        .subcommand(judge_command(alloc)?)?
         .subcommand(files_command(alloc, "state")?)?
         .subcommand(make_command(alloc)?)
+}
+
+/// `judge`, which alone takes the flag `--origin`.
+fn judge_command<'a>(alloc: Global) -> Result<Command<'a>, AllocError>
+    ensures { IfOk result (IsCommand judge_command) }
+{
+    files_command(alloc, "judge")?.arg(flag(alloc, "origin"))
 }
 
 /// A command with the names of two files.
@@ -98,6 +105,14 @@ fn option<'a>(alloc: Global, name: &'a str) -> Arg<'a>
     Arg::new(alloc, name).long(name)
 }
 
+/// A flag, which has no value.
+fn flag<'a>(alloc: Global, name: &'a str) -> Arg<'a>
+    ensures rule { rule_of result ≡ flag_of name.entry.now }
+    ensures local { result.global ≡ false }
+{
+    Arg::new(alloc, name).long(name).action(ArgAction::SetTrue)
+}
+
 /// What `line` finds in the words, where it takes them.
 pub fn parse<'a>(line: Command<'a>, words: &'a [String]) -> Result<ArgMatches<'a>, WordError>
     requires { is_simple_and_free (app_of line) ≡ true }
@@ -129,4 +144,14 @@ pub fn text_of<'a>(given: &ArgMatches<'a>, name: &str) -> Option<&'a str>
         ≡ first_of name.now (rows_of (found_of given.now)) }
 {
     given.get_str(name)
+}
+
+/// Whether a flag was given. Where it was left out its text is `false`.
+pub fn is_given(given: &ArgMatches<'_>, name: &str) -> bool
+    ensures { result ≡ is_given name.now (rows_of (found_of given.now)) }
+{
+    match text_of(given, name) {
+        Some(value) => value == "true",
+        None => false,
+    }
 }

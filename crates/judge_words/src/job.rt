@@ -2,11 +2,11 @@
 
 ghost use Rattle.std.specs.Prelude.{◌≡◌, ◌≤◌, ◌%◌, ◌^◌, IfOk, IfSome, map, option_map, string_bytes};
 ghost use Rattle.clap.specs.Words.{found_of, rows_of};
-ghost use Rattle.judge_words.specs.Job.{GivesJob, IsLawful, IsLawfulSharing, given_choices, files_job, job_of, job_view, made_job, sharing_of};
+ghost use Rattle.judge_words.specs.Job.{GivesJob, IsLawful, IsLawfulSharing, given_choices, files_job, job_of, job_view, line_product, made_job, sharing_of};
 ghost use Rattle.judge_words.specs.Settings.{settings_view};
 ghost use Rattle.judge_words.specs.declared.job.WordError.TheVariants.{NoMemory};
 
-use crate::command_line::{command_line, given_to, parse, text_of};
+use crate::command_line::{command_line, given_to, is_given, parse, text_of};
 use crate::values::{
     MOST_IMAGE_BYTES, MOST_TRACE_BYTES, RAM_BASE, RAM_SIZE, read_bits, read_block_size, read_harts,
     read_image_limit, read_io, read_made_number, read_made_rows, read_marks, read_misaligned,
@@ -34,12 +34,14 @@ pub enum Command<N> {
     },
 }
 
-/// What is written where a trace agrees.
+/// What is written of a trace.
 #[derive(Clone, Copy, Debug, PartialEq, Eq)]
 pub enum Product {
-    /// The line that says so.
+    /// The line that says what it comes to.
     Line,
-    /// The text of the state after the last row.
+    /// The line, and where the trace differs who wrote what the differing row read.
+    Origins,
+    /// The text of the state after the last row where the trace agrees, and else the line.
     State,
 }
 
@@ -95,14 +97,16 @@ impl From<AllocError> for WordError {
 ///
 /// `rvjudge judge IMAGE TRACE [--pc A] [--ram B:S] [--io B:S] [--harts H] [--max-image M]
 /// [--max-trace M] [--misaligned trap|done] [--mtval value|zero] [--ad fault|set] [--reserve R] [--bits on|off]
-/// [--workers N] [--segment K] [--window W]`
+/// [--workers N] [--segment K] [--window W] [--origin]`
 ///
-/// `rvjudge state` with the same words, and
+/// `rvjudge state` with the same words but for `--origin`, and
 ///
 /// `rvjudge make NUMBER ROWS [--workers N] [--segment K] [--window W]`
 ///
-/// `state` gives the state after the last row where the trace agrees, in place of a line. Each option stands at most once, as `--name value` or `--name=value`. Numbers are decimal, or
-/// hexadecimal after `0x`. A is even; B and S are multiples of 4,096, S at least 4,096 and B + S at
+/// `state` gives the state after the last row where the trace agrees, in place of a line. With
+/// `--origin`, which has no value, `judge` also gives, where the trace differs, who wrote what the
+/// differing row read. Each option stands at most once, as `--name value` or `--name=value`, and
+/// `--origin` alone. Numbers are decimal, or hexadecimal after `0x`. A is even; B and S are multiples of 4,096, S at least 4,096 and B + S at
 /// most 2^56, and the two ranges have no byte in common; H is from 1 to 8; the M of the image is from 1 to 2^30, that
 /// of the trace to 2^40, R a power of two from 8 to 4,096, N from 1 to 64, K from 1 to 2^20, and W
 /// from 1 to 2^10. NUMBER is below 2^32, ROWS at most 2^18.
@@ -124,7 +128,7 @@ pub fn read_words(alloc: Global, words: &Vec<String>) -> Result<Job, WordError>
 {
     let matches = parse(command_line(alloc)?, words.as_slice())?;
     match given_to(&matches, "judge") {
-        Some(given) => files_job(alloc, Product::Line, given),
+        Some(given) => files_job(alloc, line_product(given), given),
         None => match given_to(&matches, "state") {
             Some(given) => files_job(alloc, Product::State, given),
             None => match given_to(&matches, "make") {
@@ -132,6 +136,17 @@ pub fn read_words(alloc: Global, words: &Vec<String>) -> Result<Job, WordError>
                 None => Err(WordError::NotAJob),
             },
         },
+    }
+}
+
+/// What `judge` writes: with `--origin` who wrote what a differing row read, after the line.
+fn line_product(given: &ArgMatches<'_>) -> Product
+    ensures { result ≡ line_product (rows_of (found_of given.now)) }
+{
+    if is_given(given, "origin") {
+        Product::Origins
+    } else {
+        Product::Line
     }
 }
 

@@ -1,8 +1,9 @@
-//! What holds of every job of `make`.
+//! What holds of every job of `make`, and of `--origin`.
 
-ghost use Rattle.std.specs.Prelude.{◌≡◌, ◌∷◌, [], ℕ, List, Some, codes, option_map};
+ghost use Rattle.std.specs.Prelude.{◌≡◌, ◌∷◌, [], ℕ, List, None, Some, codes, option_map};
 ghost use Rattle.judge_words.specs.Job.{IsMadeJob, JobView, job_of};
-ghost use Rattle.judge_words.specs.declared.job.Command.TheVariants.{Make};
+ghost use Rattle.judge_words.specs.declared.job.Command.TheVariants.{Judge, Make};
+ghost use Rattle.judge_words.specs.declared.job.Product.TheVariants.{Line, Origins};
 
 /// Whatever words ask for it: a job of `make` has a number below 2^32 and at most 2^18 rows, is
 /// given no first address, has the RAM 0x80000000:0x8000000, no devices and one hart, takes as many bytes of
@@ -17,4 +18,16 @@ pub fn made_jobs_stand()
     ensures { option_map (λ job. job.command)
         (job_of (codes "rvjudge" ∷ codes "make" ∷ codes "7" ∷ codes "3" ∷ []))
         ≡ Some (Make 7 3) }
+{}
+
+/// `judge` takes `--origin`, gives the line alone without it, and `state` does not take it.
+pub fn judge_alone_takes_the_flag()
+    ensures given { option_map (λ job. job.command)
+        (job_of (codes "rvjudge" ∷ codes "judge" ∷ codes "i" ∷ codes "t" ∷ codes "--origin" ∷ []))
+        ≡ Some (Judge (codes "i") (codes "t") Origins) }
+    ensures left_out { option_map (λ job. job.command)
+        (job_of (codes "rvjudge" ∷ codes "judge" ∷ codes "i" ∷ codes "t" ∷ []))
+        ≡ Some (Judge (codes "i") (codes "t") Line) }
+    ensures refused { job_of
+        (codes "rvjudge" ∷ codes "state" ∷ codes "i" ∷ codes "t" ∷ codes "--origin" ∷ []) ≡ None }
 {}

@@ -49,11 +49,16 @@ const DEFAULTS: Numbers = (None, 0x8000_0000, 0x800_0000, 1 << 30, 1 << 40);
 #[test]
 fn takes_jobs(rt: HostRuntime) -> Result<(), Fail> {
     let alloc = rt.alloc();
-    let named: [(&[&str], &str, &str); 5] = [
+    let named: [(&[&str], &str, &str); 6] = [
         (&["rvjudge", "judge", "i", "t"], "i", "t"),
         (&["", "judge", "help", "t"], "help", "t"),
         (&["rvjudge", "judge", "-", ""], "-", ""),
         (&["rvjudge", "judge", "--", "-i", "--pc"], "-i", "--pc"),
+        (
+            &["rvjudge", "judge", "i", "--", "--origin"],
+            "i",
+            "--origin",
+        ),
         (&["rvjudge", "judge", "i", "t", "--"], "i", "t"),
     ];
     for (words, image, trace) in named {
@@ -78,6 +83,46 @@ fn takes_jobs(rt: HostRuntime) -> Result<(), Fail> {
         ("i", "t"),
         (Some(16), 4096, 8192, 10, 1),
     )
+}
+
+/// What is written of a trace. After `--` the flag is a file's name.
+#[test]
+fn takes_origins(rt: HostRuntime) -> Result<(), Fail> {
+    let lines: [(&[&str], Product); 9] = [
+        (&["rvjudge", "judge", "i", "t"], Product::Line),
+        (
+            &["rvjudge", "judge", "i", "t", "--origin"],
+            Product::Origins,
+        ),
+        (
+            &["rvjudge", "judge", "--origin", "i", "t"],
+            Product::Origins,
+        ),
+        (
+            &["rvjudge", "judge", "i", "--origin", "t", "--pc=2"],
+            Product::Origins,
+        ),
+        (
+            &[
+                "rvjudge", "judge", "i", "t", "--pc", "2", "--origin", "--bits", "on",
+            ],
+            Product::Origins,
+        ),
+        (&["rvjudge", "judge", "i", "--", "--origin"], Product::Line),
+        (
+            &["rvjudge", "judge", "--origin", "i", "--", "--origin"],
+            Product::Origins,
+        ),
+        (&["rvjudge", "state", "i", "t"], Product::State),
+        (&["rvjudge", "state", "i", "--", "--origin"], Product::State),
+    ];
+    for (words, wanted) in lines {
+        match &job_at(rt.alloc(), words)??.command {
+            Command::Judge { product, .. } => assert_eq!(rt; *product, wanted),
+            Command::Make { .. } => assert!(rt; false),
+        }
+    }
+    Ok(())
 }
 
 #[test]
@@ -321,7 +366,7 @@ fn takes_numbers_of_made_traces(rt: HostRuntime) -> Result<(), Fail> {
 #[test]
 fn refuses_other_words(rt: HostRuntime) -> Result<(), Fail> {
     let alloc = rt.alloc();
-    let lines: [&[&str]; 33] = [
+    let lines: [&[&str]; 43] = [
         &[],
         &["rvjudge"],
         &["rvjudge", "judge", "i"],
@@ -343,6 +388,16 @@ fn refuses_other_words(rt: HostRuntime) -> Result<(), Fail> {
         &["rvjudge", "judge", "i", "t", "--segment", "0"],
         &["rvjudge", "judge", "i", "t", "--ad=set", "--ad=set"],
         &["rvjudge", "judge", "i", "t", "--harts=2", "--harts=2"],
+        &["rvjudge", "judge", "i", "--origin"],
+        &["rvjudge", "judge", "i", "t", "--origin", "x"],
+        &["rvjudge", "judge", "i", "t", "--origin", "--origin"],
+        &["rvjudge", "judge", "i", "t", "--pc", "--origin"],
+        &["rvjudge", "judge", "i", "--pc", "--origin", "t"],
+        &["rvjudge", "--origin", "judge", "i", "t"],
+        &["rvjudge", "state", "i", "t", "--origin"],
+        &["rvjudge", "state", "--origin", "i", "t"],
+        &["rvjudge", "make", "7", "1", "--origin"],
+        &["rvjudge", "make", "--origin", "7", "1"],
         &["rvjudge", "make"],
         &["rvjudge", "make", "7"],
         &["rvjudge", "make", "7", "1", "2"],
@@ -370,8 +425,8 @@ fn refuses_other_words(rt: HostRuntime) -> Result<(), Fail> {
     Ok(())
 }
 
-/// No number, a number of no range, or one past a range.
-const OPTIONS: [&str; 36] = [
+/// No number, a number of no range, or one past a range; a value of the flag; and no option.
+const OPTIONS: [&str; 39] = [
     "--pc=",
     "--pc=0x",
     "--pc=1",
@@ -379,7 +434,10 @@ const OPTIONS: [&str; 36] = [
     "--pc=18446744073709551615",
     "--pc=18446744073709551616",
     "--pc=0x10000000000000000",
+    "--origin=",
     "--origin=x",
+    "--origins",
+    "--origins=x",
     "--ram=4096",
     "--ram=0:0",
     "--ram=1:4096",

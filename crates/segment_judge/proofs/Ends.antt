@@ -14,6 +14,7 @@ use Rattle.read_footprint.specs.Footprints.{Accesses, footprint_of, is_written, 
 use Rattle.read_footprint.specs.Sets.{IsFootprintOf, has_written}
 use Rattle.read_footprint.proofs.Agreement.{written_in_parts}
 use Rattle.read_footprint.proofs.Entries.{all_agree}
+use Rattle.row_origin.specs.declared.history.History.{History}
 use Rattle.segment_judge.specs.declared.judged.Judged.{Judged}
 use Rattle.segment_judge.specs.Judgements.{Judgement, by_set}
 use Rattle.segment_judge.specs.Laws.{bytes_after_judgement, judgement_from}
@@ -44,10 +45,10 @@ judgement_at verdict end accesses = record { verdict = verdict; end = end; acces
 
 -- a row ended it
 pub ended : {M : Type 0} (bytes_of : M → Bytes) (start : SetState) (rows : List RowReading) (verdict : Verdict)
-    (accesses : List Accesses) (footprint : Footprint)
+    (accesses : List Accesses) (footprint : Footprint) (history : Option History)
     → judgement_at verdict None accesses ≡ judgement_from by_set start rows → IsFootprintOf footprint accesses
-    → IsJudgement bytes_of start rows (record { verdict = verdict; end = None; footprint = footprint })
-ended bytes_of start rows verdict accesses footprint whole is = record {
+    → IsJudgement bytes_of start rows (record { verdict = verdict; end = None; footprint = footprint; history = history })
+ended bytes_of start rows verdict accesses footprint history whole is = record {
   verdict = ap (λ judgement. judgement.verdict) whole;
   end = ap (λ judgement. end_with judgement.end start judgement.accesses) whole;
   footprint = subst (λ judgement. IsFootprintOf footprint judgement.accesses) whole is;
@@ -55,11 +56,12 @@ ended bytes_of start rows verdict accesses footprint whole is = record {
 
 -- all rows agreed
 pub agreed : {M : Type 0} (bytes_of : M → Bytes) (start : SetState) (rows : List RowReading) (set : HartSet Core M)
-    {count valid : ℕ} {accesses : List Accesses} {footprint : Footprint}
+    {count valid : ℕ} {accesses : List Accesses} {footprint : Footprint} (history : Option History)
     → judgement_at (Agrees count valid) (Some set.cores.items) accesses ≡ judgement_from by_set start rows
     → bytes_of set.mem ≡ after_writes (writes_of accesses) start.bytes → IsFootprintOf footprint accesses
-    → IsJudgement bytes_of start rows (record { verdict = Agrees count valid; end = Some set; footprint = footprint })
-agreed bytes_of start rows set {count} {valid} {accesses} {footprint} whole bytes is =
+    → IsJudgement bytes_of start rows
+    (record { verdict = Agrees count valid; end = Some set; footprint = footprint; history = history })
+agreed bytes_of start rows set {count} {valid} {accesses} {footprint} history whole bytes is =
     let here : Some (set_state_of bytes_of set) ≡ end_with (Some set.cores.items) start accesses = rw bytes refl in
     record {
       verdict = ap (λ judgement. judgement.verdict) whole;

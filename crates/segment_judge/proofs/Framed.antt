@@ -13,7 +13,7 @@ use Rattle.segment_judge.specs.Laws.{FramedByFootprint}
 abbrev joined_with : {C : Type 0} → Run (RowJudgement C) → Judgement C → Judgement C
 joined_with run rest = by_difference run.value.difference (accesses_by run) rest
 
-reads_agree : {C : Type 0} (run : Run (RowJudgement C)) (rest : Judgement C) (one other : Bytes)
+pub reads_agree : {C : Type 0} (run : Run (RowJudgement C)) (rest : Judgement C) (one other : Bytes)
     → agree one other (footprint_of (joined_with run rest).accesses) ≡ true → AgreeOn run.reads one other
 reads_agree run rest one other = by run.value.difference
   where
@@ -23,7 +23,7 @@ reads_agree run rest one other = by run.value.difference
     by None agrees = first_reads_alike one other (accesses_by run) rest.accesses agrees
     by (Some difference) agrees = first_reads_alike one other (accesses_by run) [] agrees
 
-rest_agrees : {C : Type 0} (run : Run (RowJudgement C)) (rest : Judgement C) (one other : Bytes)
+pub rest_agrees : {C : Type 0} (run : Run (RowJudgement C)) (rest : Judgement C) (one other : Bytes)
     → agree one other (footprint_of (joined_with run rest).accesses) ≡ true → run.value.difference ≡ None
     → agree (after_writes run.wrote one) (after_writes run.wrote other) (footprint_of rest.accesses) ≡ true
 rest_agrees run rest one other agrees is = goes_on one other (accesses_by run) rest.accesses (rw is at agrees)

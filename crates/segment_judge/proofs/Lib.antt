@@ -1,8 +1,10 @@
 pub mod Parts
 pub mod Framed
+pub mod Histories
 pub mod Turns
 pub mod Within
 pub mod Progressed
+pub mod Noted
 pub mod Ends
 pub mod Maps
 pub mod SetSteps

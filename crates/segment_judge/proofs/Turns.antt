@@ -102,7 +102,7 @@ drop_from [] i x is = absurd cc
 drop_from (y ∷ xs) zero x is = let same : x ≡ y = cc in rw same refl
 drop_from (y ∷ xs) (suc i) x is = drop_from xs i x is
 
-drop_found : {A : Type 0} (xs : List A) (i : ℕ) (x : A) → Some x ≡ slice_get xs i → drop i xs ≡ x ∷ drop (i + 1) xs
+pub drop_found : {A : Type 0} (xs : List A) (i : ℕ) (x : A) → Some x ≡ slice_get xs i → drop i xs ≡ x ∷ drop (i + 1) xs
 drop_found xs i x is = rw add-one (drop_from xs i x is)
 
 pub row_turn : {row : RowReading} {whole : Judgement (List Core)} (before now : Standing) (rows : List RowReading)

@@ -4,5 +4,6 @@ pub mod OneHart
 pub mod Judged
 pub mod Standings
 pub mod Progress
+pub mod Histories
 pub mod Founds
 pub mod Ram

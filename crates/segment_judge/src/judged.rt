@@ -2,6 +2,7 @@
 
 use hart_step::Harts;
 use read_footprint::Footprint;
+use row_origin::History;
 use rvfi_rows::Verdict;
 
 /// What the judging of a segment gave.
@@ -13,4 +14,7 @@ pub struct Judged<M> {
     pub end: Option<Harts<M>>,
     /// What they read and wrote, a row that differs too.
     pub footprint: Footprint,
+    /// What they did, as far as it tells who wrote what a row that differs read, where it is asked
+    /// for.
+    pub history: Option<History>,
 }

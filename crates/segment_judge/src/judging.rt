@@ -4,6 +4,8 @@ ghost use Rattle.std.specs.Prelude.{IfOk};
 ghost use Rattle.hart_step.specs.HartSets.{SetCanStep, set_state_of};
 ghost use Rattle.rvfi_rows.specs.Readings.{readings_in};
 ghost use Rattle.rvfi_rows.specs.Rows.{rows_of};
+ghost use Rattle.row_origin.specs.Histories.{IsKept};
+ghost use Rattle.segment_judge.specs.Histories.{history_from};
 ghost use Rattle.segment_judge.specs.Judged.{IsJudgement, IsUsable, HoldsInOtherMemories};
 
 use crate::judged::Judged;
@@ -14,12 +16,13 @@ use rvfi_rows::{Columns, Row, Rows, Segment, Verdict, read_rows};
 use std::alloc::Global;
 
 /// Judges the rows of a segment from a state before it. Lines that were not read under these
-/// columns are read, and not kept.
+/// columns are read, and not kept. With `origin` the history of the rows is kept.
 pub fn judge<M: PhysMem + Drop>(
     alloc: Global,
     start: &Harts<M>,
     columns: &Columns,
     segment: &Segment,
+    origin: bool,
 ) -> Result<Judged<M>, NoMemory>
     requires { SetCanStep M.ram start.now }
     ensures judged { IfOk result (λ judged. IsJudgement M.bytes (set_state_of M.bytes start.now)
@@ -28,8 +31,11 @@ pub fn judge<M: PhysMem + Drop>(
     // What was read of memory is all of it that the verdict depends on.
     ensures stands { IfOk result (λ judged. HoldsInOtherMemories M.bytes
         (set_state_of M.bytes start.now) (rows_of columns.now segment.now.lines) judged) }
+    ensures history { IfOk result (λ judged. IsKept origin (history_from
+        (set_state_of M.bytes start.now) (rows_of columns.now segment.now.lines))
+        judged.history) }
 {
-    judge_from(alloc, start.copy()?, columns, segment)
+    judge_from(alloc, start.copy()?, columns, segment, origin)
 }
 
 /// The same of harts that are not needed any more.
@@ -38,6 +44,7 @@ pub fn judge_from<M: PhysMem + Drop>(
     start: Harts<M>,
     columns: &Columns,
     segment: &Segment,
+    origin: bool,
 ) -> Result<Judged<M>, NoMemory>
     requires { SetCanStep M.ram start }
     ensures judged { IfOk result (λ judged. IsJudgement M.bytes (set_state_of M.bytes start)
@@ -45,12 +52,14 @@ pub fn judge_from<M: PhysMem + Drop>(
     ensures usable { IfOk result (λ judged. IsUsable M.ram (M.ram start.mem) judged) }
     ensures stands { IfOk result (λ judged. HoldsInOtherMemories M.bytes
         (set_state_of M.bytes start) (rows_of columns.now segment.now.lines) judged) }
+    ensures history { IfOk result (λ judged. IsKept origin (history_from
+        (set_state_of M.bytes start) (rows_of columns.now segment.now.lines)) judged.history) }
 {
     match segment.rows(columns) {
-        Some(rows) => judge_rows(alloc, start, rows),
+        Some(rows) => judge_rows(alloc, start, rows, origin),
         None => {
             let rows = read_rows(alloc, columns, &segment.lines)?;
-            judge_rows(alloc, start, &rows)
+            judge_rows(alloc, start, &rows, origin)
         }
     }
 }
@@ -60,6 +69,7 @@ fn judge_rows<M: PhysMem + Drop>(
     alloc: Global,
     start: Harts<M>,
     rows: &Rows,
+    origin: bool,
 ) -> Result<Judged<M>, NoMemory>
     requires { SetCanStep M.ram start }
     ensures judged { IfOk result (λ judged.
@@ -67,8 +77,10 @@ fn judge_rows<M: PhysMem + Drop>(
     ensures usable { IfOk result (λ judged. IsUsable M.ram (M.ram start.mem) judged) }
     ensures stands { IfOk result (λ judged.
         HoldsInOtherMemories M.bytes (set_state_of M.bytes start) (readings_in rows.now) judged) }
+    ensures history { IfOk result (λ judged. IsKept origin
+        (history_from (set_state_of M.bytes start) (readings_in rows.now)) judged.history) }
 {
-    let mut progress = Progress::before(alloc, start);
+    let mut progress = Progress::before(alloc, start, origin);
     let mut row = Row::empty();
     for place in 0..rows.len() {
         let reading = match rows.get(place, &mut row) {
@@ -81,6 +93,7 @@ fn judge_rows<M: PhysMem + Drop>(
                 verdict,
                 end: None,
                 footprint: progress.footprint,
+                history: progress.history,
             }),
         }
     }
@@ -91,5 +104,6 @@ fn judge_rows<M: PhysMem + Drop>(
         },
         end: Some(progress.harts),
         footprint: progress.footprint,
+        history: progress.history,
     })
 }

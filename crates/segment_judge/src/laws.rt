@@ -10,6 +10,7 @@ ghost use Rattle.hart_step.specs.declared.state.Core.{Core};
 ghost use Rattle.hart_step.specs.HartSets.{SetState};
 ghost use Rattle.segment_judge.specs.declared.judged.Judged.{Judged};
 ghost use Rattle.segment_judge.specs.Judgements.{Judging};
+ghost use Rattle.segment_judge.specs.Histories.{HistoryInParts, HistoryIsFramed, HistoryIsTold};
 ghost use Rattle.segment_judge.specs.Laws.{FramedByFootprint, JudgedInParts};
 ghost use Rattle.segment_judge.specs.OneHart.{OneHartJudgesAlone, RowsAreOfFirst};
 ghost use Rattle.segment_judge.specs.Ram.{FootprintLiesInRam, TouchesRamAlone};
@@ -44,4 +45,24 @@ pub fn one_hart_judges_alone()
         → OneHartJudgesAlone core rows bytes }
     ensures rows { (columns : TraceColumns) (lines : List (List ℕ))
         → RowsAreOfFirst columns lines }
+{}
+
+/// What rows did up to the verdict on them, row by row, is what the trail of all of them tells: what
+/// each row before the one that ends the judgement did, and what this one did, where it differs.
+pub fn histories_are_told()
+    ensures { (state : SetState) (rows : List RowReading) → HistoryIsTold state rows }
+{}
+
+/// What rows did may be told in parts: what the first part did, and then the others from the state
+/// after it.
+pub fn histories_are_told_in_parts()
+    ensures { (state : SetState) (rows others : List RowReading)
+        → HistoryInParts state rows others }
+{}
+
+/// From memories that agree on what a judgement read before it wrote it the rows do the same: so the
+/// last writers of a segment that was judged from a guess which is met are the true ones.
+pub fn histories_are_framed()
+    ensures { (cores : List Core) (rows : List RowReading) (one other : Bytes)
+        → HistoryIsFramed cores rows one other }
 {}

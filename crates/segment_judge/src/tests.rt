@@ -240,9 +240,13 @@ fn hold_segment(
     case: &Case,
 ) -> Result<(), Fail> {
     let harts = start(alloc, CODE)?;
-    hold_judged(rt, &judge(alloc, &harts, columns, segment)?, case)?;
+    hold_judged(rt, &judge(alloc, &harts, columns, segment, false)?, case)?;
     assert_eq!(rt; numbers(&harts)?, BEGIN);
-    hold_judged(rt, &judge_from(alloc, harts, columns, segment)?, case)
+    hold_judged(
+        rt,
+        &judge_from(alloc, harts, columns, segment, false)?,
+        case,
+    )
 }
 
 /// Judges the rows of a case, where they were not read, where they were read under these columns,
@@ -356,7 +360,7 @@ fn verdict_of_two(alloc: Global, rows: &[&[u8]]) -> Result<Verdict, Fail> {
     let columns = read_header(alloc, OF_HARTS)?.with_harts(2);
     let segment = segment_of(alloc, rows)?;
     let harts = harts_of(alloc, core_at(SHARING)?, 2)?;
-    Ok(judge_from(alloc, harts, &columns, &segment)?.verdict)
+    Ok(judge_from(alloc, harts, &columns, &segment, false)?.verdict)
 }
 
 #[test]
@@ -398,10 +402,10 @@ fn agrees_beside(
     let byte = number_at(&other, &ram, pa, 1)?;
     put(&mut other, &ram, pa, 1, byte ^ 0xff)?;
     let same = start.mem.copy()?;
-    let kept = judge(alloc, &start, &columns, &segment)?;
+    let kept = judge(alloc, &start, &columns, &segment, false)?;
     assert!(rt; kept.footprint.agree(&start.mem, &same));
     let agrees = kept.footprint.agree(&start.mem, &other);
-    let judged = judge_from(alloc, start, &columns, &segment)?;
+    let judged = judge_from(alloc, start, &columns, &segment, false)?;
     assert_eq!(rt; judged.footprint.agree(&same, &other), agrees);
     Ok(agrees)
 }
@@ -538,9 +542,12 @@ fn stops_without_memory(rt: HostRuntime) -> Result<(), Fail> {
         let columns = read_header(alloc, HEADER)?;
         let segment = segment_of(alloc, rows)?;
         let harts = start_refusing(alloc)?;
-        assert_eq!(rt; known_files(judge(alloc, &harts, &columns, &segment)), None);
         assert_eq!(rt;
-            known_files(judge_from(alloc, harts, &columns, &segment)),
+            known_files(judge(alloc, &harts, &columns, &segment, false)),
+            None
+        );
+        assert_eq!(rt;
+            known_files(judge_from(alloc, harts, &columns, &segment, false)),
             verdict
         );
     }

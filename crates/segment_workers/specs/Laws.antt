@@ -1,5 +1,5 @@
 -- What was found of segments as a board's events leave it, in the words of those who join the verdicts.
-use Rattle.std.specs.Prelude.{◌≡◌, ℕ, List, All, length, map}
+use Rattle.std.specs.Prelude.{◌≡◌, ℕ, Bool, List, All, length, map}
 use Rattle.board_core.specs.declared.event.Event.{Event}
 use Rattle.board_core.specs.Bags.{SameBag}
 use Rattle.board_core.specs.Machine.{looks, machine_at_start, machine_after_events}
@@ -23,8 +23,9 @@ use Rattle.verdict_join.specs.Founds.{Leaves}
 use Rattle.verdict_join.specs.Joining.{found_of, rows_of_segment}
 use Rattle.segment_workers.specs.Runs.{ArePosted, FoundBelow, HasReason, IsFoundBy}
 
--- what a run was given, and what came of it: what was found, and the view of the seat of all workers
+-- what a run was given, whether histories were to be kept, and what came of it: what was found, and the view of the seat of all workers
 pub record WorkerRun (M : Type 0) : Type 0 where
+  pub origin : Bool
   pub columns : TraceColumns
   pub segments : List Segment
   pub guesses : List (HartSet Core M)
@@ -34,7 +35,7 @@ pub record WorkerRun (M : Type 0) : Type 0 where
 -- what `run` promises of it
 pub record IsPromised {M : Type 0} (bytes_of : M → Bytes) (ram_of : M → Span) (ran : WorkerRun M) : Type 0 where
   pub one_each : length ran.guesses ≡ length ran.segments
-  pub lawful : All (IsLawfulFound bytes_of ram_of ran.columns ran.segments ran.guesses) ran.founds
+  pub lawful : All (IsLawfulFound ran.origin bytes_of ram_of ran.columns ran.segments ran.guesses) ran.founds
   pub once : FoundBelow (length ran.segments) ran.founds
   pub by : All (IsFoundBy ran.view) ran.founds
   pub reasons : All (HasReason ran.view.posts) ran.founds

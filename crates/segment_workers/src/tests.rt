@@ -202,7 +202,7 @@ fn hold_counted<R: Threads + Sync + Abort, G: Gate, L: Ledger>(
     let (board, all) = Board::open(alloc, n, case.seats)?;
     let mut steps = Steps::<L>::new(blank);
     let (founds, seat) = run(
-        rt, alloc, &board, all, &guesses, &columns, &segments, gate, &mut steps,
+        rt, alloc, &board, all, &guesses, &columns, &segments, gate, false, &mut steps,
     )?;
     let (drawn, least) = board.close(seat);
     hold_told(rt, &founds, case.known_files);

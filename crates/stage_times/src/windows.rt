@@ -1,6 +1,6 @@
 //! Judging the rows of a trace window by window, stage by stage.
 
-ghost use Rattle.std.specs.Prelude.{◌≡◌, ◌≤◌, ◌<◌, ◌+◌, ◌*◌, ◌^◌, IfOk, IfSome, OnOk, length, map};
+ghost use Rattle.std.specs.Prelude.{◌≡◌, ◌≤◌, ◌<◌, ◌+◌, ◌*◌, ◌^◌, false, IfOk, IfSome, OnOk, length, map};
 ghost use Rattle.std.specs.List.{All, flat_map};
 ghost use Rattle.hart_step.specs.HartSets.{SetCanStep};
 ghost use Rattle.rvfi_rows.specs.Segments.{segment_lines};
@@ -24,7 +24,7 @@ use std::thread::Threads;
 use std::time::Instant;
 use trace_lines::{Ending, LineTaker, Piece};
 use verdict_board::Board;
-use verdict_join::join_round;
+use verdict_join::{Round, join_round};
 
 /// How many lines a segment has, and how many segments a window has: the judge's defaults.
 const SEGMENT: usize = 4_096;
@@ -117,7 +117,7 @@ fn find<R: Threads + Sync, M: PhysMem + Drop + Send + Sync, L: Ledger>(
     requires parts { blank.parts ≡ L.parts }
     requires positive { 0 < blank.parts }
     ensures { IfOk result (λ founds. All
-        (IsLawfulFound M.bytes M.ram columns.now segments.now guesses.now) founds.items) }
+        (IsLawfulFound false M.bytes M.ram columns.now segments.now guesses.now) founds.items) }
 {
     let count = segments.len() as u32;
     let (board, seats) = Board::open(workers.alloc, count, workers.count)?;
@@ -131,6 +131,7 @@ fn find<R: Threads + Sync, M: PhysMem + Drop + Send + Sync, L: Ledger>(
         columns,
         segments,
         &OpenGate,
+        false,
         &mut steps,
     )?;
     let _closed = board.close(seat);
@@ -174,9 +175,17 @@ fn judge_segments<R: Threads + Sync + Clock, M: PhysMem + Drop + Send + Sync>(
     let founds = find::<R, M, Brand>(workers, &guesses, columns, segments, Blank::new(1))?;
     let judging = since(workers.rt, begin)?;
     let begin = Instant::now(workers.rt)?;
-    let round = join_round(workers.alloc, start, columns, segments, &guesses, founds)?;
+    let Round { settled, end, .. } = join_round(
+        workers.alloc,
+        start,
+        columns,
+        segments,
+        &guesses,
+        founds,
+        false,
+    )?;
     let joining = since(workers.rt, begin)?;
-    if round.settled < segments.len() {
+    if settled < segments.len() {
         return Err(Failure::Row);
     }
     let stages = Stages {
@@ -185,7 +194,7 @@ fn judge_segments<R: Threads + Sync + Clock, M: PhysMem + Drop + Send + Sync>(
         joining,
         ..Stages::NONE
     };
-    match round.end {
+    match end {
         Some(end) => Ok((stages, end)),
         None => Err(Failure::Row),
     }

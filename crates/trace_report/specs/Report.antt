@@ -7,6 +7,7 @@ use Rattle.elf_image.specs.declared.fault.ElfFault.TheVariants as elf
 use Rattle.image_text.specs.declared.fault.FaultKind.{FaultKind}
 use Rattle.image_text.specs.declared.fault.FaultKind.TheVariants.{BadByte, BadAddress, OutsideRam, Overlap, OpenComment}
 use Rattle.image_text.specs.declared.fault.ImageFault.{ImageFault}
+use Rattle.row_origin.specs.Origins.{OriginsView}
 use Rattle.rvfi_rows.specs.declared.column.Column.{Column}
 use Rattle.rvfi_rows.specs.declared.column.Port.{Port}
 use Rattle.rvfi_rows.specs.declared.column.Port.TheVariants.{Zero, One, Two, Three}
@@ -25,6 +26,7 @@ use Rattle.trace_report.specs.declared.outcome.Made.{Made}
 use Rattle.trace_report.specs.declared.outcome.Ruling.{Ruling}
 use Rattle.trace_report.specs.declared.outcome.Ruling.TheVariants as rulings
 use Rattle.trace_report.specs.Numerals.{hexadecimal}
+use Rattle.trace_report.specs.Origins.{origins_text}
 
 -- what a fault of an image is called
 abbrev pub kind_text : FaultKind → List ℕ
@@ -136,6 +138,11 @@ made_text (Some made) =
 -- the one line of an outcome
 unfoldable pub report_of : Outcome → List ℕ
 report_of outcome = made_text outcome.made ++ ruling_text outcome.ruling
+
+-- the line of an outcome, and after it, where they are asked for, the lines that say who wrote what a row read
+abbrev pub report_with : Outcome → Option OriginsView → List ℕ
+report_with outcome None = report_of outcome
+report_with outcome (Some origins) = report_of outcome ++ origins_text origins
 
 -- the status of a verdict
 abbrev pub verdict_status : Verdict → ℕ

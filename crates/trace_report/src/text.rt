@@ -1,4 +1,4 @@
-//! A line of text in a fixed buffer.
+//! A text in a fixed buffer.
 
 ghost use Rattle.std.specs.Prelude.{◌≡◌, ◌≤◌, ◌+◌, ◌++◌, [], List, ℕ, length, decimal};
 ghost use Rattle.arrayvec.specs.ArrayVec.{array_vec_len};
@@ -12,9 +12,9 @@ use itoa::Buffer;
 use std::marker::Model;
 
 /// The most bytes of a text.
-const MOST_BYTES: usize = 192;
+pub const MOST_BYTES: usize = 1024;
 
-/// A text of at most 192 bytes, which takes no memory beyond itself.
+/// A text of at most 1,024 bytes, which takes no memory beyond itself.
 #[derive(Drop)]
 pub struct Text {
     bytes: ArrayVec<u8, MOST_BYTES>,

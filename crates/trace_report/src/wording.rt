@@ -1,30 +1,39 @@
 //! The wording of an outcome.
 
-ghost use Rattle.std.specs.Prelude.{◌≡◌, ◌≤◌, ◌+◌, ◌++◌, length};
+ghost use Rattle.std.specs.Prelude.{◌≡◌, ◌≤◌, ◌+◌, ◌++◌, length, option_map};
+ghost use Rattle.row_origin.specs.Origins.{origins_in};
 ghost use Rattle.hart_words.specs.SignalNames.{name_of};
 ghost use Rattle.trace_report.specs.declared.wording.TheConstants.{MOST_LINE};
-ghost use Rattle.trace_report.specs.Report.{report_of, made_text, ruling_text, kind_text, image_fault_text, elf_fault_text, segment_text, state_fault_text, state_kind_text, port_text, column_name, header_fault_text, row_fault_text, column_text, difference_text, verdict_text};
+ghost use Rattle.trace_report.specs.Report.{report_of, report_with, made_text, ruling_text, kind_text, image_fault_text, elf_fault_text, segment_text, state_fault_text, state_kind_text, port_text, column_name, header_fault_text, row_fault_text, column_text, difference_text, verdict_text};
 
+use crate::origin_lines::put_origins;
 use crate::outcome::{Made, Outcome, Ruling};
 use crate::text::Text;
 use elf_image::ElfFault;
 use hart_words::{Difference, Signal};
 use image_text::{FaultKind, ImageFault};
+use row_origin::Origins;
 use rvfi_rows::{Column, HeaderFault, Port, RowFault, Verdict};
 use state_text::StateFault;
 
 /// The most bytes of the line for a ruling; what goes before it has at most 50.
 const MOST_LINE: usize = 140;
 
-/// The text of an outcome: one line that ends in a line feed, at most 192 bytes. Values are `0x`
-/// and 16 hexadecimal digits, all other numbers decimal. It takes no memory.
+/// The text of an outcome: one line, and where origins are given a line for each register and each
+/// byte of RAM that a row read. Each line ends in a line feed, and all have at most 1,024 bytes.
+/// Values and addresses are `0x` and 16 hexadecimal digits, all other numbers decimal. It takes no
+/// memory.
 #[tactic(auto, unfolding(crate::specs::Report::report_of))]
-pub fn report(outcome: &Outcome) -> Text
-    ensures { result ≡ report_of outcome.now }
+pub fn report(outcome: &Outcome, origins: Option<&Origins>) -> Text
+    ensures { result
+        ≡ report_with outcome.now (option_map (λ origins. origins_in origins.now) origins.entry) }
 {
     let mut text = Text::new();
     put_made(&mut text, outcome.made);
     text.put(ruling_line(&outcome.ruling).as_slice());
+    if let Some(origins) = origins {
+        put_origins(&mut text, origins);
+    }
     text
 }
 

@@ -1,5 +1,5 @@
 -- What holds of segments, guesses and founds in code, in the words of the definitions.
-use Rattle.std.proofs.Common.{◌≡◌, ◌<◌, ◌≤◌, ◌⊎◌, inl, inr, true, List, [], ◌∷◌, ◌++◌, length, map, take}
+use Rattle.std.proofs.Common.{Bool, ◌≡◌, ◌<◌, ◌≤◌, ◌⊎◌, inl, inr, true, List, [], ◌∷◌, ◌++◌, length, map, take}
 use Rattle.std.proofs.Common.{option_map, refl, sym, ap, ◌∙◌, subst, arith, All}
 use Rattle.std.specs.List.{flat_map}
 use Rattle.std.proofs.lemmas.List.{length-map}
@@ -43,15 +43,15 @@ read_twice columns (segment ∷ segments) =
     ap (λ rest. rows_of columns segment.lines ∷ rest) (read_twice columns segments)
 
 -- what was judged in code is lawful
-pub code_lawful : {M : Type 0} (bytes_of : M → Bytes) (ram_of : M → Span) (columns : TraceColumns)
+pub code_lawful : {M : Type 0} (origin : Bool) (bytes_of : M → Bytes) (ram_of : M → Span) (columns : TraceColumns)
     (segments : List Segment) (guesses : List (HartSet Core M)) (founds : List (Found (JudgedSegment M)))
-    → All (IsLawfulFound bytes_of ram_of columns segments guesses) founds
+    → All (IsLawfulFound origin bytes_of ram_of columns segments guesses) founds
     → All (IsLawfulCandidate by_set) (candidates_of bytes_of columns segments guesses founds)
-code_lawful bytes_of ram_of columns segments guesses founds lawful =
+code_lawful origin bytes_of ram_of columns segments guesses founds lawful =
     let rows : List (List RowReading) = map (rows_of_segment columns) segments in
     let states : List SetState = map (set_state_of bytes_of) guesses in
     found_lawful by_set rows states (map (found_of rows states) founds)
-    (founds_theirs bytes_of ram_of columns segments guesses founds lawful)
+    (founds_theirs origin bytes_of ram_of columns segments guesses founds lawful)
 
 -- what a round in code settles
 pub record SettlesInCode {M : Type 0} (bytes_of : M → Bytes) (columns : TraceColumns) (segments : List Segment)
@@ -64,14 +64,14 @@ pub record SettlesInCode {M : Type 0} (bytes_of : M → Bytes) (columns : TraceC
   pub end : option_map (set_state_of bytes_of) round.end
       ≡ (conclusion_from by_set start (rows_of columns (flat_map segment_lines (take round.settled segments)))).end
 
-pub round_in_code : {M : Type 0} {ram_of : M → Span} {columns : TraceColumns} {segments : List Segment}
+pub round_in_code : {M : Type 0} {origin : Bool} {ram_of : M → Span} {columns : TraceColumns} {segments : List Segment}
     {guesses : List (HartSet Core M)} (bytes_of : M → Bytes) (founds : List (Found (JudgedSegment M)))
     (start : SetState)
     (round : Round M) → length guesses ≡ length segments
-    → All (IsLawfulFound bytes_of ram_of columns segments guesses) founds
+    → All (IsLawfulFound origin bytes_of ram_of columns segments guesses) founds
     → WalksThem bytes_of true (candidates_of bytes_of columns segments guesses founds) start round
     → SettlesInCode bytes_of columns segments start round
-round_in_code {ram_of = ram_of} {columns = columns} {segments = segments} {guesses = guesses} bytes_of founds start
+round_in_code {origin = origin} {ram_of = ram_of} {columns = columns} {segments = segments} {guesses = guesses} bytes_of founds start
     round one_each lawful walks =
     let rows : List (List RowReading) = map (rows_of_segment columns) segments in
     let states : List SetState = map (set_state_of bytes_of) guesses in
@@ -84,7 +84,7 @@ round_in_code {ram_of = ram_of} {columns = columns} {segments = segments} {guess
     let settles : SettlesSome by_set candidates start (round_of bytes_of round) =
     subst (SettlesSome by_set candidates start) (sym (walks cores_sameness cores_tell))
     (settles_some by_set cores_sameness candidates start cores_tell
-    (code_lawful bytes_of ram_of columns segments guesses founds lawful)) in
+    (code_lawful origin bytes_of ram_of columns segments guesses founds lawful)) in
     let front : rows_through (take round.settled candidates)
     ≡ rows_of columns (flat_map segment_lines (take round.settled segments)) =
     candidates_front 0 round.settled rows states all enough

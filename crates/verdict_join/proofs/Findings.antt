@@ -60,7 +60,7 @@ judgement_is bytes_of guess rows judged is =
 
 -- ---- what was found
 
-module _ {M : Type 0} (bytes_of : M → Bytes) (ram_of : M → Span) (columns : TraceColumns) (segments : List Segment)
+module _ {M : Type 0} (origin : Bool) (bytes_of : M → Bytes) (ram_of : M → Span) (columns : TraceColumns) (segments : List Segment)
     (guesses : List (HartSet Core M)) where
   abbrev readings : List (List RowReading)
   readings = map (rows_of_segment columns) segments
@@ -69,7 +69,7 @@ module _ {M : Type 0} (bytes_of : M → Bytes) (ram_of : M → Span) (columns : 
   states = map (set_state_of bytes_of) guesses
 
   finding_theirs : (number : ℕ) (what : What (JudgedSegment M))
-      → IsLawfulWhat bytes_of ram_of columns segments guesses number what
+      → IsLawfulWhat origin bytes_of ram_of columns segments guesses number what
       → IsTheirFinding by_set readings states number
       (finding (slice_get readings number) (slice_get states number) what)
   finding_theirs number (Skipped least) lawful = tt
@@ -98,12 +98,12 @@ module _ {M : Type 0} (bytes_of : M → Bytes) (ram_of : M → Span) (columns : 
           ∙ ap (judgement_from by_set start) same_rows
 
   pub found_theirs : (found : Found (JudgedSegment M))
-      → IsLawfulFound bytes_of ram_of columns segments guesses found
+      → IsLawfulFound origin bytes_of ram_of columns segments guesses found
       → IsFoundTheirs by_set readings states (found_of readings states found)
   found_theirs found lawful = finding_theirs found.seg found.what lawful.lawful
 
   pub founds_theirs : (founds : List (Found (JudgedSegment M)))
-      → All (IsLawfulFound bytes_of ram_of columns segments guesses) founds
+      → All (IsLawfulFound origin bytes_of ram_of columns segments guesses) founds
       → All (IsFoundTheirs by_set readings states) (map (found_of readings states) founds)
   founds_theirs founds lawful =
       All-map (IsFoundTheirs by_set readings states) (found_of readings states) founds
@@ -171,39 +171,39 @@ found_is {M = M} {rows = rows} {guess = guess} segments guesses (found ∷ found
         ∙ ap (λ test. option_or (judged_segment_in founds number) (if test then Some judged else None)) (sym is))
 
 -- and how it was judged is lawful
-pub lawful_at : {M : Type 0} {segments : List Segment} {guesses : List (HartSet Core M)} {judged : JudgedSegment M}
+pub lawful_at : {M : Type 0} {origin : Bool} {segments : List Segment} {guesses : List (HartSet Core M)} {judged : JudgedSegment M}
     (bytes_of : M → Bytes) (ram_of : M → Span) (columns : TraceColumns) (founds : List (Found (JudgedSegment M)))
-    (number : ℕ) → All (IsLawfulFound bytes_of ram_of columns segments guesses) founds
+    (number : ℕ) → All (IsLawfulFound origin bytes_of ram_of columns segments guesses) founds
     → judged_segment_in founds number ≡ Some judged
-    → IsJudgedFrom bytes_of ram_of columns segments guesses number judged
+    → IsJudgedFrom origin bytes_of ram_of columns segments guesses number judged
 unfolding judged_segment_in
 lawful_at bytes_of ram_of columns [] number lawful is = cc
-lawful_at {M = M} {segments = segments} {guesses = guesses} {judged = judged} bytes_of ram_of columns
+lawful_at {M = M} {origin = origin} {segments = segments} {guesses = guesses} {judged = judged} bytes_of ram_of columns
     (found ∷ founds) number lawful is =
     either (judged_segment_in founds number) refl is
     (λ later. lawful_at bytes_of ram_of columns founds number
-    (All-tail (IsLawfulFound bytes_of ram_of columns segments guesses) found founds lawful) later)
+    (All-tail (IsLawfulFound origin bytes_of ram_of columns segments guesses) found founds lawful) later)
   where
-    first : IsLawfulFound bytes_of ram_of columns segments guesses found
-    first = All-head (IsLawfulFound bytes_of ram_of columns segments guesses) found founds lawful
+    first : IsLawfulFound origin bytes_of ram_of columns segments guesses found
+    first = All-head (IsLawfulFound origin bytes_of ram_of columns segments guesses) found founds lawful
 
     this : (what : What (JudgedSegment M)) (test : Bool) → (found.seg == number) ≡ test
-        → IsLawfulWhat bytes_of ram_of columns segments guesses found.seg what
+        → IsLawfulWhat origin bytes_of ram_of columns segments guesses found.seg what
         → judged_segment_by number found.seg what ≡ Some judged
-        → IsJudgedFrom bytes_of ram_of columns segments guesses number judged
+        → IsJudgedFrom origin bytes_of ram_of columns segments guesses number judged
     this (Skipped least) test named lawful is = cc
     this (Judged other) true named lawful is =
         let some : Some other ≡ Some judged = rw named at is in
         let equal : other ≡ judged = cc in
-        subst (λ judged. IsJudgedFrom bytes_of ram_of columns segments guesses number judged) equal
-        (subst (λ n. IsJudgedFrom bytes_of ram_of columns segments guesses n other)
+        subst (λ judged. IsJudgedFrom origin bytes_of ram_of columns segments guesses number judged) equal
+        (subst (λ n. IsJudgedFrom origin bytes_of ram_of columns segments guesses n other)
         (eqb-true found.seg number named) lawful)
     this (Judged other) false named lawful is = let never : None ≡ Some judged = rw named at is in cc
 
     either : (later : Option (JudgedSegment M)) → judged_segment_in founds number ≡ later
         → option_or later (judged_segment_by number found.seg found.what) ≡ Some judged
         → (judged_segment_in founds number ≡ Some judged
-        → IsJudgedFrom bytes_of ram_of columns segments guesses number judged)
-        → IsJudgedFrom bytes_of ram_of columns segments guesses number judged
+        → IsJudgedFrom origin bytes_of ram_of columns segments guesses number judged)
+        → IsJudgedFrom origin bytes_of ram_of columns segments guesses number judged
     either None later is rest = this found.what (found.seg == number) refl first.lawful is
     either (Some other) later is rest = rest (later ∙ is)

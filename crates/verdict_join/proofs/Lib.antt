@@ -13,3 +13,4 @@ pub mod Rounds
 pub mod Coded
 pub mod Agreement
 pub mod Elsewhere
+pub mod Histories

@@ -20,6 +20,8 @@ use Rattle.rvfi_rows.proofs.PortRows.{count-cons}
 use Rattle.hart_set.specs.declared.set.HartSet.{HartSet}
 use Rattle.hart_step.specs.declared.state.Core.{Core}
 use Rattle.hart_step.specs.HartSets.{SetState, set_state_of}
+use Rattle.row_origin.specs.Histories.{IsKept}
+use Rattle.segment_judge.specs.Histories.{history_from}
 use Rattle.segment_judge.specs.declared.found.Found.{Found}
 use Rattle.segment_judge.specs.declared.judged.Judged.{Judged as JudgedSegment}
 use Rattle.segment_judge.specs.Founds.{IsLawfulFound}
@@ -39,19 +41,19 @@ use Rattle.verdict_join.proofs.Walks.{after_segment}
 use Rattle.verdict_join.proofs.Turns.{candidate_at, candidate_lawful}
 
 -- what stands under a number, where all that was found is lawful: a segment, the guess before it, and how it was judged
-pub record StandUnder {M : Type 0} (bytes_of : M → Bytes) (ram_of : M → Span) (columns : TraceColumns)
+pub record StandUnder {M : Type 0} (origin : Bool) (bytes_of : M → Bytes) (ram_of : M → Span) (columns : TraceColumns)
     (segments : List Segment) (guesses : List (HartSet Core M)) (founds : List (Found (JudgedSegment M))) (number : ℕ)
     (segment : Segment) (guess : HartSet Core M) (place : Option (Bor (JudgedSegment M))) : Type 0 where
-  pub lawful : All (IsLawfulFound bytes_of ram_of columns segments guesses) founds
+  pub lawful : All (IsLawfulFound origin bytes_of ram_of columns segments guesses) founds
   pub segment_is : slice_get segments number ≡ Some segment
   pub guess_is : slice_get guesses number ≡ Some guess
   pub place_is : option_copied place ≡ judged_segment_in founds number
 
 -- it is the judgement of its segment
-pub placed_judgement : {M : Type 0} {bytes_of : M → Bytes} {ram_of : M → Span} {columns : TraceColumns}
+pub placed_judgement : {M : Type 0} {origin : Bool} {bytes_of : M → Bytes} {ram_of : M → Span} {columns : TraceColumns}
     {segments : List Segment} {guesses : List (HartSet Core M)} {founds : List (Found (JudgedSegment M))} {number : ℕ}
     {segment : Segment} {guess : HartSet Core M} (place : Option (Bor (JudgedSegment M)))
-    → StandUnder bytes_of ram_of columns segments guesses founds number segment guess place
+    → StandUnder origin bytes_of ram_of columns segments guesses founds number segment guess place
     → IfSome place
     (λ judged. IsJudgement bytes_of (set_state_of bytes_of guess) (rows_of_segment columns segment) judged.now)
 placed_judgement None stand = tt
@@ -60,16 +62,29 @@ placed_judgement {bytes_of = bytes_of} {ram_of = ram_of} {columns = columns} {fo
     (lawful_at bytes_of ram_of columns founds number stand.lawful (sym stand.place_is) segment guess stand.segment_is
     stand.guess_is).0
 
-pub placed_usable : {M : Type 0} {bytes_of : M → Bytes} {ram_of : M → Span} {columns : TraceColumns}
+pub placed_usable : {M : Type 0} {origin : Bool} {bytes_of : M → Bytes} {ram_of : M → Span} {columns : TraceColumns}
     {segments : List Segment} {guesses : List (HartSet Core M)} {founds : List (Found (JudgedSegment M))} {number : ℕ}
     {segment : Segment} {guess : HartSet Core M} (place : Option (Bor (JudgedSegment M)))
-    → StandUnder bytes_of ram_of columns segments guesses founds number segment guess place
+    → StandUnder origin bytes_of ram_of columns segments guesses founds number segment guess place
     → IfSome place (λ judged. IsUsable ram_of (ram_of guess.mem) judged.now)
 placed_usable None stand = tt
 placed_usable {bytes_of = bytes_of} {ram_of = ram_of} {columns = columns} {founds = founds} {number = number}
     {segment = segment} {guess = guess} (Some judged) stand =
     (lawful_at bytes_of ram_of columns founds number stand.lawful (sym stand.place_is) segment guess stand.segment_is
-    stand.guess_is).1
+    stand.guess_is).1.0
+
+pub placed_history : {M : Type 0} {origin : Bool} {bytes_of : M → Bytes} {ram_of : M → Span} {columns : TraceColumns}
+    {segments : List Segment} {guesses : List (HartSet Core M)} {founds : List (Found (JudgedSegment M))} {number : ℕ}
+    {segment : Segment} {guess : HartSet Core M} (place : Option (Bor (JudgedSegment M)))
+    → StandUnder origin bytes_of ram_of columns segments guesses founds number segment guess place
+    → IfSome place
+    (λ judged. IsKept origin (history_from (set_state_of bytes_of guess) (rows_of_segment columns segment))
+    judged.now.history)
+placed_history None stand = tt
+placed_history {bytes_of = bytes_of} {ram_of = ram_of} {columns = columns} {founds = founds} {number = number}
+    {segment = segment} {guess = guess} (Some judged) stand =
+    (lawful_at bytes_of ram_of columns founds number stand.lawful (sym stand.place_is) segment guess stand.segment_is
+    stand.guess_is).1.1
 
 mapped_copy : {A B : Type 0} (b : B) (x : Option (Bor A))
     → option_map (λ any. b) (option_copied x) ≡ option_map (λ any. b) x
@@ -99,7 +114,15 @@ abbrev pub Turned : {M : Type 0} → (M → Bytes) → (SetState → Joined (Lis
     → Option Verdict → Type 0
 Turned bytes_of rest now number whole None = IsRest now (number + 1) (rest (set_state_of bytes_of now.harts)) whole
 Turned bytes_of rest now number whole (Some verdict) =
-    round_of bytes_of (record { verdict = verdict; end = None; settled = number + 1; rejudged = now.rejudged }) ≡ whole
+    round_of bytes_of
+    (record {
+      verdict = verdict;
+      end = None;
+      settled = number + 1;
+      rejudged = now.rejudged;
+      history = now.history;
+    })
+    ≡ whole
 
 -- a turn passes rows: as they were judged from a guess, where that is adopted, or as they are judged again
 pub record PassesAs {M : Type 0} (bytes_of : M → Bytes) (same : Sameness (List Core)) (guess : SetState)
@@ -128,11 +151,11 @@ turned_alike bytes_of now number whole None alike done =
     subst (λ left. IsRest now (number + 1) left whole) (alike (set_state_of bytes_of now.harts)) done
 turned_alike bytes_of now number whole (Some last) alike done = done
 
-pub loop_turn : {M : Type 0} {bytes_of : M → Bytes} {ram_of : M → Span} {columns : TraceColumns}
+pub loop_turn : {M : Type 0} {origin : Bool} {bytes_of : M → Bytes} {ram_of : M → Span} {columns : TraceColumns}
     {segments : List Segment} {guesses : List (HartSet Core M)} {founds : List (Found (JudgedSegment M))} {number : ℕ}
     {segment : Segment} {guess : HartSet Core M} {place adopted : Option (Bor (JudgedSegment M))} {before now : Walk M}
     {end : Option Verdict} {whole : Joined (List Core)} (once : Bool) (same : Sameness (List Core)) → TellsApart same
-    → StandUnder bytes_of ram_of columns segments guesses founds number segment guess place
+    → StandUnder origin bytes_of ram_of columns segments guesses founds number segment guess place
     → PassesAs bytes_of same (set_state_of bytes_of guess) (rows_of_segment columns segment) place adopted before now
     end
     → IsRest before number
@@ -141,7 +164,7 @@ pub loop_turn : {M : Type 0} {bytes_of : M → Bytes} {ram_of : M → Span} {col
     → Turned bytes_of
     (left_or_none same once (once && is_none adopted)
     (drop (number + 1) (candidates_of bytes_of columns segments guesses founds))) now number whole end
-loop_turn {bytes_of = bytes_of} {ram_of = ram_of} {columns = columns} {segments = segments} {guesses = guesses}
+loop_turn {origin = origin} {bytes_of = bytes_of} {ram_of = ram_of} {columns = columns} {segments = segments} {guesses = guesses}
     {founds = founds} {number = number} {segment = segment} {guess = guess} {place = place} {adopted = adopted}
     {before = before} {now = now} {end = end} {whole = whole} once same tells stand turn so_far =
     let rows : List (List RowReading) = map (rows_of_segment columns) segments in
@@ -160,7 +183,7 @@ loop_turn {bytes_of = bytes_of} {ram_of = ram_of} {columns = columns} {segments 
     let by_place : found ≡ option_map (λ any. judged) place =
     ap (found_judgement all) number_is
     ∙ found_is rows states founds number
-    (founds_theirs bytes_of ram_of columns segments guesses founds stand.lawful) row_here state_there
+    (founds_theirs origin bytes_of ram_of columns segments guesses founds stand.lawful) row_here state_there
     ∙ ap (option_map (λ any. judged)) (sym stand.place_is) ∙ mapped_copy judged place in
     let candidate : Candidate (List Core) = record { rows = mine; guess = state; found = found } in
     let start = set_state_of bytes_of before.harts in

@@ -100,7 +100,15 @@ pub turn_ends : {M : Type 0} {bytes_of : M → Bytes} {before now : Walk M} {wal
     → (once : Bool) (candidate : Candidate (List Core)) (later : List (Candidate (List Core)))
     → IsPassed bytes_of same before now candidate (Some last)
     → IsRest before walked (walk by_set same once (candidate ∷ later) (set_state_of bytes_of before.harts)) whole
-    → round_of bytes_of (record { verdict = last; end = None; settled = walked + 1; rejudged = now.rejudged }) ≡ whole
+    → round_of bytes_of
+    (record {
+      verdict = last;
+      end = None;
+      settled = walked + 1;
+      rejudged = now.rejudged;
+      history = now.history;
+    })
+    ≡ whole
 turn_ends {bytes_of = bytes_of} {before = before} {now = now} {walked = walked} {last = last} {whole = whole} same
     tells once candidate later passed so_far =
     let start = set_state_of bytes_of before.harts in
@@ -132,6 +140,7 @@ agreed_round now settled = record {
   end = Some now.harts;
   settled = settled;
   rejudged = now.rejudged;
+  history = now.history;
 }
 
 -- nothing is left

@@ -1,11 +1,13 @@
 //! Which judgements of segments are adopted.
 
-ghost use Rattle.std.specs.Prelude.{◌≡◌, ◌&&◌, true, List, IfSome};
+ghost use Rattle.std.specs.Prelude.{◌≡◌, ◌&&◌, true, Bool, List, IfSome};
 ghost use Rattle.hart_step.specs.declared.state.Core.{Core};
 ghost use Rattle.hart_step.specs.HartSets.{SetCanStep, set_state_of};
 ghost use Rattle.read_footprint.specs.Footprints.{Accesses, agree, footprint_of};
 ghost use Rattle.read_footprint.specs.Sets.{IsFootprintOf};
 ghost use Rattle.rvfi_rows.specs.Rows.{RowReading};
+ghost use Rattle.row_origin.specs.Histories.{IsKept};
+ghost use Rattle.segment_judge.specs.Histories.{history_from};
 ghost use Rattle.segment_judge.specs.Judged.{IsJudgement, IsUsable, HoldsInOtherMemories};
 ghost use Rattle.verdict_join.specs.Joins.{Sameness};
 ghost use Rattle.verdict_join.specs.Laws.{TellsApart};
@@ -33,6 +35,11 @@ pub(crate) fn is_met<M: PhysMem + Drop>(
         → HoldsInOtherMemories M.bytes (set_state_of M.bytes guess.now) rows judged.now
         → Concludes M.bytes (set_state_of M.bytes now.now) rows judged.now }
     ensures usable { result ≡ true → IsUsable M.ram (M.ram now.now.mem) judged.now }
+    // What its rows did from the guess they do from the true state.
+    ensures kept { result ≡ true → (origin : Bool) (rows : List RowReading)
+        → IsJudgement M.bytes (set_state_of M.bytes guess.now) rows judged.now
+        → IsKept origin (history_from (set_state_of M.bytes guess.now) rows) judged.now.history
+        → IsKept origin (history_from (set_state_of M.bytes now.now) rows) judged.now.history }
 {
     guess.same_but_memory(now) && judged.footprint.agree(&guess.mem, &now.mem)
 }
@@ -57,6 +64,13 @@ pub(crate) fn adopted_judgement<'a, M: PhysMem + Drop>(
         → IfSome result (λ judged.
         Concludes M.bytes (set_state_of M.bytes now.now) rows judged.now) }
     ensures usable { IfSome result (λ judged. IsUsable M.ram (M.ram now.now.mem) judged.now) }
+    ensures kept { (origin : Bool) (rows : List RowReading)
+        → IfSome judged.entry (λ judged.
+        IsJudgement M.bytes (set_state_of M.bytes guess.now) rows judged.now)
+        → IfSome judged.entry (λ judged. IsKept origin
+        (history_from (set_state_of M.bytes guess.now) rows) judged.now.history)
+        → IfSome result (λ judged. IsKept origin
+        (history_from (set_state_of M.bytes now.now) rows) judged.now.history) }
 {
     match judged {
         None => None,

@@ -11,6 +11,7 @@ use crate::joined::Round;
 use crate::walk::Walk;
 use hart_step::Harts;
 use hart_words::{NoMemory, PhysMem};
+use row_origin::history_if;
 use rvfi_rows::{Columns, RowCounts, Segment};
 use segment_judge::{Found, Judged, What};
 use std::alloc::Global;
@@ -21,6 +22,8 @@ pub(crate) struct GuessedSegments<'a, M: PhysMem> {
     pub columns: &'a Columns,
     pub segments: &'a [Segment],
     pub guesses: &'a [Harts<M>],
+    /// Whether histories are kept.
+    pub origin: bool,
     ghost one_each: { length guesses.now ≡ length segments.now },
     ghost below_2_to_32: { length segments.now < 2 ^ 32 },
     // Each line has four rows at most.
@@ -28,9 +31,14 @@ pub(crate) struct GuessedSegments<'a, M: PhysMem> {
 }
 
 impl<'a, M: PhysMem + Drop> GuessedSegments<'a, M> {
-    ghost use Rattle.std.specs.Prelude.{IfSome};
+    ghost use Rattle.std.specs.Prelude.{IfSome, false, take};
+    ghost use Rattle.std.specs.List.{flat_map};
+    ghost use Rattle.rvfi_rows.specs.Rows.{rows_of};
+    ghost use Rattle.rvfi_rows.specs.Segments.{segment_lines};
     ghost use Rattle.hart_step.specs.HartSets.{SetCanStep, set_state_of};
+    ghost use Rattle.row_origin.specs.Histories.{IsKept};
     ghost use Rattle.segment_judge.specs.Founds.{IsLawfulFound};
+    ghost use Rattle.segment_judge.specs.Histories.{history_from};
     ghost use Rattle.verdict_join.specs.Joining.{WalksThem, candidates_of};
 
     /// Walks the segments in order, from the harts before the first, by what was found of them: to
@@ -45,7 +53,7 @@ impl<'a, M: PhysMem + Drop> GuessedSegments<'a, M> {
     ) -> Result<Round<M>, NoMemory>
         requires can_step { SetCanStep M.ram start }
         requires guesses { All (SetCanStep M.ram) self.now.guesses.now }
-        requires lawful { All (IsLawfulFound M.bytes M.ram self.now.columns.now
+        requires lawful { All (IsLawfulFound self.now.origin M.bytes M.ram self.now.columns.now
             self.now.segments.now self.now.guesses.now) founds.items }
         ensures walks { IfOk result (λ round. WalksThem M.bytes once
             (candidates_of M.bytes self.now.columns.now self.now.segments.now
@@ -53,6 +61,13 @@ impl<'a, M: PhysMem + Drop> GuessedSegments<'a, M> {
         ensures can_step { IfOk result (λ round. IfSome round.end (SetCanStep M.ram)) }
         ensures ram { IfOk result (λ round.
             IfSome round.end (λ set. M.ram set.mem ≡ M.ram start.mem)) }
+        ensures history { IfOk result (λ round. IsKept self.now.origin
+            (history_from (set_state_of M.bytes start) (rows_of self.now.columns.now
+            (flat_map segment_lines (take round.settled self.now.segments.now))))
+            round.history) }
+        ensures whole_history { once ≡ false → IfOk result (λ round. IsKept self.now.origin
+            (history_from (set_state_of M.bytes start) (rows_of self.now.columns.now
+            (flat_map segment_lines self.now.segments.now))) round.history) }
     {
         let segments = self.segments;
         let guesses = self.guesses;
@@ -61,11 +76,12 @@ impl<'a, M: PhysMem + Drop> GuessedSegments<'a, M> {
             harts: start,
             counts: RowCounts::zero(),
             rejudged: 0,
+            history: history_if(alloc, self.origin),
         };
         for number in 0..segments.len() {
             let judged = adopted_judgement(&walk.harts, &guesses[number], places[number]);
             let is_last = is_last(once, judged);
-            match walk.pass(alloc, self.columns, &segments[number], judged)? {
+            match walk.pass(alloc, self.columns, &segments[number], judged, self.origin)? {
                 None => {
                     if is_last {
                         return Ok(walk.agreeing_round(number + 1));

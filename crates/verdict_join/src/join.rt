@@ -5,7 +5,9 @@ ghost use Rattle.std.specs.List.{All, flat_map};
 ghost use Rattle.hart_step.specs.HartSets.{SetCanStep, set_state_of};
 ghost use Rattle.rvfi_rows.specs.Rows.{rows_of};
 ghost use Rattle.rvfi_rows.specs.Segments.{line_count_of, segment_lines};
+ghost use Rattle.row_origin.specs.Histories.{IsKept};
 ghost use Rattle.segment_judge.specs.Founds.{IsLawfulFound};
+ghost use Rattle.segment_judge.specs.Histories.{history_from};
 ghost use Rattle.segment_judge.specs.Judgements.{by_set};
 ghost use Rattle.segment_judge.specs.Laws.{conclusion_from};
 ghost use Rattle.verdict_join.specs.Joining.{JoinsThem, WalksThem, candidates_of};
@@ -19,8 +21,8 @@ use segment_judge::{Found, Judged};
 use std::alloc::Global;
 
 /// Joins the verdicts of segments, from the harts before the first. What was found of them may
-/// stand in any order, with any segment missing, and any found twice. Where memory is refused
-/// nothing is handed back.
+/// stand in any order, with any segment missing, and any found twice. With `origin` the history of
+/// all rows is kept. Where memory is refused nothing is handed back.
 #[tactic(auto, using(rvfi_rows::proofs::PortRows::rows_few))]
 pub fn join_all<M: PhysMem + Drop>(
     alloc: Global,
@@ -29,12 +31,13 @@ pub fn join_all<M: PhysMem + Drop>(
     segments: &[Segment],
     guesses: &[Harts<M>],
     founds: Vec<Found<Judged<M>>>,
+    origin: bool,
 ) -> Result<Joined<M>, NoMemory>
     requires can_step { SetCanStep M.ram start }
     requires one_each { length guesses.now ≡ length segments.now }
     requires guesses { All (SetCanStep M.ram) guesses.now }
     requires lawful { All
-        (IsLawfulFound M.bytes M.ram columns.now segments.now guesses.now) founds.items }
+        (IsLawfulFound origin M.bytes M.ram columns.now segments.now guesses.now) founds.items }
     requires segments { length segments.now < 2 ^ 32 }
     requires lines { line_count_of segments.now < 2 ^ 60 }
     ensures joined { IfOk result (λ joined. JoinsThem M.bytes
@@ -43,22 +46,28 @@ pub fn join_all<M: PhysMem + Drop>(
     ensures can_step { IfOk result (λ joined. IfSome joined.end (SetCanStep M.ram)) }
     ensures ram { IfOk result (λ joined.
         IfSome joined.end (λ set. M.ram set.mem ≡ M.ram start.mem)) }
+    ensures history { IfOk result (λ joined. IsKept origin
+        (history_from (set_state_of M.bytes start)
+        (rows_of columns.now (flat_map segment_lines segments.now))) joined.history) }
 {
     let guessed = GuessedSegments {
         columns,
         segments,
         guesses,
+        origin,
     };
     let Round {
         verdict,
         end,
         rejudged,
+        history,
         ..
     } = guessed.walk(alloc, start, founds, false)?;
     Ok(Joined {
         verdict,
         end,
         rejudged,
+        history,
     })
 }
 
@@ -73,12 +82,13 @@ pub fn join_round<M: PhysMem + Drop>(
     segments: &[Segment],
     guesses: &[Harts<M>],
     founds: Vec<Found<Judged<M>>>,
+    origin: bool,
 ) -> Result<Round<M>, NoMemory>
     requires can_step { SetCanStep M.ram start }
     requires one_each { length guesses.now ≡ length segments.now }
     requires guesses { All (SetCanStep M.ram) guesses.now }
     requires lawful { All
-        (IsLawfulFound M.bytes M.ram columns.now segments.now guesses.now) founds.items }
+        (IsLawfulFound origin M.bytes M.ram columns.now segments.now guesses.now) founds.items }
     requires segments { length segments.now < 2 ^ 32 }
     requires lines { line_count_of segments.now < 2 ^ 60 }
     ensures round { IfOk result (λ round. WalksThem M.bytes true
@@ -96,11 +106,16 @@ pub fn join_round<M: PhysMem + Drop>(
     ensures can_step { IfOk result (λ round. IfSome round.end (SetCanStep M.ram)) }
     ensures ram { IfOk result (λ round.
         IfSome round.end (λ set. M.ram set.mem ≡ M.ram start.mem)) }
+    ensures history { IfOk result (λ round. IsKept origin
+        (history_from (set_state_of M.bytes start)
+        (rows_of columns.now (flat_map segment_lines (take round.settled segments.now))))
+        round.history) }
 {
     let guessed = GuessedSegments {
         columns,
         segments,
         guesses,
+        origin,
     };
     guessed.walk(alloc, start, founds, true)
 }

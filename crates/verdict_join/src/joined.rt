@@ -1,6 +1,7 @@
 //! What segments come to together.
 
 use hart_step::Harts;
+use row_origin::History;
 use rvfi_rows::Verdict;
 
 /// What all segments come to together.
@@ -12,6 +13,9 @@ pub struct Joined<M> {
     pub end: Option<Harts<M>>,
     /// How many of them were judged again, from the true state.
     pub rejudged: u32,
+    /// What their rows did, as far as it tells who wrote what a row that differs read, where it is
+    /// asked for.
+    pub history: Option<History>,
 }
 
 /// What the first segments come to together, up to one that had to be judged again.
@@ -25,4 +29,7 @@ pub struct Round<M> {
     pub settled: usize,
     /// How many of them were judged again, from the true state: 0 or 1.
     pub rejudged: u32,
+    /// What their rows did, as far as it tells who wrote what a row that differs read, where it is
+    /// asked for.
+    pub history: Option<History>,
 }

@@ -20,6 +20,8 @@ pub use join::{join_all, join_round};
 pub use joined::{Joined, Round};
 
 #[cfg(test)]
+mod page_table_tests;
+#[cfg(test)]
 mod random_tests;
 #[cfg(test)]
 mod tests;

@@ -1,6 +1,6 @@
 //! Joins of small traces, each beside the judging of all its lines as one segment.
 
-ghost use Rattle.std.specs.Prelude.{◌≡◌, ◌≤◌, ◌<◌, ◌^◌, IfOk, IfSome, IsTrue, length};
+ghost use Rattle.std.specs.Prelude.{◌≡◌, ◌≤◌, ◌<◌, ◌^◌, IfOk, IfSome, IsTrue, length, true};
 ghost use Rattle.std.specs.List.{All};
 ghost use Rattle.hart_step.specs.Cores.{IsSound};
 ghost use Rattle.hart_step.specs.HartSets.{SetCanStep};
@@ -15,6 +15,7 @@ use hart_step::{Core, Harts};
 use hart_words::{Choices, Difference, Map, Mode, PhysMem, Signal, Span};
 use line_text::Lines;
 use page_layers::MapMem;
+use row_origin::History;
 use rvfi_rows::{Column, Columns, Port, RowFault, Segment, Verdict, read_header};
 use segment_judge::{Found, Judged, What, judge};
 use std::alloc::Global;
@@ -23,7 +24,10 @@ use std::test::Fail;
 
 pub(crate) const CODE: u64 = 0x8000_0000;
 
-const DATA: u64 = 0x8000_1000;
+pub(crate) const DATA: u64 = 0x8000_1000;
+
+/// A page table, where a test has any.
+pub(crate) const BELOW: u64 = 0x8000_3000;
 
 /// Whether no line feed stands in the bytes.
 fn is_line(bytes: &[u8]) -> bool
@@ -285,7 +289,7 @@ pub(crate) struct Trial {
 
 /// A header and lines, and how many of these make a segment.
 #[derive(Drop)]
-struct Trace<'a> {
+pub(crate) struct Trace<'a> {
     header: &'a [u8],
     lines: Lines,
     length: usize,
@@ -328,7 +332,7 @@ impl Trial {
     }
 }
 
-fn trial_of(
+pub(crate) fn trial_of(
     alloc: Global,
     start: Harts<MapMem>,
     trace: Trace,
@@ -362,7 +366,7 @@ pub(crate) enum Find {
 
 fn found_of(alloc: Global, trial: &Trial, find: Find) -> Result<Found<Judged<MapMem>>, Fail>
     requires { All (SetCanStep (λ mem. mem.ram)) trial.now.guesses.items }
-    ensures { IfOk result (IsLawfulFound map_bytes (λ mem. mem.ram) trial.now.columns
+    ensures { IfOk result (IsLawfulFound true map_bytes (λ mem. mem.ram) trial.now.columns
         trial.now.segments.items trial.now.guesses.items) }
 {
     match find {
@@ -381,7 +385,7 @@ fn found_of(alloc: Global, trial: &Trial, find: Find) -> Result<Found<Judged<Map
                 return Err(Fail::from("no such segment"));
             }
             let guess = &trial.guesses[number];
-            let judged = judge(alloc, guess, &trial.columns, &trial.segments[number])?;
+            let judged = judge(alloc, guess, &trial.columns, &trial.segments[number], true)?;
             Ok(Found {
                 seg,
                 what: What::Judged(judged),
@@ -396,7 +400,7 @@ fn founds_of(
     finds: &[Find],
 ) -> Result<Vec<Found<Judged<MapMem>>>, Fail>
     requires { All (SetCanStep (λ mem. mem.ram)) trial.now.guesses.items }
-    ensures { IfOk result (λ founds. All (IsLawfulFound map_bytes (λ mem. mem.ram)
+    ensures { IfOk result (λ founds. All (IsLawfulFound true map_bytes (λ mem. mem.ram)
         trial.now.columns trial.now.segments.items trial.now.guesses.items) founds.items) }
 {
     let mut founds = Vec::new(alloc);
@@ -431,6 +435,26 @@ fn hold_same_end(
     }
 }
 
+/// Both histories say the same of who wrote what the differing row read.
+fn hold_same_origins(
+    rt: &impl Abort,
+    found: &Option<History>,
+    wanted: &Option<History>,
+) -> Result<(), Fail> {
+    let (Some(found), Some(wanted)) = (found, wanted) else {
+        return Err(Fail::from("no history"));
+    };
+    match (found.origins(), wanted.origins()) {
+        (None, None) => Ok(()),
+        (Some(found), Some(wanted)) => {
+            assert_eq!(rt; found.registers(), wanted.registers());
+            assert_eq!(rt; found.bytes(), wanted.bytes());
+            Ok(())
+        }
+        _ => Err(Fail::from("one difference alone")),
+    }
+}
+
 /// The join comes to the verdict, and so does the judging of all rows as one segment, with the same
 /// harts after them. How many segments were judged again.
 pub(crate) fn hold_joined(
@@ -443,7 +467,7 @@ pub(crate) fn hold_joined(
     requires guesses { All (SetCanStep (λ mem. mem.ram)) trial.now.guesses.items }
 {
     let founds = founds_of(alloc, trial, finds)?;
-    let whole = judge(alloc, &trial.start, &trial.columns, &trial.whole)?;
+    let whole = judge(alloc, &trial.start, &trial.columns, &trial.whole, true)?;
     let joined = join_all(
         alloc,
         trial.start.copy()?,
@@ -451,13 +475,15 @@ pub(crate) fn hold_joined(
         &trial.segments,
         &trial.guesses,
         founds,
+        true,
     )?;
     assert_eq!(rt; joined.verdict, whole.verdict);
+    hold_same_origins(rt, &joined.history, &whole.history)?;
     hold_same_end(rt, &joined.end, &whole.end)?;
     Ok((joined.verdict, joined.rejudged))
 }
 
-fn agrees(rows: u64) -> Verdict {
+pub(crate) fn agrees(rows: u64) -> Verdict {
     Verdict::Agrees { rows, valid: rows }
 }
 
@@ -473,9 +499,9 @@ fn differs(row: u64, signal: Signal, expected: u64, found: u64) -> Verdict {
 }
 
 /// A header, rows, and how many of these make a segment.
-type Rows<'a> = (&'a [u8], &'a [&'a [u8]], usize);
+pub(crate) type Rows<'a> = (&'a [u8], &'a [&'a [u8]], usize);
 
-fn trace_of<'a>(alloc: Global, rows: &Rows<'a>) -> Result<Trace<'a>, Fail> {
+pub(crate) fn trace_of<'a>(alloc: Global, rows: &Rows<'a>) -> Result<Trace<'a>, Fail> {
     Ok(Trace {
         header: rows.0,
         lines: lines_with(alloc, rows.1)?,
@@ -547,7 +573,11 @@ fn joins_what_was_found(rt: HostRuntime) -> Result<(), Fail> {
 }
 
 /// The join of all segments, each judged from its guess.
-fn join_each(rt: &impl Abort, alloc: Global, trial: &Trial) -> Result<(Verdict, u32), Fail>
+pub(crate) fn join_each(
+    rt: &impl Abort,
+    alloc: Global,
+    trial: &Trial,
+) -> Result<(Verdict, u32), Fail>
     requires start { SetCanStep (λ mem. mem.ram) trial.now.start }
     requires guesses { All (SetCanStep (λ mem. mem.ram)) trial.now.guesses.items }
 {
@@ -669,7 +699,7 @@ fn joins_verdicts(rt: HostRuntime) -> Result<(), Fail> {
 /// AUIPC x2, 1; LD x3, 0(x2).
 const LOADS: [u32; 2] = [0x0000_1117, 0x0001_3183];
 
-const HELD: u64 = 0x8899_aabb_ccdd_eeff;
+pub(crate) const HELD: u64 = 0x8899_aabb_ccdd_eeff;
 
 const LOADED: Rows = (
     b"insn,pc_rdata,rd_addr,rd_wdata",
@@ -746,69 +776,6 @@ fn meets_guesses_of_two_harts(rt: HostRuntime) -> Result<(), Fail> {
         let trial = trial_of(alloc, harts, trace, &[(1, damage)])?;
         let found = join_each(&rt, alloc, &trial)?;
         assert_eq!(rt; found, (agrees(4), rejudged), "{damage:?}");
-    }
-    Ok(())
-}
-
-/// The first page table, and the one below it.
-const ROOT: u64 = 0x8000_2000;
-
-const BELOW: u64 = 0x8000_3000;
-
-/// An entry of a page table that is valid, may be read, written and executed, has A and D, and is
-/// of the page at `CODE`.
-const LEAF: u64 = (CODE >> 12) << 10 | 0xcf;
-
-/// ADDI x5, x11, 0; SD x5, 0(x10); ADDI x5, x0, 1; LD x6, 0(x12).
-const MAPS: [u32; 4] = [0x0005_8293, 0x0055_3023, 0x0010_0293, 0x0006_3303];
-
-/// In S, by page tables that map the first 2 MiB from `CODE` on to themselves, where an entry of
-/// protection grants all. x10 has the place of the next entry, which is not valid yet, x11 what is
-/// stored there, and x12 an address that it will map to `DATA`.
-fn translating_hart(alloc: Global) -> Result<Harts<MapMem>, Fail>
-    ensures { IfOk result (SetCanStep (λ mem. mem.ram)) }
-{
-    let numbers = [
-        (ROOT + 16, 8, (BELOW >> 12) << 10 | 0x01),
-        (BELOW, 8, LEAF),
-        (DATA, 8, HELD),
-    ];
-    let mut core = core_at_reset()?;
-    core.registers.set(10, BELOW + 8);
-    core.registers.set(11, LEAF);
-    core.registers.set(12, DATA + 0x20_0000);
-    // pmpaddr0, pmpcfg0, and satp with Sv39 as its MODE.
-    write(&mut core, 0x3b0, 0x3f_ffff_ffff_ffff)?;
-    write(&mut core, 0x3a0, 0x1f)?;
-    write(&mut core, 0x180, 8 << 60 | ROOT >> 12)?;
-    core.mode = Mode::Supervisor;
-    harts_of(alloc, core, 1, &MAPS, &numbers)
-}
-
-/// Where the first row does not show x5, the guess before the last has no entry where the load
-/// walks.
-#[test]
-fn walks_page_tables_again(rt: HostRuntime) -> Result<(), Fail> {
-    let alloc = rt.alloc();
-    let firsts: [(&[u8], u32); 2] = [
-        (b"0x00058293,0x80000000,5,0x200000cf", 0),
-        (b"0x00058293,0x80000000,,", 1),
-    ];
-    'firsts: for (first, rejudged) in firsts {
-        let rows: [&[u8]; 4] = [
-            first,
-            b"0x00553023,0x80000004,,",
-            b"0x00100293,0x80000008,5,1",
-            b"0x00063303,0x8000000c,6,0x8899aabbccddeeff",
-        ];
-        let rows: Rows = (b"insn,pc_rdata,rd_addr,rd_wdata", &rows, 3);
-        let trial = trial_of(
-            alloc,
-            translating_hart(alloc)?,
-            trace_of(alloc, &rows)?,
-            &[],
-        )?;
-        assert_eq!(rt; join_each(&rt, alloc, &trial)?, (agrees(4), rejudged));
     }
     Ok(())
 }

@@ -5,6 +5,8 @@ ghost use Rattle.std.specs.Option.{is_none};
 ghost use Rattle.hart_step.specs.HartSets.{SetCanStep, set_state_of};
 ghost use Rattle.rvfi_rows.specs.declared.verdict.Verdict.TheVariants.{Agrees};
 ghost use Rattle.rvfi_rows.specs.Rows.{rows_of};
+ghost use Rattle.row_origin.specs.Histories.{Follows, Grows, IsKept, KeptCountsFrom};
+ghost use Rattle.segment_judge.specs.Histories.{history_from};
 ghost use Rattle.segment_judge.specs.Judged.{IsUsable, moved_end};
 ghost use Rattle.segment_judge.specs.Judgements.{by_set};
 ghost use Rattle.segment_judge.specs.Laws.{conclusion_from};
@@ -13,17 +15,20 @@ ghost use Rattle.verdict_join.specs.Walks.{Concludes, CountsOn, IsReached, IsWit
 use crate::joined::Round;
 use hart_step::Harts;
 use hart_words::{NoMemory, PhysMem};
+use row_origin::{History, follow};
 use rvfi_rows::{Columns, RowCounts, Segment, Verdict};
 use segment_judge::{Judged, judge};
 use std::alloc::Global;
 
 /// How far segments were walked: the true state of the harts after them, how many rows and valid
-/// rows they have, and how many of them were judged again.
+/// rows they have, how many of them were judged again, and where it is asked for what their rows
+/// did.
 #[derive(Drop)]
 pub(crate) struct Walk<M> {
     pub harts: Harts<M>,
     pub counts: RowCounts,
     pub rejudged: u32,
+    pub history: Option<History>,
 }
 
 impl<M: PhysMem + Drop> Walk<M> {
@@ -34,6 +39,7 @@ impl<M: PhysMem + Drop> Walk<M> {
           end = Some self.harts;
           settled = settled;
           rejudged = self.rejudged;
+          history = self.history;
         } }
     {
         Round {
@@ -44,6 +50,7 @@ impl<M: PhysMem + Drop> Walk<M> {
             end: Some(self.harts),
             settled,
             rejudged: self.rejudged,
+            history: self.history,
         }
     }
 
@@ -54,6 +61,7 @@ impl<M: PhysMem + Drop> Walk<M> {
           end = None;
           settled = settled;
           rejudged = self.rejudged;
+          history = self.history;
         } }
     {
         Round {
@@ -61,6 +69,7 @@ impl<M: PhysMem + Drop> Walk<M> {
             end: None,
             settled,
             rejudged: self.rejudged,
+            history: self.history,
         }
     }
 
@@ -72,6 +81,7 @@ impl<M: PhysMem + Drop> Walk<M> {
         columns: &Columns,
         segment: &Segment,
         adopted: Option<&Judged<M>>,
+        origin: bool,
     ) -> Result<Option<Verdict>, NoMemory>
         requires can_step { SetCanStep M.ram self.old.harts }
         requires below_2_to_62 { self.old.counts.rows
@@ -82,6 +92,9 @@ impl<M: PhysMem + Drop> Walk<M> {
             judged.now) }
         requires usable { IfSome adopted (λ judged.
             IsUsable M.ram (M.ram self.old.harts.mem) judged.now) }
+        requires kept { IfSome adopted (λ judged. IsKept origin
+            (history_from (set_state_of M.bytes self.old.harts)
+            (rows_of columns.now segment.now.lines)) judged.now.history) }
         ensures passes { IfOk result (λ end. PassesRows M.bytes self.old self.new
             (rows_of columns.now segment.now.lines) end) }
         ensures again { IfOk result (λ end. self.new.rejudged
@@ -90,6 +103,9 @@ impl<M: PhysMem + Drop> Walk<M> {
         ensures ram { IfOk result (λ end. M.ram self.new.harts.mem ≡ M.ram self.old.harts.mem) }
         ensures rows { IfOk result (λ end. self.new.counts.rows
             ≤ self.old.counts.rows + length (rows_of columns.now segment.now.lines)) }
+        ensures history { IfOk result (λ end. Grows origin (history_from
+            (set_state_of M.bytes self.old.harts) (rows_of columns.now segment.now.lines))
+            self.old.counts.rows self.old.history self.new.history) }
     {
         match adopted {
             Some(judged) => {
@@ -97,7 +113,7 @@ impl<M: PhysMem + Drop> Walk<M> {
                 Ok(self.count(judged.verdict))
             }
             None => {
-                let verdict = self.judge_again(alloc, columns, segment)?;
+                let verdict = self.judge_again(alloc, columns, segment, origin)?;
                 Ok(self.count(verdict))
             }
         }
@@ -107,13 +123,17 @@ impl<M: PhysMem + Drop> Walk<M> {
     fn adopt(&mut self, judged: &Judged<M>) -> Result<(), NoMemory>
         requires can_step { SetCanStep M.ram self.old.harts }
         requires usable { IsUsable M.ram (M.ram self.old.harts.mem) judged.now }
+        requires fits { KeptCountsFrom self.old.counts.rows judged.now.history }
         ensures reached { OnOk result (IsReached (moved_end M.bytes judged.now
             (M.bytes self.old.harts.mem)) (set_state_of M.bytes self.new.harts)) }
         ensures counts { self.new.counts ≡ self.old.counts }
         ensures again { self.new.rejudged ≡ self.old.rejudged }
         ensures can_step { OnOk result (SetCanStep M.ram self.new.harts) }
         ensures ram { M.ram self.new.harts.mem ≡ M.ram self.old.harts.mem }
+        ensures follows { OnOk result (Follows self.old.history judged.now.history
+            self.old.counts.rows self.new.history) }
     {
+        follow(&mut self.history, &judged.history, self.counts.rows)?;
         if let Some(end) = &judged.end {
             judged.footprint.moved(&mut self.harts.mem, &end.mem)?;
             self.harts.take_cores(end)?;
@@ -127,8 +147,11 @@ impl<M: PhysMem + Drop> Walk<M> {
         alloc: Global,
         columns: &Columns,
         segment: &Segment,
+        origin: bool,
     ) -> Result<Verdict, NoMemory>
         requires can_step { SetCanStep M.ram self.old.harts }
+        requires below_2_to_62 { self.old.counts.rows
+            + length (rows_of columns.now segment.now.lines) < 2 ^ 62 }
         requires again { self.old.rejudged + 1 < 2 ^ 32 }
         ensures verdict { IfOk result (λ verdict. verdict ≡ (conclusion_from by_set
             (set_state_of M.bytes self.old.harts)
@@ -140,8 +163,17 @@ impl<M: PhysMem + Drop> Walk<M> {
         ensures again { OnOk result (self.new.rejudged ≡ self.old.rejudged + 1) }
         ensures can_step { SetCanStep M.ram self.new.harts }
         ensures ram { M.ram self.new.harts.mem ≡ M.ram self.old.harts.mem }
+        ensures history { OnOk result (Grows origin (history_from
+            (set_state_of M.bytes self.old.harts) (rows_of columns.now segment.now.lines))
+            self.old.counts.rows self.old.history self.new.history) }
     {
-        let Judged { verdict, end, .. } = judge(alloc, &self.harts, columns, segment)?;
+        let Judged {
+            verdict,
+            end,
+            history,
+            ..
+        } = judge(alloc, &self.harts, columns, segment, origin)?;
+        follow(&mut self.history, &history, self.counts.rows)?;
         self.rejudged += 1;
         match end {
             None => Ok(verdict),
@@ -159,6 +191,7 @@ impl<M: PhysMem + Drop> Walk<M> {
         ensures counts { CountsOn self.old self.new verdict result }
         ensures harts { self.new.harts ≡ self.old.harts }
         ensures again { self.new.rejudged ≡ self.old.rejudged }
+        ensures history { self.new.history ≡ self.old.history }
         ensures rows { (count : ℕ) → IsWithinRows count verdict
             → self.new.counts.rows ≤ self.old.counts.rows + count }
     {

@@ -10,6 +10,7 @@ returns-clause-events g c =
     let view = view_of c.in_ok-founds.seat in
     let ran : WorkerRun g.row.M.Denot =
     record {
+      origin = c.args.workers.now.origin;
       columns =
           c.args.columns.now;
       segments =
@@ -34,6 +35,7 @@ returns-clause-events g c =
     subst (λ n. LeavesAll n view c.close-closed.result.0 c.close-closed.result.1) c.in_ok-board.ensures.segments_is
     c.close-closed.ensures.leaves in
     record {
+      origin = c.args.workers.now.origin;
       view =
           view;
       events =
@@ -45,6 +47,7 @@ pub returns-clause-judged : goal.returns-clause-judged
 returns-clause-judged g c =
     let ran : WorkerRun g.row.M.Denot =
     record {
+      origin = c.args.workers.now.origin;
       columns =
           c.args.columns.now;
       segments =

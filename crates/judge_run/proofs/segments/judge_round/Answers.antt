@@ -45,7 +45,7 @@ pub join_round-requires-clause-lawful : goal.join_round-requires-clause-lawful
 join_round-requires-clause-lawful g c =
     subst
     (λ guesses. All
-    (IsLawfulFound g.M.PhysMem.bytes g.M.PhysMem.ram c.args.columns.now c.args.segments.now guesses)
+    (IsLawfulFound c.args.workers.now.origin g.M.PhysMem.bytes g.M.PhysMem.ram c.args.columns.now c.args.segments.now guesses)
     c.in_ok-founds.founds.items)
     (c.deref.ensures.value ∙ sym c.deref-2.ensures.value) c.in_ok-founds.ensures.lawful
 

@@ -1,14 +1,16 @@
-use Rattle.std.proofs.Common.{◌∙◌, List, Ok, ap, subst, string_bytes, sym}
+use Rattle.std.proofs.Common.{◌∙◌, List, [], Ok, ap, refl, subst, string_bytes, sym}
 use Rattle.hart_step.specs.declared.state.Core.{Core}
 use Rattle.judge_words.specs.Job.{job_view}
 use Rattle.outside_ports.specs.Ports.{IsMissing, file_of}
 use Rattle.judge_run.specs.Starts.{start_view}
 use Rattle.page_layers.specs.Memories.{layered_bytes}
-use Rattle.judge_run.specs.Answer.{answer_with, trace_answer}
+use Rattle.row_origin.specs.Histories.{IsKept, history_of}
+use Rattle.judge_run.specs.Answer.{trace_answer}
+use Rattle.judge_run.specs.PartHistories.{IsHistoryTold}
 use Rattle.judge_run.specs.Ends.{answer_view}
 use Rattle.hart_step.specs.HartSets.{SetState}
 use Rattle.hart_words.specs.Memory.{Bytes}
-use Rattle.judge_run.specs.Parts.{IsEndTold, end_of}
+use Rattle.judge_run.specs.Parts.{IsEndTold}
 use Rattle.judge_run.specs.declared.progress.Progress.{Progress}
 use Rattle.judge_run.proofs.Endings.{IsAtStart, TakesHeader, later_missed, lines_missed, seen_as, trace_lacks}
 use Rattle.judge_run.proofs.Endings.{trace_stops, trace_told}
@@ -51,6 +53,7 @@ returns-in-Ok-judge_rows-clause-meant g c =
       taker = c.in-Ok.taken.1;
       harts = record { cores = c.in_ok-cores.cores; mem = c.over.result };
       counts = c.zero.result;
+      history = c.history_if.result;
     } in
     let header : TakesHeader files c.args.name.now job c.in_ok-taker.taker c.in-Ok.taken.0 progress.taker =
     record {
@@ -72,9 +75,21 @@ returns-in-Ok-judge_rows-clause-meant g c =
     subst
     (λ files. IsEndTold job columns layered_bytes (file_of files (string_bytes progress.taker.name)) progress end)
     c.in-Ok.ensures.known_files c.in-Ok-judge_rows.ensures.meant in
-    seen_as answer_view c.in_ok-answer-in-Ok-judge_rows.answer (answer_with job (end_of job layered_bytes end)) files
-    (λ files. trace_answer job start (files c.args.name.now)) c.in_ok-answer-in-Ok-judge_rows.ensures.answer
-    (trace_told files progress end header c.in-Ok-columns_in.ensures.meant at_start gives)
+    let keeps =
+    subst
+    (λ files. IsHistoryTold c.args.workers.now.origin columns layered_bytes
+    (file_of files (string_bytes progress.taker.name)) progress end)
+    c.in-Ok.ensures.known_files c.in-Ok-judge_rows.ensures.history in
+    let asked = c.requires.asked in
+    let given = answer_view c.in_ok-answer-in-Ok-judge_rows.answer in
+    seen_as answer_view c.in_ok-answer-in-Ok-judge_rows.answer given files
+    (λ files. trace_answer job start (files c.args.name.now)) refl
+    (trace_told files progress end given header c.in-Ok-columns_in.ensures.meant at_start gives
+    (subst (λ origin. IsKept origin (history_of []) progress.history) asked c.history_if.ensures)
+    (subst
+    (λ origin. IsHistoryTold origin columns layered_bytes (file_of files (string_bytes progress.taker.name)) progress
+    end) asked keeps)
+    c.in_ok-answer-in-Ok-judge_rows.ensures.answer)
 
 pub returns-clause-misses : goal.returns-clause-misses
 returns-clause-misses g c =

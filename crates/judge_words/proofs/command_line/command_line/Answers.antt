@@ -7,8 +7,8 @@ use Rattle.judge_words.proofs.command_line.command_line.Goals as goal
 pub returns : goal.returns
 unfolding command_line
 returns c =
-    let judge = c.in_ok-files_command.ensures in
-    let state = c.in_ok-files_command-2.ensures in
+    let judge = c.in_ok-judge_command.ensures in
+    let state = c.in_ok-files_command.ensures in
     let make = c.in_ok-make_command.ensures in
     let first =
     c.in_ok-subcommand.ensures.shape judge.1

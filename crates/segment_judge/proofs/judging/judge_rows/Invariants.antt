@@ -8,6 +8,7 @@ use Rattle.segment_judge.specs.Judgements.{by_set}
 use Rattle.segment_judge.specs.Laws.{judgement_from}
 use Rattle.segment_judge.specs.Progress.{CanJudge, standing}
 use Rattle.segment_judge.specs.Standings.{judgement_after}
+use Rattle.segment_judge.proofs.Noted.{IsNotedSoFar}
 use Rattle.segment_judge.proofs.judging.judge_rows.Given as goal
 
 -- the rows that are left come to what all rows come to, after what the others touched
@@ -21,4 +22,6 @@ invariant-loop-place g l = record {
   can_judge : CanJudge g.M.PhysMem.ram l.progress;
   ram : g.M.PhysMem.ram l.progress.harts.mem ≡ g.M.PhysMem.ram l.fn.start.mem;
   rows : l.progress.counts.rows ≡ l.place;
+  noted : IsNotedSoFar l.fn.origin (set_state_of g.M.PhysMem.bytes l.fn.start)
+      (set_state_of g.M.PhysMem.bytes l.progress.harts) (readings_in l.rows) l.place l.progress.history;
 }

@@ -1,4 +1,4 @@
-use Rattle.std.proofs.Common.{◌≡◌, ◌∙◌, ◌<◌, List, ap, length, subst, sym}
+use Rattle.std.proofs.Common.{◌≡◌, ◌∙◌, ◌<◌, List, ap, length, subst, sym, false}
 use Rattle.std.specs.List.{All}
 use Rattle.hart_step.specs.declared.state.Core.{Core}
 use Rattle.hart_step.specs.Cores.{IsSound}
@@ -38,6 +38,6 @@ pub join_round-requires-clause-lawful : goal.join_round-requires-clause-lawful
 join_round-requires-clause-lawful g c =
     subst
     (λ guesses. All
-    (IsLawfulFound g.M.PhysMem.bytes g.M.PhysMem.ram c.args.columns.now c.args.segments.now guesses)
+    (IsLawfulFound false g.M.PhysMem.bytes g.M.PhysMem.ram c.args.columns.now c.args.segments.now guesses)
     c.in_ok-founds.founds.items)
     (c.deref.ensures.value ∙ sym c.deref-2.ensures.value) c.in_ok-founds.ensures

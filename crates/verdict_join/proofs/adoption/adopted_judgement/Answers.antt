@@ -15,3 +15,7 @@ returns-then-is_met-clause-concludes g c = λ rows judgement.
     let bytes_of = g.M.PhysMem.bytes in
     c.is_met.ensures.concludes c.if-is_met.true rows
     (stands bytes_of (set_state_of bytes_of c.args.guess.now) rows c.in-Some.judged.now (rw c.in-Some.is at judgement))
+
+pub returns-then-is_met-clause-kept : goal.returns-then-is_met-clause-kept
+returns-then-is_met-clause-kept g c = λ origin rows judgement kept.
+    c.is_met.ensures.kept c.if-is_met.true origin rows (rw c.in-Some.is at judgement) (rw c.in-Some.is at kept)

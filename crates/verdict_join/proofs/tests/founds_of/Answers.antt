@@ -1,3 +1,4 @@
+use Rattle.std.proofs.Common.{true}
 use Rattle.std.proofs.lemmas.List.Elements.{All-push}
 use Rattle.page_layers.specs.Memories.{map_bytes}
 use Rattle.segment_judge.specs.Founds.{IsLawfulFound}
@@ -8,6 +9,6 @@ finds-preserved c =
     let trial = c.args.trial.now in
     rw c.in_ok-push.ensures.items (
     All-push
-    (IsLawfulFound map_bytes (λ mem. mem.ram) trial.columns trial.segments.items trial.guesses.items)
+    (IsLawfulFound true map_bytes (λ mem. mem.ram) trial.columns trial.segments.items trial.guesses.items)
     c.finds.founds.items c.in_ok-found_of.field-0 c.finds.invariant c.in_ok-found_of.ensures
     )

@@ -1,3 +1,4 @@
+use Rattle.std.proofs.Common.{true}
 use Rattle.std.specs.List.{All}
 use Rattle.page_layers.specs.Memories.{map_bytes}
 use Rattle.segment_judge.specs.Founds.{IsLawfulFound}
@@ -6,5 +7,5 @@ use Rattle.verdict_join.proofs.tests.founds_of.Given as goal
 abbrev pub invariant-finds : goal.invariant-finds
 invariant-finds l =
     All
-    (IsLawfulFound map_bytes (λ mem. mem.ram) l.fn.trial.columns l.fn.trial.segments.items l.fn.trial.guesses.items)
+    (IsLawfulFound true map_bytes (λ mem. mem.ram) l.fn.trial.columns l.fn.trial.segments.items l.fn.trial.guesses.items)
     l.founds.items

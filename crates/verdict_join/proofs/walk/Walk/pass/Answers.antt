@@ -3,6 +3,7 @@ use Rattle.rvfi_rows.specs.Rows.{rows_of}
 use Rattle.hart_step.specs.HartSets.{set_state_of}
 use Rattle.hart_step.specs.HartSets.{SetState}
 use Rattle.verdict_join.specs.Walks.{IsReached}
+use Rattle.verdict_join.proofs.Histories.{history_fits}
 use Rattle.verdict_join.proofs.Passed.{few_within, passes_by, rows_within}
 use Rattle.verdict_join.proofs.walk.Walk.pass.Goals as goal
 
@@ -57,3 +58,10 @@ returns-in_ok-verdict-in-None-clause-rows g c =
     let within = rows_within now rows c.in_ok-verdict-in-None.ensures.verdict in
     let more = c.count-in-None.ensures.rows (length rows) within in
     rw c.judge_again.ensures.counts at more
+
+pub adopt-requires-clause-fits : goal.adopt-requires-clause-fits
+adopt-requires-clause-fits g c =
+    let kept = rw c.in-Some.is at c.requires.kept in
+    history_fits c.args.origin (set_state_of g.M.PhysMem.bytes c.args.self.now.harts)
+    (rows_of c.args.columns.now c.args.segment.now.lines) c.in-Some.judged.now.history c.args.self.now.counts.rows kept
+    (omega (arith, c.requires.below_2_to_62))
