@@ -82,7 +82,7 @@ tell_files() {
 # judge refuses them, which decides nothing
 
 read_words() {
-    command='' image='' trace='' reason='' seen=' ' plain=0 all_plain='' ram_span='' io_span=''
+    command='' image='' trace='' reason='' seen=' ' plain=0 all_plain='' ram_span='' io_spans=''
     case ${1:-} in
         judge | state | make) command=$1 ;;
         '') reason="there is no command: judge, state or make"; return ;;
@@ -141,20 +141,28 @@ take_option() {
         --workers) check_range "$1" "$2" 1 64 ;;
         --segment) check_range "$1" "$2" 1 1048576 ;;
         --window) check_range "$1" "$2" 1 1024 ;;
-        --pc | --ram | --io | --max-image | --max-trace | \
-            --misaligned | --mtval | --ad | --reserve | --bits | --harts)
+        --pc | --ram | --io | --max-image | --max-trace | --misaligned | --mtval | --ad | \
+            --reserve | --bits | --harts | --io-faults | --insn | --csr | --pmp | --pmp-bits | \
+            --lines | --profile)
             [ "$command" != make ] || { reason="$1 is no option of make"; return; }
             case $1 in
                 --max-image) check_range "$1" "$2" 1 1073741824 ;;
                 --max-trace) check_range "$1" "$2" 1 1099511627776 ;;
                 --pc) check_pc "$2" ;;
                 --ram) check_span "$1" "$2" && ram_span=$span ;;
-                --io) check_span "$1" "$2" && io_span=$span ;;
+                --io) check_ranges "$2" ;;
                 --misaligned) check_word "$1" "$2" trap "done" ;;
-                --mtval) check_word "$1" "$2" value zero ;;
+                --mtval) check_trap_values "$2" ;;
                 --ad) check_word "$1" "$2" fault set ;;
                 --reserve) check_block "$2" ;;
                 --bits) check_word "$1" "$2" on off ;;
+                --insn) check_word "$1" "$2" full length ;;
+                --io-faults) check_word "$1" "$2" none row ;;
+                --csr) check_registers "$2" ;;
+                --pmp) check_entries "$2" ;;
+                --pmp-bits) check_range "$1" "$2" 10 54 ;;
+                --lines) check_lines "$2" ;;
+                --profile) check_profile "$2" ;;
                 --harts) check_range "$1" "$2" 1 8 ;;
             esac ;;
         *) reason="$1 is no option" ;;
@@ -228,12 +236,170 @@ check_span() {
     span="$base $((base + value))"
 }
 
-# RAM and devices have no byte in common.
-check_apart() {
-    [ -n "$io_span" ] && [ -z "$reason" ] || return
+# Takes the first item off a list. The rest is then in `others`; `more` tells whether there is one.
+take_item() {
+    item=${1%%,*} others='' more=''
+    case $1 in *,*) others=${1#*,} more=1 ;; esac
+}
+
+# Ranges of devices.
+check_ranges() {
+    more=1 others=$1
+    while [ -n "$more" ] && [ -z "$reason" ]; do
+        take_item "$others"
+        check_span --io "$item" || return
+        io_spans="$io_spans $span"
+    done
     # shellcheck disable=SC2086  # numbers
-    set -- ${ram_span:-2147483648 2281701376} $io_span
-    [ "$2" -le "$3" ] || [ "$4" -le "$1" ] || reason="--io: it has bytes in common with RAM"
+    set -- $io_spans
+    [ $# -le 16 ] || reason="--io: these are more than eight ranges"
+}
+
+# No two ranges have a byte in common.
+check_apart() {
+    [ -n "$io_spans" ] && [ -z "$reason" ] || return
+    # shellcheck disable=SC2086  # numbers
+    set -- ${ram_span:-2147483648 2281701376} $io_spans
+    while [ $# -gt 2 ]; do
+        first=$1 past=$2
+        shift 2
+        check_apart_from "$first" "$past" "$@"
+    done
+    [ -z "$reason" ] || reason="--io: a range has bytes in common with RAM or another"
+}
+
+check_apart_from() {
+    first=$1 past=$2
+    shift 2
+    while [ $# -gt 0 ]; do
+        [ "$past" -le "$1" ] || [ "$2" -le "$first" ] || reason=common
+        shift 2
+    done
+}
+
+# `zero:` and causes, each once.
+check_trap_values() {
+    case $1 in
+        value | zero) return ;;
+        zero:*) ;;
+        *) reason="--mtval: '$1' is none of value, zero and zero:C,.."; return ;;
+    esac
+    more=1 others=${1#zero:} causes=' '
+    while [ -n "$more" ] && [ -z "$reason" ]; do
+        take_item "$others"
+        number_value "$item" || { reason="--mtval: '$item' is no cause"; return; }
+        case $causes in *" $value "*) reason="--mtval: $item stands twice"; return ;; esac
+        causes="$causes$value "
+        case $value in
+            [1-7] | 12 | 13 | 15) ;;
+            *) reason="--mtval: $item is none of 1 to 7, 12, 13 and 15" ;;
+        esac
+    done
+}
+
+check_entries() {
+    number_value "$1" || value=''
+    case $value in
+        0 | 8 | 16) ;;
+        *) reason="--pmp: '$1' is none of 0, 8 and 16" ;;
+    esac
+}
+
+check_profile() {
+    case $1 in
+        qemu | spike | rocket | cva6) ;;
+        *) reason="--profile: '$1' is none of qemu, spike, rocket and cva6" ;;
+    esac
+}
+
+# A mask below 2^64: its bits from 32 on, and those below.
+mask_value() {
+    digits=$1
+    case $digits in
+        0[xX]*)
+            digits=${digits#0?}
+            case $digits in '' | *[!0-9a-fA-F]*) return 1 ;; esac
+            digits=$(echo "$digits" | sed 's/^0*//') ;;
+        *)
+            case $digits in '' | *[!0-9]*) return 1 ;; esac
+            decimal=$(echo "$digits" | sed 's/^0*//')
+            decimal=${decimal:-0}
+            digits=$(printf '%x' "$decimal" 2>/dev/null)
+            [ "$(printf '%u' "0x$digits")" = "$decimal" ] || return 1 ;;
+    esac
+    [ ${#digits} -le 16 ] || return 1
+    digits=$(printf '%16s' "$digits" | tr ' ' 0)
+    high=$((0x${digits%????????})) low=$((0x${digits#????????}))
+}
+
+# The lines that always may be lines, and of the others bits 1 and 5 alone.
+check_lines() {
+    mask_value "$1" || { reason="--lines: '$1' is no number below 2^64"; return; }
+    [ "$high" -eq 0 ] && [ $((low & ~0xAAA)) -eq 0 ] && [ $((low & 0xA88)) -eq $((0xA88)) ] ||
+        reason="--lines: $1 is not 0xA88, with bit 1 or bit 5 besides"
+}
+
+# Registers, each once.
+check_registers() {
+    more=1 others=$1 names=' '
+    while [ -n "$more" ] && [ -z "$reason" ]; do
+        take_item "$others"
+        case $item in *=*) ;; *) reason="--csr: '$item' is no NAME=VALUE"; return ;; esac
+        name=${item%%=*}
+        case $names in *" $name "*) reason="--csr: $name stands twice"; return ;; esac
+        names="$names$name "
+        check_register "$name" "${item#*=}"
+    done
+}
+
+check_register() {
+    case $2 in
+        row)
+            case $1 in
+                misa | mcountinhibit | menvcfg | senvcfg | mhpmevent) ;;
+                *) reason="--csr: $1 is no register that a row may give" ;;
+            esac ;;
+        none | maybe)
+            case $1 in
+                mcounteren | mcountinhibit | menvcfg | senvcfg | mhpmevent | mhpmcounter | \
+                    hpmcounter | mconfigptr | cycle | time | instret) ;;
+                *) reason="--csr: $1 is no register that a core may lack" ;;
+            esac ;;
+        *) check_mask "$1" "${2%%:*}" "$2" ;;
+    esac
+}
+
+# A register's name, its mask, and the mask with the bits that are always 1 where they are given.
+check_mask() {
+    mask_table "$1" || { reason="--csr: $1 is no register with a mask"; return; }
+    mask_value "$2" || { reason="--csr: '$2' is no mask below 2^64"; return; }
+    # shellcheck disable=SC2086  # numbers
+    set -- "$1" "$3" "$high" "$low" $most $least $fixable
+    [ $(($3 & ~$5 | $4 & ~$6)) -eq 0 ] ||
+        { reason="--csr: $1 has no such bits as ${2%%:*}"; return; }
+    [ $(($7 & ~$3 | $8 & ~$4)) -eq 0 ] ||
+        { reason="--csr: $1 must have more bits than ${2%%:*}"; return; }
+    case $2 in *:*) ;; *) return ;; esac
+    mask_value "${2#*:}" || { reason="--csr: '${2#*:}' is no mask below 2^64"; return; }
+    [ $((high & (~$9 | $3) | low & (~${10} | $4))) -eq 0 ] ||
+        reason="--csr: $1 cannot have the bits of ${2#*:} as 1 always"
+}
+
+# What a mask may have, what it must have, and what may be 1 always: the bits from 32 on, and those
+# below.
+mask_table() {
+    all=4294967295 least='0 0' fixable='0 0'
+    case $1 in
+        mstatus) most="0 $((0x7E7FAA))" least="0 $((0x19AA))" fixable="0 $((0x6600))" ;;
+        medeleg | menvcfg | senvcfg) most="$all $all" fixable=$most ;;
+        mideleg) most="$all $((0xFFFFF222))" fixable=$most ;;
+        mie) most="$all $((0xFFFFFAAA))" ;;
+        mtvec | stvec) most="$all $((all - 2))" least="$all $((0xFFFFF000))" ;;
+        mcounteren | scounteren) most="0 $all" fixable=$most ;;
+        mcountinhibit) most="0 $((all - 2))" fixable=$most ;;
+        satp) most="$all $all" least="$((0xF0000000)) 0" ;;
+        *) return 1 ;;
+    esac
 }
 
 # ---- how far a run is

@@ -36,6 +36,11 @@ expect 1 'differs row 1: rd_wdata expected 0x0000000000000005 found 0x0000000000
 expect 2 'refused words'
 expect 2 'refused words' judge "an image.hex"
 expect 2 'refused words' --help
+expect 2 'refused words' judge "an image.hex" agrees.csv --csr mie=0,mie=0
+expect 2 'refused words' judge "an image.hex" agrees.csv --profile core
+expect 0 'agrees 1' judge "an image.hex" agrees.csv --csr mstatus=0x7E7FAA,time=none --pmp 8 \
+    --pmp-bits 34 --lines 0xAA8 --mtval zero:2,3 --insn length --io-faults row \
+    --io 0x10000000:0x1000,0x20000000:0x1000 --profile qemu
 expect 3 'refused image: line 2: bad byte' judge bad.hex agrees.csv
 expect 4 'refused trace: no column pc_rdata' judge "an image.hex" bad.csv
 expect 5 '' judge "an image.hex" missing.csv

@@ -1,8 +1,8 @@
 -- What a row that agrees shows of a signal.
 use Rattle.std.proofs.Common.{◌≡◌, ℕ, ◌-◌, ◌%◌, ◌^◌, ◌<◌, ◌==◌, Bool, true, false, bit_and, Option, Some, None, refl}
-use Rattle.std.proofs.Common.{sym, ap, ◌∙◌, arith, Ok, Err, if◌then◌else◌, lit<}
+use Rattle.std.proofs.Common.{sym, ap, ◌∙◌, arith, Ok, Err, if◌then◌else◌, lit<, ◌&&◌, not}
 use Rattle.std.specs.Prelude.{IfSome}
-use Rattle.std.specs.Option.{is_some}
+use Rattle.std.specs.Option.{is_some, unwrap_or}
 use Rattle.std.proofs.lemmas.Nat.{and_mask}
 use Rattle.std.proofs.lemmas.Bool.Decides.{nat_tests}
 use Rattle.hart_words.specs.declared.privilege.Cause.{Cause}
@@ -14,10 +14,12 @@ use Rattle.csr_file.specs.Fields.{all_bits}
 use Rattle.rvfi_rows.specs.declared.expected.Retired.{Retired}
 use Rattle.rvfi_rows.specs.declared.expected.Effects.{Effects}
 use Rattle.row_compare.specs.declared.expected_signal.ExpectedSignal.{ExpectedSignal}
-use Rattle.row_compare.specs.Wanted.{whole, where_known}
-use Rattle.row_compare.specs.Signals.{is_call_or_breakpoint, unless_trap, expected_signal, expected_trap}
+use Rattle.row_compare.specs.Wanted.{whole}
+use Rattle.hart_words.specs.Options.{are_cut}
+use Rattle.row_compare.specs.Signals.{expected_insn, expected_signal, expected_trap, is_call_or_breakpoint, unless_trap}
 use Rattle.row_compare.specs.Difference.{difference_between, signal_difference}
 use Rattle.hart_step.specs.Choices.{shows}
+use Rattle.hart_step.specs.PlainRows.{insn_shown}
 use Rattle.boundary_guess.specs.Truth.{IsShown}
 use Rattle.boundary_guess.proofs.Faults.{IsFault}
 
@@ -90,11 +92,55 @@ took_no_fault {retired} {shown} {cause} agrees is fault there other =
     ap expected_trap is ∙ trap_wanted cause (is_call_or_breakpoint cause) refl fault in
     one_shows (shown Trap) (shown_is Trap 1 agrees there (lit< tt) want) other
 
--- the bits that were fetched
+-- a word that a row shows, and the bits that were fetched: the same, but for what is above an instruction of 16 bits
+pub record IsSameInsn (word bits : ℕ) : Type 0 where
+  pub low : word % 2 ^ 16 ≡ bits % 2 ^ 16
+  pub long : bits % 4 ≡ 3 → word ≡ bits
+
+insn_by : (found : Option ℕ) (bits : ℕ) (cut : Bool) → is_some found ≡ true
+    → IfSome found (λ value. value < 2 ^ 64) → bits < 2 ^ 64
+    → difference_between Insn found (Some (record {
+      value = bits;
+      mask = if cut && not (bits % 4 == 3) then 2 ^ 16 - 1
+          else all_bits;
+    })) ≡ None
+    → IsSameInsn (unwrap_or found 0) bits
+insn_by None bits cut there word small none = cc
+insn_by (Some found) bits cut there word small none = by (cut && not (bits % 4 == 3)) refl none
+  where
+    long_is : (cut long : Bool) → (cut && not long) ≡ true → long ≡ false
+    long_is true false is = refl
+    long_is true true is = cc
+    long_is false long is = cc
+
+    by : (short : Bool) → (cut && not (bits % 4 == 3)) ≡ short
+        → difference_between Insn (Some found) (Some (record {
+          value = bits;
+          mask = if short then 2 ^ 16 - 1
+              else all_bits;
+        })) ≡ None
+        → IsSameInsn found bits
+    by true is none =
+        let masked = same_under Insn found (record { value = bits; mask = 2 ^ 16 - 1 }) none in
+        let left : bit_and bits (2 ^ 16 - 1) ≡ bits % 2 ^ 16 = and_mask bits 16 in
+        let right : bit_and found (2 ^ 16 - 1) ≡ found % 2 ^ 16 = and_mask found 16 in
+        let not_long : (bits % 4 == 3) ≡ false = long_is cut (bits % 4 == 3) is in
+        record {
+          low = sym right ∙ sym masked ∙ left;
+          long = λ long. absurd (grind (arith, nat_tests, not_long, long));
+        }
+    by false is none =
+        let same : bits ≡ found =
+        same_word bits found small word (same_under Insn found (record { value = bits; mask = all_bits }) none) in
+        record { low = ap (λ n. n % 2 ^ 16) (sym same); long = λ long. sym same }
+
 pub insn_is : {retired : Retired} {shown : Shown} (bits : ℕ) → RowAgrees retired shown → retired.insn ≡ Some bits
-    → bits < 2 ^ 64 → IsShown shown Insn → shown Insn ≡ Some bits
-unfolding expected_signal
-insn_is bits agrees is small there = shown_is Insn bits agrees there small (ap where_known is)
+    → bits < 2 ^ 64 → IsShown shown Insn → IsSameInsn (insn_shown shown) bits
+unfolding expected_signal signal_difference
+insn_is {retired} {shown} bits agrees is small there =
+    insn_by (shown Insn) bits (are_cut retired.insn_bits) there (agrees.words Insn) small
+    (ap (λ insn. difference_between Insn (shown Insn) (expected_insn retired.insn_bits insn)) (sym is)
+    ∙ agrees.none_differs Insn)
 
 -- what an instruction that retired did
 pub rd_is : {retired : Retired} {shown : Shown} (effects : Effects) → RowAgrees retired shown

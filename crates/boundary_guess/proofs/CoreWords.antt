@@ -24,7 +24,7 @@ use Rattle.csr_file.specs.Access.{may_read, may_write, csr_read_at, csr_read_by,
 use Rattle.csr_file.specs.Fields.{all_bits}
 use Rattle.csr_file.specs.Legal.{IsLegal}
 use Rattle.csr_file.specs.Registers.{at}
-use Rattle.csr_file.specs.Table.{csr_kind_of}
+use Rattle.csr_file.specs.Profiles.{kind_in}
 use Rattle.csr_file.specs.Values.{csr_read_of, csr_write_of, adopted_bits_of}
 use Rattle.csr_file.proofs.Legal.{legal_with, write_legal}
 use Rattle.rv_decode.specs.declared.operation.CsrOp.{CsrOp}
@@ -38,11 +38,11 @@ use Rattle.trap_entry.proofs.Legal.{machine_legal, mret_legal, sret_legal, super
 use Rattle.hart_step.specs.declared.state.Core.{Core}
 use Rattle.hart_step.specs.declared.choices.RowChoices.{RowChoices}
 use Rattle.hart_step.specs.Cores.{IsSound}
-use Rattle.hart_step.specs.CsrAccess.{OldValue, csr_access_result, new_value_of, old_value_by, old_value_of, traps_at}
-use Rattle.hart_step.specs.CsrAccess.{with_choices, csrs_after_request}
+use Rattle.hart_step.specs.CsrAccess.{OldValue, csr_access_result, csr_read_and_write, new_value_of, old_value_by, old_value_of}
+use Rattle.hart_step.specs.CsrAccess.{csrs_after_request, traps_at, with_choices}
 use Rattle.hart_step.specs.Returns.{core_after_mret, core_after_sret}
 use Rattle.hart_step.specs.Steps.{core_after_entry, written_trap_value}
-use Rattle.hart_words.specs.Options.{are_zero}
+use Rattle.hart_words.specs.Options.{is_zero_for}
 use Rattle.boundary_guess.proofs.ResultWords.{IsEvenWord}
 use Rattle.boundary_guess.proofs.CsrWords.{HasWords, base_word, kind_fits, merged_word, value_word, with_word}
 use Rattle.boundary_guess.proofs.CsrWords.{write_words}
@@ -63,11 +63,11 @@ abbrev IsWordOld : OldValue → Type 0
 IsWordOld old = (old.0 < 2 ^ 64) × (old.1 < 2 ^ 64)
 
 read_by_may : (may : Bool) (csrs : Csrs) (csr : Csr) (lines : ℕ) (illegal : Illegal) → IsLegal csrs → HasWords csrs
-    → IfOk (if may then Ok (csr_read_of csrs (csr_kind_of csr) lines) else Err illegal) IsWordRead
+    → IfOk (if may then Ok (csr_read_of csrs (kind_in csrs.profile csr) lines) else Err illegal) IsWordRead
 unfolding csr_read_of
 read_by_may true csrs csr lines illegal legal words = (
-  value_word csrs (csr_kind_of csr) lines legal words (kind_fits csr),
-  base_word csrs (csr_kind_of csr) lines legal words (kind_fits csr),
+  value_word csrs (kind_in csrs.profile csr) lines legal words (kind_fits csrs.profile csr),
+  base_word csrs (kind_in csrs.profile csr) lines legal words (kind_fits csrs.profile csr),
 )
 read_by_may false csrs csr lines illegal legal words = tt
 
@@ -89,7 +89,7 @@ or_nothing (Some value) word = word
 chosen_word : (core : Core) (choices : RowChoices) (csr : Csr) (read : CsrRead)
     → IfSome choices.rd_wdata (λ v. v < 2 ^ 64) → IsWordRead read → IsWordOld (with_choices core choices csr read)
 chosen_word core choices csr read word words =
-    let taken = adopted_bits_of core.csrs (csr_kind_of csr) choices.lines.shown in
+    let taken = adopted_bits_of core.csrs (kind_in core.csrs.profile csr) choices.lines.shown in
     let few = and_le_l (unwrap_or choices.rd_wdata 0) taken in
     let less = or_nothing choices.rd_wdata word in
     (or_lt 64 _ _ words.0 (omega (arith, few, less)), words.1)
@@ -100,21 +100,13 @@ old_from : (core : Core) (choices : RowChoices) (csr : Csr) (read : Result CsrRe
 old_from core choices csr (Err illegal) word words = tt
 old_from core choices csr (Ok read) word words = chosen_word core choices csr read word words
 
-old_by_trap : (traps : Bool) (illegal : Illegal) (old : Result OldValue Illegal) → IfOk old IsWordOld
-    → IfOk (if traps then Err illegal else old) IsWordOld
-old_by_trap true illegal old words = tt
-old_by_trap false illegal old words = words
-
 old_by_row : (core : Core) (choices : RowChoices) (address : ℕ) (row : Option CsrRow) → IsLegal core.csrs
     → HasWords core.csrs → IfSome choices.rd_wdata (λ v. v < 2 ^ 64)
     → IfOk (old_value_by core choices address row) IsWordOld
 old_by_row core choices address None legal words word = tt
 old_by_row core choices address (Some row) legal words word =
-    old_by_trap (traps_at row.csr choices) _
-    (csr_read_at core.csrs address core.mode choices.lines.up
-    >>= λ read. Ok (with_choices core choices row.csr read))
-    (old_from core choices row.csr (csr_read_at core.csrs address core.mode choices.lines.up) word
-    (read_words core.csrs address core.mode choices.lines.up legal words))
+    old_from core choices row.csr (csr_read_at core.csrs address core.mode choices.lines.up) word
+    (read_words core.csrs address core.mode choices.lines.up legal words)
 
 old_by_reads : (reads : Bool) (old : Result OldValue Illegal) → IfOk old IsWordOld
     → IfOk (if reads then old else Ok (0, 0)) IsWordOld
@@ -133,9 +125,9 @@ abbrev AreSane : Csrs → Type 0
 AreSane csrs = IsLegal csrs × HasWords csrs
 
 write_by_may : (may : Bool) (csrs : Csrs) (csr : Csr) (value : ℕ) (illegal : Illegal) → IsLegal csrs → HasWords csrs
-    → value < 2 ^ 64 → IfOk (if may then Ok (csr_write_of csrs (csr_kind_of csr) value) else Err illegal) AreSane
+    → value < 2 ^ 64 → IfOk (if may then Ok (csr_write_of csrs (kind_in csrs.profile csr) value) else Err illegal) AreSane
 write_by_may true csrs csr value illegal legal words small =
-    (write_legal csrs csr value legal, write_words csrs (csr_kind_of csr) value legal words small)
+    (write_legal csrs csr value legal, write_words csrs (kind_in csrs.profile csr) value legal words small)
 write_by_may false csrs csr value illegal legal words small = tt
 
 write_by_row : (csrs : Csrs) (mode : Mode) (value : ℕ) (row : Option CsrRow) → IsLegal csrs → HasWords csrs
@@ -188,10 +180,15 @@ accessed_from core request (Ok old) legal words small olds =
 pub csr_accessed_sane : (core : Core) (choices : RowChoices) (request : CsrRequest) → IsLegal core.csrs
     → HasWords core.csrs → request.operand < 2 ^ 64 → IfSome choices.rd_wdata (λ v. v < 2 ^ 64)
     → IfOk (csr_access_result core choices request) IsSaneAnswer
-unfolding csr_access_result
-csr_accessed_sane core choices request legal words small word =
-    accessed_from core request (old_value_of core choices request) legal words small
-    (old_words core choices request legal words word)
+unfolding csr_access_result csr_read_and_write
+csr_accessed_sane core choices request legal words small word = by (traps_at core choices request.address)
+  where
+    by : (traps : Bool)
+        → IfOk (if traps then Err (record {}) else csr_read_and_write core choices request) IsSaneAnswer
+    by true = tt
+    by false =
+        accessed_from core request (old_value_of core choices request) legal words small
+        (old_words core choices request legal words word)
 
 -- ---- entries of traps
 
@@ -302,10 +299,10 @@ pub entered_sane : (core : Core) (interrupt : Bool) (code value : ℕ) → IsSan
     → cause_value interrupt code < 2 ^ 64 → value < 2 ^ 64 → IsSane (core_after_entry core interrupt code value)
 unfolding core_after_entry
 entered_sane core interrupt code value sane cause small =
-    let tval = written_trap_value core value in
+    let tval = written_trap_value core code value in
     let enters : EntersWords (cause_value interrupt code) tval core.pc = record {
       cause_fits = cause;
-      tval_fits = trap_value_word (are_zero core.choices.trap_values) value small;
+      tval_fits = trap_value_word (is_zero_for core.choices.trap_values code) value small;
       pc_fits = sane.pc;
       pc_even = sane.sound.even;
     } in

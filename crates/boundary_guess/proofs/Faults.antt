@@ -24,9 +24,11 @@ use Rattle.sv39_walk.specs.Walk.{Visit, address_of, chain, chain_result, transla
 use Rattle.sv39_walk.proofs.Walks.{translation-by_chain}
 use Rattle.mem_access.specs.declared.place.AccessRequest.{AccessRequest}
 use Rattle.mem_access.specs.declared.place.Place.{Place}
-use Rattle.mem_access.specs.Places.{is_device, is_permitted, place_in, place_of}
+use Rattle.hart_words.specs.Devices.{is_device}
+use Rattle.mem_access.specs.Places.{is_permitted, place_in, place_of}
 use Rattle.mem_access.specs.Translation.{is_translated, place_after_translation, physical_address_of, tables_of}
 use Rattle.mem_access.specs.Translation.{virtual_place_of, walk_flags_of}
+use Rattle.mem_access.specs.declared.place.Atomicity.{Atomicity}
 use Rattle.mem_access.specs.Accesses.{Exception, Part, Places, after_first, after_place, one_place, data_load}
 use Rattle.mem_access.specs.Accesses.{data_places_of}
 use Rattle.mem_access.specs.Accesses.{data_store, fetch_result, first_len, first_part, has_second_part, is_split}
@@ -263,12 +265,12 @@ split_raises P core request va bytes holds = by (has_second_part va request.len)
         (holds.after (va + first_len va request.len)) (part_raises P core request low bytes holds.here))
     by false = whole_raises P core request va bytes holds.here
 
-data_raises : (P : Exception → Type 0) (core : Core) (request : AccessRequest) (atomic : Bool) (cause : Cause)
+data_raises : (P : Exception → Type 0) (core : Core) (request : AccessRequest) (atomicity : Atomicity) (cause : Cause)
     (va : ℕ) (bytes : Bytes) → HoldsOfFaults P va × IsFault cause
-    → Raises P ((data_places_of core.csrs core.map core.choices request atomic cause va).run bytes).value
+    → Raises P ((data_places_of core.csrs core.map core.choices request atomicity cause va).run bytes).value
 unfolding data_places_of pure
-data_raises P core request atomic cause va bytes holds =
-    by (va % request.len == 0) (is_split core.choices request atomic va)
+data_raises P core request atomicity cause va bytes holds =
+    by (va % request.len == 0) (is_split core.choices request atomicity va)
   where
     by : (aligned split : Bool)
         → Raises P
@@ -303,23 +305,23 @@ load_from_raises P va len (Ok (place, None)) bytes raises = value_raises P place
 load_from_raises P va len (Ok (first, Some second)) bytes raises =
     parts_raise P first second (first_len va len) (len - first_len va len) bytes
 
-pub load_raises : (P : Exception → Type 0) (core : Core) (va len : ℕ) (atomic : Bool) (bytes : Bytes)
+pub load_raises : (P : Exception → Type 0) (core : Core) (va len : ℕ) (atomicity : Atomicity) (bytes : Bytes)
     → HoldsOfFaults P va
-    → Raises P ((load_result core.csrs core.map core.choices core.mode va len atomic).run bytes).value
+    → Raises P ((load_result core.csrs core.map core.choices core.mode va len atomicity).run bytes).value
 unfolding load_result
-load_raises P core va len atomic bytes holds =
-    let request = data_load core.csrs core.mode len atomic in
-    let way = data_places_of core.csrs core.map core.choices request atomic LoadAddressMisaligned va in
+load_raises P core va len atomicity bytes holds =
+    let request = data_load core.csrs core.choices core.mode len atomicity in
+    let way = data_places_of core.csrs core.map core.choices request atomicity LoadAddressMisaligned va in
     then_gives (Raises P) way (load_from va len) bytes
     (λ now. load_from_raises P va len (way.run bytes).value now
-    (data_raises P core request atomic LoadAddressMisaligned va bytes (holds, refl)))
+    (data_raises P core request atomicity LoadAddressMisaligned va bytes (holds, refl)))
 
-pub store_raises : (P : Exception → Type 0) (core : Core) (va len : ℕ) (atomic : Bool) (bytes : Bytes)
+pub store_raises : (P : Exception → Type 0) (core : Core) (va len : ℕ) (atomicity : Atomicity) (bytes : Bytes)
     → HoldsOfFaults P va
-    → Raises P ((store_place_of core.csrs core.map core.choices core.mode va len atomic).run bytes).value
+    → Raises P ((store_place_of core.csrs core.map core.choices core.mode va len atomicity).run bytes).value
 unfolding store_place_of
-store_raises P core va len atomic bytes holds =
-    data_raises P core (data_store core.csrs core.mode len atomic) atomic StoreAddressMisaligned va bytes (holds, refl)
+store_raises P core va len atomicity bytes holds =
+    data_raises P core (data_store core.csrs core.choices core.mode len atomicity) atomicity StoreAddressMisaligned va bytes (holds, refl)
 
 -- every fault is one
 pub all_faults : (va : ℕ) → HoldsOfFaults (λ exception. IsFault exception.0) va

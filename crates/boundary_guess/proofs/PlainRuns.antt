@@ -23,13 +23,15 @@ use Rattle.rv_integer.specs.Results.{result_of, load_of, low_bits, size_of_store
 use Rattle.rvfi_rows.specs.declared.expected.Accessed.{Accessed}
 use Rattle.mem_access.specs.declared.place.AccessRequest.{AccessRequest}
 use Rattle.mem_access.specs.declared.place.Place.{Place}
+use Rattle.mem_access.specs.declared.place.Atomicity.TheVariants.{Plain}
 use Rattle.mem_access.specs.Accesses.{Exception, LocatedValue, Places, data_store, first_len, store_place_of}
 use Rattle.hart_step.specs.declared.state.Core.{Core}
 use Rattle.hart_step.specs.declared.choices.RowChoices.{RowChoices}
 use Rattle.hart_step.specs.declared.instruction.Instruction.{Instruction}
 use Rattle.hart_step.specs.declared.memory.AccessResult.{AccessResult}
 use Rattle.hart_step.specs.MemoryAccess.{expected_access, memory_access, access_result_of}
-use Rattle.hart_step.specs.MemoryAccess.{access_after_location, located_access, put, put_at, put_to}
+use Rattle.hart_step.specs.MemoryAccess.{access_after_location, access_at_places, device_refuses, fault_of}
+use Rattle.hart_step.specs.MemoryAccess.{located_access, put, put_at, put_to}
 use Rattle.hart_step.specs.MemoryAccess.{found_without_value}
 use Rattle.hart_step.specs.MemoryAccess.{number_written}
 use Rattle.hart_step.specs.Instructions.{Completion, after_access, execution_of, execution_by, first_value}
@@ -80,33 +82,56 @@ put_writes places request None bytes = refl
 put_writes places request (Some value) bytes = put_at_writes places request value bytes
 
 -- what comes of a place, and what is written there
+abbrev pub answer_by : Bool → Core → RowChoices → MemoryRequest → LocatedValue → Result AccessResult Exception
+answer_by true core choices request found = Err (fault_of request.op, request.address)
+answer_by false core choices request found = Ok (access_result_of core choices request found)
+
 abbrev pub answer_from : Core → RowChoices → MemoryRequest → Result LocatedValue Exception
     → Result AccessResult Exception
 answer_from core choices request (Err exception) = Err exception
-answer_from core choices request (Ok (first, second, held)) =
-    Ok (access_result_of core choices request (first, second, held))
+answer_from core choices request (Ok found) =
+    answer_by (device_refuses core choices found.0) core choices request found
+
+abbrev writes_by : Bool → Core → RowChoices → MemoryRequest → LocatedValue → List Write
+writes_by true core choices request found = []
+writes_by false core choices request (first, second, held) =
+    writes_to (first, second) request
+    (number_written (access_result_of core choices request (first, second, held)).access)
 
 abbrev writes_from : Core → RowChoices → MemoryRequest → Result LocatedValue Exception → List Write
 writes_from core choices request (Err exception) = []
-writes_from core choices request (Ok (first, second, held)) =
-    writes_to (first, second) request
-    (number_written (access_result_of core choices request (first, second, held)).access)
+writes_from core choices request (Ok found) =
+    writes_by (device_refuses core choices found.0) core choices request found
 
 answered_value : (core : Core) (choices : RowChoices) (request : MemoryRequest)
     (found : Result LocatedValue Exception) (bytes : Bytes)
     → ((access_after_location core choices request found).run bytes).value ≡ answer_from core choices request found
 unfolding pure mapped
 answered_value core choices request (Err exception) bytes = refl
-answered_value core choices request (Ok (first, second, held)) bytes = refl
+answered_value core choices request (Ok found) bytes = by (device_refuses core choices found.0)
+  where
+    by : (refuses : Bool)
+        → ((if refuses then pure (Err (fault_of request.op, request.address))
+        else access_at_places core choices request found).run bytes).value
+        ≡ answer_by refuses core choices request found
+    by true = refl
+    by false = refl
 
 answered_writes : (core : Core) (choices : RowChoices) (request : MemoryRequest)
     (found : Result LocatedValue Exception) (bytes : Bytes)
     → ((access_after_location core choices request found).run bytes).wrote ≡ writes_from core choices request found
 unfolding pure mapped
 answered_writes core choices request (Err exception) bytes = refl
-answered_writes core choices request (Ok (first, second, held)) bytes =
-    put_writes (first, second) request
-    (number_written (access_result_of core choices request (first, second, held)).access) bytes
+answered_writes core choices request (Ok (first, second, held)) bytes = by (device_refuses core choices first)
+  where
+    by : (refuses : Bool)
+        → ((if refuses then pure (Err (fault_of request.op, request.address))
+        else access_at_places core choices request (first, second, held)).run bytes).wrote
+        ≡ writes_by refuses core choices request (first, second, held)
+    by true = refl
+    by false =
+        put_writes (first, second) request
+        (number_written (access_result_of core choices request (first, second, held)).access) bytes
 
 pub accessed_value : (core : Core) (choices : RowChoices) (request : MemoryRequest) (bytes : Bytes)
     → ((memory_access core choices request).run bytes).value
@@ -140,7 +165,7 @@ pub record Leaves (core : Core) (i : Instruction) (after : Core) : Type 0 where
 
 -- the access that a store asks for
 abbrev pub store_request : Core → MemoryRequest → AccessRequest
-store_request core request = data_store core.csrs core.mode (bytes_of request.size) false
+store_request core request = data_store core.csrs core.choices core.mode (bytes_of request.size) Plain
 
 -- the bytes of a store were put where it goes
 pub record StoresAt (core : Core) (places : Places) (access : Option Accessed) (wrote : List Write) : Type 0 where
@@ -180,10 +205,17 @@ loaded_does : (core : Core) (choices : RowChoices) (i : Instruction) (address : 
     (writes_from core choices request found))
 unfolding after_access access_result_of
 loaded_does core choices i address size signed (Err exception) faults = faults
-loaded_does core choices i address size signed (Ok (first, second, held)) faults = record {
-  leaves = record { value = _; next = _; is = refl };
-  touches = refl;
-}
+loaded_does core choices i address size signed (Ok (first, second, held)) faults =
+    by (device_refuses core choices first)
+  where
+    request : MemoryRequest
+    request = record { address = address; size = size; op = memory.Load signed }
+
+    by : (refuses : Bool)
+        → Does core i false (after_access core i (answer_by refuses core choices request (first, second, held)))
+        (writes_by refuses core choices request (first, second, held))
+    by true = refl
+    by false = record { leaves = record { value = _; next = _; is = refl }; touches = refl }
 
 access_does : (core : Core) (choices : RowChoices) (i : Instruction) (request : MemoryRequest) (stores : Bool)
     (bytes : Bytes) → SetsNone core.choices
@@ -213,7 +245,7 @@ load_does core choices i address size signed bytes faults =
     let request : MemoryRequest = record { address = address; size = size; op = memory.Load signed } in
     access_does core choices i request false bytes faults
     (loaded_does core choices i address size signed ((located_access core request).run bytes).value
-    (load_raises (λ exception. IsFault exception.0) core address (bytes_of size) false bytes (all_faults address)))
+    (load_raises (λ exception. IsFault exception.0) core address (bytes_of size) Plain bytes (all_faults address)))
 
 -- a store
 record IsStoreOf (address : ℕ) (size : AccessSize) (value : ℕ) : Type 0 where
@@ -223,7 +255,7 @@ record IsStoreOf (address : ℕ) (size : AccessSize) (value : ℕ) : Type 0 wher
 -- what becomes of its places
 record AreStorePlaces (core : Core) (address : ℕ) (size : AccessSize) (places : Result Places Exception) : Type 0 where
   pub faults : RaisesFaults places
-  pub stand : IfOk places (StandAt core (data_store core.csrs core.mode (bytes_of size) false) address)
+  pub stand : IfOk places (StandAt core (data_store core.csrs core.choices core.mode (bytes_of size) Plain) address)
 
 stored_does : {core : Core} {address : ℕ} {size : AccessSize} {value : ℕ} (choices : RowChoices) (i : Instruction)
     (places : Result Places Exception) → IsStoreOf address size value → AreStorePlaces core address size places
@@ -232,21 +264,31 @@ stored_does : {core : Core} {address : ℕ} {size : AccessSize} {value : ℕ} (c
     (writes_from core choices request (found_without_value places)))
 unfolding after_access access_result_of
 stored_does choices i (Err exception) store found = found.faults
-stored_does {address} {size} {value} choices i (Ok (first, second)) store found = record {
-  leaves = record { value = _; next = _; is = refl };
-  touches = record {
-    places = (first, second);
-    at = record {
-      request = record { address = address; size = size; op = memory.Store value };
-      value = value;
-      address = store.address_fits;
-      fits = store.value_fits;
-      made = refl;
-      wrote_is = refl;
-      stands = found.stand;
-    };
-  };
-}
+stored_does {core} {address} {size} {value} choices i (Ok (first, second)) store found =
+    by (device_refuses core choices first)
+  where
+    request : MemoryRequest
+    request = record { address = address; size = size; op = memory.Store value }
+
+    by : (refuses : Bool)
+        → Does core i true (after_access core i (answer_by refuses core choices request (first, second, 0)))
+        (writes_by refuses core choices request (first, second, 0))
+    by true = refl
+    by false = record {
+      leaves = record { value = _; next = _; is = refl };
+      touches = record {
+        places = (first, second);
+        at = record {
+          request = request;
+          value = value;
+          address = store.address_fits;
+          fits = store.value_fits;
+          made = refl;
+          wrote_is = refl;
+          stands = found.stand;
+        };
+      };
+    }
 
 store_does : (core : Core) (choices : RowChoices) (i : Instruction) {address : ℕ} {size : AccessSize} {value : ℕ}
     (bytes : Bytes) → SetsNone core.choices → IsStoreOf address size value
@@ -256,10 +298,10 @@ store_does : (core : Core) (choices : RowChoices) (i : Instruction) {address : �
 unfolding located_access mapped
 store_does core choices i {address} {size} {value} bytes faults store =
     let request : MemoryRequest = record { address = address; size = size; op = memory.Store value } in
-    let way = store_place_of core.csrs core.map core.choices core.mode address (bytes_of size) false in
+    let way = store_place_of core.csrs core.map core.choices core.mode address (bytes_of size) Plain in
     let found : AreStorePlaces core address size (way.run bytes).value = record {
       faults =
-          store_raises (λ exception. IsFault exception.0) core address (bytes_of size) false bytes
+          store_raises (λ exception. IsFault exception.0) core address (bytes_of size) Plain bytes
           (all_faults address);
       stand = store_stands core address (bytes_of size) bytes;
     } in

@@ -1,9 +1,9 @@
 -- What stands at pc, and what the step of a plain row does with it.
 use Rattle.std.proofs.Common.{◌≡◌, ℕ, ◌%◌, ◌^◌, ◌<◌, ◌==◌, Bool, true, false, List, [], ◌++◌, Option, Some, None, refl}
 use Rattle.std.proofs.Common.{sym, ap, ◌∙◌, subst, arith, Ok, Err, Result, if◌then◌else◌}
-use Rattle.std.specs.Prelude.{IfOk, unwrap_or, ◌||◌}
+use Rattle.std.specs.Prelude.{IfOk, ◌||◌}
+use Rattle.std.proofs.lemmas.Bool.Decides.{nat_tests}
 use Rattle.hart_words.specs.declared.accesses.Write.{Write}
-use Rattle.hart_words.specs.declared.signal.Signal.TheVariants.{Insn}
 use Rattle.hart_words.specs.Memory.{Bytes, after_writes}
 use Rattle.hart_words.specs.Signals.{Shown}
 use Rattle.hart_words.specs.Actions.{Run, pure, mapped}
@@ -22,7 +22,10 @@ use Rattle.hart_step.specs.Instructions.{Completion, InstructionRun, run_of_deco
 use Rattle.hart_step.specs.Instructions.{run_of_fetched, fetch_at_pc, op_for, op_of, instruction_run}
 use Rattle.hart_step.specs.PlainRows.{insn_bits_of, insn_shown, is_store, is_system_or_atomic, insn_length_of}
 use Rattle.hart_step.specs.PlainRows.{shows_store}
+use Rattle.hart_step.specs.declared.plain_rows.TheConstants.{C_EBREAK}
+use Rattle.rv_decode.specs.declared.opcodes.TheConstants.{AMO, SYSTEM}
 use Rattle.boundary_guess.proofs.Actions.{AreBytes, unwritten}
+use Rattle.boundary_guess.proofs.Compared.{IsSameInsn}
 use Rattle.boundary_guess.proofs.Faults.{IsFault, IsFetchedWord, RaisesFaults, all_faults, fetch_raises, fetch_word}
 use Rattle.boundary_guess.proofs.NoSets.{SetsNone, fetch_none}
 use Rattle.boundary_guess.proofs.PlainOps.{is_plain_op, plain_decoded_with, plain_expanded, stores_alike}
@@ -73,8 +76,35 @@ fits_by false bits len is below = let few : bits < 256 ^ 2 = subst (λ n. bits <
 pub fetched_fits : (bits len : ℕ) → IsFetchedWord (bits, len) → bits < 2 ^ 64
 fetched_fits bits len word = fits_by (bits % 4 == 3) bits len word.length word.below
 
-pub insn_as : (shown : Shown) (bits : ℕ) → shown Insn ≡ Some bits → insn_shown shown ≡ bits
-insn_as shown bits is = ap (λ insn. unwrap_or insn 0) is
+-- a word that is the same but for what is above an instruction of 16 bits has the same instruction
+same_length : (word bits : ℕ) → IsSameInsn word bits → insn_length_of word ≡ insn_length_of bits
+same_length word bits same =
+    let low : word % 4 ≡ bits % 4 = omega (arith, same.low) in
+    ap (λ n. if n == 3 then 4 else 2) low
+
+same_bits : (word bits : ℕ) → IsSameInsn word bits → insn_bits_of word ≡ insn_bits_of bits
+same_bits word bits same =
+    ap (λ n. word % 256 ^ n) (same_length word bits same) ∙ by (bits % 4 == 3) refl
+  where
+    by : (long : Bool) → (bits % 4 == 3) ≡ long
+        → word % 256 ^ (if long then 4 else 2) ≡ bits % 256 ^ (if long then 4 else 2)
+    by true is = ap (λ n. n % 256 ^ 4) (same.long (grind (arith, nat_tests, is)))
+    by false is = omega (arith, same.low)
+
+pub same_kind : (word bits : ℕ) → IsSameInsn word bits → is_system_or_atomic word ≡ is_system_or_atomic bits
+same_kind word bits same =
+    ap (λ n. if n == 2 then insn_bits_of word == C_EBREAK else (word % 128 == SYSTEM) || (word % 128 == AMO))
+    (same_length word bits same)
+    ∙ by (bits % 4 == 3) refl
+  where
+    by : (long : Bool) → (bits % 4 == 3) ≡ long
+        → (if (if long then 4 else 2) == 2 then insn_bits_of word == C_EBREAK
+        else (word % 128 == SYSTEM) || (word % 128 == AMO))
+        ≡ (if (if long then 4 else 2) == 2 then insn_bits_of bits == C_EBREAK
+        else (bits % 128 == SYSTEM) || (bits % 128 == AMO))
+    by true is =
+        ap (λ n. (n % 128 == SYSTEM) || (n % 128 == AMO)) (same.long (grind (arith, nat_tests, is)))
+    by false is = ap (λ n. n == C_EBREAK) (same_bits word bits same)
 
 -- a row that shows the word of a store shows a store, whether there is bit manipulation or not
 store_by : (core : Core) (bits len : ℕ) (short : Bool) → (len == 2) ≡ short
@@ -87,11 +117,12 @@ store_by core bits len false is =
     ∙ sym (stores_alike core.choices.bits bits)
     ∙ sym (ap (λ s. is_store (if s then expanded_op_of bits else decoded_op_with bits core.choices.bits)) is)
 
-pub stores_as : (core : Core) (shown : Shown) (bits len : ℕ) (op : Op) → shown Insn ≡ Some bits
+pub stores_as : (core : Core) (shown : Shown) (bits len : ℕ) (op : Op) → IsSameInsn (insn_shown shown) bits
     → IsFetchedWord (bits, len) → op_for core bits len ≡ Some op → shows_store shown ≡ is_store (Some op)
 unfolding shows_store
 stores_as core shown bits len op is word means =
-    ap (λ insn. is_store (op_of (insn_bits_of insn) (insn_length_of insn))) (insn_as shown bits is)
+    ap (λ b. is_store (op_of b (insn_length_of (insn_shown shown)))) (same_bits (insn_shown shown) bits is)
+    ∙ ap (λ n. is_store (op_of (insn_bits_of bits) n)) (same_length (insn_shown shown) bits is)
     ∙ ap (λ b. is_store (op_of b (insn_length_of bits))) (fetched_bits bits len word)
     ∙ ap (λ n. is_store (op_of bits n)) (sym word.length)
     ∙ store_by core bits len (len == 2) refl

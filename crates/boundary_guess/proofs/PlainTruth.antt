@@ -28,7 +28,7 @@ use Rattle.boundary_guess.specs.Truth.{ShowsChanges}
 use Rattle.boundary_guess.proofs.Compared.{RowAgrees, insn_is, next_is, rd_is, took_no_fault, value_is}
 use Rattle.boundary_guess.proofs.PlainOps.{destination_below}
 use Rattle.boundary_guess.proofs.PlainRuns.{Leaves, Touches}
-use Rattle.boundary_guess.proofs.PlainSteps.{Runs, fetched_fits, insn_as, plain_word, stores_as}
+use Rattle.boundary_guess.proofs.PlainSteps.{Runs, fetched_fits, plain_word, same_kind, stores_as}
 use Rattle.boundary_guess.proofs.ShownStores.{store_is_true}
 
 -- ---- a plain row
@@ -221,7 +221,7 @@ ran_true {core} {shown} bytes (Trapped (Some bits) exception) plain shows agrees
     let runs = did.runs in
     let is = insn_is bits agrees did.insn (fetched_fits bits runs.len runs.word) shows.insn in
     let common : is_system_or_atomic bits ≡ false =
-    sym (ap is_system_or_atomic (insn_as shown bits is)) ∙ plain.common in
+    sym (same_kind (insn_shown shown) bits is) ∙ plain.common in
     absurd
     (took_no_fault agrees did.effects (runs.fault
     (plain_word (core_after_count core shown) bits runs.len runs.word common)) shows.trap plain.trap)
@@ -230,7 +230,7 @@ ran_true {core} {shown} {after} {wrote} bytes (Retired i access) plain shows agr
     let rd = (operands_of i.op).rd in
     let is = insn_is i.bits agrees did.insn (fetched_fits i.bits i.len runs.word) shows.insn in
     let common : is_system_or_atomic i.bits ≡ false =
-    sym (ap is_system_or_atomic (insn_as shown i.bits is)) ∙ plain.common in
+    sym (same_kind (insn_shown shown) i.bits is) ∙ plain.common in
     let done = runs.does (plain_word (core_after_count core shown) i.bits i.len runs.word common i.op runs.means) in
     let rd_fits : rd < 2 ^ 64 = below_word rd (destination_below (core_after_count core shown) i.bits i.len i.op
     runs.means) in

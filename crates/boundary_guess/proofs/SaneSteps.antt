@@ -53,7 +53,7 @@ use Rattle.hart_step.specs.Choices.{asks_interrupt, row_choices_of, pending_line
 use Rattle.hart_step.specs.CsrAccess.{csr_access_result}
 use Rattle.hart_step.specs.Returns.{may_use_supervisor_instruction, may_mret, core_after_mret, core_after_sret}
 use Rattle.hart_step.specs.Returns.{wfi_traps}
-use Rattle.hart_step.specs.MemoryAccess.{memory_access, access_result_of, located_access}
+use Rattle.hart_step.specs.MemoryAccess.{device_refuses, memory_access, access_result_of, located_access}
 use Rattle.hart_step.specs.Instructions.{Completion, InstructionRun, after_access, after_csr, run_of_decoded}
 use Rattle.hart_step.specs.Instructions.{completion_if, run_of_result, execution_of, execution_by, run_of_fetched}
 use Rattle.hart_step.specs.Instructions.{first_value, core_at_next, op_for, instruction_run, core_after_retirement}
@@ -67,7 +67,7 @@ use Rattle.boundary_guess.proofs.CoreWords.{IsSane, IsSaneAnswer, csr_accessed_s
 use Rattle.boundary_guess.proofs.Actions.{AreBytes, then_gives_bytes}
 use Rattle.boundary_guess.proofs.Faults.{IsFetchedWord, fetch_raises, fetch_word}
 use Rattle.boundary_guess.proofs.PlainOps.{of_some_form}
-use Rattle.boundary_guess.proofs.PlainRuns.{accessed_value, answer_from}
+use Rattle.boundary_guess.proofs.PlainRuns.{answer_by, accessed_value, answer_from}
 use Rattle.boundary_guess.proofs.PlainSteps.{fetched_fits}
 use Rattle.boundary_guess.proofs.StepWords.{FitsFound, RaisesWords, all_words, answer_word, found_fits, located_raises}
 use Rattle.boundary_guess.proofs.ResultWords.{AreOperands, AsksWords, HasOperands, IsOfWords, computed_words}
@@ -155,17 +155,25 @@ after_access_sane core i (Ok answer) sane is raises words reserved =
     (reserved_sane core answer sane reserved) is words
 
 answer_raises : (core : Core) (choices : RowChoices) (request : MemoryRequest) (found : Result LocatedValue Exception)
-    → RaisesWords found → RaisesWords (answer_from core choices request found)
-answer_raises core choices request (Err exception) raises = raises
-answer_raises core choices request (Ok (first, second, held)) raises = tt
+    → request.address < 2 ^ 64 → RaisesWords found → RaisesWords (answer_from core choices request found)
+answer_raises core choices request (Err exception) small raises = raises
+answer_raises core choices request (Ok found) small raises = by (device_refuses core choices found.0)
+  where
+    by : (refuses : Bool) → RaisesWords (answer_by refuses core choices request found)
+    by true = small
+    by false = tt
 
 answer_fits : (core : Core) (choices : RowChoices) (request : MemoryRequest) (found : Result LocatedValue Exception)
     → FitsFound request.op (bytes_of request.size) found
     → IfOk (answer_from core choices request found) (λ a. a.value < 2 ^ 64)
 unfolding access_result_of
 answer_fits core choices request (Err exception) fits = tt
-answer_fits core choices request (Ok (first, second, held)) fits =
-    answer_word core choices request first second held request.op fits
+answer_fits core choices request (Ok (first, second, held)) fits = by (device_refuses core choices first)
+  where
+    by : (refuses : Bool)
+        → IfOk (answer_by refuses core choices request (first, second, held)) (λ a. a.value < 2 ^ 64)
+    by true = tt
+    by false = answer_word core choices request first second held request.op fits
 
 -- what an instruction starts from, and its destination's value if the row shows it
 record IsSaneStart (core : Core) (choices : RowChoices) (i : Instruction) (bytes : Bytes) : Type 0 where
@@ -182,7 +190,7 @@ access_sane {core} {choices} {i} {bytes} request start small =
     let P : Result AccessResult Exception → Type 0 = λ answer. IsSaneResult (after_access core i answer) in
     subst P (sym (accessed_value core choices request bytes))
     (after_access_sane core i (answer_from core choices request found) start.state start.instruction
-    (answer_raises core choices request found
+    (answer_raises core choices request found small
     (located_raises (λ exception. exception.1 < 2 ^ 64) core request bytes (all_words request.address small)))
     (answer_fits core choices request found (found_fits core request bytes start.memory))
     (subst (λ answer. IfOk answer (LeavesSound core)) (accessed_value core choices request bytes)

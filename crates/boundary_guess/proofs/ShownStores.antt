@@ -1,10 +1,10 @@
 -- A store's row that agrees shows the bytes that the store writes.
 use Rattle.std.proofs.Common.{◌≡◌, ℕ, ◌+◌, ◌-◌, ◌%◌, ◌^◌, ◌<◌, ◌≤◌, Bool, true, false, not, ◌&&◌, nat_le, bit_and, List}
-use Rattle.std.proofs.Common.{[], ◌∷◌, Option, Some, None, Ok, if◌then◌else◌, refl, sym, ap, ◌∙◌, subst, arith, lit<}
+use Rattle.std.proofs.Common.{[], ◌∷◌, Option, Some, None, Ok, if◌then◌else◌, refl, sym, ap, ◌∙◌, subst, arith, lit<, inl, inr}
 use Rattle.std.specs.Prelude.{◌||◌, IfSome, unwrap_or, option_map}
 use Rattle.std.specs.Option.{is_some, option_and_then}
 use Rattle.std.proofs.lemmas.Nat.{mod_below, pow_below}
-use Rattle.std.proofs.lemmas.Bool.{false_from_ne_true}
+use Rattle.std.proofs.lemmas.Bool.{and_parts, cases_Bool, false_from_ne_true}
 use Rattle.std.proofs.lemmas.Bool.Decides.{nat_tests}
 use Rattle.hart_words.specs.declared.access_size.AccessSize.{AccessSize}
 use Rattle.hart_words.specs.declared.access_size.AccessSize.TheVariants.{Byte, Halfword, Word, Doubleword}
@@ -16,13 +16,13 @@ use Rattle.hart_words.specs.declared.signal.Signal.{Signal}
 use Rattle.hart_words.specs.declared.signal.Signal.TheVariants.{MemAddr, MemWmask, MemWdata, MemPaddr}
 use Rattle.hart_words.specs.Memory.{Bytes, after_writes, is_within}
 use Rattle.hart_words.specs.Signals.{Shown}
-use Rattle.hart_words.specs.Spans.{holds_all, is_apart_from, is_in}
+use Rattle.hart_words.specs.Spans.{holds_all, is_in}
 use Rattle.rvfi_rows.specs.Window.{above, distance_in_window, moved_up}
 use Rattle.rvfi_rows.specs.declared.expected.Retired.{Retired}
 use Rattle.rvfi_rows.specs.declared.expected.Effects.{Effects}
 use Rattle.rvfi_rows.specs.declared.expected.Accessed.{Accessed}
 use Rattle.mem_access.specs.declared.place.Place.{Place}
-use Rattle.mem_access.specs.Places.{is_device}
+use Rattle.hart_words.specs.Devices.{apart_by, are_apart_from, is_device, range_holds}
 use Rattle.mem_access.specs.Accesses.{Places}
 use Rattle.row_compare.specs.declared.expected_signal.ExpectedSignal.{ExpectedSignal}
 use Rattle.row_compare.specs.Wanted.{whole, where_known}
@@ -96,24 +96,48 @@ ones_below away len within =
 
 -- ---- where the store goes
 
-place_fits : (map : Map) (len : ℕ) (place : Place) (io : Bool) → place.io ≡ io
-    → (if io then is_device map.io place.pa len else holds_all map.ram place.pa len) ≡ true → place.pa + len ≤ 2 ^ 64
-place_fits map len place false is stands = let end = map.ram.below in grind (arith, nat_tests, stands)
-place_fits map len place true is stands = by map.io stands
-  where
-    by : (io : Option Span) → is_device io place.pa len ≡ true → place.pa + len ≤ 2 ^ 64
-    by None held = absurd cc
-    by (Some io) held = let end = io.below in grind (arith, nat_tests, held)
+or_right : (one other : Bool) → (one || other) ≡ true → one ≡ false → other ≡ true
+or_right true other either off = cc
+or_right false other either off = either
+
+range_fits : (range : Option Span) (pa len : ℕ) → range_holds range pa len ≡ true → pa + len ≤ 2 ^ 64
+range_fits None pa len held = absurd cc
+range_fits (Some range) pa len held = let end = range.below in grind (arith, nat_tests, held)
+
+device_fits : (io : List (Option Span)) (pa len : ℕ) → is_device io pa len ≡ true → pa + len ≤ 2 ^ 64
+device_fits [] pa len held = absurd cc
+device_fits (range ∷ ranges) pa len held = elim (cases_Bool (range_holds range pa len)) [
+  | inl here ↦ range_fits range pa len here
+  | inr elsewhere ↦ device_fits ranges pa len (or_right (range_holds range pa len) (is_device ranges pa len) held elsewhere)
+]
+
+-- bytes of a range that is apart from RAM are none of RAM
+range_apart : (ram : Span) (range : Option Span) (pa len x : ℕ) → apart_by ram range ≡ true
+    → range_holds range pa len ≡ true → is_in ram x ≡ true → is_within pa len x ≡ false
+range_apart ram None pa len x apart held inside = absurd cc
+range_apart ram (Some range) pa len x apart held inside =
+    false_from_ne_true (is_within pa len x) (λ within. grind (arith, nat_tests, apart, held, inside, within))
+
+devices_apart : (ram : Span) (io : List (Option Span)) (pa len x : ℕ) → are_apart_from ram io ≡ true
+    → is_device io pa len ≡ true → is_in ram x ≡ true → is_within pa len x ≡ false
+devices_apart ram [] pa len x apart held inside = absurd cc
+devices_apart ram (range ∷ ranges) pa len x apart held inside =
+    let parts = and_parts (apart_by ram range) (are_apart_from ram ranges) apart in
+    elim (cases_Bool (range_holds range pa len)) [
+      | inl here ↦ range_apart ram range pa len x parts.0 here inside
+      | inr elsewhere ↦
+          devices_apart ram ranges pa len x parts.1
+          (or_right (range_holds range pa len) (is_device ranges pa len) held elsewhere) inside
+    ]
 
 device_apart : (map : Map) (pa len x : ℕ) → is_device map.io pa len ≡ true → is_in map.ram x ≡ true
     → is_within pa len x ≡ false
-device_apart map pa len x held inside = by map.io refl held
-  where
-    by : (io : Option Span) → map.io ≡ io → is_device io pa len ≡ true → is_within pa len x ≡ false
-    by None is held = absurd cc
-    by (Some io) is held =
-        let apart : is_apart_from map.ram io ≡ true = map.apart io is in
-        false_from_ne_true (is_within pa len x) (λ within. grind (arith, nat_tests, apart, held, inside, within))
+device_apart map pa len x held inside = devices_apart map.ram map.io pa len x map.apart held inside
+
+place_fits : (map : Map) (len : ℕ) (place : Place) (io : Bool) → place.io ≡ io
+    → (if io then is_device map.io place.pa len else holds_all map.ram place.pa len) ≡ true → place.pa + len ≤ 2 ^ 64
+place_fits map len place false is stands = let end = map.ram.below in grind (arith, nat_tests, stands)
+place_fits map len place true is stands = device_fits map.io place.pa len stands
 
 few_bytes : (size : AccessSize) → bytes_of size ≤ 8
 few_bytes Byte = omega arith

@@ -16,6 +16,8 @@ use Rattle.rv_integer.specs.declared.int_result.MemoryOp.TheVariants as memory
 use Rattle.rv_integer.specs.declared.int_result.MemoryRequest.{MemoryRequest}
 use Rattle.rvfi_rows.specs.Window.{distance_in_window}
 use Rattle.mem_access.specs.declared.place.Place.{Place}
+use Rattle.mem_access.specs.declared.place.Atomicity.{Atomicity}
+use Rattle.mem_access.specs.declared.place.Atomicity.TheVariants.{Amo, Plain, Reserved}
 use Rattle.mem_access.specs.Accesses.{Exception, LocatedValue, Places, data_load, data_places_of, first_len}
 use Rattle.mem_access.specs.Accesses.{joined_value, load_from}
 use Rattle.mem_access.specs.Accesses.{load_result, store_place_of, value_at, value_of_parts}
@@ -24,7 +26,7 @@ use Rattle.hart_step.specs.declared.state.Core.{Core}
 use Rattle.hart_step.specs.declared.choices.RowChoices.{RowChoices}
 use Rattle.hart_step.specs.declared.memory.AccessResult.{AccessResult}
 use Rattle.hart_step.specs.Choices.{bytes_at, load_bytes_shown, device_value}
-use Rattle.hart_step.specs.MemoryAccess.{access_result_by, loaded_value, is_stored, located_access}
+use Rattle.hart_step.specs.MemoryAccess.{access_result_by, loaded_value, is_stored, located_access, value_found}
 use Rattle.hart_step.specs.MemoryAccess.{located_access_by, found_with_read, found_without_value}
 use Rattle.boundary_guess.proofs.Actions.{AreBytes, then_gives_bytes}
 use Rattle.boundary_guess.proofs.Faults.{HoldsOfFaults, Raises, load_raises, number_below, store_raises}
@@ -47,23 +49,29 @@ unread_raises P (Ok (first, second)) raises = tt
 
 read_raises : (P : Exception → Type 0) (len : ℕ) (places : Result Places Exception) (bytes : Bytes) → Raises P places
     → Raises P ((found_with_read len places).run bytes).value
-unfolding pure mapped
+unfolding pure mapped read_memory
 read_raises P len (Err exception) bytes raises = raises
-read_raises P len (Ok (first, second)) bytes raises = tt
+read_raises P len (Ok (first, second)) bytes raises = by first.io
+  where
+    by : (io : Bool)
+        → Raises P ((if io then pure {A = Result LocatedValue Exception} (Ok (first, second, 0))
+        else mapped (λ held. Ok (first, second, held)) (read_memory (record { pa = first.pa; len = len }))).run bytes).value
+    by true = tt
+    by false = tt
 
 located_by_raises : (P : Exception → Type 0) (core : Core) (va len : ℕ) (op : MemoryOp) (bytes : Bytes)
     → HoldsOfFaults P va → Raises P ((located_access_by core va len op).run bytes).value
 unfolding mapped
-located_by_raises P core va len (memory.Load signed) bytes holds = load_raises P core va len false bytes holds
-located_by_raises P core va len memory.LoadReserved bytes holds = load_raises P core va len true bytes holds
+located_by_raises P core va len (memory.Load signed) bytes holds = load_raises P core va len Plain bytes holds
+located_by_raises P core va len memory.LoadReserved bytes holds = load_raises P core va len Reserved bytes holds
 located_by_raises P core va len (memory.Store value) bytes holds =
-    unread_raises P _ (store_raises P core va len false bytes holds)
+    unread_raises P _ (store_raises P core va len Plain bytes holds)
 located_by_raises P core va len (memory.StoreConditional value) bytes holds =
-    unread_raises P _ (store_raises P core va len true bytes holds)
+    unread_raises P _ (store_raises P core va len Reserved bytes holds)
 located_by_raises P core va len (memory.Amo op width b) bytes holds =
-    let way = store_place_of core.csrs core.map core.choices core.mode va len true in
+    let way = store_place_of core.csrs core.map core.choices core.mode va len Amo in
     then_gives (Raises P) way (found_with_read len) bytes
-    (λ now. read_raises P len (way.run bytes).value now (store_raises P core va len true bytes holds))
+    (λ now. read_raises P len (way.run bytes).value now (store_raises P core va len Amo bytes holds))
 
 pub located_raises : (P : Exception → Type 0) (core : Core) (request : MemoryRequest) (bytes : Bytes)
     → HoldsOfFaults P request.address → Raises P ((located_access core request).run bytes).value
@@ -115,12 +123,12 @@ load_from_below va len (Ok (place, None)) bytes are = value_below place len plac
 load_from_below va len (Ok (first, Some second)) bytes are =
     parts_below first second len (first_len va len) bytes (min-le_left len (PAGE_SIZE - va % PAGE_SIZE)) are
 
-load_below : (core : Core) (va len : ℕ) (atomic : Bool) (bytes : Bytes) → AreBytes bytes
-    → FindsBytes len ((load_result core.csrs core.map core.choices core.mode va len atomic).run bytes).value
+load_below : (core : Core) (va len : ℕ) (atomicity : Atomicity) (bytes : Bytes) → AreBytes bytes
+    → FindsBytes len ((load_result core.csrs core.map core.choices core.mode va len atomicity).run bytes).value
 unfolding load_result
-load_below core va len atomic bytes are =
-    let request = data_load core.csrs core.mode len atomic in
-    let way = data_places_of core.csrs core.map core.choices request atomic LoadAddressMisaligned va in
+load_below core va len atomicity bytes are =
+    let request = data_load core.csrs core.choices core.mode len atomicity in
+    let way = data_places_of core.csrs core.map core.choices request atomicity LoadAddressMisaligned va in
     then_gives_bytes (FindsBytes len) way (load_from va len) bytes are (load_from_below va len (way.run bytes).value)
 
 -- what a load found is no more than its bytes
@@ -130,7 +138,7 @@ FitsFound _ len found = Unit {0}
 
 found_fits_by : (core : Core) (va len : ℕ) (op : MemoryOp) (bytes : Bytes) → AreBytes bytes
     → FitsFound op len ((located_access_by core va len op).run bytes).value
-found_fits_by core va len (memory.Load signed) bytes are = load_below core va len false bytes are
+found_fits_by core va len (memory.Load signed) bytes are = load_below core va len Plain bytes are
 found_fits_by core va len memory.LoadReserved bytes are = tt
 found_fits_by core va len (memory.Store value) bytes are = tt
 found_fits_by core va len (memory.StoreConditional value) bytes are = tt
@@ -198,4 +206,5 @@ answer_word core choices request place second held memory.LoadReserved fits = si
 answer_word core choices request place second held (memory.Store value) fits = lit< tt
 answer_word core choices request place second held (memory.StoreConditional value) fits =
     conditional_word (is_stored core choices request place) _ _ (lit< tt) (lit< tt)
-answer_word core choices request place second held (memory.Amo op width b) fits = signed_word request.size held
+answer_word core choices request place second held (memory.Amo op width b) fits =
+    signed_word request.size (value_found choices request place held)

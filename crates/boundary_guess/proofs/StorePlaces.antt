@@ -15,9 +15,12 @@ use Rattle.csr_file.specs.Registers.{at}
 use Rattle.sv39_walk.specs.Walk.{translation_of}
 use Rattle.mem_access.specs.declared.place.AccessRequest.{AccessRequest}
 use Rattle.mem_access.specs.declared.place.Place.{Place}
-use Rattle.mem_access.specs.Places.{is_device, is_permitted, place_in, place_of}
+use Rattle.hart_words.specs.Devices.{is_device}
+use Rattle.mem_access.specs.Places.{is_permitted, place_in, place_of}
 use Rattle.mem_access.specs.Translation.{is_translated, physical_address_of, place_after_translation, tables_of}
 use Rattle.mem_access.specs.Translation.{virtual_place_of, walk_flags_of}
+use Rattle.mem_access.specs.declared.place.Atomicity.{Atomicity}
+use Rattle.mem_access.specs.declared.place.Atomicity.TheVariants.{Plain}
 use Rattle.mem_access.specs.Accesses.{Exception, Part, Places, after_place, one_place, data_places_of, data_store}
 use Rattle.mem_access.specs.Accesses.{first_len}
 use Rattle.mem_access.specs.Accesses.{first_part, has_second_part, is_split, part_place_of, request_for, second_part}
@@ -210,12 +213,12 @@ recast core request va (Ok (first, Some second)) stands = record {
   second_at = stands.second_at;
 }
 
-data_stands : (core : Core) (request : AccessRequest) (atomic : Bool) (cause : Cause) (va : ℕ) (bytes : Bytes)
-    → IfOk ((data_places_of core.csrs core.map core.choices request atomic cause va).run bytes).value
+data_stands : (core : Core) (request : AccessRequest) (atomicity : Atomicity) (cause : Cause) (va : ℕ) (bytes : Bytes)
+    → IfOk ((data_places_of core.csrs core.map core.choices request atomicity cause va).run bytes).value
     (StandAt core request va)
 unfolding data_places_of pure
-data_stands core request atomic cause va bytes =
-    by (va % request.len == 0) (is_split core.choices request atomic va)
+data_stands core request atomicity cause va bytes =
+    by (va % request.len == 0) (is_split core.choices request atomicity va)
   where
     by : (aligned split : Bool)
         → IfOk
@@ -228,8 +231,8 @@ data_stands core request atomic cause va bytes =
     by false false = tt
 
 pub store_stands : (core : Core) (va len : ℕ) (bytes : Bytes)
-    → IfOk ((store_place_of core.csrs core.map core.choices core.mode va len false).run bytes).value
-    (StandAt core (data_store core.csrs core.mode len false) va)
+    → IfOk ((store_place_of core.csrs core.map core.choices core.mode va len Plain).run bytes).value
+    (StandAt core (data_store core.csrs core.choices core.mode len Plain) va)
 unfolding store_place_of
 store_stands core va len bytes =
-    data_stands core (data_store core.csrs core.mode len false) false StoreAddressMisaligned va bytes
+    data_stands core (data_store core.csrs core.choices core.mode len Plain) Plain StoreAddressMisaligned va bytes

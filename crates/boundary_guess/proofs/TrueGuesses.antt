@@ -1,6 +1,7 @@
 -- Guesses after rows and segments that agree, and show their changes, are the true states.
 use Rattle.std.proofs.Common.{◌≡◌, ℕ, zero, suc, ◌-◌, ◌^◌, ◌<◌, ◌==◌, Bool, true, false, if◌then◌else◌, List, [], ◌∷◌}
-use Rattle.std.proofs.Common.{◌++◌, map, Some, None, Ok, Err, refl, ap, ◌∙◌, subst, lit<}
+use Rattle.std.proofs.Common.{◌++◌, map, Some, None, Ok, Err, refl, ap, ◌∙◌, subst, lit<, arith, bit_and}
+use Rattle.std.proofs.lemmas.Nat.{and_le_r, or_lt}
 use Rattle.std.specs.Prelude.{All, replicate, slice_index}
 use Rattle.std.proofs.lemmas.List.Concat.{flat_map-cons}
 use Rattle.std.proofs.lemmas.List.Elements.{All-cons, All-head, All-nil, All-replicate, All-tail, All-weaker}
@@ -13,11 +14,17 @@ use Rattle.csr_file.specs.declared.stored_csr.StoredCsr.TheVariants.{Mstatus, Me
 use Rattle.csr_file.specs.declared.stored_csr.StoredCsr.TheVariants.{Menvcfg, Mcountinhibit, Mscratch, Mepc, Mcause}
 use Rattle.csr_file.specs.declared.stored_csr.StoredCsr.TheVariants.{Mtval, Mip, Stvec, Scounteren, Senvcfg, Sscratch}
 use Rattle.csr_file.specs.declared.stored_csr.StoredCsr.TheVariants.{Sepc, Scause, Stval, Satp}
-use Rattle.csr_file.specs.Registers.{at, csrs_at_reset, no_entry}
+use Rattle.csr_file.specs.declared.profile.ChosenCsr.{ChosenCsr}
+use Rattle.csr_file.specs.declared.profile.ChosenCsr.TheVariants as chosen
+use Rattle.csr_file.specs.declared.profile.CsrProfile.{CsrProfile}
+use Rattle.csr_file.specs.Fields.{all_bits}
+use Rattle.csr_file.specs.Table.{status_constant}
+use Rattle.csr_file.specs.Profiles.{chosen_index_of, fixable_bits, fixed_bits, fixed_in, writable_in}
+use Rattle.csr_file.specs.Registers.{at, csrs_at_reset_of, no_entry}
 use Rattle.rvfi_rows.specs.Columns.{TraceColumns}
 use Rattle.rvfi_rows.specs.Rows.{RowReading, rows_of}
 use Rattle.rvfi_rows.proofs.PortRows.{rows_append}
-use Rattle.hart_step.specs.Cores.{IsSound, core_at_reset}
+use Rattle.hart_step.specs.Cores.{IsSound, core_at_reset_of}
 use Rattle.hart_step.specs.declared.state.Core.{Core}
 use Rattle.hart_step.specs.HartSets.{SetHoldsWords, SetState, set_after_row}
 use Rattle.hart_step.specs.Harts.{CoreHoldsWords}
@@ -165,49 +172,60 @@ reset_registers : (number : ℕ) → register_of registers_at_reset number < 2 ^
 unfolding registers_at_reset
 reset_registers number = zero_or (number == 0) (number - 1)
 
-reset_csrs : (stored : StoredCsr) → at csrs_at_reset stored < 2 ^ 64
-unfolding at csrs_at_reset
-reset_csrs Mstatus = lit< tt
-reset_csrs Medeleg = lit< tt
-reset_csrs Mideleg = lit< tt
-reset_csrs Mie = lit< tt
-reset_csrs Mtvec = lit< tt
-reset_csrs Mcounteren = lit< tt
-reset_csrs Menvcfg = lit< tt
-reset_csrs Mcountinhibit = lit< tt
-reset_csrs Mscratch = lit< tt
-reset_csrs Mepc = lit< tt
-reset_csrs Mcause = lit< tt
-reset_csrs Mtval = lit< tt
-reset_csrs Mip = lit< tt
-reset_csrs Stvec = lit< tt
-reset_csrs Scounteren = lit< tt
-reset_csrs Senvcfg = lit< tt
-reset_csrs Sscratch = lit< tt
-reset_csrs Sepc = lit< tt
-reset_csrs Scause = lit< tt
-reset_csrs Stval = lit< tt
-reset_csrs Satp = lit< tt
+-- the bits that are always 1 are bits of a word
+fixed_word : (profile : CsrProfile) (csr : ChosenCsr) → fixed_in profile csr < 2 ^ 64
+fixed_word profile csr =
+    let writable = writable_in profile csr in
+    omega (
+      arith,
+      and_le_r (bit_and (slice_index profile.fixed (chosen_index_of csr)) (fixable_bits csr))
+          (all_bits - writable),
+    )
 
-reset_configurations : All (λ entry. entry.cfg < 256) csrs_at_reset.entries
-unfolding csrs_at_reset
-reset_configurations = All-replicate (λ entry. entry.cfg < 256) 16 no_entry (lit< tt)
+reset_csrs : (profile : CsrProfile) (stored : StoredCsr) → at (csrs_at_reset_of profile) stored < 2 ^ 64
+unfolding at csrs_at_reset_of fixed_bits
+reset_csrs profile Mstatus = or_lt 64 status_constant (fixed_in profile chosen.Mstatus) (lit< tt) (fixed_word profile chosen.Mstatus)
+reset_csrs profile Medeleg = fixed_word profile chosen.Medeleg
+reset_csrs profile Mideleg = fixed_word profile chosen.Mideleg
+reset_csrs profile Mie = lit< tt
+reset_csrs profile Mtvec = lit< tt
+reset_csrs profile Mcounteren = fixed_word profile chosen.Mcounteren
+reset_csrs profile Menvcfg = fixed_word profile chosen.Menvcfg
+reset_csrs profile Mcountinhibit = fixed_word profile chosen.Mcountinhibit
+reset_csrs profile Mscratch = lit< tt
+reset_csrs profile Mepc = lit< tt
+reset_csrs profile Mcause = lit< tt
+reset_csrs profile Mtval = lit< tt
+reset_csrs profile Mip = lit< tt
+reset_csrs profile Stvec = lit< tt
+reset_csrs profile Scounteren = fixed_word profile chosen.Scounteren
+reset_csrs profile Senvcfg = fixed_word profile chosen.Senvcfg
+reset_csrs profile Sscratch = lit< tt
+reset_csrs profile Sepc = lit< tt
+reset_csrs profile Scause = lit< tt
+reset_csrs profile Stval = lit< tt
+reset_csrs profile Satp = lit< tt
 
-core_at_reset_holds : (pc : ℕ) (map : Map) (choices : Choices) → pc < 2 ^ 64
-    → CoreHoldsWords (core_at_reset pc map choices)
-unfolding core_at_reset
-core_at_reset_holds pc map choices small = record {
+reset_configurations : (profile : CsrProfile) → All (λ entry. entry.cfg < 256) (csrs_at_reset_of profile).entries
+unfolding csrs_at_reset_of
+reset_configurations profile = All-replicate (λ entry. entry.cfg < 256) 16 no_entry (lit< tt)
+
+core_at_reset_holds : (profile : CsrProfile) (pc : ℕ) (map : Map) (choices : Choices) → pc < 2 ^ 64
+    → CoreHoldsWords (core_at_reset_of profile pc map choices)
+unfolding core_at_reset_of
+core_at_reset_holds profile pc map choices small = record {
   pc = small;
   registers = reset_registers;
-  csrs = reset_csrs;
-  configurations = reset_configurations;
+  csrs = reset_csrs profile;
+  configurations = reset_configurations profile;
 }
 
-pub reset_holds : (harts pc : ℕ) (map : Map) (choices : Choices) (bytes : Bytes) → pc < 2 ^ 64
-    → ((address : ℕ) → bytes address < 2 ^ 8) → SetHoldsWords (state_at_reset harts pc map choices bytes)
-reset_holds harts pc map choices bytes small are = record {
+pub reset_holds : (profile : CsrProfile) (harts pc : ℕ) (map : Map) (choices : Choices) (bytes : Bytes) → pc < 2 ^ 64
+    → ((address : ℕ) → bytes address < 2 ^ 8) → SetHoldsWords (state_at_reset profile harts pc map choices bytes)
+reset_holds profile harts pc map choices bytes small are = record {
   cores =
-      All-replicate CoreHoldsWords harts (core_at_reset pc map choices) (core_at_reset_holds pc map choices small);
+      All-replicate CoreHoldsWords harts (core_at_reset_of profile pc map choices)
+      (core_at_reset_holds profile pc map choices small);
   bytes = are;
 }
 

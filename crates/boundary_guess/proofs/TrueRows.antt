@@ -49,6 +49,7 @@ retirement core shown done = record {
   pc = (before_instruction core shown).pc;
   mode = (before_instruction core shown).mode;
   insn = insn_of done.executed;
+  insn_bits = core.choices.insn_bits;
   effects = effects_of (before_instruction core shown) done.core done.executed;
   csrs_before = (before_instruction core shown).csrs;
   csrs_after = (core_after_run done shown).csrs;

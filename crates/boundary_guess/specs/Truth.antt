@@ -11,14 +11,15 @@ use Rattle.hart_words.specs.declared.signal.Signal.TheVariants.{Insn, Trap, RdAd
 use Rattle.rvfi_rows.specs.Columns.{TraceColumns}
 use Rattle.rvfi_rows.specs.Rows.{RowReading, rows_of}
 use Rattle.row_compare.specs.Difference.{difference_of}
+use Rattle.csr_file.specs.declared.profile.CsrProfile.{CsrProfile}
 use Rattle.hart_step.specs.declared.state.Core.{Core}
-use Rattle.hart_step.specs.Cores.{IsSound, core_at_reset}
+use Rattle.hart_step.specs.Cores.{IsSound, core_at_reset_of}
 use Rattle.hart_step.specs.HartSets.{SetHoldsWords, SetState, set_after_row, set_step_of}
 
 -- so many harts at reset, over a memory
-abbrev pub state_at_reset : ℕ → ℕ → Map → Choices → Bytes → SetState
-state_at_reset harts pc map choices bytes =
-    record { core = replicate harts (core_at_reset pc map choices); bytes = bytes }
+abbrev pub state_at_reset : CsrProfile → ℕ → ℕ → Map → Choices → Bytes → SetState
+state_at_reset profile harts pc map choices bytes =
+    record { core = replicate harts (core_at_reset_of profile pc map choices); bytes = bytes }
 
 -- A and D that are clear are page faults: no hart sets them
 abbrev pub SetNoMarks : List Core → Type 0

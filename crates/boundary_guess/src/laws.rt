@@ -11,6 +11,7 @@ ghost use Rattle.hart_step.specs.Cores.{IsSound};
 ghost use Rattle.hart_step.specs.HartSets.{SetHoldsWords, SetState};
 ghost use Rattle.boundary_guess.specs.Cuts.{AreOfLength, cut_of, lines_of_pieces};
 ghost use Rattle.boundary_guess.specs.Guesses.{guess_after, guesses_of};
+ghost use Rattle.csr_file.specs.declared.profile.CsrProfile.{CsrProfile};
 ghost use Rattle.boundary_guess.specs.Truth.{Agree, SetNoMarks, ShowChanges, StaysSound, true_state_after, state_at_reset, true_starts};
 
 /// The pieces, in order, are the lines. Each has k lines but the last, which has one at least and
@@ -25,9 +26,9 @@ pub fn pieces_are_the_lines()
 /// The values of harts at reset are words, and over a memory of bytes the steps by a trace's rows
 /// keep that, and keep each hart sound, whatever the implementation chooses.
 pub fn states_hold_words()
-    ensures reset { (harts pc : ℕ) (map : Map) (choices : Choices) (bytes : Bytes) → pc < 2 ^ 64
-        → ((address : ℕ) → bytes address < 2 ^ 8)
-        → SetHoldsWords (state_at_reset harts pc map choices bytes) }
+    ensures reset { (profile : CsrProfile) (harts pc : ℕ) (map : Map) (choices : Choices)
+        (bytes : Bytes) → pc < 2 ^ 64 → ((address : ℕ) → bytes address < 2 ^ 8)
+        → SetHoldsWords (state_at_reset profile harts pc map choices bytes) }
     ensures rows { (state : SetState) (columns : TraceColumns) (lines : List (List ℕ))
         → All IsSound state.core → SetHoldsWords state → StaysSound state (rows_of columns lines) }
 {}

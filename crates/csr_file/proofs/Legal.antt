@@ -1,8 +1,10 @@
 -- What is written can be stored, so that registers stay legal.
-use Rattle.std.proofs.Common.{◌≡◌, ◌≢◌, ◌⊎◌, inl, inr, ℕ, ◌+◌, ◌-◌, ◌*◌, ◌%◌, ◌^◌, ◌<◌, Bool, true, false, ◌==◌, refl}
+use Rattle.std.proofs.Common.{◌≡◌, ◌≢◌, ◌⊎◌, inl, inr, ℕ, ◌+◌, ◌-◌, ◌*◌, ◌/◌, ◌%◌, ◌^◌, ◌<◌, Bool, true, false, ◌==◌, refl}
 use Rattle.std.proofs.Common.{ap, ◌∙◌, sym, subst, lit<, arith, bit_and, length-set, if◌then◌else◌}
 use Rattle.std.specs.Int.{bit_at}
-use Rattle.std.proofs.lemmas.Bool.{cases_eq, cases_Bool}
+use Rattle.std.specs.Int.Bits.{and_comm, and_le_r, and_zero_r}
+use Rattle.std.proofs.lemmas.Nat.{and_assoc}
+use Rattle.std.proofs.lemmas.Bool.{cases_eq}
 use Rattle.std.proofs.lemmas.Bool.Decides.{nat_tests}
 use Rattle.csr_table.specs.declared.registers.Csr.{Csr}
 use Rattle.csr_table.specs.declared.registers.Csr.TheVariants as csr
@@ -12,40 +14,53 @@ use Rattle.csr_file.specs.declared.stored_csr.StoredCsr.TheVariants.{Mstatus, Me
 use Rattle.csr_file.specs.declared.stored_csr.StoredCsr.TheVariants.{Menvcfg, Mcountinhibit, Mscratch, Mepc, Mcause}
 use Rattle.csr_file.specs.declared.stored_csr.StoredCsr.TheVariants.{Mtval, Mip, Stvec, Scounteren, Senvcfg, Sscratch}
 use Rattle.csr_file.specs.declared.stored_csr.StoredCsr.TheVariants.{Sepc, Scause, Stval, Satp}
-use Rattle.csr_file.specs.Registers.{at, with_at, stored_index_of, csrs_at_reset}
-use Rattle.csr_file.specs.declared.fields.TheConstants.{BARE, SV39}
-use Rattle.csr_file.specs.Fields.{all_bits, is_supported_mode, masked_update, mpp_of, satp_mode_of}
-use Rattle.csr_file.specs.Table.{all_interrupts, csr_kind_of, pc_bits, sip_writable, sstatus_writable}
-use Rattle.csr_file.specs.Table.{status_written_bits, supervisor_interrupts, vector_bits, writable_bits}
-use Rattle.csr_file.specs.Table.{writable_without_mpp}
-use Rattle.csr_file.specs.Values.{status_write_of, translation_write_of, csr_write_of}
-use Rattle.csr_file.specs.Legal.{IsWithinMask, IsLegalStatus, IsLegalValue, IsLegal}
+use Rattle.csr_file.specs.declared.csr_kind.CsrKind.TheVariants.{ImplementationDefined}
+use Rattle.csr_file.specs.declared.profile.ChosenCsr.TheVariants as chosen
+use Rattle.csr_file.specs.declared.profile.CsrProfile.{CsrProfile}
+use Rattle.csr_file.specs.Registers.{at, with_at, stored_index_of, csrs_at_reset_of}
+use Rattle.csr_file.specs.declared.fields.TheConstants.{BARE, SV39, MPP}
+use Rattle.csr_file.specs.Fields.{all_bits, field_bits, is_supported_mode, masked_update, mpp_of, satp_mode_of}
+use Rattle.csr_file.specs.Table.{csr_kind_of, pc_bits, sip_writable, sstatus_writable}
+use Rattle.csr_file.specs.Profiles.{fixed_bits, is_from_row, kind_in, presence_of, writable_bits}
+use Rattle.csr_file.specs.Values.{csr_write_of, status_write_of, status_written_bits, stored_write_of}
+use Rattle.csr_file.specs.Values.{supervisor_status_bits, translation_write_of}
+use Rattle.csr_file.specs.Legal.{IsLegal, IsLegalStatus, IsLegalTranslation, IsLegalValue, KeepsFixed}
 use Rattle.csr_file.proofs.Places.{at_same, at_other, same_index}
-use Rattle.csr_file.proofs.Protection.{configurations_legal, address_legal, reset_entries_legal}
-use Rattle.csr_file.proofs.Bits.{within_mask, within_first, within_second, within_larger, within_or, merged_keeps}
-use Rattle.csr_file.proofs.Bits.{bit_kept, bit_taken, mpp_bits, out_of}
+use Rattle.csr_file.proofs.Protection.{configurations_legal, address_legal, reset_entries_legal, reset_missing}
+use Rattle.csr_file.proofs.Profiles.{fixed_keeps, fixed_status, least_is_writable, writable_fits}
+use Rattle.csr_file.proofs.Bits.{apart_from_rest, bit_kept, bit_taken, merged_fits, merged_keeps, mpp_bits, out_of}
+use Rattle.csr_file.proofs.Bits.{out_of_first, under_apart}
 
 -- a value that a register can have keeps all registers legal
-pub legal_with : (csrs : Csrs) (stored : StoredCsr) (value : ℕ) → IsLegal csrs → IsLegalValue stored value
+pub legal_with : (csrs : Csrs) (stored : StoredCsr) (value : ℕ) → IsLegal csrs → IsLegalValue csrs.profile stored value
     → IsLegal (with_at csrs stored value)
 unfolding with_at
 legal_with csrs stored value legal can = record {
   whole = length-set csrs.values (stored_index_of stored) value ∙ legal.whole;
   values = λ other. elim (cases_eq (stored_index_of other) (stored_index_of stored)) [
     | inl same ↦ let e : other ≡ stored = same_index other stored same in
-        subst (λ h. IsLegalValue h (at (with_at csrs stored value) h)) (sym e)
-        (subst (IsLegalValue stored) (sym (at_same csrs stored value legal.whole)) can)
-    | inr apart ↦ subst (IsLegalValue other) (sym (at_other csrs stored other value apart)) (legal.values other)
+        subst (λ h. IsLegalValue csrs.profile h (at (with_at csrs stored value) h)) (sym e)
+        (subst (IsLegalValue csrs.profile stored) (sym (at_same csrs stored value legal.whole)) can)
+    | inr apart ↦
+        subst (IsLegalValue csrs.profile other) (sym (at_other csrs stored other value apart)) (legal.values other)
   ];
   entries = legal.entries;
+  missing = legal.missing;
 }
 
+-- what is written under a mask of bits that a write may change keeps those that it may not
+pub merged_fixed : (profile : CsrProfile) (stored : StoredCsr) (mask old value : ℕ) → mask < 2 ^ 64
+    → bit_and mask (all_bits - writable_bits profile stored) ≡ 0 → KeepsFixed profile stored old
+    → KeepsFixed profile stored (masked_update mask old value)
+merged_fixed profile stored mask old value small apart keeps =
+    merged_keeps mask old value (all_bits - writable_bits profile stored) small (omega arith) apart ∙ keeps
+
 -- mstatus keeps what it is where MPP is left out, or takes no 2
-pub status_without_mpp : {old : ℕ} (mask value : ℕ) → mask < 2 ^ 64
-    → bit_and mask (all_bits - writable_bits Mstatus) ≡ 0 → bit_at mask 11 ≡ 0 → bit_at mask 12 ≡ 0
-    → IsLegalStatus old → IsLegalStatus (masked_update mask old value)
-status_without_mpp {old} mask value small apart low high legal = record {
-  constant = merged_keeps mask old value (all_bits - writable_bits Mstatus) small (lit< tt) apart ∙ legal.constant;
+pub status_without_mpp : {profile : CsrProfile} {old : ℕ} (mask value : ℕ) → mask < 2 ^ 64
+    → bit_and mask (all_bits - writable_bits profile Mstatus) ≡ 0 → bit_at mask 11 ≡ 0 → bit_at mask 12 ≡ 0
+    → IsLegalStatus profile old → IsLegalStatus profile (masked_update mask old value)
+status_without_mpp {profile} {old} mask value small apart low high legal = record {
+  constant = merged_fixed profile Mstatus mask old value small apart legal.constant;
   previous = λ two. legal.previous (
       mpp_bits old
       ∙ ap (λ b. b + 2 * bit_at old 12) (sym (bit_kept mask old value 11 small (lit< tt) low))
@@ -54,11 +69,12 @@ status_without_mpp {old} mask value small apart low high legal = record {
       ∙ sym (mpp_bits (masked_update mask old value)) ∙ two);
 }
 
-pub status_with_mpp : {old : ℕ} (mask value : ℕ) → mask < 2 ^ 64 → bit_and mask (all_bits - writable_bits Mstatus) ≡ 0
-    → bit_at mask 11 ≡ 1 → bit_at mask 12 ≡ 1 → mpp_of value ≢ 2 → IsLegalStatus old
-    → IsLegalStatus (masked_update mask old value)
-status_with_mpp {old} mask value small apart low high mode legal = record {
-  constant = merged_keeps mask old value (all_bits - writable_bits Mstatus) small (lit< tt) apart ∙ legal.constant;
+pub status_with_mpp : {profile : CsrProfile} {old : ℕ} (mask value : ℕ) → mask < 2 ^ 64
+    → bit_and mask (all_bits - writable_bits profile Mstatus) ≡ 0
+    → bit_at mask 11 ≡ 1 → bit_at mask 12 ≡ 1 → mpp_of value ≢ 2 → IsLegalStatus profile old
+    → IsLegalStatus profile (masked_update mask old value)
+status_with_mpp {profile} {old} mask value small apart low high mode legal = record {
+  constant = merged_fixed profile Mstatus mask old value small apart legal.constant;
   previous = λ two. mode (
       mpp_bits value
       ∙ ap (λ b. b + 2 * bit_at value 12) (sym (bit_taken mask old value 11 small (lit< tt) low))
@@ -70,147 +86,221 @@ status_with_mpp {old} mask value small apart low high mode legal = record {
 differs : (a b : ℕ) → (a == b) ≡ false → a ≢ b
 differs a b off same = grind (arith, nat_tests)
 
-status_written : (old value : ℕ) → IsLegalStatus old
-    → IsLegalStatus (masked_update (status_written_bits value) old value)
-status_written old value legal = elim (cases_Bool (mpp_of value == 2)) [
-  | inl two ↦
-      subst
-      (λ b. IsLegalStatus (masked_update (if b then writable_without_mpp else (writable_bits Mstatus)) old value))
-      (sym two) (status_without_mpp writable_without_mpp value (lit< tt) refl refl refl legal)
-  | inr mode ↦
-      subst
-      (λ b. IsLegalStatus (masked_update (if b then writable_without_mpp else (writable_bits Mstatus)) old value))
-      (sym mode) (status_with_mpp (writable_bits Mstatus) value (lit< tt) refl refl refl (differs _ _ mode) legal)
-]
+-- mstatus under what a write of it changes, without MPP or with it
+status_by : (profile : CsrProfile) (old value : ℕ) (two : Bool) → (mpp_of value == 2) ≡ two → IsLegalStatus profile old
+    → IsLegalStatus profile (masked_update
+    (if two then bit_and (writable_bits profile Mstatus) (all_bits - field_bits MPP 2) else writable_bits profile Mstatus)
+    old value)
+unfolding writable_bits
+status_by profile old value true is legal =
+    let writable = writable_bits profile Mstatus in
+    let small = writable_fits profile Mstatus in
+    let rest : ℕ = all_bits - field_bits MPP 2 in
+    status_without_mpp (bit_and writable rest) value (omega (arith, and_le_r writable rest))
+    (ap (λ mask. bit_and mask (all_bits - writable)) (and_comm writable rest) ∙ under_apart rest writable small)
+    (out_of writable rest 11 refl) (out_of writable rest 12 refl) legal
+status_by profile old value false is legal =
+    status_with_mpp (writable_bits profile Mstatus) value (writable_fits profile Mstatus)
+    (apart_from_rest (writable_bits profile Mstatus) (writable_fits profile Mstatus))
+    (least_is_writable profile chosen.Mstatus 11 refl) (least_is_writable profile chosen.Mstatus 12 refl)
+    (differs _ _ is) legal
 
-even : (value : ℕ) → bit_and value pc_bits % 2 ≡ 0
-even value =
-    let whole : bit_at (bit_and value pc_bits) 0 ≡ bit_and value pc_bits % 2 = omega arith in
-    sym whole ∙ out_of value pc_bits 0 refl
+status_written : (profile : CsrProfile) (old value : ℕ) → IsLegalStatus profile old
+    → IsLegalStatus profile (masked_update (status_written_bits profile value) old value)
+status_written profile old value legal = status_by profile old value (mpp_of value == 2) refl legal
 
-vector : (value : ℕ) → bit_at (bit_and value vector_bits) 1 ≡ 0
-vector value = out_of value vector_bits 1 refl
+supervisor_status : (profile : CsrProfile) (old value : ℕ) → IsLegalStatus profile old
+    → IsLegalStatus profile (masked_update (supervisor_status_bits profile) old value)
+supervisor_status profile old value legal =
+    let writable = writable_bits profile Mstatus in
+    status_without_mpp (bit_and sstatus_writable writable) value
+    (omega (arith, and_le_r sstatus_writable writable, writable_fits profile Mstatus))
+    (under_apart sstatus_writable writable (writable_fits profile Mstatus))
+    (out_of_first sstatus_writable writable 11 refl) (out_of_first sstatus_writable writable 12 refl) legal
 
--- views of interrupts stay within the bits that there are
-pub enables : (delegated old value : ℕ) → IsWithinMask supervisor_interrupts delegated
-    → IsWithinMask all_interrupts old → IsWithinMask all_interrupts (masked_update delegated old value)
-unfolding masked_update
-enables delegated old value few legal =
-    within_or all_interrupts _ _ (within_first all_interrupts old _ legal)
-    (within_second all_interrupts value delegated
-    (within_larger supervisor_interrupts all_interrupts delegated refl few))
+-- what a write leaves in a register of which nothing else is asked
+written : (csrs : Csrs) (stored : StoredCsr) (value : ℕ) → KeepsFixed csrs.profile stored (at csrs stored)
+    → KeepsFixed csrs.profile stored (masked_update (writable_bits csrs.profile stored) (at csrs stored) value)
+written csrs stored value keeps =
+    let small = writable_fits csrs.profile stored in
+    merged_fixed csrs.profile stored (writable_bits csrs.profile stored) (at csrs stored) value small
+    (apart_from_rest (writable_bits csrs.profile stored) small) keeps
 
-pub stored_interrupts : (delegated old value : ℕ) → IsWithinMask supervisor_interrupts delegated
-    → IsWithinMask supervisor_interrupts old
-    → IsWithinMask supervisor_interrupts (masked_update (bit_and delegated sip_writable) old value)
-unfolding masked_update
-stored_interrupts delegated old value few legal =
-    within_or supervisor_interrupts _ _ (within_first supervisor_interrupts old _ legal)
-    (within_second supervisor_interrupts value (bit_and delegated sip_writable)
-    (within_first supervisor_interrupts delegated sip_writable few))
+-- the same under a smaller mask
+part_written : (csrs : Csrs) (stored : StoredCsr) (part value : ℕ) → KeepsFixed csrs.profile stored (at csrs stored)
+    → KeepsFixed csrs.profile stored
+    (masked_update (bit_and part (writable_bits csrs.profile stored)) (at csrs stored) value)
+part_written csrs stored part value keeps =
+    let writable = writable_bits csrs.profile stored in
+    let small = writable_fits csrs.profile stored in
+    merged_fixed csrs.profile stored (bit_and part writable) (at csrs stored) value (omega (arith, and_le_r part writable, small))
+    (under_apart part writable small) keeps
+
+even : (old value : ℕ) → old % 2 ≡ 0 → masked_update pc_bits old value % 2 ≡ 0
+even old value is =
+    let low : bit_at (masked_update pc_bits old value) 0 ≡ bit_at old 0 =
+    bit_kept pc_bits old value 0 (lit< tt) (lit< tt) refl in
+    omega (arith, low, is)
+
+even_first : (profile : CsrProfile) (old value : ℕ) → old % 2 ≡ 0
+    → masked_update (writable_bits profile Mepc) old value % 2 ≡ 0
+unfolding writable_bits
+even_first profile old value is = even old value is
+
+even_second : (profile : CsrProfile) (old value : ℕ) → old % 2 ≡ 0
+    → masked_update (writable_bits profile Sepc) old value % 2 ≡ 0
+unfolding writable_bits
+even_second profile old value is = even old value is
 
 -- satp takes a mode that the hart has, or keeps what it is
 one_of_two : (mode : ℕ) → is_supported_mode mode ≡ true → (mode ≡ BARE) ⊎ (mode ≡ SV39)
 one_of_two mode supported = grind (arith, nat_tests, supported)
 
+top_bits : (n : ℕ) → n < 2 ^ 64
+    → n / 2 ^ 60 ≡ bit_at n 60 + 2 * bit_at n 61 + 4 * bit_at n 62 + 8 * bit_at n 63
+top_bits n small = omega (arith, small)
+
+mode_taken : (profile : CsrProfile) (old value : ℕ) → value / 2 ^ 60 < 16
+    → masked_update (writable_bits profile Satp) old value / 2 ^ 60 ≡ value / 2 ^ 60
+unfolding writable_bits
+mode_taken profile old value few =
+    let mask = writable_bits profile Satp in
+    let small = writable_fits profile Satp in
+    let taken : (i : ℕ) → i < 64 → bit_at mask i ≡ 1 → bit_at (masked_update mask old value) i ≡ bit_at value i =
+    λ i inside is. bit_taken mask old value i small inside is in
+    let one = taken 60 (lit< tt) (least_is_writable profile chosen.Satp 60 refl) in
+    let two = taken 61 (lit< tt) (least_is_writable profile chosen.Satp 61 refl) in
+    let three = taken 62 (lit< tt) (least_is_writable profile chosen.Satp 62 refl) in
+    let four = taken 63 (lit< tt) (least_is_writable profile chosen.Satp 63 refl) in
+    let fits : value < 2 ^ 64 = omega (arith, few) in
+    top_bits (masked_update mask old value) (merged_fits mask old value small)
+    ∙ rw (one, two, three, four) (sym (top_bits value fits))
+
+supported_legal : (csrs : Csrs) (value : ℕ) → (satp_mode_of value ≡ BARE) ⊎ (satp_mode_of value ≡ SV39)
+    → IsLegalTranslation csrs.profile (at csrs Satp)
+    → IsLegalTranslation csrs.profile (masked_update (writable_bits csrs.profile Satp) (at csrs Satp) value)
+supported_legal csrs value (inl bare) legal =
+    let same = mode_taken csrs.profile (at csrs Satp) value (omega (arith, bare)) in
+    record { constant = written csrs Satp value legal.constant; mode = inl (same ∙ bare) }
+supported_legal csrs value (inr sv39) legal =
+    let same = mode_taken csrs.profile (at csrs Satp) value (omega (arith, sv39)) in
+    record { constant = written csrs Satp value legal.constant; mode = inr (same ∙ sv39) }
+
 translation_by : (csrs : Csrs) (value : ℕ) (supported : Bool) → is_supported_mode (satp_mode_of value) ≡ supported
-    → IsLegal csrs → IsLegal (if supported then with_at csrs Satp value else csrs)
-translation_by csrs value true is legal = legal_with csrs Satp value legal (one_of_two (satp_mode_of value) is)
+    → IsLegal csrs → IsLegal (if supported then stored_write_of csrs Satp value else csrs)
+unfolding stored_write_of
+translation_by csrs value true is legal =
+    legal_with csrs Satp _ legal
+    (supported_legal csrs value (one_of_two (satp_mode_of value) is) (legal.values Satp))
 translation_by csrs value false is legal = legal
 
 translation_legal : (csrs : Csrs) (value : ℕ) → IsLegal csrs → IsLegal (translation_write_of csrs value)
 unfolding translation_write_of
 translation_legal csrs value legal = translation_by csrs value (is_supported_mode (satp_mode_of value)) refl legal
 
--- a write leaves a stored register's writable bits
-written : (csrs : Csrs) (stored : StoredCsr) (value : ℕ) → IsLegal csrs
-    → IsLegalValue stored (bit_and value (writable_bits stored))
-    → IsLegal (with_at csrs stored (bit_and value (writable_bits stored)))
-written csrs stored value legal can = legal_with csrs stored _ legal can
+stored_interrupts : (csrs : Csrs) (value : ℕ) → KeepsFixed csrs.profile Mip (at csrs Mip)
+    → KeepsFixed csrs.profile Mip (masked_update
+    (bit_and (at csrs Mideleg) (bit_and sip_writable (writable_bits csrs.profile Mip))) (at csrs Mip) value)
+stored_interrupts csrs value keeps =
+    subst (λ mask. KeepsFixed csrs.profile Mip (masked_update mask (at csrs Mip) value))
+    (and_assoc (writable_bits csrs.profile Mip) (at csrs Mideleg) sip_writable)
+    (part_written csrs Mip (bit_and (at csrs Mideleg) sip_writable) value keeps)
+
+table_legal : (csrs : Csrs) (csr : Csr) (value : ℕ) → IsLegal csrs → IsLegal (csr_write_of csrs (csr_kind_of csr) value)
+unfolding csr_write_of csr_kind_of status_write_of stored_write_of
+table_legal csrs csr.Mstatus value legal =
+    legal_with csrs Mstatus _ legal (status_written csrs.profile (at csrs Mstatus) value (legal.values Mstatus))
+table_legal csrs csr.Misa value legal = legal
+table_legal csrs csr.Medeleg value legal = legal_with csrs Medeleg _ legal (written csrs Medeleg value (legal.values Medeleg))
+table_legal csrs csr.Mideleg value legal = legal_with csrs Mideleg _ legal (written csrs Mideleg value (legal.values Mideleg))
+table_legal csrs csr.Mie value legal = legal_with csrs Mie _ legal (written csrs Mie value (legal.values Mie))
+table_legal csrs csr.Mtvec value legal = legal_with csrs Mtvec _ legal (written csrs Mtvec value (legal.values Mtvec))
+table_legal csrs csr.Mcounteren value legal = legal_with csrs Mcounteren _ legal (written csrs Mcounteren value (legal.values Mcounteren))
+table_legal csrs csr.Menvcfg value legal = legal_with csrs Menvcfg _ legal (written csrs Menvcfg value (legal.values Menvcfg))
+table_legal csrs csr.Mcountinhibit value legal = legal_with csrs Mcountinhibit _ legal (written csrs Mcountinhibit value (legal.values Mcountinhibit))
+table_legal csrs (csr.Mhpmevent number) value legal = legal
+table_legal csrs csr.Mscratch value legal = legal_with csrs Mscratch _ legal tt
+table_legal csrs csr.Mepc value legal = legal_with csrs Mepc _ legal (even_first csrs.profile (at csrs Mepc) value (legal.values Mepc))
+table_legal csrs csr.Mcause value legal = legal_with csrs Mcause _ legal tt
+table_legal csrs csr.Mtval value legal = legal_with csrs Mtval _ legal tt
+table_legal csrs csr.Mip value legal = legal_with csrs Mip _ legal (written csrs Mip value (legal.values Mip))
+table_legal csrs csr.Sstatus value legal =
+    legal_with csrs Mstatus _ legal (supervisor_status csrs.profile (at csrs Mstatus) value (legal.values Mstatus))
+table_legal csrs csr.Sie value legal =
+    legal_with csrs Mie _ legal (part_written csrs Mie (at csrs Mideleg) value (legal.values Mie))
+table_legal csrs csr.Stvec value legal = legal_with csrs Stvec _ legal (written csrs Stvec value (legal.values Stvec))
+table_legal csrs csr.Scounteren value legal = legal_with csrs Scounteren _ legal (written csrs Scounteren value (legal.values Scounteren))
+table_legal csrs csr.Senvcfg value legal = legal_with csrs Senvcfg _ legal (written csrs Senvcfg value (legal.values Senvcfg))
+table_legal csrs csr.Sscratch value legal = legal_with csrs Sscratch _ legal tt
+table_legal csrs csr.Sepc value legal = legal_with csrs Sepc _ legal (even_second csrs.profile (at csrs Sepc) value (legal.values Sepc))
+table_legal csrs csr.Scause value legal = legal_with csrs Scause _ legal tt
+table_legal csrs csr.Stval value legal = legal_with csrs Stval _ legal tt
+table_legal csrs csr.Sip value legal =
+    legal_with csrs Mip _ legal (stored_interrupts csrs value (legal.values Mip))
+table_legal csrs csr.Satp value legal = translation_legal csrs value legal
+table_legal csrs csr.Pmpcfg0 value legal = configurations_legal csrs 0 value legal
+table_legal csrs csr.Pmpcfg2 value legal = configurations_legal csrs 8 value legal
+table_legal csrs (csr.Pmpaddr number) value legal = address_legal csrs number value legal
+table_legal csrs csr.Mcycle value legal = legal
+table_legal csrs csr.Minstret value legal = legal
+table_legal csrs (csr.Mhpmcounter number) value legal = legal
+table_legal csrs csr.Cycle value legal = legal
+table_legal csrs csr.Time value legal = legal
+table_legal csrs csr.Instret value legal = legal
+table_legal csrs (csr.Hpmcounter number) value legal = legal
+table_legal csrs csr.Mvendorid value legal = legal
+table_legal csrs csr.Marchid value legal = legal
+table_legal csrs csr.Mimpid value legal = legal
+table_legal csrs csr.Mhartid value legal = legal
+table_legal csrs csr.Mconfigptr value legal = legal
+
+kind_legal : (csrs : Csrs) (csr : Csr) (value : ℕ) (from_row : Bool) → IsLegal csrs
+    → IsLegal (csr_write_of csrs (if from_row then ImplementationDefined else csr_kind_of csr) value)
+unfolding csr_write_of
+kind_legal csrs csr value true legal = legal
+kind_legal csrs csr value false legal = table_legal csrs csr value legal
 
 pub write_legal : (csrs : Csrs) (csr : Csr) (value : ℕ) → IsLegal csrs
-    → IsLegal (csr_write_of csrs (csr_kind_of csr) value)
-unfolding csr_write_of csr_kind_of status_write_of
-write_legal csrs csr.Mstatus value legal =
-    legal_with csrs Mstatus _ legal (status_written (at csrs Mstatus) value (legal.values Mstatus))
-write_legal csrs csr.Misa value legal = legal
-write_legal csrs csr.Medeleg value legal = written csrs Medeleg value legal (within_mask (writable_bits Medeleg) value)
-write_legal csrs csr.Mideleg value legal = written csrs Mideleg value legal (within_mask (writable_bits Mideleg) value)
-write_legal csrs csr.Mie value legal = written csrs Mie value legal (within_mask (writable_bits Mie) value)
-write_legal csrs csr.Mtvec value legal = written csrs Mtvec value legal (vector value)
-write_legal csrs csr.Mcounteren value legal =
-    written csrs Mcounteren value legal (within_mask (writable_bits Mcounteren) value)
-write_legal csrs csr.Menvcfg value legal = written csrs Menvcfg value legal (within_mask (writable_bits Menvcfg) value)
-write_legal csrs csr.Mcountinhibit value legal =
-    written csrs Mcountinhibit value legal (within_mask (writable_bits Mcountinhibit) value)
-write_legal csrs (csr.Mhpmevent number) value legal = legal
-write_legal csrs csr.Mscratch value legal = written csrs Mscratch value legal tt
-write_legal csrs csr.Mepc value legal = written csrs Mepc value legal (even value)
-write_legal csrs csr.Mcause value legal = written csrs Mcause value legal tt
-write_legal csrs csr.Mtval value legal = written csrs Mtval value legal tt
-write_legal csrs csr.Mip value legal = written csrs Mip value legal (within_mask (writable_bits Mip) value)
-write_legal csrs csr.Sstatus value legal =
-    legal_with csrs Mstatus _ legal
-    (status_without_mpp sstatus_writable value (lit< tt) refl refl refl (legal.values Mstatus))
-write_legal csrs csr.Sie value legal =
-    legal_with csrs Mie _ legal
-    (enables (at csrs Mideleg) (at csrs Mie) value (legal.values Mideleg) (legal.values Mie))
-write_legal csrs csr.Stvec value legal = written csrs Stvec value legal (vector value)
-write_legal csrs csr.Scounteren value legal =
-    written csrs Scounteren value legal (within_mask (writable_bits Scounteren) value)
-write_legal csrs csr.Senvcfg value legal = written csrs Senvcfg value legal (within_mask (writable_bits Senvcfg) value)
-write_legal csrs csr.Sscratch value legal = written csrs Sscratch value legal tt
-write_legal csrs csr.Sepc value legal = written csrs Sepc value legal (even value)
-write_legal csrs csr.Scause value legal = written csrs Scause value legal tt
-write_legal csrs csr.Stval value legal = written csrs Stval value legal tt
-write_legal csrs csr.Sip value legal =
-    legal_with csrs Mip _ legal
-    (stored_interrupts (at csrs Mideleg) (at csrs Mip) value (legal.values Mideleg) (legal.values Mip))
-write_legal csrs csr.Satp value legal = translation_legal csrs value legal
-write_legal csrs csr.Pmpcfg0 value legal = configurations_legal csrs 0 value legal
-write_legal csrs csr.Pmpcfg2 value legal = configurations_legal csrs 8 value legal
-write_legal csrs (csr.Pmpaddr number) value legal = address_legal csrs number value legal
-write_legal csrs csr.Mcycle value legal = legal
-write_legal csrs csr.Minstret value legal = legal
-write_legal csrs (csr.Mhpmcounter number) value legal = legal
-write_legal csrs csr.Cycle value legal = legal
-write_legal csrs csr.Time value legal = legal
-write_legal csrs csr.Instret value legal = legal
-write_legal csrs (csr.Hpmcounter number) value legal = legal
-write_legal csrs csr.Mvendorid value legal = legal
-write_legal csrs csr.Marchid value legal = legal
-write_legal csrs csr.Mimpid value legal = legal
-write_legal csrs csr.Mhartid value legal = legal
-write_legal csrs csr.Mconfigptr value legal = legal
+    → IsLegal (csr_write_of csrs (kind_in csrs.profile csr) value)
+unfolding kind_in
+write_legal csrs csr value legal =
+    kind_legal csrs csr value (is_from_row (presence_of csrs.profile csr)) legal
 
-legal_at_reset : (stored : StoredCsr) → IsLegalValue stored (at csrs_at_reset stored)
-unfolding at csrs_at_reset
-legal_at_reset Mstatus = record { constant = refl; previous = λ two. let never : 0 ≡ 2 = two in omega arith }
-legal_at_reset Medeleg = refl
-legal_at_reset Mideleg = refl
-legal_at_reset Mie = refl
-legal_at_reset Mtvec = refl
-legal_at_reset Mcounteren = refl
-legal_at_reset Menvcfg = refl
-legal_at_reset Mcountinhibit = refl
-legal_at_reset Mscratch = tt
-legal_at_reset Mepc = refl
-legal_at_reset Mcause = tt
-legal_at_reset Mtval = tt
-legal_at_reset Mip = refl
-legal_at_reset Stvec = refl
-legal_at_reset Scounteren = refl
-legal_at_reset Senvcfg = refl
-legal_at_reset Sscratch = tt
-legal_at_reset Sepc = refl
-legal_at_reset Scause = tt
-legal_at_reset Stval = tt
-legal_at_reset Satp = inl refl
+-- zeros but for the bits that are always 1
+none_fixed : (profile : CsrProfile) (stored : StoredCsr) → fixed_bits profile stored ≡ 0 → KeepsFixed profile stored 0
+none_fixed profile stored none = and_comm 0 (all_bits - writable_bits profile stored)
+    ∙ and_zero_r (all_bits - writable_bits profile stored) ∙ sym none
 
-pub reset_legal : IsLegal csrs_at_reset
-unfolding csrs_at_reset
-reset_legal = record {
+legal_at_reset : (profile : CsrProfile) (stored : StoredCsr)
+    → IsLegalValue profile stored (at (csrs_at_reset_of profile) stored)
+unfolding at csrs_at_reset_of fixed_bits writable_bits
+legal_at_reset profile Mstatus = fixed_status profile
+legal_at_reset profile Medeleg = fixed_keeps profile chosen.Medeleg
+legal_at_reset profile Mideleg = fixed_keeps profile chosen.Mideleg
+legal_at_reset profile Mie = none_fixed profile Mie refl
+legal_at_reset profile Mtvec = none_fixed profile Mtvec refl
+legal_at_reset profile Mcounteren = fixed_keeps profile chosen.Mcounteren
+legal_at_reset profile Menvcfg = fixed_keeps profile chosen.Menvcfg
+legal_at_reset profile Mcountinhibit = fixed_keeps profile chosen.Mcountinhibit
+legal_at_reset profile Mscratch = tt
+legal_at_reset profile Mepc = refl
+legal_at_reset profile Mcause = tt
+legal_at_reset profile Mtval = tt
+legal_at_reset profile Mip = none_fixed profile Mip refl
+legal_at_reset profile Stvec = none_fixed profile Stvec refl
+legal_at_reset profile Scounteren = fixed_keeps profile chosen.Scounteren
+legal_at_reset profile Senvcfg = fixed_keeps profile chosen.Senvcfg
+legal_at_reset profile Sscratch = tt
+legal_at_reset profile Sepc = refl
+legal_at_reset profile Scause = tt
+legal_at_reset profile Stval = tt
+legal_at_reset profile Satp = record { constant = none_fixed profile Satp refl; mode = inl refl }
+
+pub reset_legal : (profile : CsrProfile) → IsLegal (csrs_at_reset_of profile)
+unfolding csrs_at_reset_of
+reset_legal profile = record {
   whole = refl;
-  values = legal_at_reset;
-  entries = reset_entries_legal;
+  values = legal_at_reset profile;
+  entries = reset_entries_legal profile;
+  missing = reset_missing profile;
 }

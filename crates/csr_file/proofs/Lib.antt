@@ -1,4 +1,5 @@
 pub mod Bits
+pub mod Profiles
 pub mod Places
 pub mod Legal
 pub mod Writes

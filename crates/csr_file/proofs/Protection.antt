@@ -1,10 +1,12 @@
 -- What writes of the registers of physical memory protection leave.
 use Rattle.std.proofs.Common.{◌≡◌, ◌≢◌, ℕ, ◌+◌, ◌-◌, ◌*◌, ◌/◌, ◌%◌, ◌<◌, ◌≤◌, Bool, true, false, ◌&&◌, ◌||◌, nat_lt}
-use Rattle.std.proofs.Common.{nat_le, inl, inr, refl, sym, ap, ◌∙◌, subst, arith, lit<, List, length, map, get_or}
+use Rattle.std.proofs.Common.{mod-lt, not, nat_le, inl, inr, refl, sym, ap, ◌∙◌, subst, arith, List, length, map, get_or}
 use Rattle.std.proofs.Common.{get_or-set_other, replicate, All, if◌then◌else◌}
 use Rattle.std.specs.Prelude.{◌==◌}
 use Rattle.std.specs.List.{range_with_len}
-use Rattle.std.proofs.lemmas.Bool.{cases_Bool}
+use Rattle.std.proofs.lemmas.Bool.{cases_Bool, cases_lt}
+use Rattle.std.proofs.lemmas.Nat.{pow_pos}
+use Rattle.std.proofs.lemmas.List.{get_or-replicate}
 use Rattle.std.proofs.lemmas.Bool.Decides.{nat_tests}
 use Rattle.std.proofs.lemmas.List.Elements.{All-map, All-replicate, All-set}
 use Rattle.std.proofs.lemmas.List.FromFn.{get_or-map-range_with_len, length-map-range_with_len}
@@ -15,12 +17,15 @@ use Rattle.hart_words.specs.declared.privilege.PmpEntry.{PmpEntry}
 use Rattle.csr_file.specs.declared.csrs.Csrs.{Csrs}
 use Rattle.csr_file.specs.declared.fields.TheConstants.{PMP_LOCK}
 use Rattle.csr_file.specs.Fields.{bit_is_set}
-use Rattle.csr_file.specs.Registers.{at, no_entry, pmp_entry_of}
+use Rattle.csr_file.specs.declared.profile.CsrProfile.{CsrProfile}
+use Rattle.csr_file.specs.Profiles.{entry_bits_of}
+use Rattle.csr_file.specs.Registers.{at, csrs_at_reset_of, no_entry, pmp_entry_of}
 use Rattle.csr_file.specs.Values.{configuration_of, configuration_after, configuration_after_write, entry_after_write}
 use Rattle.csr_file.specs.Values.{with_entry_address, configurations_write_of, is_locked_from_below, address_is_locked}
-use Rattle.csr_file.specs.Values.{entry_address_write_of}
+use Rattle.csr_file.specs.Values.{entry_address_write_of, has_entry}
 use Rattle.csr_file.specs.Legal.{IsLegal, IsLegalConfiguration, IsLegalEntry}
 use Rattle.csr_file.specs.Laws.{KeepsLocked}
+use Rattle.csr_file.proofs.LegalTests.{both}
 
 -- the bits that a configuration byte keeps make a legal one
 fields_legal : (byte : ℕ) → byte % 4 ≢ 2 → IsLegalConfiguration (byte % 32 + byte / 128 % 2 * 128)
@@ -39,20 +44,32 @@ after_legal : (old byte : ℕ) → IsLegalConfiguration old → IsLegalConfigura
 unfolding configuration_after
 after_legal old byte legal = after_by old byte (bit_is_set old PMP_LOCK) (byte % 4 == 2) refl legal
 
-off_legal : IsLegalEntry no_entry
-off_legal = record { configuration = record { reserved = refl; rights = λ two. omega arith }; address = lit< tt }
+off_legal : (profile : CsrProfile) → IsLegalEntry profile no_entry
+off_legal profile = record {
+  configuration = record { reserved = refl; rights = λ two. omega arith };
+  address = pow_pos (entry_bits_of profile);
+}
 
 -- a number past the entries reads as one that is off
-entry_legal : (csrs : Csrs) (number : ℕ) → IsLegal csrs → IsLegalEntry (pmp_entry_of csrs number)
+entry_legal : (csrs : Csrs) (number : ℕ) → IsLegal csrs → IsLegalEntry csrs.profile (pmp_entry_of csrs number)
 entry_legal csrs number legal = elim (cases_Bool (nat_lt number (length csrs.entries))) [
   | inl inside ↦ legal.entries number no_entry (grind (arith, nat_tests, inside))
   | inr outside ↦
       let past : length csrs.entries ≤ number = grind (arith, nat_tests, outside) in
-      subst IsLegalEntry (sym (get_or-eq_default csrs.entries no_entry past)) off_legal
+      subst (IsLegalEntry csrs.profile) (sym (get_or-eq_default csrs.entries no_entry past)) (off_legal csrs.profile)
 ]
 
-pub reset_entries_legal : All IsLegalEntry (replicate 16 no_entry)
-reset_entries_legal = All-replicate IsLegalEntry 16 no_entry off_legal
+pub reset_entries_legal : (profile : CsrProfile) → All (IsLegalEntry profile) (replicate 16 no_entry)
+reset_entries_legal profile = All-replicate (IsLegalEntry profile) 16 no_entry (off_legal profile)
+
+-- all entries are off at reset
+pub reset_missing : (profile : CsrProfile) (number : ℕ) → has_entry (csrs_at_reset_of profile) number ≡ false
+    → pmp_entry_of (csrs_at_reset_of profile) number ≡ no_entry
+unfolding csrs_at_reset_of
+reset_missing profile number none = elim (cases_lt number 16) [
+  | inl inside ↦ get_or-replicate 16 number no_entry no_entry inside
+  | inr past ↦ get_or-eq_default (replicate 16 no_entry) no_entry past
+]
 
 written_by : (old byte : ℕ) (inside : Bool) → IsLegalConfiguration old
     → IsLegalConfiguration (if inside then configuration_after old byte else old)
@@ -60,16 +77,39 @@ written_by old byte true legal = after_legal old byte legal
 written_by old byte false legal = legal
 
 written_legal : (csrs : Csrs) (first value number : ℕ) → IsLegal csrs
-    → IsLegalEntry (entry_after_write csrs first value number)
+    → IsLegalEntry csrs.profile (entry_after_write csrs first value number)
 unfolding configuration_after_write
 written_legal csrs first value number legal =
     let before = entry_legal csrs number legal in
     record {
       configuration =
           written_by (configuration_of csrs number) (bit_field (8 * (number - first)) 8 value)
-          (nat_le first number && nat_lt number (first + 8)) before.configuration;
+          (nat_le first number && nat_lt number (first + 8) && has_entry csrs number) before.configuration;
       address = before.address;
     }
+
+-- an entry that the core has not stays as it is
+not_written : (csrs : Csrs) (first value number : ℕ) → has_entry csrs number ≡ false
+    → configuration_after_write csrs first value number ≡ configuration_of csrs number
+unfolding configuration_after_write
+not_written csrs first value number none =
+    rw (none, and_false (nat_le first number && nat_lt number (first + 8))) refl
+  where
+    and_false : (b : Bool) → (b && false) ≡ false
+    and_false true = refl
+    and_false false = refl
+
+still_missing : (csrs : Csrs) (first value number : ℕ) → IsLegal csrs → has_entry csrs number ≡ false
+    → pmp_entry_of (configurations_write_of csrs first value) number ≡ no_entry
+unfolding configurations_write_of
+still_missing csrs first value number legal none = elim (cases_lt number 16) [
+  | inl inside ↦
+      get_or-map-range_with_len (entry_after_write csrs first value) 0 16 number number no_entry inside (omega arith)
+      ∙ ap (λ cfg. record (pmp_entry_of csrs number) { cfg = cfg }) (not_written csrs first value number none)
+      ∙ legal.missing number none
+  | inr past ↦
+      get_or-eq_default (map (entry_after_write csrs first value) (range_with_len 0 16)) no_entry past
+]
 
 pub configurations_legal : (csrs : Csrs) (first value : ℕ) → IsLegal csrs
     → IsLegal (configurations_write_of csrs first value)
@@ -78,25 +118,41 @@ configurations_legal csrs first value legal = record {
   whole = legal.whole;
   values = legal.values;
   entries =
-      All-map IsLegalEntry (entry_after_write csrs first value) (range_with_len 0 16)
+      All-map (IsLegalEntry csrs.profile) (entry_after_write csrs first value) (range_with_len 0 16)
       (λ k d inside. written_legal csrs first value (get_or (range_with_len 0 16) k d) legal);
+  missing = λ number none. still_missing csrs first value number legal none;
 }
 
-address_by : (csrs : Csrs) (number value : ℕ) (locked : Bool) → IsLegal csrs
-    → IsLegal (if locked then csrs else with_entry_address csrs number value)
+address_by : (csrs : Csrs) (number value : ℕ) (free : Bool) → (free ≡ true → has_entry csrs number ≡ true) → IsLegal csrs
+    → IsLegal (if free then with_entry_address csrs number value else csrs)
 unfolding at
-address_by csrs number value true legal = legal
-address_by csrs number value false legal = record {
+address_by csrs number value false there legal = legal
+address_by csrs number value true there legal = record {
   whole = legal.whole;
   values = legal.values;
   entries =
-      All-set IsLegalEntry csrs.entries number _
-      (record { configuration = (entry_legal csrs number legal).configuration; address = omega arith }) legal.entries;
+      All-set (IsLegalEntry csrs.profile) csrs.entries number _
+      (record {
+        configuration = (entry_legal csrs number legal).configuration;
+        address = mod-lt value (pow_pos (entry_bits_of csrs.profile));
+      })
+      legal.entries;
+  missing = λ other none.
+      get_or-set_other csrs.entries number other _ no_entry
+      (λ same. apart (has_entry csrs number) (there refl) (ap (has_entry csrs) (sym same) ∙ none))
+      ∙ legal.missing other none;
 }
+  where
+    apart : (b : Bool) → b ≡ true → b ≡ false → ⊥
+    apart true on off = cc
+    apart false on off = cc
 
 pub address_legal : (csrs : Csrs) (number value : ℕ) → IsLegal csrs → IsLegal (entry_address_write_of csrs number value)
 unfolding entry_address_write_of
-address_legal csrs number value legal = address_by csrs (number % 16) value (address_is_locked csrs (number % 16)) legal
+address_legal csrs number value legal =
+    address_by csrs (number % 16) value
+    (has_entry csrs (number % 16) && not (address_is_locked csrs (number % 16)))
+    (λ is. (both _ _ is).0) legal
 
 -- a locked entry keeps its configuration
 locked_by : (old byte : ℕ) (reserved : Bool) → bit_is_set old PMP_LOCK ≡ true
@@ -119,7 +175,7 @@ written_locked : (csrs : Csrs) (first value number : ℕ) → bit_is_set (config
 unfolding configuration_after_write
 written_locked csrs first value number locked =
     inside_by (configuration_of csrs number) (bit_field (8 * (number - first)) 8 value)
-    (nat_le first number && nat_lt number (first + 8)) locked
+    (nat_le first number && nat_lt number (first + 8) && has_entry csrs number) locked
 
 -- each entry after a write of configurations
 entry_after : (csrs : Csrs) (first value number : ℕ) → number < 16
@@ -131,9 +187,11 @@ entry_after csrs first value number below =
 pub configurations_keep : (csrs : Csrs) (first value number : ℕ) → number < 16
     → bit_is_set (configuration_of csrs number) PMP_LOCK ≡ true
     → KeepsLocked csrs (configurations_write_of csrs first value) number
+unfolding configurations_write_of
 configurations_keep csrs first value number below locked =
     let with_configuration : ℕ → PmpEntry = λ cfg. record (pmp_entry_of csrs number) { cfg = cfg } in
     record {
+      profile = refl;
       entry =
           entry_after csrs first value number below
           ∙ ap with_configuration (written_locked csrs first value number locked);
@@ -169,10 +227,21 @@ before_apart csrs one number below some begins free same =
     right_false false true false off on here = cc
     right_false false false d off on here = cc
 
-kept_by : (csrs : Csrs) (one number value : ℕ) (free : Bool) → (free ≡ false → number ≢ one)
-    → pmp_entry_of (if free then csrs else with_entry_address csrs one value) number ≡ pmp_entry_of csrs number
-kept_by csrs one number value true apart = refl
-kept_by csrs one number value false apart = get_or-set_other csrs.entries one number _ no_entry (apart refl)
+kept_by : (csrs : Csrs) (one number value : ℕ) (free : Bool) → (free ≡ true → number ≢ one)
+    → pmp_entry_of (if free then with_entry_address csrs one value else csrs) number ≡ pmp_entry_of csrs number
+kept_by csrs one number value false apart = refl
+kept_by csrs one number value true apart = get_or-set_other csrs.entries one number _ no_entry (apart refl)
+
+profile_by : (csrs : Csrs) (one value : ℕ) (free : Bool)
+    → (if free then with_entry_address csrs one value else csrs).profile ≡ csrs.profile
+profile_by csrs one value true = refl
+profile_by csrs one value false = refl
+
+-- an address that is written is not locked
+not_locked : (a b : Bool) → (a && not b) ≡ true → b ≡ false
+not_locked true false is = refl
+not_locked true true is = cc
+not_locked false b is = cc
 
 below_by : (csrs : Csrs) (one number : ℕ) → number < 16 → bit_is_set (configuration_of csrs number) PMP_LOCK ≡ true
     → is_locked_from_below (configuration_of csrs number) ≡ true → address_is_locked csrs one ≡ false → number - 1 ≢ one
@@ -188,13 +257,16 @@ pub address_keeps : (csrs : Csrs) (one value number : ℕ) → number < 16
     → KeepsLocked csrs (entry_address_write_of csrs one value) number
 unfolding entry_address_write_of
 address_keeps csrs one value number below locked = record {
+  profile = profile_by csrs (one % 16) value (has_entry csrs (one % 16) && not (address_is_locked csrs (one % 16)));
   entry =
-      kept_by csrs (one % 16) number value (address_is_locked csrs (one % 16))
-      (unlocked_apart csrs (one % 16) number locked);
+      kept_by csrs (one % 16) number value
+      (has_entry csrs (one % 16) && not (address_is_locked csrs (one % 16)))
+      (λ is. unlocked_apart csrs (one % 16) number locked (not_locked _ _ is));
   below =
       λ begins. ap (λ entry. entry.addr)
-      (kept_by csrs (one % 16) (number - 1) value (address_is_locked csrs (one % 16))
-      (below_by csrs (one % 16) number below locked begins));
+      (kept_by csrs (one % 16) (number - 1) value
+      (has_entry csrs (one % 16) && not (address_is_locked csrs (one % 16)))
+      (λ is. below_by csrs (one % 16) number below locked begins (not_locked _ _ is)));
 }
 
 -- a list that holds at each place what a function gives from a number on

@@ -14,14 +14,13 @@ use Rattle.csr_file.specs.declared.csr_kind.CsrKind.TheVariants.{Stored, Status,
 use Rattle.csr_file.specs.declared.csr_kind.CsrKind.TheVariants.{SupervisorEnables, SupervisorPending, Translation}
 use Rattle.csr_file.specs.declared.csr_kind.CsrKind.TheVariants.{LowConfigurations, HighConfigurations, EntryAddress}
 use Rattle.csr_file.specs.declared.csr_kind.CsrKind.TheVariants.{Constant, ImplementationDefined, Counter}
-use Rattle.csr_file.specs.declared.csr_kind.CsrKind.TheVariants.{UnimplementedCounter}
 use Rattle.csr_file.specs.declared.access.CsrRead.{CsrRead}
 use Rattle.csr_file.specs.declared.access.Illegal.{Illegal}
 use Rattle.csr_file.specs.declared.fields.TheConstants.{TVM}
 use Rattle.csr_file.specs.Registers.{at}
 use Rattle.csr_file.specs.Fields.{bit_is_set}
-use Rattle.csr_file.specs.Table.{csr_kind_of}
-use Rattle.csr_file.specs.Values.{csr_read_of, csr_write_of}
+use Rattle.csr_file.specs.Profiles.{is_absent, kind_in, presence_of}
+use Rattle.csr_file.specs.Values.{csr_read_of, csr_write_of, has_entry}
 
 -- the counter of this bit may be read: in S where mcounteren has the bit, in U where scounteren has it too
 abbrev pub counter_is_enabled : Csrs → Mode → ℕ → Bool
@@ -36,8 +35,11 @@ translation_is_open csrs Machine = true
 translation_is_open csrs Supervisor = not (bit_is_set (at csrs Mstatus) TVM)
 translation_is_open csrs User = false
 
--- the register may be accessed in the mode, as far as TVM and the enables of counters go; no enable stands for
--- the further counters
+-- the core has physical memory protection
+abbrev pub has_entries : Csrs → Bool
+has_entries csrs = has_entry csrs 0
+
+-- the register may be accessed in the mode, as far as TVM, the enables of counters and what the core has go
 unfoldable pub is_enabled : Csrs → Mode → CsrKind → Bool
 is_enabled csrs mode (Stored stored) = true
 is_enabled csrs mode Status = true
@@ -46,17 +48,18 @@ is_enabled csrs mode SupervisorStatus = true
 is_enabled csrs mode SupervisorEnables = true
 is_enabled csrs mode SupervisorPending = true
 is_enabled csrs mode Translation = translation_is_open csrs mode
-is_enabled csrs mode LowConfigurations = true
-is_enabled csrs mode HighConfigurations = true
-is_enabled csrs mode (EntryAddress number) = true
+is_enabled csrs mode LowConfigurations = has_entries csrs
+is_enabled csrs mode HighConfigurations = has_entries csrs
+is_enabled csrs mode (EntryAddress number) = has_entries csrs
 is_enabled csrs mode (Constant number) = true
 is_enabled csrs mode ImplementationDefined = true
 is_enabled csrs mode (Counter bit) = counter_is_enabled csrs mode bit
-is_enabled csrs mode UnimplementedCounter = nat_le 3 (mode_number mode)
 
 -- a read of the row's register is legal in the mode
 unfoldable pub may_read : Csrs → Mode → CsrRow → Bool
-may_read csrs mode row = nat_le row.least_mode (mode_number mode) && is_enabled csrs mode (csr_kind_of row.csr)
+may_read csrs mode row =
+    nat_le row.least_mode (mode_number mode) && is_enabled csrs mode (kind_in csrs.profile row.csr)
+    && not (is_absent (presence_of csrs.profile row.csr))
 
 -- a write of it is legal
 unfoldable pub may_write : Csrs → Mode → CsrRow → Bool
@@ -66,7 +69,7 @@ may_write csrs mode row = may_read csrs mode row && not row.read_only
 abbrev pub csr_read_by : Csrs → Mode → ℕ → Option CsrRow → Result CsrRead Illegal
 csr_read_by csrs mode lines None = Err (record {})
 csr_read_by csrs mode lines (Some row) =
-    if may_read csrs mode row then Ok (csr_read_of csrs (csr_kind_of row.csr) lines) else Err (record {})
+    if may_read csrs mode row then Ok (csr_read_of csrs (kind_in csrs.profile row.csr) lines) else Err (record {})
 
 -- a read by address
 unfoldable pub csr_read_at : Csrs → ℕ → Mode → ℕ → Result CsrRead Illegal
@@ -76,7 +79,7 @@ csr_read_at csrs address mode lines = csr_read_by csrs mode lines (csr_row_of ad
 abbrev pub csr_write_by : Csrs → Mode → ℕ → Option CsrRow → Result Csrs Illegal
 csr_write_by csrs mode value None = Err (record {})
 csr_write_by csrs mode value (Some row) =
-    if may_write csrs mode row then Ok (csr_write_of csrs (csr_kind_of row.csr) value) else Err (record {})
+    if may_write csrs mode row then Ok (csr_write_of csrs (kind_in csrs.profile row.csr) value) else Err (record {})
 
 -- a write by address
 unfoldable pub csr_write_at : Csrs → ℕ → Mode → ℕ → Result Csrs Illegal

@@ -10,11 +10,11 @@ use Rattle.csr_file.specs.declared.csr_kind.CsrKind.TheVariants.{Stored, Status,
 use Rattle.csr_file.specs.declared.csr_kind.CsrKind.TheVariants.{SupervisorEnables, SupervisorPending, Translation}
 use Rattle.csr_file.specs.declared.csr_kind.CsrKind.TheVariants.{LowConfigurations, HighConfigurations, EntryAddress}
 use Rattle.csr_file.specs.declared.csr_kind.CsrKind.TheVariants.{Constant, ImplementationDefined, Counter}
-use Rattle.csr_file.specs.declared.csr_kind.CsrKind.TheVariants.{UnimplementedCounter}
 use Rattle.csr_file.specs.declared.fields.TheConstants.{PMP_LOCK}
 use Rattle.csr_file.specs.Registers.{at, pmp_entry_of}
 use Rattle.csr_file.specs.Fields.{bit_is_set, masked_update}
-use Rattle.csr_file.specs.Table.{csr_kind_of}
+use Rattle.csr_file.specs.declared.profile.ChosenCsr.{ChosenCsr}
+use Rattle.csr_file.specs.Profiles.{fixed_in, is_from_row, kind_in, plain_mask, plain_profile, presence_of, writable_in}
 use Rattle.csr_file.specs.Values.{configuration_of, csr_write_of, is_locked_from_below}
 
 -- the stored register that a write changes: a view's is another register
@@ -32,13 +32,12 @@ written_register_of (EntryAddress number) = None
 written_register_of (Constant number) = None
 written_register_of ImplementationDefined = None
 written_register_of (Counter bit) = None
-written_register_of UnimplementedCounter = None
 
 -- a write changes no register but that one
 abbrev pub LeavesOtherRegisters : Csrs → Csr → ℕ → Type 0
 LeavesOtherRegisters csrs csr value =
-    (stored : StoredCsr) → written_register_of (csr_kind_of csr) ≢ Some stored
-    → at (csr_write_of csrs (csr_kind_of csr) value) stored ≡ at csrs stored
+    (stored : StoredCsr) → written_register_of (kind_in csrs.profile csr) ≢ Some stored
+    → at (csr_write_of csrs (kind_in csrs.profile csr) value) stored ≡ at csrs stored
 
 -- the register is one of physical memory protection
 abbrev pub is_protective : CsrKind → Bool
@@ -50,11 +49,13 @@ is_protective _ = false
 -- a write of any other leaves physical memory protection
 abbrev pub LeavesProtection : Csrs → Csr → ℕ → Type 0
 LeavesProtection csrs csr value =
-    is_protective (csr_kind_of csr) ≡ false
-    → (csr_write_of csrs (csr_kind_of csr) value).entries ≡ csrs.entries
+    is_protective (kind_in csrs.profile csr) ≡ false
+    → (csr_write_of csrs (kind_in csrs.profile csr) value).entries ≡ csrs.entries
 
--- an entry that is locked stays, and where it begins at the address of the entry before it, that address too
+-- an entry that is locked stays, and where it begins at the address of the entry before it, that address too; and
+-- so does what the core makes of its registers
 pub record KeepsLocked (before after : Csrs) (number : ℕ) : Type 0 where
+  pub profile : after.profile ≡ before.profile
   pub entry : pmp_entry_of after number ≡ pmp_entry_of before number
   pub below : is_locked_from_below (configuration_of before number) ≡ true
       → (pmp_entry_of after (number - 1)).addr ≡ (pmp_entry_of before (number - 1)).addr
@@ -62,7 +63,20 @@ pub record KeepsLocked (before after : Csrs) (number : ℕ) : Type 0 where
 abbrev pub LeavesLocked : Csrs → Csr → ℕ → Type 0
 LeavesLocked csrs csr value =
     (number : ℕ) → number < 16 → bit_is_set (configuration_of csrs number) PMP_LOCK ≡ true
-    → KeepsLocked csrs (csr_write_of csrs (csr_kind_of csr) value) number
+    → KeepsLocked csrs (csr_write_of csrs (kind_in csrs.profile csr) value) number
+
+-- a write leaves what the core makes of its registers
+abbrev pub LeavesProfile : Csrs → Csr → ℕ → Type 0
+LeavesProfile csrs csr value = (csr_write_of csrs (kind_in csrs.profile csr) value).profile ≡ csrs.profile
+
+-- a register that the core decides is one that no write changes
+abbrev pub DropsWrites : Csrs → Csr → ℕ → Type 0
+DropsWrites csrs csr value =
+    is_from_row (presence_of csrs.profile csr) ≡ true → csr_write_of csrs (kind_in csrs.profile csr) value ≡ csrs
+
+-- where nothing is said, the bits that a write changes are those of the table
+abbrev pub IsAsTheTable : ChosenCsr → Type 0
+IsAsTheTable csr = (writable_in plain_profile csr ≡ plain_mask csr) × (fixed_in plain_profile csr ≡ 0)
 
 -- a merged value has the bits of the mask from the new value and all others from the old one
 abbrev pub MergesByBits : ℕ → ℕ → ℕ → Type 0

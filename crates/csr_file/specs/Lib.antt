@@ -1,5 +1,6 @@
 pub mod Fields
 pub mod Table
+pub mod Profiles
 pub mod Registers
 pub mod Values
 pub mod Access

@@ -1,6 +1,6 @@
 -- The registers that are stored, from the Privileged Architecture's chapters "Control and Status Registers
 -- (CSRs)" and "Machine-Level ISA".
-use Rattle.std.specs.Prelude.{ℕ, ◌-◌, List, ◌∷◌, slice_index, slice_index_or, slice_set, replicate}
+use Rattle.std.specs.Prelude.{ℕ, List, [], ◌∷◌, map, take, slice_index, slice_index_or, slice_set, replicate}
 use Rattle.hart_words.specs.declared.privilege.PmpEntry.{PmpEntry}
 use Rattle.csr_file.specs.declared.csrs.Csrs.{Csrs}
 use Rattle.csr_file.specs.declared.stored_csr.StoredCsr.{StoredCsr}
@@ -8,8 +8,8 @@ use Rattle.csr_file.specs.declared.stored_csr.StoredCsr.TheVariants.{Mstatus, Me
 use Rattle.csr_file.specs.declared.stored_csr.StoredCsr.TheVariants.{Menvcfg, Mcountinhibit, Mscratch, Mepc, Mcause}
 use Rattle.csr_file.specs.declared.stored_csr.StoredCsr.TheVariants.{Mtval, Mip, Stvec, Scounteren, Senvcfg, Sscratch}
 use Rattle.csr_file.specs.declared.stored_csr.StoredCsr.TheVariants.{Sepc, Scause, Stval, Satp}
-use Rattle.csr_file.specs.declared.stored_csr.TheConstants.{STORED_CSRS}
-use Rattle.csr_file.specs.Table.{status_constant}
+use Rattle.csr_file.specs.declared.profile.CsrProfile.{CsrProfile}
+use Rattle.csr_file.specs.Profiles.{entry_count_of, fixed_bits, plain_profile}
 
 -- where a register's value stands
 abbrev pub stored_index_of : StoredCsr → ℕ
@@ -35,6 +35,12 @@ stored_index_of Scause = 18
 stored_index_of Stval = 19
 stored_index_of Satp = 20
 
+-- all of them, in that order
+abbrev pub stored_csrs : List StoredCsr
+stored_csrs =
+    Mstatus ∷ Medeleg ∷ Mideleg ∷ Mie ∷ Mtvec ∷ Mcounteren ∷ Menvcfg ∷ Mcountinhibit ∷ Mscratch ∷ Mepc ∷ Mcause
+    ∷ Mtval ∷ Mip ∷ Stvec ∷ Scounteren ∷ Senvcfg ∷ Sscratch ∷ Sepc ∷ Scause ∷ Stval ∷ Satp ∷ []
+
 -- the value of a stored register
 unfoldable pub at : Csrs → StoredCsr → ℕ
 at csrs stored = slice_index csrs.values (stored_index_of stored)
@@ -47,16 +53,21 @@ with_at csrs stored value = record csrs { values = slice_set csrs.values (stored
 abbrev pub no_entry : PmpEntry
 no_entry = record { cfg = 0; addr = 0 }
 
--- at reset mstatus has its constants, and all else is 0
-unfoldable pub csrs_at_reset : Csrs
-csrs_at_reset = record {
-  values = status_constant ∷ replicate (STORED_CSRS - 1) 0;
+-- at reset all bits are 0 but those that are always 1
+unfoldable pub csrs_at_reset_of : CsrProfile → Csrs
+csrs_at_reset_of profile = record {
+  values = map (fixed_bits profile) stored_csrs;
   entries = replicate 16 no_entry;
+  profile = profile;
 }
 
--- all entries of physical memory protection, in their order
+-- the same where nothing is said of what the core makes of them
+unfoldable pub csrs_at_reset : Csrs
+csrs_at_reset = csrs_at_reset_of plain_profile
+
+-- the entries of physical memory protection that the core has, in their order
 abbrev pub pmp_entries_of : Csrs → List PmpEntry
-pmp_entries_of csrs = csrs.entries
+pmp_entries_of csrs = take (entry_count_of csrs.profile.entry_count) csrs.entries
 
 -- the entry with this number
 abbrev pub pmp_entry_of : Csrs → ℕ → PmpEntry

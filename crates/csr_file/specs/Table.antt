@@ -1,6 +1,6 @@
--- What each register is and which of its bits can be written, from the Privileged Architecture's chapters
+-- What each register is, and bits of registers by name, from the Privileged Architecture's chapters
 -- "Control and Status Registers (CSRs)", "Machine-Level ISA" and "Supervisor-Level ISA".
-use Rattle.std.specs.Prelude.{ℕ, ◌+◌, ◌-◌, ◌*◌, ◌^◌, ◌==◌, if◌then◌else◌, [], ◌∷◌, map}
+use Rattle.std.specs.Prelude.{ℕ, ◌+◌, ◌-◌, ◌*◌, ◌^◌, [], ◌∷◌, map}
 use Rattle.hart_words.specs.declared.privilege.Cause.TheVariants.{InstructionAccessFault, IllegalInstruction}
 use Rattle.hart_words.specs.declared.privilege.Cause.TheVariants.{Breakpoint, LoadAddressMisaligned, LoadAccessFault}
 use Rattle.hart_words.specs.declared.privilege.Cause.TheVariants.{StoreAddressMisaligned, StoreAccessFault}
@@ -10,7 +10,6 @@ use Rattle.hart_words.specs.declared.privilege.Cause.TheVariants.{LoadPageFault,
 use Rattle.hart_words.specs.Privilege.{cause_code}
 use Rattle.csr_table.specs.declared.registers.Csr.{Csr}
 use Rattle.csr_table.specs.declared.registers.Csr.TheVariants as csr
-use Rattle.csr_file.specs.declared.stored_csr.StoredCsr.{StoredCsr}
 use Rattle.csr_file.specs.declared.stored_csr.StoredCsr.TheVariants.{Mstatus, Medeleg, Mideleg, Mie, Mtvec, Mcounteren}
 use Rattle.csr_file.specs.declared.stored_csr.StoredCsr.TheVariants.{Menvcfg, Mcountinhibit, Mscratch, Mepc, Mcause}
 use Rattle.csr_file.specs.declared.stored_csr.StoredCsr.TheVariants.{Mtval, Mip, Stvec, Scounteren, Senvcfg, Sscratch}
@@ -20,12 +19,11 @@ use Rattle.csr_file.specs.declared.csr_kind.CsrKind.TheVariants.{Stored, Status,
 use Rattle.csr_file.specs.declared.csr_kind.CsrKind.TheVariants.{SupervisorEnables, SupervisorPending, Translation}
 use Rattle.csr_file.specs.declared.csr_kind.CsrKind.TheVariants.{LowConfigurations, HighConfigurations, EntryAddress}
 use Rattle.csr_file.specs.declared.csr_kind.CsrKind.TheVariants.{Constant, ImplementationDefined, Counter}
-use Rattle.csr_file.specs.declared.csr_kind.CsrKind.TheVariants.{UnimplementedCounter}
-use Rattle.csr_file.specs.declared.fields.TheConstants.{SIE, MIE, SPIE, MPIE, SPP, MPP, MPRV, SUM, MXR, TVM, TW, TSR}
-use Rattle.csr_file.specs.declared.fields.TheConstants.{UXL, SXL, SSIP, MSIP, STIP, MTIP, SEIP, MEIP, CY, TM, IR, FIOM}
-use Rattle.csr_file.specs.Fields.{bits, field_bits, all_bits, mpp_of}
+use Rattle.csr_file.specs.declared.fields.TheConstants.{SIE, MIE, SPIE, MPIE, SPP, MPRV, SUM, MXR, TVM, TW, TSR}
+use Rattle.csr_file.specs.declared.fields.TheConstants.{UXL, SXL, SD, FS, VS, SSIP, MSIP, STIP, MTIP, SEIP, MEIP, CY, TM, IR}
+use Rattle.csr_file.specs.Fields.{bits, field_bits, all_bits}
 
--- the bits of mstatus that a write can set, MPP's aside
+-- the bits of mstatus that a write can set where nothing is said, MPP's aside
 abbrev pub writable_without_mpp : ℕ
 writable_without_mpp =
     bits (SIE ∷ MIE ∷ SPIE ∷ MPIE ∷ SPP ∷ MPRV ∷ SUM ∷ MXR ∷ TVM ∷ TW ∷ TSR ∷ [])
@@ -45,7 +43,7 @@ supervisor_interrupts = bits (SSIP ∷ STIP ∷ SEIP ∷ [])
 abbrev pub all_interrupts : ℕ
 all_interrupts = supervisor_interrupts + bits (MSIP ∷ MTIP ∷ MEIP ∷ [])
 
--- the bits of mip that may be lines from outside
+-- the bits of mip that may be lines from outside on every core
 abbrev pub line_bits : ℕ
 line_bits = bits (MSIP ∷ MTIP ∷ SEIP ∷ MEIP ∷ [])
 
@@ -57,44 +55,24 @@ vector_bits = all_bits - bits (1 ∷ [])
 abbrev pub pc_bits : ℕ
 pc_bits = all_bits - bits (0 ∷ [])
 
--- the bits of each stored register that a write can set
-abbrev pub writable_bits : StoredCsr → ℕ
-writable_bits Mstatus = writable_without_mpp + field_bits MPP 2
-writable_bits Medeleg = delegable_exceptions
-writable_bits Mideleg = supervisor_interrupts
-writable_bits Mie = all_interrupts
-writable_bits Mtvec = vector_bits
-writable_bits Mcounteren = bits (CY ∷ TM ∷ IR ∷ [])
-writable_bits Menvcfg = bits (FIOM ∷ [])
-writable_bits Mcountinhibit = bits (CY ∷ IR ∷ [])
-writable_bits Mscratch = all_bits
-writable_bits Mepc = pc_bits
-writable_bits Mcause = all_bits
-writable_bits Mtval = all_bits
-writable_bits Mip = supervisor_interrupts
-writable_bits Stvec = vector_bits
-writable_bits Scounteren = bits (CY ∷ TM ∷ IR ∷ [])
-writable_bits Senvcfg = bits (FIOM ∷ [])
-writable_bits Sscratch = all_bits
-writable_bits Sepc = pc_bits
-writable_bits Scause = all_bits
-writable_bits Stval = all_bits
-writable_bits Satp = all_bits
+-- the counters, by their bits in mcounteren, scounteren and mcountinhibit
+abbrev pub counter_bits : ℕ
+counter_bits = 2 ^ 32 - 1
 
 -- the constants of mstatus: UXL and SXL are 2, for 64 bits
 abbrev pub status_constant : ℕ
 status_constant = 2 * 2 ^ UXL + 2 * 2 ^ SXL
 
--- what a write of mstatus writes: MPP keeps its old value where it would become 2, which is no mode
-abbrev pub status_written_bits : ℕ → ℕ
-status_written_bits value = if mpp_of value == 2 then writable_without_mpp else writable_bits Mstatus
+-- the states of units that a core may have
+abbrev pub unit_states : ℕ
+unit_states = field_bits FS 2 + field_bits VS 2
 
--- of mstatus sstatus writes these, and shows these and UXL
+-- of mstatus sstatus writes these, as far as mstatus has them, and shows these, UXL and SD
 abbrev pub sstatus_writable : ℕ
-sstatus_writable = bits (SIE ∷ SPIE ∷ SPP ∷ SUM ∷ MXR ∷ [])
+sstatus_writable = bits (SIE ∷ SPIE ∷ SPP ∷ SUM ∷ MXR ∷ []) + unit_states
 
 abbrev pub sstatus_shown : ℕ
-sstatus_shown = sstatus_writable + field_bits UXL 2
+sstatus_shown = sstatus_writable + field_bits UXL 2 + bits (SD ∷ [])
 
 -- of mip sip writes this, under mideleg
 abbrev pub sip_writable : ℕ
@@ -104,7 +82,7 @@ sip_writable = bits (SSIP ∷ [])
 abbrev pub misa_value : ℕ
 misa_value = 2 * 2 ^ 62 + bits (0 ∷ 2 ∷ 8 ∷ 12 ∷ 18 ∷ 20 ∷ [])
 
--- what each register is
+-- what each register is, where the core has it as the standard says
 unfoldable pub csr_kind_of : Csr → CsrKind
 csr_kind_of csr.Mstatus = Status
 csr_kind_of csr.Misa = Constant misa_value
@@ -141,7 +119,7 @@ csr_kind_of (csr.Mhpmcounter number) = ImplementationDefined
 csr_kind_of csr.Cycle = Counter CY
 csr_kind_of csr.Time = Counter TM
 csr_kind_of csr.Instret = Counter IR
-csr_kind_of (csr.Hpmcounter number) = UnimplementedCounter
+csr_kind_of (csr.Hpmcounter number) = Counter number
 csr_kind_of csr.Mvendorid = ImplementationDefined
 csr_kind_of csr.Marchid = ImplementationDefined
 csr_kind_of csr.Mimpid = ImplementationDefined

@@ -37,12 +37,10 @@ pub enum CsrKind {
     ImplementationDefined,
     /// The same of a counter that S and U may read where the enables have this bit.
     Counter(u8),
-    /// The same of a counter that only M may read.
-    UnimplementedCounter,
 }
 
 impl CsrKind {
-    /// What a register is.
+    /// What a register is, where the core has it as the standard says.
     #[tactic(auto, unfolding(crate::specs::Table::csr_kind_of))]
     pub fn of(csr: Csr) -> CsrKind
         ensures { result ≡ csr_kind_of csr }
@@ -81,7 +79,7 @@ impl CsrKind {
             Csr::Cycle => CsrKind::Counter(CY),
             Csr::Time => CsrKind::Counter(TM),
             Csr::Instret => CsrKind::Counter(IR),
-            Csr::Hpmcounter(_) => CsrKind::UnimplementedCounter,
+            Csr::Hpmcounter(number) => CsrKind::Counter(number),
             Csr::Mvendorid | Csr::Marchid | Csr::Mimpid => CsrKind::ImplementationDefined,
             Csr::Mhartid | Csr::Mconfigptr => CsrKind::ImplementationDefined,
         }

@@ -2,31 +2,31 @@
 //! Privileged Architecture's chapters "Control and Status Registers (CSRs)", "Machine-Level ISA"
 //! and "Supervisor-Level ISA".
 
-ghost use Rattle.std.specs.Prelude.{◌≡◌, ◌≤◌, ◌<◌, ◌+◌, ◌-◌, ◌^◌, Ok, Err, OnOk, OnErr};
-ghost use Rattle.csr_file.specs.Fields.{is_supported_mode, masked_update};
-ghost use Rattle.csr_file.specs.Table.{csr_kind_of, status_written_bits};
-ghost use Rattle.csr_file.specs.Registers.{at, with_at, csrs_at_reset, pmp_entries_of, pmp_entry_of};
-ghost use Rattle.csr_file.specs.Values.{pending_interrupts_of, csr_value_of, csr_base_of, adoptable_bits_of, adopted_bits_of, csr_read_of, status_write_of, translation_write_of, csr_write_of, packed_pmpcfg_of, entry_address_of, configuration_after, configuration_after_write, configurations_write_of, is_locked_from_below, address_is_locked, entry_address_write_of, shown_csr};
+ghost use Rattle.std.specs.Prelude.{◌≡◌, ◌≤◌, ◌<◌, ◌+◌, ◌-◌, Ok, Err, OnOk, OnErr};
+ghost use Rattle.csr_file.specs.Fields.{is_supported_mode};
+ghost use Rattle.csr_file.specs.Profiles.{kind_in};
+ghost use Rattle.csr_file.specs.Registers.{at, with_at, csrs_at_reset, csrs_at_reset_of, pmp_entries_of, pmp_entry_of};
+ghost use Rattle.csr_file.specs.Values.{has_entry, open_lines_of, status_shown, stored_write_of, with_bits_at, pending_interrupts_of, csr_value_of, csr_base_of, adoptable_bits_of, adopted_bits_of, csr_read_of, status_write_of, translation_write_of, csr_write_of, packed_pmpcfg_of, entry_address_of, configuration_after, configuration_after_write, configurations_write_of, is_locked_from_below, address_is_locked, entry_address_write_of, shown_csr};
 ghost use Rattle.csr_file.specs.Access.{counter_is_enabled, translation_is_open, is_enabled, may_read, may_write, csr_read_at, csr_write_at};
 ghost use Rattle.csr_file.specs.Legal.{IsLegal};
 
 use crate::access::{CsrRead, Illegal};
 use crate::csr_kind::CsrKind;
 use crate::fields::{
-    BARE, LINE_BITS, MPP, PMP_LOCK, PMP_MATCHING, SATP_MODE, STATUS_CONSTANT, SV39, TVM, has_bit,
-    merge,
+    BARE, FS, MPP, PMP_LOCK, PMP_MATCHING, SATP_MODE, SD, SV39, TVM, VS, has_bit, merge,
 };
+use crate::profile::{CsrProfile, Presence};
 use crate::stored_csr::{STORED_CSRS, StoredCsr};
 use csr_table::{Csr, CsrRow, row};
 use hart_words::{CsrName, Mode, PmpEntry};
 
-/// The bits of mstatus without MPP that a write can set.
-const WRITABLE_WITHOUT_MPP: u64 = 0x7E_01AA;
+/// The field MPP of mstatus.
+const MPP_FIELD: u64 = 3 << MPP;
 
 /// The bits of mstatus that sstatus shows, and those of them that a write of it can set.
-const SSTATUS_SHOWN: u64 = 0x3_000C_0122;
+const SSTATUS_SHOWN: u64 = 0x8000_0003_000C_6722;
 
-const SSTATUS_WRITABLE: u64 = 0xC_0122;
+const SSTATUS_WRITABLE: u64 = 0xC_6722;
 
 /// The bits of mip that a write of sip can set, under mideleg: SSIP.
 const SIP_WRITABLE: u64 = 2;
@@ -38,20 +38,59 @@ const SIP_WRITABLE: u64 = 2;
 pub struct Csrs {
     pub values: [u64; STORED_CSRS],
     pub entries: [PmpEntry; 16],
+    /// What the core makes of them. No write changes it.
+    pub profile: CsrProfile,
 }
 
 impl Csrs {
-    /// The registers at reset: mstatus has its constants, and all else is 0.
-    #[tactic(auto, using(crate::proofs::Legal::reset_legal), unfolding(crate::specs::Registers::csrs_at_reset))]
+    /// The registers at reset: all bits are 0 but those that are always 1.
+    pub fn reset_of(profile: &CsrProfile) -> Csrs
+        ensures value { result ≡ csrs_at_reset_of profile.now }
+        ensures legal { IsLegal result }
+    {
+        Csrs::with_fixed(profile)
+    }
+
+    /// The same where nothing is said of what the core makes of them.
+    #[tactic(auto, unfolding(crate::specs::Registers::csrs_at_reset))]
     pub fn reset() -> Csrs
         ensures value { result ≡ csrs_at_reset }
         ensures legal { IsLegal result }
     {
-        let mut values = [0; STORED_CSRS];
-        values[StoredCsr::Mstatus as usize] = STATUS_CONSTANT;
+        Csrs::reset_of(&CsrProfile::plain())
+    }
+
+    /// All bits 0 but those that are always 1.
+    #[tactic(auto, unfolding(crate::specs::Registers::csrs_at_reset_of))]
+    fn with_fixed(profile: &CsrProfile) -> Csrs
+        ensures { result ≡ csrs_at_reset_of profile.now }
+    {
         Csrs {
-            values,
+            values: [
+                profile.fixed(StoredCsr::Mstatus),
+                profile.fixed(StoredCsr::Medeleg),
+                profile.fixed(StoredCsr::Mideleg),
+                profile.fixed(StoredCsr::Mie),
+                profile.fixed(StoredCsr::Mtvec),
+                profile.fixed(StoredCsr::Mcounteren),
+                profile.fixed(StoredCsr::Menvcfg),
+                profile.fixed(StoredCsr::Mcountinhibit),
+                profile.fixed(StoredCsr::Mscratch),
+                profile.fixed(StoredCsr::Mepc),
+                profile.fixed(StoredCsr::Mcause),
+                profile.fixed(StoredCsr::Mtval),
+                profile.fixed(StoredCsr::Mip),
+                profile.fixed(StoredCsr::Stvec),
+                profile.fixed(StoredCsr::Scounteren),
+                profile.fixed(StoredCsr::Senvcfg),
+                profile.fixed(StoredCsr::Sscratch),
+                profile.fixed(StoredCsr::Sepc),
+                profile.fixed(StoredCsr::Scause),
+                profile.fixed(StoredCsr::Stval),
+                profile.fixed(StoredCsr::Satp),
+            ],
             entries: [PmpEntry { cfg: 0, addr: 0 }; 16],
+            profile: *profile,
         }
     }
 
@@ -71,11 +110,29 @@ impl Csrs {
         self.values[stored as usize] = value;
     }
 
-    /// The entries of physical memory protection.
-    pub fn pmp_entries(&self) -> &[PmpEntry; 16]
+    /// The entries of physical memory protection that the core has.
+    pub fn pmp_entries(&self) -> &[PmpEntry]
         ensures { result.now ≡ pmp_entries_of self.now }
     {
-        &self.entries
+        &self.entries[..self.profile.entry_count.number()]
+    }
+
+    /// What a register is on this core.
+    #[tactic(auto, unfolding(crate::specs::Profiles::kind_in))]
+    fn kind(&self, csr: Csr) -> CsrKind
+        ensures { result ≡ kind_in self.now.profile csr }
+    {
+        match self.profile.presence(csr) {
+            Presence::FromRow => CsrKind::ImplementationDefined,
+            Presence::Kept | Presence::Absent | Presence::MayTrap => CsrKind::of(csr),
+        }
+    }
+
+    /// Whether the core has an entry of physical memory protection with this number.
+    fn has_entry(&self, number: usize) -> bool
+        ensures { result ≡ has_entry self.now number }
+    {
+        number < self.profile.entry_count.number()
     }
 
     /// The entry of physical memory protection with this number.
@@ -96,7 +153,7 @@ impl Csrs {
             None => Err(Illegal),
             Some(row) => {
                 if self.may_read(mode, row) {
-                    Ok(self.read_csr(CsrKind::of(row.csr), lines))
+                    Ok(self.read_csr(self.kind(row.csr), lines))
                 } else {
                     Err(Illegal)
                 }
@@ -108,14 +165,13 @@ impl Csrs {
     /// interrupt lines `shown_lines` in csr_mip_rdata: all of what the core decides, and of mip and
     /// sip those that may be lines and are neither stored nor shown.
     pub fn adopted_bits(&self, csr: Csr, shown_lines: u64) -> u64
-        ensures { result ≡ adopted_bits_of self.now (csr_kind_of csr) shown_lines }
+        ensures { result ≡ adopted_bits_of self.now (kind_in self.now.profile csr) shown_lines }
     {
-        let kind = CsrKind::of(csr);
+        let kind = self.kind(csr);
         match kind {
             CsrKind::Pending | CsrKind::SupervisorPending => self.adoptable_bits(kind)
                 & !shown_lines,
-            CsrKind::ImplementationDefined | CsrKind::Counter(_) | CsrKind::UnimplementedCounter =>
-                self.adoptable_bits(kind),
+            CsrKind::ImplementationDefined | CsrKind::Counter(_) => self.adoptable_bits(kind),
             CsrKind::Stored(_) | CsrKind::Status | CsrKind::SupervisorStatus => self.adoptable_bits(
                 kind,
             ),
@@ -139,7 +195,7 @@ impl Csrs {
             None => Err(Illegal),
             Some(row) => {
                 if self.may_write(mode, row) {
-                    self.write_csr(CsrKind::of(row.csr), value);
+                    self.write_csr(self.kind(row.csr), value);
                     Ok(())
                 } else {
                     Err(Illegal)
@@ -154,26 +210,26 @@ impl Csrs {
         ensures { result ≡ shown_csr self.now name lines }
     {
         match name {
-            CsrName::Mstatus => self.value(CsrKind::of(Csr::Mstatus), lines),
-            CsrName::Misa => self.value(CsrKind::of(Csr::Misa), lines),
-            CsrName::Medeleg => self.value(CsrKind::of(Csr::Medeleg), lines),
-            CsrName::Mideleg => self.value(CsrKind::of(Csr::Mideleg), lines),
-            CsrName::Mie => self.value(CsrKind::of(Csr::Mie), lines),
-            CsrName::Mtvec => self.value(CsrKind::of(Csr::Mtvec), lines),
-            CsrName::Mscratch => self.value(CsrKind::of(Csr::Mscratch), lines),
-            CsrName::Mepc => self.value(CsrKind::of(Csr::Mepc), lines),
-            CsrName::Mcause => self.value(CsrKind::of(Csr::Mcause), lines),
-            CsrName::Mtval => self.value(CsrKind::of(Csr::Mtval), lines),
-            CsrName::Mip => self.value(CsrKind::of(Csr::Mip), lines),
-            CsrName::Satp => self.value(CsrKind::of(Csr::Satp), lines),
-            CsrName::Sstatus => self.value(CsrKind::of(Csr::Sstatus), lines),
-            CsrName::Sie => self.value(CsrKind::of(Csr::Sie), lines),
-            CsrName::Sip => self.value(CsrKind::of(Csr::Sip), lines),
-            CsrName::Stvec => self.value(CsrKind::of(Csr::Stvec), lines),
-            CsrName::Sscratch => self.value(CsrKind::of(Csr::Sscratch), lines),
-            CsrName::Sepc => self.value(CsrKind::of(Csr::Sepc), lines),
-            CsrName::Scause => self.value(CsrKind::of(Csr::Scause), lines),
-            CsrName::Stval => self.value(CsrKind::of(Csr::Stval), lines),
+            CsrName::Mstatus => self.value(self.kind(Csr::Mstatus), lines),
+            CsrName::Misa => self.value(self.kind(Csr::Misa), lines),
+            CsrName::Medeleg => self.value(self.kind(Csr::Medeleg), lines),
+            CsrName::Mideleg => self.value(self.kind(Csr::Mideleg), lines),
+            CsrName::Mie => self.value(self.kind(Csr::Mie), lines),
+            CsrName::Mtvec => self.value(self.kind(Csr::Mtvec), lines),
+            CsrName::Mscratch => self.value(self.kind(Csr::Mscratch), lines),
+            CsrName::Mepc => self.value(self.kind(Csr::Mepc), lines),
+            CsrName::Mcause => self.value(self.kind(Csr::Mcause), lines),
+            CsrName::Mtval => self.value(self.kind(Csr::Mtval), lines),
+            CsrName::Mip => self.value(self.kind(Csr::Mip), lines),
+            CsrName::Satp => self.value(self.kind(Csr::Satp), lines),
+            CsrName::Sstatus => self.value(self.kind(Csr::Sstatus), lines),
+            CsrName::Sie => self.value(self.kind(Csr::Sie), lines),
+            CsrName::Sip => self.value(self.kind(Csr::Sip), lines),
+            CsrName::Stvec => self.value(self.kind(Csr::Stvec), lines),
+            CsrName::Sscratch => self.value(self.kind(Csr::Sscratch), lines),
+            CsrName::Sepc => self.value(self.kind(Csr::Sepc), lines),
+            CsrName::Scause => self.value(self.kind(Csr::Scause), lines),
+            CsrName::Stval => self.value(self.kind(Csr::Stval), lines),
             CsrName::Pmpcfg0 => self.packed_pmpcfg(0),
             CsrName::Pmpcfg2 => self.packed_pmpcfg(8),
         }
@@ -184,14 +240,16 @@ impl Csrs {
     pub fn pending_interrupts(&self, lines: u64) -> u64
         ensures { result ≡ pending_interrupts_of self.now lines }
     {
-        self.get(StoredCsr::Mip) | lines & LINE_BITS
+        self.get(StoredCsr::Mip) | lines & self.profile.line_bits()
     }
 
     #[tactic(auto, unfolding(crate::specs::Access::may_read))]
     fn may_read(&self, mode: Mode, row: CsrRow) -> bool
         ensures { result ≡ may_read self.now mode row }
     {
-        row.least_mode <= mode.number() && self.is_enabled(mode, CsrKind::of(row.csr))
+        row.least_mode <= mode.number()
+            && self.is_enabled(mode, self.kind(row.csr))
+            && !matches!(self.profile.presence(row.csr), Presence::Absent)
     }
 
     #[tactic(auto, unfolding(crate::specs::Access::may_write))]
@@ -201,21 +259,20 @@ impl Csrs {
         self.may_read(mode, row) && !row.read_only
     }
 
-    /// Whether TVM and the enables of counters let a mode access a register.
+    /// Whether TVM, the enables of counters and what the core has let a mode access a register.
     #[tactic(auto, unfolding(crate::specs::Access::is_enabled))]
     fn is_enabled(&self, mode: Mode, kind: CsrKind) -> bool
         ensures { result ≡ is_enabled self.now mode kind }
     {
         match kind {
             CsrKind::Counter(bit) => self.counter_is_enabled(mode, bit),
-            CsrKind::UnimplementedCounter => matches!(mode, Mode::Machine),
             CsrKind::Translation => self.translation_is_open(mode),
             CsrKind::Stored(_) | CsrKind::Status | CsrKind::Pending => true,
             CsrKind::SupervisorStatus | CsrKind::SupervisorEnables => true,
             CsrKind::SupervisorPending | CsrKind::Constant(_) | CsrKind::ImplementationDefined =>
                 true,
-            CsrKind::LowConfigurations | CsrKind::HighConfigurations => true,
-            CsrKind::EntryAddress(_) => true,
+            CsrKind::LowConfigurations | CsrKind::HighConfigurations => self.has_entry(0),
+            CsrKind::EntryAddress(_) => self.has_entry(0),
         }
     }
 
@@ -262,9 +319,11 @@ impl Csrs {
     {
         match kind {
             CsrKind::Stored(stored) => self.get(stored),
-            CsrKind::Status => self.get(StoredCsr::Mstatus),
+            CsrKind::Status => status_shown(self.get(StoredCsr::Mstatus)),
             CsrKind::Pending => self.pending_interrupts(lines),
-            CsrKind::SupervisorStatus => self.get(StoredCsr::Mstatus) & SSTATUS_SHOWN,
+            CsrKind::SupervisorStatus => {
+                status_shown(self.get(StoredCsr::Mstatus)) & SSTATUS_SHOWN
+            }
             CsrKind::SupervisorEnables => {
                 self.get(StoredCsr::Mie) & self.get(StoredCsr::Mideleg)
             }
@@ -276,8 +335,7 @@ impl Csrs {
             CsrKind::HighConfigurations => self.packed_pmpcfg(8),
             CsrKind::EntryAddress(number) => self.entry_address(number),
             CsrKind::Constant(number) => number,
-            CsrKind::ImplementationDefined | CsrKind::Counter(_) | CsrKind::UnimplementedCounter =>
-                0,
+            CsrKind::ImplementationDefined | CsrKind::Counter(_) => 0,
         }
     }
 
@@ -293,9 +351,16 @@ impl Csrs {
             CsrKind::SupervisorPending | CsrKind::Constant(_) => self.value(kind, lines),
             CsrKind::ImplementationDefined | CsrKind::Counter(_) => self.value(kind, lines),
             CsrKind::Translation => self.value(kind, lines),
-            CsrKind::UnimplementedCounter | CsrKind::EntryAddress(_) => self.value(kind, lines),
+            CsrKind::EntryAddress(_) => self.value(kind, lines),
             CsrKind::LowConfigurations | CsrKind::HighConfigurations => self.value(kind, lines),
         }
+    }
+
+    /// The bits of mip that may be lines and are not stored.
+    fn open_lines(&self) -> u64
+        ensures { result ≡ open_lines_of self.now }
+    {
+        !self.get(StoredCsr::Mip) & self.profile.line_bits()
     }
 
     /// The bits of a register's value that the core decides, or that may be lines.
@@ -304,12 +369,9 @@ impl Csrs {
         ensures { result ≡ adoptable_bits_of self.now kind }
     {
         match kind {
-            CsrKind::Pending => !self.get(StoredCsr::Mip) & LINE_BITS,
-            CsrKind::SupervisorPending => {
-                !self.get(StoredCsr::Mip) & LINE_BITS & self.get(StoredCsr::Mideleg)
-            }
-            CsrKind::ImplementationDefined | CsrKind::Counter(_) | CsrKind::UnimplementedCounter =>
-                u64::MAX,
+            CsrKind::Pending => self.open_lines(),
+            CsrKind::SupervisorPending => self.open_lines() & self.get(StoredCsr::Mideleg),
+            CsrKind::ImplementationDefined | CsrKind::Counter(_) => u64::MAX,
             CsrKind::Stored(_) | CsrKind::Status | CsrKind::SupervisorStatus => 0,
             CsrKind::SupervisorEnables | CsrKind::Constant(_) => 0,
             CsrKind::Translation => 0,
@@ -324,25 +386,27 @@ impl Csrs {
         ensures { self.new ≡ csr_write_of self.old kind value }
     {
         match kind {
-            CsrKind::Stored(stored) => self.set(stored, value & stored.writable()),
+            CsrKind::Stored(stored) => self.write_stored(stored, value),
             CsrKind::Status => self.write_status(value),
-            CsrKind::Pending => self.set(StoredCsr::Mip, value & StoredCsr::Mip.writable()),
+            CsrKind::Pending => self.write_stored(StoredCsr::Mip, value),
             CsrKind::SupervisorStatus => {
-                self.write_bits(StoredCsr::Mstatus, SSTATUS_WRITABLE, value);
+                let mask = SSTATUS_WRITABLE & self.profile.writable(StoredCsr::Mstatus);
+                self.write_bits(StoredCsr::Mstatus, mask, value);
             }
             CsrKind::SupervisorEnables => {
-                self.write_bits(StoredCsr::Mie, self.get(StoredCsr::Mideleg), value);
+                let mask = self.get(StoredCsr::Mideleg) & self.profile.writable(StoredCsr::Mie);
+                self.write_bits(StoredCsr::Mie, mask, value);
             }
             CsrKind::SupervisorPending => {
-                let mask = self.get(StoredCsr::Mideleg) & SIP_WRITABLE;
+                let own = SIP_WRITABLE & self.profile.writable(StoredCsr::Mip);
+                let mask = self.get(StoredCsr::Mideleg) & own;
                 self.write_bits(StoredCsr::Mip, mask, value);
             }
             CsrKind::Translation => self.write_translation(value),
             CsrKind::LowConfigurations => self.write_configurations(0, value),
             CsrKind::HighConfigurations => self.write_configurations(8, value),
             CsrKind::EntryAddress(number) => self.write_entry_address(number, value),
-            CsrKind::Constant(_) | CsrKind::ImplementationDefined => {}
-            CsrKind::Counter(_) | CsrKind::UnimplementedCounter => {}
+            CsrKind::Constant(_) | CsrKind::ImplementationDefined | CsrKind::Counter(_) => {}
         }
     }
 
@@ -351,10 +415,11 @@ impl Csrs {
     fn write_status(&mut self, value: u64)
         ensures { self.new ≡ status_write_of self.old value }
     {
+        let writable = self.profile.writable(StoredCsr::Mstatus);
         let mask = if (value >> MPP) % 4 == 2 {
-            WRITABLE_WITHOUT_MPP
+            writable & !MPP_FIELD
         } else {
-            StoredCsr::Mstatus.writable()
+            writable
         };
         self.write_bits(StoredCsr::Mstatus, mask, value);
     }
@@ -365,14 +430,22 @@ impl Csrs {
         ensures { self.new ≡ translation_write_of self.old value }
     {
         if is_supported_mode(value >> SATP_MODE) {
-            self.set(StoredCsr::Satp, value);
+            self.write_stored(StoredCsr::Satp, value);
         }
+    }
+
+    /// Writes the bits of a register that a write may change.
+    #[tactic(auto, unfolding(crate::specs::Values::stored_write_of))]
+    fn write_stored(&mut self, stored: StoredCsr, value: u64)
+        ensures { self.new ≡ stored_write_of self.old stored value }
+    {
+        let mask = self.profile.writable(stored);
+        self.write_bits(stored, mask, value);
     }
 
     /// Writes the bits of a mask.
     fn write_bits(&mut self, stored: StoredCsr, mask: u64, value: u64)
-        ensures { let updated = masked_update mask (at self.old stored) value in
-            self.new ≡ with_at self.old stored updated }
+        ensures { self.new ≡ with_bits_at self.old stored mask value }
     {
         self.set(stored, merge(mask, self.get(stored), value));
     }
@@ -421,7 +494,7 @@ impl Csrs {
         ensures { result ≡ configuration_after_write self.now first value number }
     {
         let first = usize::from(first);
-        if first <= number && number < first + 8 {
+        if first <= number && number < first + 8 && self.has_entry(number) {
             let byte = (value >> (8 * (number - first))) % 256;
             configuration_after(self.entry(number).cfg, byte as u8)
         } else {
@@ -429,16 +502,16 @@ impl Csrs {
         }
     }
 
-    /// Writes the address of an entry, unless it is locked.
+    /// Writes the address of an entry that the core has, unless it is locked.
     #[tactic(auto, unfolding(crate::specs::Values::entry_address_write_of))]
     fn write_entry_address(&mut self, number: u8, value: u64)
         ensures { self.new ≡ entry_address_write_of self.old number value }
     {
         let number = usize::from(number % 16);
-        if !self.address_is_locked(number) {
+        if self.has_entry(number) && !self.address_is_locked(number) {
             self.entries[number] = PmpEntry {
                 cfg: self.entry(number).cfg,
-                addr: value % (1 << 54),
+                addr: value % (1 << self.profile.entry_bits()),
             };
         }
     }
@@ -452,6 +525,17 @@ impl Csrs {
     {
         has_bit(u64::from(self.entry(number).cfg), PMP_LOCK)
             || (number < 15 && is_locked_from_below(self.entry(number + 1).cfg))
+    }
+}
+
+/// mstatus as it reads: SD is 1 where the state of a unit is 3.
+fn status_shown(status: u64) -> u64
+    ensures { result ≡ status_shown status }
+{
+    if (status >> FS) % 4 == 3 || (status >> VS) % 4 == 3 {
+        status | 1 << SD
+    } else {
+        status
     }
 }
 

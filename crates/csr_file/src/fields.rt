@@ -6,8 +6,8 @@ ghost use Rattle.csr_file.specs.Fields.{bit_is_set, masked_update, mode_of_encod
 
 use hart_words::Mode;
 
-// The bits of mstatus, of which sstatus shows a part. MPP, UXL and SXL have two bits, from these
-// on.
+// The bits of mstatus, of which sstatus shows a part. VS, MPP, FS, UXL and SXL have two bits, from
+// these on.
 pub const SIE: u8 = 1;
 
 pub const MIE: u8 = 3;
@@ -18,7 +18,11 @@ pub const MPIE: u8 = 7;
 
 pub const SPP: u8 = 8;
 
+pub const VS: u8 = 9;
+
 pub const MPP: u8 = 11;
+
+pub const FS: u8 = 13;
 
 pub const MPRV: u8 = 17;
 
@@ -36,6 +40,8 @@ pub const UXL: u8 = 32;
 
 pub const SXL: u8 = 34;
 
+pub const SD: u8 = 63;
+
 /// The constants of mstatus: UXL and SXL are 2.
 pub const STATUS_CONSTANT: u64 = 0xA_0000_0000;
 
@@ -52,8 +58,11 @@ pub const SEIP: u8 = 9;
 
 pub const MEIP: u8 = 11;
 
-/// The bits of mip that may be lines from outside.
+/// The bits of mip that may be lines from outside on every core.
 pub const LINE_BITS: u64 = 1 << MSIP | 1 << MTIP | 1 << SEIP | 1 << MEIP;
+
+/// The bits of mip that may be lines and no more, as a core has it.
+pub const ADDABLE_LINES: u64 = 1 << SSIP | 1 << STIP;
 
 // The bits of mcounteren, scounteren and mcountinhibit.
 pub const CY: u8 = 0;

@@ -2,43 +2,56 @@
 //! ISA" and "Supervisor-Level ISA".
 
 ghost use Rattle.std.specs.Prelude.{◌≡◌, ◌<◌, ◌^◌, Decides};
-ghost use Rattle.csr_file.specs.Legal.{IsLegalConfiguration, IsLegalStatus, IsLegalValue, is_legal_address, is_legal_configuration, is_legal_status, is_legal_value};
+ghost use Rattle.csr_file.specs.Legal.{IsLegalConfiguration, IsLegalValue, is_legal_address, is_legal_configuration, is_legal_value, keeps_fixed};
+ghost use Rattle.csr_file.specs.Profiles.{entry_bits_of};
 
-use crate::fields::STATUS_CONSTANT;
+use crate::profile::CsrProfile;
 use crate::stored_csr::StoredCsr;
 
-impl StoredCsr {
-    /// Whether the register can have a value.
+impl CsrProfile {
+    /// Whether a register can have a value.
     #[tactic(auto, using(crate::proofs::LegalTests::value_decided), unfolding(crate::specs::Legal::is_legal_value))]
-    pub fn is_legal_value(self, value: u64) -> bool
-        ensures value { result ≡ is_legal_value self value }
-        ensures legal { Decides result (IsLegalValue self value) }
+    pub fn is_legal_value(&self, stored: StoredCsr, value: u64) -> bool
+        ensures value { result ≡ is_legal_value self.now stored value }
+        ensures legal { Decides result (IsLegalValue self.now stored value) }
     {
-        match self {
-            StoredCsr::Mstatus => is_legal_status(value),
+        match stored {
+            StoredCsr::Mstatus => self.keeps_fixed(stored, value) && value / 2048 % 4 != 2,
             StoredCsr::Medeleg
             | StoredCsr::Mideleg
             | StoredCsr::Mie
+            | StoredCsr::Mtvec
             | StoredCsr::Mcounteren
             | StoredCsr::Menvcfg
             | StoredCsr::Mcountinhibit
             | StoredCsr::Mip
+            | StoredCsr::Stvec
             | StoredCsr::Scounteren
-            | StoredCsr::Senvcfg => value & self.writable() == value,
-            StoredCsr::Mtvec | StoredCsr::Stvec => value / 2 % 2 == 0,
+            | StoredCsr::Senvcfg => self.keeps_fixed(stored, value),
             StoredCsr::Mepc | StoredCsr::Sepc => value % 2 == 0,
-            StoredCsr::Satp => value >> 60 == 0 || value >> 60 == 8,
+            StoredCsr::Satp => {
+                self.keeps_fixed(stored, value) && (value >> 60 == 0 || value >> 60 == 8)
+            }
             StoredCsr::Mscratch | StoredCsr::Mcause | StoredCsr::Mtval => true,
             StoredCsr::Sscratch | StoredCsr::Scause | StoredCsr::Stval => true,
         }
     }
-}
 
-/// Whether mstatus can have a value: its constants stand, and MPP is a mode.
-fn is_legal_status(value: u64) -> bool
-    ensures { result ≡ is_legal_status value }
-{
-    value & !StoredCsr::Mstatus.writable() == STATUS_CONSTANT && value / 2048 % 4 != 2
+    /// Whether the bits that no write changes are as they always are.
+    fn keeps_fixed(&self, stored: StoredCsr, value: u64) -> bool
+        ensures { result ≡ keeps_fixed self.now stored value }
+    {
+        value & !self.writable(stored) == self.fixed(stored)
+    }
+
+    /// Whether an entry of physical memory protection can have this address: one of the bits that
+    /// the core has.
+    pub fn is_legal_address(&self, address: u64) -> bool
+        ensures value { result ≡ is_legal_address self.now address }
+        ensures legal { Decides result (address < 2 ^ entry_bits_of self.now) }
+    {
+        address < 1 << self.entry_bits()
+    }
 }
 
 /// Whether an entry of physical memory protection can have this configuration: bits 6:5 are 0, and
@@ -48,12 +61,4 @@ pub fn is_legal_configuration(byte: u8) -> bool
     ensures legal { Decides result (IsLegalConfiguration byte) }
 {
     byte / 32 % 4 == 0 && byte % 4 != 2
-}
-
-/// Whether an entry of it can have this address: one of 54 bits.
-pub fn is_legal_address(address: u64) -> bool
-    ensures value { result ≡ is_legal_address address }
-    ensures legal { Decides result (address < 2 ^ 54) }
-{
-    address < 1 << 54
 }

@@ -12,12 +12,14 @@ mod csrs;
 pub mod fields;
 pub mod laws;
 mod legal_values;
+pub mod profile;
 mod stored_csr;
 
 pub use access::{CsrRead, Illegal};
 pub use csrs::Csrs;
 pub use fields::{has_bit, merge, mode_of_encoding};
-pub use legal_values::{is_legal_address, is_legal_configuration};
+pub use legal_values::is_legal_configuration;
+pub use profile::{CsrProfile, EntryCount, Presence};
 pub use stored_csr::{STORED_CSRS, StoredCsr};
 
 #[cfg(test)]

@@ -295,14 +295,14 @@ fn takes_from_the_row(rt: HostRuntime) -> Result<(), Fail> {
 #[test]
 fn stores_physical_memory_protection(rt: HostRuntime) -> Result<(), Fail> {
     let mut csrs = Csrs::reset();
-    assert_eq!(rt; csrs.pmp_entries()[15].cfg, 0);
+    assert_eq!(rt; csrs.entries[15].cfg, 0);
     csrs.entries[1].cfg = 0x1F;
     csrs.entries[15] = PmpEntry { cfg: 0x18, addr: 5 };
     csrs.set(StoredCsr::Satp, 7);
     assert_eq!(rt; csrs.shown(CsrName::Pmpcfg0, 0), 0x1F00);
     assert_eq!(rt; csrs.shown(CsrName::Pmpcfg2, 0), 0x18 << 56);
     assert_eq!(rt; csrs.shown(CsrName::Satp, 0), 7);
-    let last = csrs.pmp_entries()[15];
+    let last = csrs.pmp_entries().get(15).copied().ok_or("no entry")?;
     assert_eq!(rt; (last.cfg, last.addr), (0x18, 5));
     Ok(())
 }

@@ -2,3 +2,4 @@ pub mod Others
 pub mod Retired
 pub mod Own
 pub mod Rows
+pub mod Profiles

@@ -33,7 +33,8 @@ use Rattle.hart_step.specs.CsrAccess.{csr_access_result}
 use Rattle.hart_step.specs.Returns.{core_after_mret, core_after_sret, may_mret, may_use_supervisor_instruction}
 use Rattle.hart_step.specs.Returns.{wfi_traps}
 use Rattle.hart_step.specs.MemoryAccess.{access_after_location, access_result_by, access_result_of, expected_access}
-use Rattle.hart_step.specs.MemoryAccess.{is_stored, located_access, memory_access}
+use Rattle.hart_step.specs.MemoryAccess.{access_at_places, device_refuses, fault_of, is_stored, located_access}
+use Rattle.hart_step.specs.MemoryAccess.{memory_access}
 use Rattle.hart_step.specs.Instructions.{Completion, InstructionRun, after_access, after_csr, completion_if}
 use Rattle.hart_step.specs.Instructions.{core_after_retirement, core_at_next, execution_by, execution_of, fetch_at_pc}
 use Rattle.hart_step.specs.Instructions.{first_value, instruction_run, op_for, run_of_decoded, run_of_fetched}
@@ -103,7 +104,13 @@ found_leaves : (core : Core) (choices : RowChoices) (i : Instruction) (request :
 unfolding after_access access_result_of mapped pure core_after_retirement
 found_leaves core choices i request (Err exception) bytes now located = tt
 found_leaves core choices i request (Ok (first, second, held)) bytes now located =
-    result_leaves core choices request first second held request.op bytes located
+    by (device_refuses core choices first)
+  where
+    by : (refuses : Bool) → LeavesIfOk core bytes (Some (results.Access request)) (after_access core i
+        ((if refuses then pure (Err (fault_of request.op, request.address))
+        else access_at_places core choices request (first, second, held)).run now).value)
+    by true = tt
+    by false = result_leaves core choices request first second held request.op bytes located
 
 access_leaves : (core : Core) (choices : RowChoices) (i : Instruction) (request : MemoryRequest) (bytes : Bytes)
     → LeavesIfOk core bytes (Some (results.Access request))

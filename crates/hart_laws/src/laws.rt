@@ -9,7 +9,8 @@ ghost use Rattle.rv_atomic.specs.declared.reservation.Block.{Block};
 ghost use Rattle.rv_atomic.specs.Blocks.{IsReserved};
 ghost use Rattle.rvfi_rows.specs.Rows.{hart_of};
 ghost use Rattle.hart_step.specs.declared.state.Core.{Core};
-ghost use Rattle.hart_step.specs.Cores.{core_at_reset};
+ghost use Rattle.csr_file.specs.declared.profile.CsrProfile.{CsrProfile};
+ghost use Rattle.hart_step.specs.Cores.{core_at_reset_of};
 ghost use Rattle.hart_step.specs.HartSets.{SetState, set_after_row};
 ghost use Rattle.hart_step.specs.Laws.{next_of};
 ghost use Rattle.hart_laws.specs.Rows.{IsSameButReservation, after_set_rows};
@@ -65,8 +66,8 @@ pub fn own_rows_reserve_by_lr_and_release_by_sc()
 /// So an SC after the rows stores in such a block alone; what it writes besides are A and D in
 /// entries of page tables.
 pub fn stores_follow_their_reservation()
-    ensures reset { (pc : ℕ) (map : Map) (choices : Choices)
-        → (core_at_reset pc map choices).reservation.block ≡ None }
+    ensures reset { (profile : CsrProfile) (pc : ℕ) (map : Map) (choices : Choices)
+        → (core_at_reset_of profile pc map choices).reservation.block ≡ None }
     ensures reserved { (state : SetState) (rows : List Shown) (number : ℕ) (block : Block)
         → reserved_by state number ≡ None
         → reserved_by (after_set_rows state rows) number ≡ Some block

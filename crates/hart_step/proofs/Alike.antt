@@ -24,10 +24,11 @@ use Rattle.mem_access.specs.Places.{data_mode_of}
 use Rattle.mem_access.specs.Reads.{CheckedRead, IsPermittedRead, access_reads_of, fetch_reads_of, own_read, reads_in}
 use Rattle.mem_access.proofs.Granted.{HoldsOfOwn, Look, access_all, data_all, fetch_all, look_place, look_places}
 use Rattle.hart_step.specs.declared.state.Core.{Core}
+use Rattle.hart_step.specs.MemoryAccess.{atomicity_of}
 use Rattle.hart_step.specs.Rows.{HartState, RunBelowMachine, after_row, after_rows}
 use Rattle.hart_step.specs.Steps.{before_instruction, step_of}
 use Rattle.hart_step.specs.Laws.{bytes_after_fetch, request_at_pc}
-use Rattle.hart_step.specs.ProtectionLaws.{asked_reads_of, check_of, instruction_reads_of, is_atomic, reads_its_bytes}
+use Rattle.hart_step.specs.ProtectionLaws.{asked_reads_of, check_of, instruction_reads_of, reads_its_bytes}
 use Rattle.hart_step.specs.ProtectionLaws.{step_reads_of, AgreeWherePermitted, StepsAlike, ComeToTheSame, RowsGoAlike}
 use Rattle.hart_step.proofs.Entries.{SameEntries, begun_entries, lower_modes_leave}
 use Rattle.hart_step.proofs.Permitted.{step_granted}
@@ -108,9 +109,9 @@ asked_lower : (core : Core) (asks : Option IntResult) (bytes : Bytes) → core.m
 asked_lower core (Some (results.Access request)) bytes lower =
     let check = check_of core request in
     let look = look_of core check bytes in
-    data_all IsLower look (is_atomic request.op) (reads_its_bytes request.op) request.address
+    data_all IsLower look (atomicity_of request.op) (reads_its_bytes request.op) request.address
     (λ pa can. supervisor_lower)
-    (always (look_places look (is_atomic request.op) request.address) (All (HoldsOfOwn IsLower check))
+    (always (look_places look (atomicity_of request.op) request.address) (All (HoldsOfOwn IsLower check))
     (λ placed k d below memory. data_lower core.csrs core.mode lower))
 asked_lower core _ bytes lower = All-nil IsLower
 

@@ -6,6 +6,7 @@ use Rattle.std.specs.Option.{is_none, unwrap_or}
 use Rattle.std.proofs.lemmas.Bool.{cases_Bool}
 use lib.Bits.{and_zero_r}
 use Rattle.hart_words.specs.declared.signal.Signal.TheVariants.{Intr, MemWmask, PcRdata, RdWdata, Trap}
+use Rattle.hart_words.specs.Options.{are_by_row}
 use Rattle.hart_words.specs.AccessSizes.{bytes_of}
 use Rattle.hart_words.specs.Memory.{Bytes, after_writes}
 use Rattle.hart_words.specs.Signals.{Shown}
@@ -24,7 +25,6 @@ use Rattle.rv_integer.specs.declared.int_result.MemoryOp.TheVariants as memory
 use Rattle.rv_integer.specs.declared.int_result.CsrRequest.{CsrRequest}
 use Rattle.rv_integer.specs.Results.{result_of}
 use Rattle.csr_table.specs.declared.registers.Csr.{Csr}
-use Rattle.csr_table.specs.declared.registers.Csr.TheVariants.{Time}
 use Rattle.csr_table.specs.declared.registers.CsrRow.{CsrRow}
 use Rattle.csr_table.specs.Addresses.{csr_row_of}
 use Rattle.csr_file.specs.declared.csrs.Csrs.{Csrs}
@@ -33,7 +33,8 @@ use Rattle.csr_file.specs.declared.access.Illegal.{Illegal}
 use Rattle.csr_file.specs.declared.fields.TheConstants.{TW}
 use Rattle.csr_file.specs.declared.csr_kind.CsrKind.{CsrKind}
 use Rattle.csr_file.specs.declared.csr_kind.CsrKind.TheVariants as kinds
-use Rattle.csr_file.specs.Table.{csr_kind_of}
+use Rattle.csr_file.specs.declared.profile.CsrProfile.{CsrProfile}
+use Rattle.csr_file.specs.Profiles.{kind_in, may_trap, presence_of}
 use Rattle.csr_file.specs.Values.{adoptable_bits_of, adopted_bits_of}
 use Rattle.csr_file.specs.Access.{csr_read_at}
 use Rattle.interrupt_pick.specs.Interrupts.{pick_of}
@@ -50,11 +51,12 @@ use Rattle.hart_step.specs.Choices.{load_bytes_shown}
 use Rattle.hart_step.specs.Choices.{device_value, register_says_stored, says_stored}
 use Rattle.rv_atomic.specs.declared.reservation.Reservation.{Reservation}
 use Rattle.rv_atomic.specs.Blocks.{is_covered}
+use Rattle.rv_atomic.specs.Operations.{amo_of}
 use Rattle.hart_step.specs.MemoryAccess.{located_access, expected_access, loaded_value, value_found}
 use Rattle.hart_step.specs.MemoryAccess.{is_stored, access_result_by, access_result_of, number_written, put}
-use Rattle.hart_step.specs.MemoryAccess.{access_after_location, memory_access}
-use Rattle.hart_step.specs.CsrAccess.{OldValue, traps_at, old_value_by, old_value_of, csrs_after_request}
-use Rattle.hart_step.specs.CsrAccess.{csr_access_result}
+use Rattle.hart_step.specs.MemoryAccess.{access_after_location, access_at_places, fault_of, device_refuses, memory_access}
+use Rattle.hart_step.specs.CsrAccess.{OldValue, csr_access_result, csr_read_and_write, csrs_after_request, old_value_by}
+use Rattle.hart_step.specs.CsrAccess.{old_value_of, traps_at, traps_by}
 use Rattle.hart_step.specs.Returns.{may_use_supervisor_instruction, wfi_traps}
 use Rattle.hart_step.specs.Instructions.{Completion, after_access, after_csr, completion_if, core_at_next}
 use Rattle.hart_step.specs.Instructions.{system_execution, execution_of, execution_by, first_value, second_value}
@@ -63,7 +65,8 @@ use Rattle.hart_step.specs.Instructions.{fetch_at_pc, instruction_run}
 use Rattle.hart_step.specs.Steps.{core_after_count, interrupt_of, core_after_interrupt_by, core_after_interrupt}
 use Rattle.hart_step.specs.Steps.{lacks_interrupt, before_instruction, insn_of, effects_of, core_after_outcome}
 use Rattle.hart_step.specs.Steps.{core_after_run, expected_of, step_result_of}
-use Rattle.hart_step.specs.Laws.{AgreeOnRow, AgreeOnTime, AgreeOnRead, AgreeOnSystem, AgreeOnAccess, AgreeOnInstruction}
+use Rattle.hart_step.specs.Laws.{AgreeOnAccess, AgreeOnDevice, AgreeOnInstruction, AgreeOnRead, AgreeOnRow, AgreeOnSystem}
+use Rattle.hart_step.specs.Laws.{AgreeOnFault, AgreeOnTrap, AgreeOnValue}
 use Rattle.hart_step.specs.Laws.{RowsDecideAlike, SameAt, bytes_after_fetch, is_row_dependent, request_by, request_from}
 use Rattle.hart_step.specs.Laws.{request_at_pc}
 use Rattle.hart_step.proofs.Phases.{running, halting}
@@ -147,6 +150,7 @@ gave_same core done one other agree =
                 (p i).mode;
             insn =
                 insn_of done.executed;
+            insn_bits = core.choices.insn_bits;
             effects =
                 e i;
             csrs_before = (p i).csrs;
@@ -175,6 +179,11 @@ rd_same : (one other : Shown) (rd : ℕ) → SameAt RdWdata one other
 unfolding row_choices_of
 rd_same one other rd same = ap (λ v. if rd == 0 then None else v) same
 
+traps_same : (one other : Shown) (rd : ℕ) → SameAt Trap one other
+    → (row_choices_of other rd).traps ≡ (row_choices_of one rd).traps
+unfolding row_choices_of
+traps_same one other rd same = ap (λ t. shows t 1) same
+
 found_by : (one other : RowChoices) (request : MemoryRequest) (io : Bool) (held : ℕ)
     → (io ≡ true
     → device_value other request.address (bytes_of request.size)
@@ -184,12 +193,12 @@ found_by : (one other : RowChoices) (request : MemoryRequest) (io : Bool) (held 
 found_by one other request true held same = same refl
 found_by one other request false held same = refl
 
-found_same : (one other : Shown) (rd : ℕ) (request : MemoryRequest) (found : LocatedValue) (signed : Bool)
-    → AgreeOnAccess (Ok found) (memory.Load signed) one other
+found_same : (one other : Shown) (rd : ℕ) (request : MemoryRequest) (found : LocatedValue)
+    → (found.0.io ≡ true → AgreeOnDevice one other)
     → value_found (row_choices_of other rd) request found.0 found.2
     ≡ value_found (row_choices_of one rd) request found.0 found.2
 unfolding row_choices_of
-found_same one other rd request found signed agree =
+found_same one other rd request found agree =
     found_by (row_choices_of one rd) (row_choices_of other rd) request found.0.io found.2 (λ io.
     device_same (row_choices_of one rd) (row_choices_of other rd) request.address (bytes_of request.size)
     (rd_same one other rd (agree io).0) (agree io).1.0 (agree io).1.1)
@@ -203,7 +212,7 @@ stored_same core one other rd request place value mask =
     (told_same (row_choices_of one rd) (row_choices_of other rd) (rd_same one other rd value) mask)
 
 answer_same : (core : Core) (one other : Shown) (rd : ℕ) (request : MemoryRequest) (found : LocatedValue)
-    (op : MemoryOp) → AgreeOnAccess (Ok found) op one other
+    (op : MemoryOp) → AgreeOnValue (Ok found) op one other
     → access_result_by core (row_choices_of other rd) request found.0 found.2 op
     ≡ access_result_by core (row_choices_of one rd) request found.0 found.2 op
 answer_same core one other rd request found (memory.Load signed) agree =
@@ -215,7 +224,7 @@ answer_same core one other rd request found (memory.Load signed) agree =
           expected_access request found.0 (Some value) None;
       reservation = core.reservation;
     })
-    (found_same one other rd request found signed agree)
+    (found_same one other rd request found agree)
 answer_same core one other rd request found memory.LoadReserved agree = refl
 answer_same core one other rd request found (memory.Store value) agree = refl
 answer_same core one other rd request found (memory.StoreConditional value) agree =
@@ -224,21 +233,64 @@ answer_same core one other rd request found (memory.StoreConditional value) agre
     record { value = 0; access = expected_access request found.0 None (Some value); reservation = free } in
     let not_so : AccessResult = record { value = 1; access = None; reservation = free } in
     ap (λ stored. if stored then yes else not_so) (stored_same core one other rd request found.0 agree.0 agree.1)
-answer_same core one other rd request found (memory.Amo op width b) agree = refl
+answer_same core one other rd request found (memory.Amo op width b) agree =
+    ap (λ value.
+    record {
+      value =
+          loaded_value true request value;
+      access =
+          expected_access request found.0 (Some value) (Some (amo_of op width value b));
+      reservation = core.reservation;
+    })
+    (found_same one other rd request found agree)
 
-answered_same : (core : Core) (one other : Shown) (rd : ℕ) (request : MemoryRequest)
-    (found : Result LocatedValue Exception) (bytes : Bytes) → AgreeOnAccess found request.op one other
-    → (access_after_location core (row_choices_of other rd) request found).run bytes
-    ≡ (access_after_location core (row_choices_of one rd) request found).run bytes
+-- whether a device refused an access
+refused_same : (core : Core) (one other : Shown) (rd : ℕ) (place : Place) → (place.io ≡ true → AgreeOnFault core one other)
+    → device_refuses core (row_choices_of other rd) place ≡ device_refuses core (row_choices_of one rd) place
+refused_same core one other rd place agree = by place.io agree
+  where
+    faults : (by_row : Bool) → (by_row ≡ true → SameAt Trap one other)
+        → (by_row && (row_choices_of other rd).traps) ≡ (by_row && (row_choices_of one rd).traps)
+    faults true same = traps_same one other rd (same refl)
+    faults false same = refl
+
+    by : (io : Bool) → (io ≡ true → AgreeOnFault core one other)
+        → (io && (are_by_row core.choices.device_faults && (row_choices_of other rd).traps))
+        ≡ (io && (are_by_row core.choices.device_faults && (row_choices_of one rd).traps))
+    by true same = faults (are_by_row core.choices.device_faults) (same refl)
+    by false same = refl
+
+placed_same : (core : Core) (one other : Shown) (rd : ℕ) (request : MemoryRequest) (found : LocatedValue) (bytes : Bytes)
+    → AgreeOnValue (Ok found) request.op one other
+    → (access_at_places core (row_choices_of other rd) request found).run bytes
+    ≡ (access_at_places core (row_choices_of one rd) request found).run bytes
 unfolding access_result_of
-answered_same core one other rd request (Err exception) bytes agree = refl
-answered_same core one other rd request (Ok (first, second, held)) bytes agree =
+placed_same core one other rd request (first, second, held) bytes agree =
     let given : AccessResult → Unit {0} → Result AccessResult Exception = λ a _. Ok a in
     ap (λ answer. (mapped (given answer) (put (first, second) request (number_written answer.access))).run bytes)
     (answer_same core one other rd request (first, second, held) request.op agree)
 
+answered_same : (core : Core) (one other : Shown) (rd : ℕ) (request : MemoryRequest)
+    (found : Result LocatedValue Exception) (bytes : Bytes) → AgreeOnAccess core found request.op one other
+    → (access_after_location core (row_choices_of other rd) request found).run bytes
+    ≡ (access_after_location core (row_choices_of one rd) request found).run bytes
+answered_same core one other rd request (Err exception) bytes agree = refl
+answered_same core one other rd request (Ok found) bytes agree =
+    let refused : Action (Result AccessResult Exception) = pure (Err (fault_of request.op, request.address)) in
+    let placed = access_at_places core (row_choices_of other rd) request found in
+    ap (λ test. (if test then refused else placed).run bytes) (refused_same core one other rd found.0 agree.1)
+    ∙ by (device_refuses core (row_choices_of one rd) found.0)
+  where
+    by : (test : Bool)
+        → (if test then pure (Err (fault_of request.op, request.address))
+        else access_at_places core (row_choices_of other rd) request found).run bytes
+        ≡ (if test then pure (Err (fault_of request.op, request.address))
+        else access_at_places core (row_choices_of one rd) request found).run bytes
+    by true = refl
+    by false = placed_same core one other rd request found bytes agree.0
+
 access_same : (core : Core) (one other : Shown) (rd : ℕ) (request : MemoryRequest) (bytes : Bytes)
-    → AgreeOnAccess ((located_access core request).run bytes).value request.op one other
+    → AgreeOnAccess core ((located_access core request).run bytes).value request.op one other
     → (memory_access core (row_choices_of other rd) request).run bytes
     ≡ (memory_access core (row_choices_of one rd) request).run bytes
 unfolding memory_access
@@ -250,10 +302,8 @@ access_same core one other rd request bytes agree =
     ∙ sym (run_then-is (located_access core request) (access_after_location core (row_choices_of one rd) request) bytes)
 
 -- what an access to a register takes
-abbrev TakesSame : RowChoices → RowChoices → Csr → Type 0
-TakesSame one other csr =
-    (traps_at csr other ≡ traps_at csr one)
-    × (is_row_dependent (csr_kind_of csr) ≡ true → other.rd_wdata ≡ one.rd_wdata)
+abbrev TakesSame : CsrProfile → RowChoices → RowChoices → Csr → Type 0
+TakesSame profile one other csr = is_row_dependent (kind_in profile csr) ≡ true → other.rd_wdata ≡ one.rd_wdata
 
 none_taken : (one other taken : ℕ) → taken ≡ 0 → bit_and other taken ≡ bit_and one taken
 none_taken one other taken nothing =
@@ -290,42 +340,36 @@ taken_same csrs one other kinds.ImplementationDefined shown same =
     ap (λ v. bit_and (unwrap_or v 0) (adopted_bits_of csrs kinds.ImplementationDefined shown)) (same refl)
 taken_same csrs one other (kinds.Counter bit) shown same =
     ap (λ v. bit_and (unwrap_or v 0) (adopted_bits_of csrs (kinds.Counter bit) shown)) (same refl)
-taken_same csrs one other kinds.UnimplementedCounter shown same =
-    ap (λ v. bit_and (unwrap_or v 0) (adopted_bits_of csrs kinds.UnimplementedCounter shown)) (same refl)
 
 old_by_same : (core : Core) (one other : RowChoices) (address : ℕ) (row : CsrRow) → other.lines ≡ one.lines
-    → TakesSame one other row.csr
+    → TakesSame core.csrs.profile one other row.csr
     → old_value_by core other address (Some row) ≡ old_value_by core one address (Some row)
 old_by_same core one other address row lines takes =
-    let refused : Result OldValue Illegal = Err (record {}) in
+    let kind = kind_in core.csrs.profile row.csr in
     let old : RowChoices → Lines → CsrRead → Result OldValue Illegal =
     λ choices l read. Ok (
-      bit_or read.value
-          (bit_and (unwrap_or choices.rd_wdata 0) (adopted_bits_of core.csrs (csr_kind_of row.csr) l.shown)),
+      bit_or read.value (bit_and (unwrap_or choices.rd_wdata 0) (adopted_bits_of core.csrs kind l.shown)),
       read.base,
     ) in
     let value : (read : CsrRead) → old other other.lines read ≡ old one one.lines read = λ read.
     ap (λ l. old other l read) lines
-    ∙ ap (λ v. Ok (bit_or read.value v, read.base))
-    (taken_same core.csrs one other (csr_kind_of row.csr) one.lines.shown takes.1) in
+    ∙ ap (λ v. Ok (bit_or read.value v, read.base)) (taken_same core.csrs one other kind one.lines.shown takes) in
     let by : (read : Result CsrRead Illegal) → (read >>= old other other.lines) ≡ (read >>= old one one.lines) =
     λ read. elim read as (λ r. (r >>= old other other.lines) ≡ (r >>= old one one.lines))
     [ Ok x ↦ value x | Err e ↦ refl ] in
-    ap (λ traps. if traps then refused
-    else (csr_read_at core.csrs address core.mode other.lines.up >>= old other other.lines)) takes.0
-    ∙ ap (λ l. if traps_at row.csr one then refused
-    else (csr_read_at core.csrs address core.mode l.up >>= old other other.lines)) lines
-    ∙ ap (λ r. if traps_at row.csr one then refused else r) (by (csr_read_at core.csrs address core.mode one.lines.up))
+    ap (λ l. csr_read_at core.csrs address core.mode l.up >>= old other other.lines) lines
+    ∙ by (csr_read_at core.csrs address core.mode one.lines.up)
 
-traps_same : (one other : Shown) (rd : ℕ) → SameAt Trap one other
-    → (row_choices_of other rd).traps ≡ (row_choices_of one rd).traps
-unfolding row_choices_of
-traps_same one other rd same = ap (λ t. shows t 1) same
-
-traps_at_same : (one other : Shown) (rd : ℕ) (csr : Csr) → AgreeOnTime csr one other
-    → traps_at csr (row_choices_of other rd) ≡ traps_at csr (row_choices_of one rd)
-traps_at_same one other rd Time agree = traps_same one other rd agree
-traps_at_same one other rd _ agree = refl
+traps_by_same : (profile : CsrProfile) (one other : Shown) (rd : ℕ) (row : Option CsrRow)
+    → AgreeOnTrap profile row one other
+    → traps_by profile (row_choices_of other rd) row ≡ traps_by profile (row_choices_of one rd) row
+traps_by_same profile one other rd None agree = refl
+traps_by_same profile one other rd (Some row) agree = by (may_trap (presence_of profile row.csr)) agree
+  where
+    by : (may : Bool) → (may ≡ true → SameAt Trap one other)
+        → (may && (row_choices_of other rd).traps) ≡ (may && (row_choices_of one rd).traps)
+    by true same = traps_same one other rd (same refl)
+    by false same = refl
 
 lines_same : (one other : Shown) (rd : ℕ) → pending_lines_of other ≡ pending_lines_of one
     → (row_choices_of other rd).lines ≡ (row_choices_of one rd).lines
@@ -333,32 +377,45 @@ unfolding row_choices_of
 lines_same one other rd same = same
 
 row_same : (core : Core) (one other : Shown) (rd address : ℕ) (row : Option CsrRow)
-    → pending_lines_of other ≡ pending_lines_of one → AgreeOnRead row one other
+    → pending_lines_of other ≡ pending_lines_of one → AgreeOnRead core.csrs.profile row one other
     → old_value_by core (row_choices_of other rd) address row ≡ old_value_by core (row_choices_of one rd) address row
 row_same core one other rd address None lines agree = refl
 row_same core one other rd address (Some row) lines agree =
     old_by_same core (row_choices_of one rd) (row_choices_of other rd) address row (lines_same one other rd lines)
-    (traps_at_same one other rd row.csr agree.0, λ adopted. rd_same one other rd (agree.1 adopted))
+    (λ adopted. rd_same one other rd (agree adopted))
 
 read_same : (core : Core) (one other : Shown) (rd : ℕ) (address : ℕ) (reads : Bool)
-    → pending_lines_of other ≡ pending_lines_of one → (reads ≡ true → AgreeOnRead (csr_row_of address) one other)
+    → pending_lines_of other ≡ pending_lines_of one → (reads ≡ true → AgreeOnRead core.csrs.profile (csr_row_of address) one other)
     → (if reads then old_value_by core (row_choices_of other rd) address (csr_row_of address) else Ok (0, 0))
     ≡ (if reads then old_value_by core (row_choices_of one rd) address (csr_row_of address) else Ok (0, 0))
 read_same core one other rd address true lines agree =
     row_same core one other rd address (csr_row_of address) lines (agree refl)
 read_same core one other rd address false lines agree = refl
 
-csr_same : (core : Core) (one other : Shown) (rd : ℕ) (request : CsrRequest)
-    → pending_lines_of other ≡ pending_lines_of one → AgreeOnSystem (system.Csr request) one other
-    → csr_access_result core (row_choices_of other rd) request ≡ csr_access_result core (row_choices_of one rd) request
-unfolding csr_access_result old_value_of
-csr_same core one other rd request lines agree =
+read_and_write_same : (core : Core) (one other : Shown) (rd : ℕ) (request : CsrRequest)
+    → pending_lines_of other ≡ pending_lines_of one
+    → (request.reads ≡ true → AgreeOnRead core.csrs.profile (csr_row_of request.address) one other)
+    → csr_read_and_write core (row_choices_of other rd) request ≡ csr_read_and_write core (row_choices_of one rd) request
+unfolding csr_read_and_write old_value_of
+read_and_write_same core one other rd request lines agree =
     let rest : OldValue → Result (ℕ × Csrs) Illegal =
     λ old. (csrs_after_request core request old.1 >>= λ csrs. Ok (old.0, csrs)) in
     ap (λ old. old >>= rest) (read_same core one other rd request.address request.reads lines agree)
 
+csr_same : (core : Core) (one other : Shown) (rd : ℕ) (request : CsrRequest)
+    → pending_lines_of other ≡ pending_lines_of one → AgreeOnSystem core.csrs.profile (system.Csr request) one other
+    → csr_access_result core (row_choices_of other rd) request ≡ csr_access_result core (row_choices_of one rd) request
+unfolding csr_access_result traps_at
+csr_same core one other rd request lines agree =
+    let refused : Result (ℕ × Csrs) Illegal = Err (record {}) in
+    let profile = core.csrs.profile in
+    ap (λ traps. if traps then refused else csr_read_and_write core (row_choices_of other rd) request)
+    (traps_by_same profile one other rd (csr_row_of request.address) agree.0)
+    ∙ ap (λ done. if traps_by profile (row_choices_of one rd) (csr_row_of request.address) then refused else done)
+    (read_and_write_same core one other rd request lines agree.1)
+
 system_same : (core : Core) (one other : Shown) (rd : ℕ) (i : Instruction) (request : SystemRequest)
-    → pending_lines_of other ≡ pending_lines_of one → AgreeOnSystem request one other
+    → pending_lines_of other ≡ pending_lines_of one → AgreeOnSystem core.csrs.profile request one other
     → system_execution core (row_choices_of other rd) i request
     ≡ system_execution core (row_choices_of one rd) i request
 unfolding system_execution wfi_traps

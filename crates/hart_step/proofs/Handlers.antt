@@ -132,7 +132,7 @@ supervisor_apart = record {
 -- what an entry to M leaves
 machine_registers : (core after : Core) (exception : Exception) → Whole core.csrs
     → after.csrs
-    ≡ enter_machine_of core.csrs core.mode (cause_code exception.0) (written_trap_value core exception.1) core.pc
+    ≡ enter_machine_of core.csrs core.mode (cause_code exception.0) (written_trap_value core (cause_code exception.0) exception.1) core.pc
     → after.mode ≡ Machine → after.pc ≡ value_at core.csrs Mtvec / 4 * 4
     → ChangesOnly is_of_machine core.csrs after.csrs → LeadsToMachine core after exception
 unfolding enter_machine_of
@@ -140,7 +140,7 @@ machine_registers core after exception whole is mode pc others =
     let values : EntryValues = record {
       epc = core.pc;
       cause = cause_code exception.0;
-      tval = written_trap_value core exception.1;
+      tval = written_trap_value core (cause_code exception.0) exception.1;
       status = status_into_machine (value_at core.csrs Mstatus) core.mode;
     } in
     let holds = all_written core.csrs of_machine values whole machine_apart in
@@ -159,7 +159,7 @@ machine_registers core after exception whole is mode pc others =
 -- and an entry to S
 supervisor_registers : (core after : Core) (exception : Exception) → Whole core.csrs
     → after.csrs
-    ≡ enter_supervisor_of core.csrs core.mode (cause_code exception.0) (written_trap_value core exception.1) core.pc
+    ≡ enter_supervisor_of core.csrs core.mode (cause_code exception.0) (written_trap_value core (cause_code exception.0) exception.1) core.pc
     → after.mode ≡ Supervisor → after.pc ≡ value_at core.csrs Stvec / 4 * 4
     → ChangesOnly is_of_supervisor core.csrs after.csrs → LeadsToSupervisor core after exception
 unfolding enter_supervisor_of
@@ -167,7 +167,7 @@ supervisor_registers core after exception whole is mode pc others =
     let values : EntryValues = record {
       epc = core.pc;
       cause = cause_code exception.0;
-      tval = written_trap_value core exception.1;
+      tval = written_trap_value core (cause_code exception.0) exception.1;
       status = status_into_supervisor (value_at core.csrs Mstatus) core.mode;
     } in
     let holds = all_written core.csrs of_supervisor values whole supervisor_apart in
@@ -187,7 +187,7 @@ supervisor_registers core after exception whole is mode pc others =
 abbrev Enters : Core → Core → Exception → Type 0
 Enters core after exception =
     (after.csrs
-    ≡ enter_of core.csrs core.mode false (cause_code exception.0) (written_trap_value core exception.1) core.pc)
+    ≡ enter_of core.csrs core.mode false (cause_code exception.0) (written_trap_value core (cause_code exception.0) exception.1) core.pc)
     × (after.mode ≡ mode_by_enter core.csrs core.mode false (cause_code exception.0))
     × (after.pc ≡ pc_by_enter core.csrs core.mode false (cause_code exception.0))
 
@@ -198,7 +198,7 @@ changes : (core after : Core) (exception : Exception) (delegated : Bool) → Ent
     → is_delegated core.csrs core.mode false (cause_code exception.0) ≡ delegated
     → ChangesOnly (others_by delegated) core.csrs after.csrs
 changes core after exception delegated enters is =
-    let value = written_trap_value core exception.1 in
+    let value = written_trap_value core (cause_code exception.0) exception.1 in
     let only = enters_only core.csrs core.mode false (cause_code exception.0) value core.pc in
     let here = subst (ChangesOnly (others_by (is_delegated core.csrs core.mode false (cause_code exception.0)))
     core.csrs) (sym enters.0) only in
@@ -209,7 +209,7 @@ to_machine : (core after : Core) (exception : Exception) → Whole core.csrs →
 unfolding enter_of mode_by_enter pc_by_enter handler_address
 to_machine core after exception whole enters out =
     let code = cause_code exception.0 in
-    let value = written_trap_value core exception.1 in
+    let value = written_trap_value core (cause_code exception.0) exception.1 in
     machine_registers core after exception whole
     (enters.0 ∙ ap (λ b. if b then enter_supervisor_of core.csrs core.mode code value core.pc else
     enter_machine_of core.csrs core.mode code value core.pc) out)
@@ -222,7 +222,7 @@ to_supervisor : (core after : Core) (exception : Exception) → Whole core.csrs 
 unfolding enter_of mode_by_enter pc_by_enter handler_address
 to_supervisor core after exception whole enters out =
     let code = cause_code exception.0 in
-    let value = written_trap_value core exception.1 in
+    let value = written_trap_value core (cause_code exception.0) exception.1 in
     supervisor_registers core after exception whole
     (enters.0 ∙ ap (λ b. if b then enter_supervisor_of core.csrs core.mode code value core.pc else
     enter_machine_of core.csrs core.mode code value core.pc) out)
@@ -284,7 +284,7 @@ whole_by csrs mode value tval pc false whole =
 whole_entered : (core : Core) (code value : ℕ) → Whole core.csrs → Whole (core_after_entry core true code value).csrs
 unfolding core_after_entry enter_of
 whole_entered core code value whole =
-    whole_by core.csrs core.mode (cause_value true code) (written_trap_value core value) core.pc
+    whole_by core.csrs core.mode (cause_value true code) (written_trap_value core code value) core.pc
     (is_delegated core.csrs core.mode true code) whole
 
 whole_after : (core : Core) (asks : Bool) (pick : Option (ℕ × Mode)) → Whole core.csrs

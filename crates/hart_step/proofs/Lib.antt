@@ -29,3 +29,4 @@ pub mod KeptChoices
 pub mod TakenWrites
 pub mod Lost
 pub mod LostAlike
+pub mod KeptProfile

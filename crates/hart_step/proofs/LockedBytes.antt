@@ -10,7 +10,7 @@ use Rattle.hart_words.specs.declared.privilege.Mode.{Mode}
 use Rattle.hart_words.specs.declared.privilege.Mode.TheVariants.{User, Supervisor, Machine}
 use Rattle.hart_words.specs.declared.privilege.PmpEntry.{PmpEntry}
 use Rattle.hart_words.specs.Signals.{Shown}
-use Rattle.pmp_check.specs.Covering.{Covers, IsRegister, SomeByte, entry_at}
+use Rattle.pmp_check.specs.Covering.{Covers, IsRegister, SomeByte, entry_at, register_before}
 use Rattle.pmp_check.specs.Protection.{covers_all, covers_some, is_allowed, is_allowed_after, entry_permits, permits}
 use Rattle.pmp_check.specs.Protection.{region_of}
 use Rattle.pmp_check.proofs.Covering.{region_of-Covers, some_byte}
@@ -20,15 +20,15 @@ use Rattle.csr_file.specs.declared.fields.TheConstants.{PMP_LOCK}
 use Rattle.csr_file.specs.Fields.{bit_is_set}
 use Rattle.csr_file.specs.Legal.{IsLegal}
 use Rattle.csr_file.specs.Registers.{no_entry, pmp_entries_of, pmp_entry_of}
-use Rattle.csr_file.specs.Values.{configuration_of}
+use Rattle.csr_file.specs.Values.{configuration_of, has_entry}
 use Rattle.hart_step.specs.Cores.{IsSound}
 use Rattle.hart_step.specs.Rows.{HartState, after_row, after_rows}
 use Rattle.hart_step.specs.Steps.{before_instruction, step_of}
 use Rattle.hart_step.specs.ProtectionLaws.{IsLockedByte, LocksArePreserved}
 use Rattle.hart_step.proofs.Entries.{begun_entries}
 use Rattle.hart_step.proofs.Permitted.{step_granted}
-use Rattle.hart_step.proofs.Locks.{locks_outlast, still_locked}
-use Rattle.hart_step.proofs.Rows.{refused_misses, unreached, writes_miss}
+use Rattle.hart_step.proofs.Locks.{entry_had, locks_outlast, still_locked}
+use Rattle.hart_step.proofs.Rows.{address_fits, refused_misses, unreached, writes_miss}
 
 -- a locked entry without W refuses a store to every mode
 by_lock : (cfg : ℕ) (unlocked : Bool) → (cfg / 2 ^ 7 % 2 == 0) ≡ unlocked → bit_is_set cfg PMP_LOCK ≡ true
@@ -86,24 +86,57 @@ refused_from first (entry ∷ entries) (suc number) mode byte is refuses =
     (missed first entry byte (is.registers 0 (omega arith)) (is.none_before 0 (omega arith)))
     ∙ refused_from entry.addr entries number mode byte later refuses
 
+-- with no entries none covers a byte
+refused_by : (entries : List PmpEntry) (number : ℕ) (mode : Mode) (byte : ℕ) → IsLeast 0 entries number byte
+    → entry_permits (entry_at entries number).cfg mode kind.Store ≡ false
+    → is_allowed entries mode byte 1 kind.Store ≡ false
+unfolding is_allowed
+refused_by [] zero mode byte is refuses = absurd is.touches.holds
+refused_by [] (suc number) mode byte is refuses = absurd is.touches.holds
+refused_by (entry ∷ entries) number mode byte is refuses = refused_from 0 (entry ∷ entries) number mode byte is refuses
+
 -- what stays of a locked byte
 record IsShut (csrs : Csrs) (byte : ℕ) : Type 0 where
   pub lock : IsLockedByte csrs byte
   pub registers : (lower : ℕ) → lower ≤ lock.number → IsRegister (pmp_entry_of csrs lower)
 
+register_had : (csrs : Csrs) (number : ℕ) → IsRegister (pmp_entry_of csrs number)
+    → IsRegister (entry_at (pmp_entries_of csrs) number)
+register_had csrs number is = subst IsRegister (sym (entry_had csrs number)) (by (has_entry csrs number))
+  where
+    by : (has : Bool) → IsRegister (if has then pmp_entry_of csrs number else no_entry)
+    by true = is
+    by false = lit< tt
+
+-- an entry that covers a byte is one that the core has
+touching_had : (csrs : Csrs) (number byte : ℕ) → Touches 0 (pmp_entries_of csrs) number byte 1
+    → entry_at (pmp_entries_of csrs) number ≡ pmp_entry_of csrs number
+touching_had csrs number byte touches =
+    entry_had csrs number ∙ by (has_entry csrs number)
+    (subst (λ e. SomeByte byte 1 (Covers (register_before 0 (pmp_entries_of csrs) number) e)) (entry_had csrs number)
+    touches)
+  where
+    by : (has : Bool)
+        → SomeByte byte 1 (Covers (register_before 0 (pmp_entries_of csrs) number)
+        (if has then pmp_entry_of csrs number else no_entry))
+        → (if has then pmp_entry_of csrs number else no_entry) ≡ pmp_entry_of csrs number
+    by true touched = refl
+    by false touched = absurd touched.holds
+
 shut_refuses : (csrs : Csrs) (byte : ℕ) (mode : Mode) → IsShut csrs byte
     → is_allowed (pmp_entries_of csrs) mode byte 1 kind.Store ≡ false
-unfolding is_allowed
 shut_refuses csrs byte mode shut =
     let lock = shut.lock in
     let cfg = configuration_of csrs lock.number in
     let is : IsLeast 0 (pmp_entries_of csrs) lock.number byte = record {
-      registers = shut.registers;
+      registers = λ lower low. register_had csrs lower (shut.registers lower low);
       touches = lock.decides.touches;
       none_before = lock.decides.least;
     } in
-    refused_from 0 (pmp_entries_of csrs) lock.number mode byte is
-    (permits_none cfg mode (lock.locked lock.number (omega arith)) lock.forbids)
+    refused_by (pmp_entries_of csrs) lock.number mode byte is
+    (ap (λ (entry : PmpEntry). entry_permits entry.cfg mode kind.Store)
+    (touching_had csrs lock.number byte lock.decides.touches)
+    ∙ permits_none cfg mode (lock.locked lock.number (omega arith)) lock.forbids)
 
 shut_after : (before after : Csrs) (byte : ℕ) → LocksArePreserved before after → IsShut before byte → IsShut after byte
 shut_after before after byte outlasts shut =
@@ -156,7 +189,7 @@ register_of : (csrs : Csrs) (number : ℕ) → IsLegal csrs → IsRegister (pmp_
 register_of csrs number legal = elim (cases_Bool (nat_lt number (length csrs.entries))) [
   | inl inside ↦
       let entry = legal.entries number no_entry (grind (arith, nat_tests, inside)) in
-      omega (arith, entry.address)
+      address_fits csrs.profile (pmp_entry_of csrs number) entry
   | inr outside ↦
       let past : length csrs.entries ≤ number = grind (arith, nat_tests, outside) in
       let off : IsRegister no_entry = lit< tt in

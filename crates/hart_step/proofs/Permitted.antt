@@ -47,7 +47,8 @@ use Rattle.hart_step.specs.declared.instruction.InstructionOutcome.{InstructionO
 use Rattle.hart_step.specs.declared.instruction.InstructionOutcome.TheVariants.{Trapped, Retired}
 use Rattle.hart_step.specs.declared.memory.AccessResult.{AccessResult}
 use Rattle.hart_step.specs.Choices.{row_choices_of}
-use Rattle.hart_step.specs.MemoryAccess.{access_after_location, access_result_by, access_result_of}
+use Rattle.hart_step.specs.MemoryAccess.{access_after_location, access_at_places, access_result_by, access_result_of}
+use Rattle.hart_step.specs.MemoryAccess.{atomicity_of, device_refuses, fault_of}
 use Rattle.hart_step.specs.MemoryAccess.{expected_access, is_stored}
 use Rattle.hart_step.specs.MemoryAccess.{located_access, memory_access, number_written, put, put_to}
 use Rattle.hart_step.specs.MemoryAccess.{value_found}
@@ -60,7 +61,7 @@ use Rattle.hart_step.specs.Instructions.{run_of_decoded, run_of_fetched, instruc
 use Rattle.hart_step.specs.Steps.{StepResult, before_instruction, effects_of, expected_of, step_result_of, step_of}
 use Rattle.hart_step.specs.Laws.{AreSetsAndStores, bytes_after_fetch, request_by, request_from, request_at_pc}
 use Rattle.hart_step.specs.ProtectionLaws.{access_kind_of, asked_reads_of, check_of, instruction_reads_of}
-use Rattle.hart_step.specs.ProtectionLaws.{is_atomic, kind_by, reads_its_bytes, step_reads_of}
+use Rattle.hart_step.specs.ProtectionLaws.{kind_by, reads_its_bytes, step_reads_of}
 use Rattle.hart_step.specs.ProtectionLaws.{ArePermittedStores, BeginsAt, IsAskedAccess}
 use Rattle.hart_step.specs.ProtectionLaws.{IsAskedFor, IsPermittedStore, MayAccess, MayAccessPart}
 use Rattle.hart_step.specs.ProtectionLaws.{OfExpected, StepIsPermitted}
@@ -74,7 +75,7 @@ use Rattle.hart_step.proofs.StepSets.{HoldsOfStores, access_stores, step_stores}
 -- the places that an access found, and the kind that it is of
 abbrev ArePlacesOf : Core → MemoryRequest → Bytes → Places → Type 0
 ArePlacesOf core request start places =
-    ArePlacesFound core.csrs core.map core.choices (check_of core request) (is_atomic request.op) request.address start
+    ArePlacesFound core.csrs core.map core.choices (check_of core request) (atomicity_of request.op) request.address start
     places
 
 record AreOfKind (core : Core) (request : MemoryRequest) (start : Bytes) (access : Access) (places : Places)
@@ -271,10 +272,11 @@ answer_granted core choices request start (first, second, held) bytes (Store val
 answer_granted core choices request start (first, second, held) bytes (StoreConditional value) is =
     conditional_by core request start (first, second) value (is_stored core choices request first) bytes is
 answer_granted core choices request start (first, second, held) bytes (Amo op width b) is =
-    let value = amo_of op width held b in
+    let read = value_found choices request first held in
+    let value = amo_of op width read b in
     answered (first, second) (access_result_by core choices request first held (Amo op width b)) bytes
     (puts_value core request start (first, second) value bytes is)
-    (asked_for core request start (first, second) (Some held) (Some value) is)
+    (asked_for core request start (first, second) (Some read) (Some value) is)
 
 answered_granted : (core : Core) (choices : RowChoices) (request : MemoryRequest) (start : Bytes)
     (found : Result LocatedValue Exception) (bytes : Bytes)
@@ -286,9 +288,18 @@ answered_granted core choices request start (Err exception) bytes is = record {
   stores = stores_nothing core (Some (results.Access request)) start;
   access = tt;
 }
-answered_granted core choices request start (Ok (first, second, held)) bytes is =
-    answer_granted core choices request start (first, second, held) bytes request.op
-    (record { kind = refl; found = is })
+answered_granted core choices request start (Ok found) bytes is = by (device_refuses core choices found.0)
+  where
+    by : (refuses : Bool)
+        → IsAnswered core request start ((if refuses then pure (Err (fault_of request.op, request.address))
+        else access_at_places core choices request found).run bytes)
+    by true = record {
+      reads = refl;
+      stores = stores_nothing core (Some (results.Access request)) start;
+      access = tt;
+    }
+    by false =
+        answer_granted core choices request start found bytes request.op (record { kind = refl; found = is })
 
 -- an instruction, by what it asks for, from the memory that it finds
 record IsDone (core : Core) (asks : Option IntResult) (start : Bytes) (run : Run (Result Completion Exception)) : Type
@@ -457,7 +468,7 @@ ran_granted core shown bytes =
 asked_permitted : (core : Core) (asks : Option IntResult) (bytes : Bytes)
     → All (IsPermittedRead core.csrs core.map) (asked_reads_of core asks bytes)
 asked_permitted core (Some (results.Access request)) bytes =
-    data_permitted core.csrs core.map core.choices (check_of core request) (is_atomic request.op)
+    data_permitted core.csrs core.map core.choices (check_of core request) (atomicity_of request.op)
     (reads_its_bytes request.op) request.address bytes
 asked_permitted core _ bytes = All-nil (IsPermittedRead core.csrs core.map)
 

@@ -4,7 +4,7 @@ use Rattle.std.proofs.Common.{Option, Some, None, if◌then◌else◌}
 use Rattle.std.specs.Option.{is_some, is_none}
 use Rattle.std.proofs.lemmas.Bool.Decides.{nat_tests}
 use Rattle.hart_words.specs.declared.privilege.Mode.{Mode}
-use Rattle.hart_words.specs.Options.{are_zero}
+use Rattle.hart_words.specs.Options.{is_zero_for}
 use Rattle.hart_words.specs.Privilege.{mode_number}
 use Rattle.hart_words.specs.declared.signal.Signal.TheVariants.{Intr, PcRdata}
 use Rattle.hart_words.specs.Signals.{Shown}
@@ -189,8 +189,8 @@ fetched_at core shown bytes begun runs is =
     (ap (λ k. k.pc) is, (ap (λ k. k.mode) is, ap (λ k. k.csrs) is))
 
 -- the trap value of an interrupt is 0 in every core
-of_interrupts : (core : Core) → written_trap_value core 0 ≡ 0
-of_interrupts core = by (are_zero core.choices.trap_values)
+of_interrupts : (core : Core) (code : ℕ) → written_trap_value core code 0 ≡ 0
+of_interrupts core code = by (is_zero_for core.choices.trap_values code)
   where
     by : (zero : Bool) → trap_value_of zero 0 ≡ 0
     by true = refl
@@ -208,7 +208,7 @@ enters core shown bytes code taker runs asked picked =
     let At : Mode → ℕ → Type 0 =
     λ m value. IsFetched ((step_of core shown).run bytes).value.expected pc m
     (enter_of core.csrs core.mode true code value core.pc) in
-    let here = subst (At begun.mode) (of_interrupts core) (fetched_at core shown bytes begun runs is) in
+    let here = subst (At begun.mode) (of_interrupts core code) (fetched_at core shown bytes begun runs is) in
     record {
       taken = picks_taken core.csrs core.mode (pending_lines_of shown).up code taker picked;
       first = picks_first core.csrs core.mode (pending_lines_of shown).up code taker picked;

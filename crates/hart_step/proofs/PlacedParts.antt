@@ -8,6 +8,7 @@ use Rattle.hart_words.specs.declared.choices.Choices.{Choices}
 use Rattle.hart_words.specs.Memory.{Bytes}
 use Rattle.csr_file.specs.declared.csrs.Csrs.{Csrs}
 use Rattle.mem_access.specs.declared.place.AccessRequest.{AccessRequest}
+use Rattle.mem_access.specs.declared.place.Atomicity.{Atomicity}
 use Rattle.mem_access.specs.declared.place.Place.{Place}
 use Rattle.mem_access.specs.Accesses.{Exception, Part, first_part, has_second_part, is_split, request_for, second_part}
 use Rattle.mem_access.specs.Laws.{ArePlacesFound, IsPermittedPart}
@@ -17,9 +18,9 @@ use Rattle.mem_access.proofs.Grants.{IsMemory}
 use Rattle.mem_access.proofs.Orders.{found_memory}
 
 -- the parts of an access with their places, each of which is permitted
-pub record ArePlaced (csrs : Csrs) (map : Map) (choices : Choices) (request : AccessRequest) (atomic : Bool) (va : ℕ)
+pub record ArePlaced (csrs : Csrs) (map : Map) (choices : Choices) (request : AccessRequest) (atomicity : Atomicity) (va : ℕ)
     (bytes : Bytes) (placed : List PlacedPart) : Type 0 where
-  pub found : places_found csrs map choices request atomic va bytes ≡ Ok placed
+  pub found : places_found csrs map choices request atomicity va bytes ≡ Ok placed
   pub permitted : All (IsPermittedPart csrs map request) placed
 
 -- an access of one part
@@ -34,11 +35,11 @@ same_part one part place is at =
     there ∙ ap (λ (p : Place). record { part = part; place = p }) at
 
 -- one part is the whole access
-alone_is_whole : (part : Part) (choices : Choices) (request : AccessRequest) (atomic : Bool) (va : ℕ)
-    → part ∷ [] ≡ parts_of choices request atomic va → part ≡ whole_part va request.len
+alone_is_whole : (part : Part) (choices : Choices) (request : AccessRequest) (atomicity : Atomicity) (va : ℕ)
+    → part ∷ [] ≡ parts_of choices request atomicity va → part ≡ whole_part va request.len
 unfolding parts_of
-alone_is_whole part choices request atomic va is =
-    by (va % request.len == 0) (is_split choices request atomic va) (has_second_part va request.len) is
+alone_is_whole part choices request atomicity va is =
+    by (va % request.len == 0) (is_split choices request atomicity va) (has_second_part va request.len) is
   where
     by : (aligned split second : Bool)
         → part ∷ []
@@ -51,17 +52,17 @@ alone_is_whole part choices request atomic va is =
     by false true false same = cc
     by false false second same = cc
 
-one_placed : {csrs : Csrs} {map : Map} {choices : Choices} {request : AccessRequest} {atomic : Bool} {va : ℕ}
-    {bytes : Bytes} (first : Place) → (is : ArePlacesFound csrs map choices request atomic va bytes (first, None))
+one_placed : {csrs : Csrs} {map : Map} {choices : Choices} {request : AccessRequest} {atomicity : Atomicity} {va : ℕ}
+    {bytes : Bytes} (first : Place) → (is : ArePlacesFound csrs map choices request atomicity va bytes (first, None))
     → is.placed ≡ whole_placed request va first ∷ []
-one_placed {choices} {request} {atomic} {va} first is = by is.placed is.parts is.order
+one_placed {choices} {request} {atomicity} {va} first is = by is.placed is.parts is.order
   where
-    by : (placed : List PlacedPart) → each (λ one. one.part) placed ≡ parts_of choices request atomic va
+    by : (placed : List PlacedPart) → each (λ one. one.part) placed ≡ parts_of choices request atomicity va
         → each (λ one. one.place) placed ≡ first ∷ [] → placed ≡ whole_placed request va first ∷ []
     by [] parts order = cc
     by (one ∷ []) parts order =
         ap (λ (p : PlacedPart). p ∷ [])
-        (same_part one (whole_part va request.len) first (alone_is_whole one.part choices request atomic va parts) cc)
+        (same_part one (whole_part va request.len) first (alone_is_whole one.part choices request atomicity va parts) cc)
     by (one ∷ two ∷ more) parts order = cc
 
 -- two parts are those of an access that is not at a multiple of its length
@@ -70,11 +71,11 @@ record AreTwoParts (request : AccessRequest) (va : ℕ) (one two : Part) : Type 
   pub first : one ≡ first_part va request.len
   pub second : two ≡ second_part va request.len
 
-two_are_split : (one two : Part) (choices : Choices) (request : AccessRequest) (atomic : Bool) (va : ℕ)
-    → one ∷ two ∷ [] ≡ parts_of choices request atomic va → AreTwoParts request va one two
+two_are_split : (one two : Part) (choices : Choices) (request : AccessRequest) (atomicity : Atomicity) (va : ℕ)
+    → one ∷ two ∷ [] ≡ parts_of choices request atomicity va → AreTwoParts request va one two
 unfolding parts_of
-two_are_split one two choices request atomic va is =
-    by (va % request.len == 0) (is_split choices request atomic va) (has_second_part va request.len) refl is
+two_are_split one two choices request atomicity va is =
+    by (va % request.len == 0) (is_split choices request atomicity va) (has_second_part va request.len) refl is
   where
     by : (aligned split second : Bool) → (va % request.len == 0) ≡ aligned
         → one ∷ two ∷ []
@@ -97,18 +98,18 @@ record AreTwoPlaced (request : AccessRequest) (va : ℕ) (first second : Place) 
   pub misaligned : (va % request.len == 0) ≡ false
   pub are : placed ≡ two_placed request va first second
 
-both_placed : {csrs : Csrs} {map : Map} {choices : Choices} {request : AccessRequest} {atomic : Bool} {va : ℕ}
+both_placed : {csrs : Csrs} {map : Map} {choices : Choices} {request : AccessRequest} {atomicity : Atomicity} {va : ℕ}
     {bytes : Bytes} (first second : Place)
-    → (is : ArePlacesFound csrs map choices request atomic va bytes (first, Some second))
+    → (is : ArePlacesFound csrs map choices request atomicity va bytes (first, Some second))
     → AreTwoPlaced request va first second is.placed
-both_placed {choices} {request} {atomic} {va} first second is = by is.placed is.parts is.order
+both_placed {choices} {request} {atomicity} {va} first second is = by is.placed is.parts is.order
   where
-    by : (placed : List PlacedPart) → each (λ one. one.part) placed ≡ parts_of choices request atomic va
+    by : (placed : List PlacedPart) → each (λ one. one.part) placed ≡ parts_of choices request atomicity va
         → each (λ one. one.place) placed ≡ first ∷ second ∷ [] → AreTwoPlaced request va first second placed
     by [] parts order = absurd (let none : ⊥ = cc in none)
     by (one ∷ []) parts order = absurd (let none : ⊥ = cc in none)
     by (one ∷ two ∷ []) parts order =
-        let split = two_are_split one.part two.part choices request atomic va parts in
+        let split = two_are_split one.part two.part choices request atomicity va parts in
         let low = same_part one (first_part va request.len) first split.first cc in
         let high = same_part two (second_part va request.len) second split.second cc in
         record {
@@ -136,34 +137,34 @@ unfolding request_at
 no_devices request va misaligned = rw misaligned refl
 
 -- a place alone is that of the whole access
-pub placed_whole : {csrs : Csrs} {map : Map} {choices : Choices} {request : AccessRequest} {atomic : Bool} {va : ℕ}
-    {bytes : Bytes} (first : Place) → ArePlacesFound csrs map choices request atomic va bytes (first, None)
-    → ArePlaced csrs map choices request atomic va bytes (whole_placed request va first ∷ [])
-placed_whole {csrs} {map} {choices} {request} {atomic} {va} {bytes} first is =
-    subst (λ (placed : List PlacedPart). ArePlaced csrs map choices request atomic va bytes placed)
+pub placed_whole : {csrs : Csrs} {map : Map} {choices : Choices} {request : AccessRequest} {atomicity : Atomicity} {va : ℕ}
+    {bytes : Bytes} (first : Place) → ArePlacesFound csrs map choices request atomicity va bytes (first, None)
+    → ArePlaced csrs map choices request atomicity va bytes (whole_placed request va first ∷ [])
+placed_whole {csrs} {map} {choices} {request} {atomicity} {va} {bytes} first is =
+    subst (λ (placed : List PlacedPart). ArePlaced csrs map choices request atomicity va bytes placed)
     (one_placed first is)
     (record { found = is.found; permitted = is.permitted })
 
 -- two places are those of two parts, and of memory
-pub record AreBothPlaced (csrs : Csrs) (map : Map) (choices : Choices) (request : AccessRequest) (atomic : Bool)
+pub record AreBothPlaced (csrs : Csrs) (map : Map) (choices : Choices) (request : AccessRequest) (atomicity : Atomicity)
     (va : ℕ) (bytes : Bytes) (first second : Place) : Type 0 where
-  pub placed : ArePlaced csrs map choices request atomic va bytes (two_placed request va first second)
+  pub placed : ArePlaced csrs map choices request atomicity va bytes (two_placed request va first second)
   pub first_memory : IsMemory first
   pub second_memory : IsMemory second
 
-pub placed_both : {csrs : Csrs} {map : Map} {choices : Choices} {request : AccessRequest} {atomic : Bool} {va : ℕ}
+pub placed_both : {csrs : Csrs} {map : Map} {choices : Choices} {request : AccessRequest} {atomicity : Atomicity} {va : ℕ}
     {bytes : Bytes} (first second : Place)
-    → ArePlacesFound csrs map choices request atomic va bytes (first, Some second)
-    → AreBothPlaced csrs map choices request atomic va bytes first second
-placed_both {csrs} {map} {choices} {request} {atomic} {va} {bytes} first second is =
+    → ArePlacesFound csrs map choices request atomicity va bytes (first, Some second)
+    → AreBothPlaced csrs map choices request atomicity va bytes first second
+placed_both {csrs} {map} {choices} {request} {atomicity} {va} {bytes} first second is =
     let both = both_placed first second is in
-    let known : ArePlaced csrs map choices request atomic va bytes (two_placed request va first second) =
-    subst (λ (placed : List PlacedPart). ArePlaced csrs map choices request atomic va bytes placed) both.are
+    let known : ArePlaced csrs map choices request atomicity va bytes (two_placed request va first second) =
+    subst (λ (placed : List PlacedPart). ArePlaced csrs map choices request atomicity va bytes placed) both.are
     (record { found = is.found; permitted = is.permitted }) in
     let Memory : Result (List PlacedPart) Exception → Type 0 = λ found. IfOk found (All IsMemoryPart) in
     let memory : All IsMemoryPart (two_placed request va first second) =
     subst Memory known.found
-    (parts_memory csrs map choices (request_at request va) (parts_of choices request atomic va) bytes
+    (parts_memory csrs map choices (request_at request va) (parts_of choices request atomicity va) bytes
     (no_devices request va both.misaligned)) in
     let low : PlacedPart = record { part = first_part va request.len; place = first } in
     let high : PlacedPart = record { part = second_part va request.len; place = second } in

@@ -1,6 +1,6 @@
 -- The registers of protection are M's, by their addresses.
 use Rattle.std.proofs.Common.{◌≡◌, ℕ, ◌/◌, ◌%◌, ◌^◌, ◌≤◌, Bool, true, false, not, cond, ◌&&◌, ◌||◌, List, [], ◌∷◌}
-use Rattle.std.proofs.Common.{Option, Some, None, refl, sym, ap, ◌∙◌, nat_le, arith}
+use Rattle.std.proofs.Common.{Option, Some, None, refl, sym, ap, ◌∙◌, nat_le, arith, if◌then◌else◌}
 use Rattle.std.specs.List.{find, list_all}
 use Rattle.std.specs.Option.{option_map}
 use Rattle.std.proofs.lemmas.Bool.{and_parts}
@@ -12,6 +12,9 @@ use Rattle.csr_table.specs.declared.registers.Csr.{Csr}
 use Rattle.csr_table.specs.declared.registers.CsrRow.{CsrRow}
 use Rattle.csr_table.specs.Addresses.{CsrRange, lists, csr_ranges, csr_in, csr_row_with, csr_row_of}
 use Rattle.csr_file.specs.declared.csrs.Csrs.{Csrs}
+use Rattle.csr_file.specs.declared.csr_kind.CsrKind.TheVariants.{ImplementationDefined}
+use Rattle.csr_file.specs.declared.profile.CsrProfile.{CsrProfile}
+use Rattle.csr_file.specs.Profiles.{is_absent, is_from_row, kind_in, presence_of}
 use Rattle.csr_file.specs.Table.{csr_kind_of}
 use Rattle.csr_file.specs.Access.{may_read, may_write, is_enabled}
 use Rattle.csr_file.specs.Laws.{is_protective}
@@ -93,15 +96,26 @@ machine_alone Machine high = refl
 machine_alone Supervisor high = absurd (omega (arith, high))
 machine_alone User high = absurd (omega (arith, high))
 
+-- a register of protection is one on every core that has it
+protective_by : (csr : Csr) (from_row : Bool)
+    → is_protective (if from_row then ImplementationDefined else csr_kind_of csr) ≡ true → protects csr ≡ true
+protective_by csr true is = cc
+protective_by csr false is = is
+
+protects_in : (profile : CsrProfile) (csr : Csr) → is_protective (kind_in profile csr) ≡ true → protects csr ≡ true
+unfolding kind_in
+protects_in profile csr is = protective_by csr (is_from_row (presence_of profile csr)) is
+
 -- a write of a register of protection is M's
 pub protective_in_machine : (csrs : Csrs) (address : ℕ) (mode : Mode) (row : CsrRow) → csr_row_of address ≡ Some row
-    → may_write csrs mode row ≡ true → is_protective (csr_kind_of row.csr) ≡ true → mode ≡ Machine
+    → may_write csrs mode row ≡ true → is_protective (kind_in csrs.profile row.csr) ≡ true → mode ≡ Machine
 unfolding may_write may_read
 protective_in_machine csrs address mode row is may protective =
-    let read =
-    and_parts (nat_le row.least_mode (mode_number mode) && is_enabled csrs mode (csr_kind_of row.csr))
-    (not row.read_only) may in
-    let level =
-    and_parts (nat_le row.least_mode (mode_number mode)) (is_enabled csrs mode (csr_kind_of row.csr)) read.0 in
-    let least : row.least_mode ≡ 3 = protective_row address row is protective in
+    let mine : Bool = nat_le row.least_mode (mode_number mode) in
+    let enabled = is_enabled csrs mode (kind_in csrs.profile row.csr) in
+    let there : Bool = not (is_absent (presence_of csrs.profile row.csr)) in
+    let read = and_parts (mine && enabled && there) (not row.read_only) may in
+    let parts = and_parts (mine && enabled) there read.0 in
+    let level = and_parts mine enabled parts.0 in
+    let least : row.least_mode ≡ 3 = protective_row address row is (protects_in csrs.profile row.csr protective) in
     machine_alone mode (grind (arith, nat_tests, level.0, least))

@@ -25,6 +25,8 @@ use Rattle.csr_file.specs.declared.csrs.Csrs.{Csrs}
 use Rattle.csr_file.specs.declared.access.Illegal.{Illegal}
 use Rattle.csr_file.specs.declared.fields.TheConstants.{TSR, TVM}
 use Rattle.mem_access.specs.declared.place.AccessRequest.{AccessRequest}
+use Rattle.mem_access.specs.declared.place.Atomicity.{Atomicity}
+use Rattle.mem_access.specs.declared.place.Atomicity.TheVariants.{Amo, Plain, Reserved}
 use Rattle.mem_access.specs.declared.place.Place.{Place}
 use Rattle.mem_access.specs.Translation.{virtual_place_of}
 use Rattle.mem_access.specs.Accesses.{Exception, LocatedValue, Part, Places, data_load, data_store, parcel_fetch}
@@ -32,12 +34,13 @@ use Rattle.mem_access.specs.Accesses.{parcel_from}
 use Rattle.mem_access.specs.Accesses.{parcel_at, with_second, after_first, fetch_result, first_part, second_part}
 use Rattle.mem_access.specs.Accesses.{has_second_part, request_for, with_address, part_place_of, one_place, after_place}
 use Rattle.mem_access.specs.Accesses.{second_place_of, whole_place_of, split_places_of, is_split, data_places_of}
-use Rattle.mem_access.specs.Accesses.{value_at, load_from, load_result, store_place_of}
+use Rattle.mem_access.specs.Accesses.{is_atomic, value_at, load_from, load_result, store_place_of}
 use Rattle.hart_step.specs.declared.state.Core.{Core}
 use Rattle.hart_step.specs.declared.choices.RowChoices.{RowChoices}
 use Rattle.hart_step.specs.declared.instruction.Instruction.{Instruction}
 use Rattle.hart_step.specs.declared.memory.AccessResult.{AccessResult}
 use Rattle.hart_step.specs.Choices.{row_choices_of}
+use Rattle.hart_step.specs.MemoryAccess.{access_at_places, device_refuses, fault_of}
 use Rattle.hart_step.specs.MemoryAccess.{found_without_value, found_with_read, located_access_by}
 use Rattle.hart_step.specs.MemoryAccess.{load_at, store_places, located_access, access_after_location, memory_access}
 use Rattle.hart_step.specs.CsrAccess.{csr_access_result}
@@ -198,14 +201,14 @@ right_of : (one other : Bool) → (one && other) ≡ true → other ≡ true
 right_of true other both = both
 right_of false other both = cc
 
-data_is_at : (core : Core) (request : AccessRequest) (atomic : Bool) (misaligned : Cause) (va : ℕ) (bytes : Bytes)
+data_is_at : (core : Core) (request : AccessRequest) (atomicity : Atomicity) (misaligned : Cause) (va : ℕ) (bytes : Bytes)
     → IsAtPart core va request.len
-    ((data_places_of core.csrs core.map core.choices request atomic misaligned va).run bytes).value
+    ((data_places_of core.csrs core.map core.choices request atomicity misaligned va).run bytes).value
 unfolding data_places_of pure
-data_is_at core request atomic misaligned va bytes =
-    by (va % request.len == 0) (is_split core.choices request atomic va) refl
+data_is_at core request atomicity misaligned va bytes =
+    by (va % request.len == 0) (is_split core.choices request atomicity va) refl
   where
-    by : (aligned split : Bool) → is_split core.choices request atomic va ≡ split
+    by : (aligned split : Bool) → is_split core.choices request atomicity va ≡ split
         → IsAtPart core va request.len
         ((if aligned then whole_place_of core.csrs core.map core.choices request va
         else if split
@@ -214,7 +217,7 @@ data_is_at core request atomic misaligned va bytes =
     by true split is = whole_is_at core request va bytes
     by false true is =
         split_is_at core (record request { devices = false }) va bytes
-        (right_of (not (va % request.len == 0) && not atomic) (are_done core.choices.misaligned) is)
+        (right_of (not (va % request.len == 0) && not (is_atomic atomicity)) (are_done core.choices.misaligned) is)
     by false false is = inl refl
 
 value_is_at : (core : Core) (place : Place) (va len : ℕ) (io : Bool) (bytes : Bytes)
@@ -230,21 +233,21 @@ load_from_at core va len (Err e) bytes at = at
 load_from_at core va len (Ok (place, None)) bytes at = value_is_at core place va len place.io bytes
 load_from_at core va len (Ok (first, Some second)) bytes at = tt
 
-loaded_is_at : (core : Core) (va len : ℕ) (atomic : Bool) (bytes : Bytes)
-    → IsAtPart core va len ((load_at core va len atomic).run bytes).value
+loaded_is_at : (core : Core) (va len : ℕ) (atomicity : Atomicity) (bytes : Bytes)
+    → IsAtPart core va len ((load_at core va len atomicity).run bytes).value
 unfolding load_result
-loaded_is_at core va len atomic bytes =
-    let request = data_load core.csrs core.mode len atomic in
-    let places = data_places_of core.csrs core.map core.choices request atomic LoadAddressMisaligned va in
+loaded_is_at core va len atomicity bytes =
+    let request = data_load core.csrs core.choices core.mode len atomicity in
+    let places = data_places_of core.csrs core.map core.choices request atomicity LoadAddressMisaligned va in
     at_then places (load_from va len) (IsAtPart core va len) bytes
     (load_from_at core va len (places.run bytes).value (after_writes (places.run bytes).wrote bytes)
-    (data_is_at core request atomic LoadAddressMisaligned va bytes))
+    (data_is_at core request atomicity LoadAddressMisaligned va bytes))
 
-store_is_at : (core : Core) (va len : ℕ) (atomic : Bool) (bytes : Bytes)
-    → IsAtPart core va len ((store_places core va len atomic).run bytes).value
+store_is_at : (core : Core) (va len : ℕ) (atomicity : Atomicity) (bytes : Bytes)
+    → IsAtPart core va len ((store_places core va len atomicity).run bytes).value
 unfolding store_place_of
-store_is_at core va len atomic bytes =
-    data_is_at core (data_store core.csrs core.mode len atomic) atomic StoreAddressMisaligned va bytes
+store_is_at core va len atomicity bytes =
+    data_is_at core (data_store core.csrs core.choices core.mode len atomicity) atomicity StoreAddressMisaligned va bytes
 
 unread_at : (core : Core) (va len : ℕ) (places : Result Places Exception) → IsAtPart core va len places
     → IsAtPart core va len (found_without_value places)
@@ -255,22 +258,29 @@ read_is_at : (core : Core) (va len : ℕ) (places : Result Places Exception) (by
     → IsAtPart core va len ((found_with_read len places).run bytes).value
 unfolding pure mapped read_memory
 read_is_at core va len (Err e) bytes at = at
-read_is_at core va len (Ok (first, second)) bytes at = tt
+read_is_at core va len (Ok (first, second)) bytes at = by first.io
+  where
+    by : (io : Bool)
+        → IsAtPart core va len ((if io then pure {A = Result LocatedValue Exception} (Ok (first, second, 0))
+        else mapped (λ held. Ok (first, second, held))
+        (read_memory (record { pa = first.pa; len = len }))).run bytes).value
+    by true = tt
+    by false = tt
 
 placed_by_at : (core : Core) (va len : ℕ) (op : MemoryOp) (bytes : Bytes)
     → IsAtPart core va len ((located_access_by core va len op).run bytes).value
 unfolding mapped
-placed_by_at core va len (memory.Load signed) bytes = loaded_is_at core va len false bytes
-placed_by_at core va len memory.LoadReserved bytes = loaded_is_at core va len true bytes
+placed_by_at core va len (memory.Load signed) bytes = loaded_is_at core va len Plain bytes
+placed_by_at core va len memory.LoadReserved bytes = loaded_is_at core va len Reserved bytes
 placed_by_at core va len (memory.Store value) bytes =
-    unread_at core va len ((store_places core va len false).run bytes).value (store_is_at core va len false bytes)
+    unread_at core va len ((store_places core va len Plain).run bytes).value (store_is_at core va len Plain bytes)
 placed_by_at core va len (memory.StoreConditional value) bytes =
-    unread_at core va len ((store_places core va len true).run bytes).value (store_is_at core va len true bytes)
+    unread_at core va len ((store_places core va len Reserved).run bytes).value (store_is_at core va len Reserved bytes)
 placed_by_at core va len (memory.Amo op width b) bytes =
-    let first = store_places core va len true in
+    let first = store_places core va len Amo in
     at_then first (found_with_read len) (IsAtPart core va len) bytes
     (read_is_at core va len (first.run bytes).value (after_writes (first.run bytes).wrote bytes)
-    (store_is_at core va len true bytes))
+    (store_is_at core va len Amo bytes))
 
 -- so is that of the access of an instruction
 abbrev IsAtAccess : {A : Type 0} → Core → MemoryRequest → Result A Exception → Type 0
@@ -286,7 +296,13 @@ answered_is_at : (core : Core) (choices : RowChoices) (request : MemoryRequest) 
     → IsAtAccess core request ((access_after_location core choices request found).run bytes).value
 unfolding pure mapped
 answered_is_at core choices request (Err e) bytes at = at
-answered_is_at core choices request (Ok (first, second, held)) bytes at = tt
+answered_is_at core choices request (Ok found) bytes at = by (device_refuses core choices found.0)
+  where
+    by : (refused : Bool)
+        → IsAtAccess core request ((if refused then pure (Err (fault_of request.op, request.address))
+        else access_at_places core choices request found).run bytes).value
+    by true = inl refl
+    by false = tt
 
 accessed_is_at : (core : Core) (choices : RowChoices) (request : MemoryRequest) (bytes : Bytes)
     → IsAtAccess core request ((memory_access core choices request).run bytes).value

@@ -18,6 +18,7 @@ use Rattle.rv_integer.specs.declared.int_result.MemoryOp.TheVariants.{StoreCondi
 use Rattle.rv_atomic.specs.declared.reservation.Reservation.{Reservation}
 use Rattle.rv_atomic.specs.Blocks.{is_covered}
 use Rattle.mem_access.specs.declared.place.Place.{Place}
+use Rattle.mem_access.specs.declared.place.Atomicity.TheVariants.{Reserved}
 use Rattle.mem_access.specs.Accesses.{Exception, LocatedValue, Places, one_place, data_places_of, data_store}
 use Rattle.mem_access.specs.Accesses.{part_place_of}
 use Rattle.mem_access.specs.Accesses.{split_places_of, store_place_of, whole_place_of}
@@ -27,7 +28,8 @@ use Rattle.hart_step.specs.declared.memory.AccessResult.{AccessResult}
 use Rattle.hart_step.specs.Choices.{says_stored}
 use Rattle.hart_step.specs.MemoryAccess.{found_without_value, located_access, located_access_by}
 use Rattle.hart_step.specs.MemoryAccess.{store_places, expected_access, is_stored, access_result_by, access_result_of}
-use Rattle.hart_step.specs.MemoryAccess.{number_written, put_to, put, access_after_location}
+use Rattle.hart_step.specs.MemoryAccess.{access_after_location, access_at_places, device_refuses, fault_of}
+use Rattle.hart_step.specs.MemoryAccess.{number_written, put, put_to}
 use Rattle.hart_step.specs.Steps.{before_instruction}
 use Rattle.hart_step.specs.Laws.{InReservedBlock, StoresInReservedBlock, bytes_after_fetch, request_at_pc}
 use Rattle.hart_step.proofs.Phases.{begun_reservation}
@@ -55,10 +57,10 @@ one_unless_split whole split exception bytes false true one none = cc
 one_unless_split whole split exception bytes false false one none = tt
 
 pub atomic_is_one : (core : Core) (va len : ℕ) (bytes : Bytes)
-    → IsOnePlace ((store_places core va len true).run bytes).value
+    → IsOnePlace ((store_places core va len Reserved).run bytes).value
 unfolding store_place_of data_places_of mapped
 atomic_is_one core va len bytes =
-    let request = data_store core.csrs core.mode len true in
+    let request = data_store core.csrs core.choices core.mode len Reserved in
     let aligned = va % len == 0 in
     let parts = split_places_of core.csrs core.map core.choices (record request { devices = false }) va in
     let place = part_place_of core.csrs core.map core.choices request (record { va = va; len = len }) in
@@ -81,7 +83,7 @@ located_one core request value bytes is =
     let len = bytes_of request.size in
     let P : MemoryOp → Type 0 = λ o. IsOneFound ((located_access_by core request.address len o).run bytes).value in
     subst P (sym is)
-    (one_found ((store_places core request.address len true).run bytes).value
+    (one_found ((store_places core request.address len Reserved).run bytes).value
     (atomic_is_one core request.address len bytes))
 
 abbrev pub IsCovered : Core → Write → Type 0
@@ -125,14 +127,12 @@ left_of : (a b : Bool) → (a && b) ≡ true → a ≡ true
 left_of true b both = refl
 left_of false b both = cc
 
-answered_in : (core : Core) (choices : RowChoices) (request : MemoryRequest) (value : ℕ)
-    (found : Result LocatedValue Exception) (bytes : Bytes)
-    → request.op ≡ StoreConditional value → IsOneFound found
-    → InReservedBlock core ((access_after_location core choices request found).run bytes).wrote
-unfolding pure mapped access_result_of
-answered_in core choices request value (Err exception) bytes is one = All-nil (IsCovered core)
-answered_in core choices request value (Ok (first, Some second, held)) bytes is one = cc
-answered_in core choices request value (Ok (first, None, held)) bytes is one =
+placed_in : (core : Core) (choices : RowChoices) (request : MemoryRequest) (value : ℕ) (found : LocatedValue)
+    (bytes : Bytes) → request.op ≡ StoreConditional value → found.1 ≡ None
+    → InReservedBlock core ((access_at_places core choices request found).run bytes).wrote
+unfolding mapped access_result_of
+placed_in core choices request value (first, Some second, held) bytes is one = cc
+placed_in core choices request value (first, None, held) bytes is one =
     let P : MemoryOp → Type 0 =
     λ o. InReservedBlock core
     ((put (first, None) request (number_written (access_result_by core choices request first held o).access)).run
@@ -144,6 +144,20 @@ answered_in core choices request value (Ok (first, None, held)) bytes is one =
     left_of (is_covered core.reservation.block first.pa (bytes_of request.size)) (says_stored choices) in
     subst P (sym is)
     (subst Q (sym (if_is request first value stored)) (answer_if core request first value stored bytes covered))
+
+answered_in : (core : Core) (choices : RowChoices) (request : MemoryRequest) (value : ℕ)
+    (found : Result LocatedValue Exception) (bytes : Bytes)
+    → request.op ≡ StoreConditional value → IsOneFound found
+    → InReservedBlock core ((access_after_location core choices request found).run bytes).wrote
+unfolding pure
+answered_in core choices request value (Err exception) bytes is one = All-nil (IsCovered core)
+answered_in core choices request value (Ok found) bytes is one = by (device_refuses core choices found.0)
+  where
+    by : (refuses : Bool)
+        → InReservedBlock core ((if refuses then pure (Err (fault_of request.op, request.address))
+        else access_at_places core choices request found).run bytes).wrote
+    by true = All-nil (IsCovered core)
+    by false = placed_in core choices request value found bytes is one
 
 stores_covered : (core : Core) (choices : RowChoices) (request : MemoryRequest) (value : ℕ) (bytes : Bytes)
     → request.op ≡ StoreConditional value → InReservedBlock core (access_stores core choices request bytes)

@@ -26,6 +26,7 @@ use Rattle.mem_access.specs.declared.place.AccessRequest.{AccessRequest}
 use Rattle.mem_access.specs.declared.place.Place.{Place}
 use Rattle.mem_access.specs.Accesses.{Exception, LocatedValue, Part, Places, data_load, first_part, has_second_part}
 use Rattle.mem_access.specs.Accesses.{second_part}
+use Rattle.mem_access.specs.declared.place.Atomicity.TheVariants.{Reserved}
 use Rattle.mem_access.specs.Laws.{ArePlacesFound, IsPermittedPart, parts_in, place_list, places_in}
 use Rattle.mem_access.specs.Reads.{PlacedPart, parts_of, request_at, whole_part}
 use Rattle.mem_access.proofs.Granted.{load_granted}
@@ -35,6 +36,7 @@ use Rattle.hart_step.specs.declared.choices.RowChoices.{RowChoices}
 use Rattle.hart_step.specs.declared.memory.AccessResult.{AccessResult}
 use Rattle.hart_step.specs.Cores.{IsBlockInRam, IsSoundReservation}
 use Rattle.hart_step.specs.MemoryAccess.{access_after_location, access_result_by, access_result_of, expected_access, is_stored}
+use Rattle.hart_step.specs.MemoryAccess.{access_at_places, device_refuses, fault_of}
 use Rattle.hart_step.specs.MemoryAccess.{located_access, located_access_by, memory_access}
 use Rattle.hart_step.proofs.PlacedParts.{IsMemoryPart, parts_memory}
 
@@ -108,7 +110,7 @@ some_bytes Doubleword = omega arith
 
 -- an atomic access has one part, with all its bytes
 first_len_is : {part : Part} {more : List Part} (choices : Choices) (request : AccessRequest) (va : ℕ)
-    → part ∷ more ≡ parts_of choices request true va → part.len ≡ request.len
+    → part ∷ more ≡ parts_of choices request Reserved va → part.len ≡ request.len
 unfolding parts_of
 first_len_is {part} {more} choices request va is =
     by (va % request.len == 0) (are_done choices.misaligned) (has_second_part va request.len) is
@@ -122,12 +124,12 @@ first_len_is {part} {more} choices request va is =
     by true done second same = let part_is : part ≡ whole_part va request.len = cc in ap (λ p. p.len) part_is
     by false done second same = absurd (let none : ⊥ = cc in none)
 
-no_device : (csrs : Csrs) (mode : _) (va len : ℕ) → (request_at (data_load csrs mode len true) va).devices ≡ false
+no_device : (csrs : Csrs) (choices : Choices) (mode : _) (va len : ℕ) → (request_at (data_load csrs choices mode len Reserved) va).devices ≡ false
 unfolding request_at
-no_device csrs mode va len = by (va % len == 0)
+no_device csrs choices mode va len = by (va % len == 0)
   where
     by : (aligned : Bool)
-        → (if aligned then data_load csrs mode len true else record (data_load csrs mode len true) { devices = false }).devices
+        → (if aligned then data_load csrs choices mode len Reserved else record (data_load csrs choices mode len Reserved) { devices = false }).devices
         ≡ false
     by true = refl
     by false = refl
@@ -137,25 +139,25 @@ held_place map pa len some holds = (grind (arith, nat_tests, holds), grind (arit
 
 -- the place of an LR lies in RAM
 place_in_ram : {csrs : Csrs} {map : Map} {choices : Choices} {va len : ℕ} {bytes : Bytes} (mode : _) (places : Places)
-    → 1 ≤ len → ArePlacesFound csrs map choices (data_load csrs mode len true) true va bytes places
+    → 1 ≤ len → ArePlacesFound csrs map choices (data_load csrs choices mode len Reserved) Reserved va bytes places
     → LiesIn places.0.pa map.ram
 place_in_ram {csrs} {map} {choices} {va} {len} {bytes} mode places some is =
-    let request = data_load csrs mode len true in
+    let request = data_load csrs choices mode len Reserved in
     let memory : All IsMemoryPart is.placed =
     subst (λ found. IfOk found (All IsMemoryPart)) is.found
-    (parts_memory csrs map choices (request_at request va) (parts_of choices request true va) bytes
-    (no_device csrs mode va len)) in
+    (parts_memory csrs map choices (request_at request va) (parts_of choices request Reserved va) bytes
+    (no_device csrs choices mode va len)) in
     by is.placed places is.parts is.order is.permitted memory
   where
     by : (placed : List PlacedPart) (places : Places)
-        → parts_in placed ≡ parts_of choices (data_load csrs mode len true) true va
+        → parts_in placed ≡ parts_of choices (data_load csrs choices mode len Reserved) Reserved va
         → places_in placed ≡ place_list places
-        → All (IsPermittedPart csrs map (data_load csrs mode len true)) placed → All IsMemoryPart placed
+        → All (IsPermittedPart csrs map (data_load csrs choices mode len Reserved)) placed → All IsMemoryPart placed
         → LiesIn places.0.pa map.ram
     by [] (first, None) parts order permitted memory = absurd (let none : ⊥ = cc in none)
     by [] (first, Some second) parts order permitted memory = absurd (let none : ⊥ = cc in none)
     by (one ∷ more) (first, second) parts order permitted memory =
-        let request = data_load csrs mode len true in
+        let request = data_load csrs choices mode len Reserved in
         let at : one.place ≡ first = first_is second order in
         let all : one.part.len ≡ len = first_len_is choices request va parts in
         let holds = (All-head (IsPermittedPart csrs map request) one more permitted).inside
@@ -184,12 +186,12 @@ located_in_ram : (core : Core) (va len : ℕ) (op : MemoryOp) (bytes : Bytes) �
 located_in_ram core va len (Load signed) bytes some = tt
 located_in_ram core va len LoadReserved bytes some =
     ok_more
-    (λ (found : LocatedValue). ArePlacesFound core.csrs core.map core.choices (data_load core.csrs core.mode len true)
-    true va bytes (found.0, found.1))
+    (λ (found : LocatedValue). ArePlacesFound core.csrs core.map core.choices (data_load core.csrs core.choices core.mode len Reserved)
+    Reserved va bytes (found.0, found.1))
     (λ (found : LocatedValue). LiesIn found.0.pa core.map.ram)
     ((located_access_by core va len LoadReserved).run bytes).value
     (λ found are. place_in_ram core.mode (found.0, found.1) some are)
-    (load_granted core.csrs core.map core.choices core.mode va len true bytes).1
+    (load_granted core.csrs core.map core.choices core.mode va len Reserved bytes).1
 located_in_ram core va len (Store value) bytes some = tt
 located_in_ram core va len (StoreConditional value) bytes some = tt
 located_in_ram core va len (Amo op width b) bytes some = tt
@@ -233,8 +235,13 @@ after_location_sound : (core : Core) (choices : RowChoices) (request : MemoryReq
     → IfOk ((access_after_location core choices request found).run bytes).value (LeavesSound core)
 unfolding access_result_of mapped pure
 after_location_sound core choices request (Err exception) bytes sound lies = tt
-after_location_sound core choices request (Ok (first, second, held)) bytes sound lies =
-    result_sound core choices request first second held request.op sound lies
+after_location_sound core choices request (Ok found) bytes sound lies = by (device_refuses core choices found.0)
+  where
+    by : (refuses : Bool)
+        → IfOk ((if refuses then pure (Err (fault_of request.op, request.address))
+        else access_at_places core choices request found).run bytes).value (LeavesSound core)
+    by true = tt
+    by false = result_sound core choices request found.0 found.1 found.2 request.op sound lies
 
 -- what is reserved after an access is sound
 pub access_reserves : (core : Core) (choices : RowChoices) (request : MemoryRequest) (bytes : Bytes)

@@ -1,9 +1,11 @@
 -- What rows in S and U leave, one after another.
+use Rattle.std.proofs.Common.{◌^◌}
 use Rattle.std.proofs.Common.{◌≡◌, ◌≢◌, ◌⊎◌, ℕ, ◌+◌, ◌<◌, ◌≤◌, Bool, true, false, List, [], ◌∷◌, refl, sym, ap, ◌∙◌}
-use Rattle.std.proofs.Common.{subst, arith, All, Option}
+use Rattle.std.proofs.Common.{subst, arith, All, Option, length}
 use Rattle.std.specs.Prelude.{nat_lt, nat_le, ◌&&◌}
+use Rattle.std.proofs.Math.Pow.{pow_mono}
 use Rattle.std.proofs.lemmas.Bool.Decides.{nat_tests}
-use Rattle.std.proofs.lemmas.List.Elements.{All-append, All-head, All-tail, All-weaker}
+use Rattle.std.proofs.lemmas.List.Elements.{All-append, All-head, All-tail, All-take, All-weaker}
 use Rattle.hart_words.specs.declared.privilege.Access.TheVariants as kind
 use Rattle.hart_words.specs.declared.privilege.Mode.{Mode}
 use Rattle.hart_words.specs.declared.privilege.Mode.TheVariants.{User, Supervisor, Machine}
@@ -18,6 +20,8 @@ use Rattle.pmp_check.proofs.Deciding.{none_decides, whole_decides}
 use Rattle.pmp_check.proofs.Parts.{byte_allowed, both_alike}
 use Rattle.rv_integer.specs.declared.int_result.IntResult.{IntResult}
 use Rattle.csr_file.specs.declared.csrs.Csrs.{Csrs}
+use Rattle.csr_file.specs.declared.profile.CsrProfile.{CsrProfile}
+use Rattle.csr_file.specs.Profiles.{entry_bits_of, entry_count_of}
 use Rattle.csr_file.specs.Registers.{pmp_entries_of}
 use Rattle.csr_file.specs.Legal.{IsLegal, IsLegalEntry}
 use Rattle.mem_access.specs.Places.{data_mode_of}
@@ -147,10 +151,18 @@ locks_outlast_rows state (shown ∷ rows) =
     locks_after state.core.csrs next.core.csrs (after_rows next rows).core.csrs
     (locks_outlast state.core shown state.bytes) (locks_outlast_rows next rows)
 
--- what the entries say
+-- an address register, and all of them
+pub address_fits : (profile : CsrProfile) (entry : PmpEntry) → IsLegalEntry profile entry → IsRegister entry
+address_fits profile entry is =
+    let few : entry_bits_of profile ≤ 64 = omega arith in
+    let below : 2 ^ entry_bits_of profile ≤ 2 ^ 64 = pow_mono few in
+    omega (arith, is.address, below)
+
 legal_registers : (csrs : Csrs) → IsLegal csrs → All IsRegister (pmp_entries_of csrs)
 legal_registers csrs legal =
-    All-weaker IsLegalEntry IsRegister (λ entry is. omega (arith, is.address)) csrs.entries legal.entries
+    All-take IsRegister (entry_count_of csrs.profile.entry_count) csrs.entries
+    (All-weaker (IsLegalEntry csrs.profile) IsRegister (λ entry is. address_fits csrs.profile entry is) csrs.entries
+    legal.entries)
 
 one_byte : (byte a : ℕ) → byte ≤ a → a < byte + 1 → byte ≡ a
 one_byte byte a low high = omega arith
@@ -168,10 +180,11 @@ forbidden_refused core byte sound by =
     by.decides (each_of_one (CoversAt entries by.number) byte by.decides.touches)
     ∙ by.forbids
 
-uncovered_refused : (core : Core) (byte : ℕ) → IsSound core → NoneCovers (pmp_entries_of core.csrs) byte 1
-    → IsRefused core byte
-uncovered_refused core byte sound none =
-    none_decides (pmp_entries_of core.csrs) Supervisor byte 1 kind.Store (legal_registers core.csrs sound.legal) none
+uncovered_refused : (core : Core) (byte : ℕ) → IsSound core → 0 < length (pmp_entries_of core.csrs)
+    → NoneCovers (pmp_entries_of core.csrs) byte 1 → IsRefused core byte
+uncovered_refused core byte sound some none =
+    none_decides (pmp_entries_of core.csrs) Supervisor byte 1 kind.Store some (legal_registers core.csrs sound.legal)
+    none
 
 pub forbidden_outlasts : (state : HartState) (rows : List Shown) (byte : ℕ) → IsSound state.core
     → ForbidsStores (pmp_entries_of state.core.csrs) byte → IsPreserved state rows byte
@@ -179,6 +192,7 @@ forbidden_outlasts state rows byte sound by =
     refused_outlasts state rows byte (forbidden_refused state.core byte sound by)
 
 pub uncovered_outlasts : (state : HartState) (rows : List Shown) (byte : ℕ) → IsSound state.core
-    → NoneCovers (pmp_entries_of state.core.csrs) byte 1 → IsPreserved state rows byte
-uncovered_outlasts state rows byte sound none =
-    refused_outlasts state rows byte (uncovered_refused state.core byte sound none)
+    → 0 < length (pmp_entries_of state.core.csrs) → NoneCovers (pmp_entries_of state.core.csrs) byte 1
+    → IsPreserved state rows byte
+uncovered_outlasts state rows byte sound some none =
+    refused_outlasts state rows byte (uncovered_refused state.core byte sound some none)

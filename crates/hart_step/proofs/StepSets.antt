@@ -1,5 +1,6 @@
 -- What a step writes: the entries that its fetch sets, then those that the walks of its access set, and then what it
 -- stores.
+use Rattle.std.proofs.Common.{if◌then◌else◌}
 use Rattle.std.proofs.Common.{◌≡◌, ℕ, Bool, true, false, List, [], ◌∷◌, ◌++◌, append_assoc, refl, sym, ap}
 use Rattle.std.proofs.Common.{◌∙◌, subst, inl, inr, Ok, Err, Result, Option, Some, None}
 use Rattle.std.proofs.lemmas.Bool.{cases_Bool}
@@ -24,13 +25,14 @@ use Rattle.rv_integer.specs.declared.int_result.MemoryOp.TheVariants as memory
 use Rattle.rv_integer.specs.Results.{result_of}
 use Rattle.csr_file.specs.Registers.{pmp_entries_of}
 use Rattle.pmp_check.specs.Protection.{is_allowed}
-use Rattle.mem_access.specs.Accesses.{Exception, Places}
+use Rattle.mem_access.specs.Accesses.{Exception, LocatedValue, Places}
 use Rattle.mem_access.specs.Laws.{AreTableSets, IsTableSet}
 use Rattle.mem_access.proofs.Sets.{fetch_sets_alone, load_sets_alone, sets_append, store_sets_alone}
 use Rattle.hart_step.specs.declared.state.Core.{Core}
 use Rattle.hart_step.specs.declared.choices.RowChoices.{RowChoices}
 use Rattle.hart_step.specs.declared.instruction.Instruction.{Instruction}
 use Rattle.hart_step.specs.Choices.{row_choices_of}
+use Rattle.mem_access.specs.declared.place.Atomicity.TheVariants.{Amo, Plain, Reserved}
 use Rattle.hart_step.specs.MemoryAccess.{found_with_read, located_access, located_access_by, store_places}
 use Rattle.hart_step.specs.MemoryAccess.{access_after_location, memory_access}
 use Rattle.hart_step.specs.Instructions.{execution_of, execution_by, fetch_at_pc, first_value, second_value, op_for}
@@ -74,23 +76,30 @@ read_sets : (core : Core) (len : ℕ) (places : Result Places Exception) (bytes 
     → SetsEntriesAlone core bytes ((found_with_read len places).run bytes).wrote
 unfolding pure mapped read_memory
 read_sets core len (Err exception) bytes = sets_nothing core bytes
-read_sets core len (Ok (first, second)) bytes = sets_nothing core bytes
+read_sets core len (Ok (first, second)) bytes = by first.io
+  where
+    by : (io : Bool)
+        → SetsEntriesAlone core bytes ((if io then pure {A = Result LocatedValue Exception} (Ok (first, second, 0))
+        else mapped (λ held. Ok (first, second, held))
+        (read_memory (record { pa = first.pa; len = len }))).run bytes).wrote
+    by true = sets_nothing core bytes
+    by false = sets_nothing core bytes
 
 located_by_sets : (core : Core) (va len : ℕ) (op : MemoryOp) (bytes : Bytes)
     → SetsEntriesAlone core bytes ((located_access_by core va len op).run bytes).wrote
 unfolding mapped
 located_by_sets core va len (memory.Load signed) bytes =
-    load_sets_alone core.csrs core.map core.choices core.mode va len false bytes
+    load_sets_alone core.csrs core.map core.choices core.mode va len Plain bytes
 located_by_sets core va len memory.LoadReserved bytes =
-    load_sets_alone core.csrs core.map core.choices core.mode va len true bytes
+    load_sets_alone core.csrs core.map core.choices core.mode va len Reserved bytes
 located_by_sets core va len (memory.Store value) bytes =
-    store_sets_alone core.csrs core.map core.choices core.mode va len false bytes
+    store_sets_alone core.csrs core.map core.choices core.mode va len Plain bytes
 located_by_sets core va len (memory.StoreConditional value) bytes =
-    store_sets_alone core.csrs core.map core.choices core.mode va len true bytes
+    store_sets_alone core.csrs core.map core.choices core.mode va len Reserved bytes
 located_by_sets core va len (memory.Amo op width b) bytes =
-    let found = (store_places core va len true).run bytes in
-    then_sets core (store_places core va len true) (found_with_read len) bytes
-    (store_sets_alone core.csrs core.map core.choices core.mode va len true bytes)
+    let found = (store_places core va len Amo).run bytes in
+    then_sets core (store_places core va len Amo) (found_with_read len) bytes
+    (store_sets_alone core.csrs core.map core.choices core.mode va len Amo bytes)
     (read_sets core len found.value (after_writes found.wrote bytes))
 
 pub located_sets : (core : Core) (request : MemoryRequest) (bytes : Bytes)

@@ -33,10 +33,11 @@ use Rattle.hart_step.specs.declared.state.Core.{Core}
 use Rattle.hart_step.specs.Choices.{asks_interrupt}
 use Rattle.hart_step.specs.Cores.{IsSound}
 use Rattle.hart_step.specs.Instructions.{fetch_at_pc}
+use Rattle.hart_step.specs.MemoryAccess.{atomicity_of}
 use Rattle.hart_step.specs.Steps.{before_instruction, core_after_count, core_after_entry, interrupt_of}
 use Rattle.hart_step.specs.Steps.{core_after_interrupt, core_after_interrupt_by}
 use Rattle.hart_step.specs.Laws.{bytes_after_fetch, request_at_pc}
-use Rattle.hart_step.specs.ProtectionLaws.{asked_places, asked_reads_of, check_of, instruction_reads_of, is_atomic}
+use Rattle.hart_step.specs.ProtectionLaws.{asked_places, asked_reads_of, check_of, instruction_reads_of}
 use Rattle.hart_step.specs.ProtectionLaws.{reads_its_bytes, step_reads_of}
 use Rattle.hart_step.specs.TranslationLaws.{AreMappedPlaces, IsMappedRead, StepIsMapped}
 use Rattle.hart_step.proofs.Alike.{look_of}
@@ -106,7 +107,7 @@ asked_parts core request bytes =
     IfOk-weaker (asked_places core request after) (All (Mapped after)) (All (Mapped bytes))
     (λ placed. All-weaker (Mapped after) (Mapped bytes)
     (λ one mapped. before_sets one.part.va one.place.pa sets (fetch_sets core bytes).sets mapped) placed)
-    (places_mapped core.csrs core.map core.choices check (is_atomic request.op) request.address after
+    (places_mapped core.csrs core.map core.choices check (atomicity_of request.op) request.address after
     (length_of request.size))
 
 asked_places_mapped : (core : Core) (asks : Option IntResult) (bytes : Bytes) → AreMappedPlaces core asks bytes
@@ -144,9 +145,9 @@ asked_reads_mapped core (Some (results.Access request)) bytes =
     let look = look_of core check (bytes_after_fetch core bytes) in
     let Mapped : PlacedPart → Type 0 = IsMappedPart core.csrs core.map core.choices check bytes in
     let Own : PlacedPart → Type 0 = HoldsOfOwn (IsMappedRead core bytes) check in
-    data_all (IsMappedRead core bytes) look (is_atomic request.op) (reads_its_bytes request.op) request.address
+    data_all (IsMappedRead core bytes) look (atomicity_of request.op) (reads_its_bytes request.op) request.address
     (λ pa can. tt)
-    (IfOk-weaker (look_places look (is_atomic request.op) request.address) (All Mapped) (All Own)
+    (IfOk-weaker (look_places look (atomicity_of request.op) request.address) (All Mapped) (All Own)
     (λ placed. All-weaker Mapped Own (part_read core check bytes) placed) (asked_parts core request bytes))
 asked_reads_mapped core _ bytes = All-nil (IsMappedRead core bytes)
 

@@ -1,4 +1,5 @@
 -- A synchronous trap stores nothing: what is written is entries of page tables that are set.
+use Rattle.std.proofs.Common.{if◌then◌else◌}
 use Rattle.std.proofs.Common.{◌≡◌, ℕ, Bool, true, false, List, refl, sym, ap, ◌∙◌, subst, inl, inr, Ok, Err, Result}
 use Rattle.std.proofs.Common.{Option, Some, None}
 use Rattle.std.proofs.lemmas.Bool.{cases_Bool}
@@ -22,7 +23,8 @@ use Rattle.hart_step.specs.declared.instruction.InstructionOutcome.{InstructionO
 use Rattle.hart_step.specs.declared.instruction.InstructionOutcome.TheVariants.{Trapped, Retired}
 use Rattle.hart_step.specs.declared.memory.AccessResult.{AccessResult}
 use Rattle.hart_step.specs.Choices.{row_choices_of}
-use Rattle.hart_step.specs.MemoryAccess.{located_access, access_after_location, memory_access}
+use Rattle.hart_step.specs.MemoryAccess.{access_after_location, access_at_places, device_refuses, fault_of}
+use Rattle.hart_step.specs.MemoryAccess.{located_access, memory_access}
 use Rattle.hart_step.specs.Instructions.{Completion, after_access, execution_of, execution_by, first_value}
 use Rattle.hart_step.specs.Instructions.{second_value, InstructionRun, run_of_result, op_for, run_of_decoded}
 use Rattle.hart_step.specs.Instructions.{fetch_at_pc, run_of_fetched, instruction_run}
@@ -54,7 +56,13 @@ answered_clean : (core : Core) (choices : RowChoices) (request : MemoryRequest)
     → StoresIfDone core bytes ((access_after_location core choices request found).run bytes)
 unfolding pure mapped
 answered_clean core choices request (Err exception) bytes = λ refused. sets_nothing core bytes
-answered_clean core choices request (Ok (first, second, held)) bytes = λ refused. cc
+answered_clean core choices request (Ok found) bytes = by (device_refuses core choices found.0)
+  where
+    by : (refuses : Bool)
+        → StoresIfDone core bytes ((if refuses then pure (Err (fault_of request.op, request.address))
+        else access_at_places core choices request found).run bytes)
+    by true = λ refused. sets_nothing core bytes
+    by false = λ refused. cc
 
 access_clean : (core : Core) (choices : RowChoices) (request : MemoryRequest) (bytes : Bytes)
     → StoresIfDone core bytes ((memory_access core choices request).run bytes)

@@ -33,7 +33,10 @@ use Rattle.hart_step.specs.Choices.{row_choices_of, pending_lines_of, asks_inter
 use Rattle.hart_step.specs.MemoryAccess.{found_without_value, found_with_read, store_places, exchange_at}
 use Rattle.hart_step.specs.MemoryAccess.{located_access}
 use Rattle.hart_step.specs.MemoryAccess.{located_access_by, access_result_of, access_result_by, number_written, put_to}
-use Rattle.hart_step.specs.MemoryAccess.{put_at, put, access_after_location, memory_access}
+use Rattle.mem_access.specs.declared.place.Atomicity.{Atomicity}
+use Rattle.mem_access.specs.declared.place.Atomicity.TheVariants.{Amo}
+use Rattle.hart_step.specs.MemoryAccess.{access_after_location, access_at_places, device_refuses, fault_of}
+use Rattle.hart_step.specs.MemoryAccess.{memory_access, put, put_at}
 use Rattle.hart_step.specs.declared.changes.Retirement.{Retirement}
 use Rattle.hart_step.specs.declared.changes.Change.TheVariants.{Nothing, Registers, Access}
 use Rattle.hart_step.specs.declared.changes.InstructionNotes.{InstructionNotes}
@@ -69,17 +72,17 @@ of_length action {x} {s0} {s1} {w0} {w1} {bytes} is noted =
     subst P is noted
 
 -- a store's places, with no value
-pub located_store : (core : Core) (request : MemoryRequest) (atomic : Bool) {op : MemoryOp}
+pub located_store : (core : Core) (request : MemoryRequest) (atomicity : Atomicity) {op : MemoryOp}
     {found : Result Places Exception} {located : Result LocatedValue Exception} {s0 s1 : List Read}
     {w0 w1 : List Write} {bytes : Bytes}
     → request.op ≡ op
     → located_access_by core request.address (bytes_of request.size) op
-    ≡ mapped found_without_value (store_places core request.address (bytes_of request.size) atomic)
+    ≡ mapped found_without_value (store_places core request.address (bytes_of request.size) atomicity)
     → located ≡ found_without_value found
-    → Notes (store_places core request.address (bytes_of request.size) atomic) found s0 s1 w0 w1 bytes
+    → Notes (store_places core request.address (bytes_of request.size) atomicity) found s0 s1 w0 w1 bytes
     → Notes (located_access core request) located s0 s1 w0 w1 bytes
-located_store core request atomic {located} {s0} {s1} {w0} {w1} {bytes} is looks without look =
-    let places = store_places core request.address (bytes_of request.size) atomic in
+located_store core request atomicity {located} {s0} {s1} {w0} {w1} {bytes} is looks without look =
+    let places = store_places core request.address (bytes_of request.size) atomicity in
     let P : Result LocatedValue Exception → Type 0 =
     λ l. Notes (mapped found_without_value places) l s0 s1 w0 w1 bytes in
     let Q : Action (Result LocatedValue Exception) → Type 0 = λ a. Notes a located s0 s1 w0 w1 bytes in
@@ -89,27 +92,42 @@ located_store core request atomic {located} {s0} {s1} {w0} {w1} {bytes} is looks
 -- what an atomic memory operation finds
 pub exchange_refused : (core : Core) (va len : ℕ) {exception : Exception} {s0 s1 : List Read} {w0 w1 : List Write}
     {bytes : Bytes}
-    → Notes (store_places core va len true) (Err exception) s0 s1 w0 w1 bytes
+    → Notes (store_places core va len Amo) (Err exception) s0 s1 w0 w1 bytes
     → Notes (exchange_at core va len) (Err exception) s0 s1 w0 w1 bytes
 exchange_refused core va len {exception} {s1} {w1} {bytes} look =
-    Notes-then (store_places core va len true) (found_with_read len) look (Notes-pure (Err exception) s1 w1 bytes)
+    Notes-then (store_places core va len Amo) (found_with_read len) look (Notes-pure (Err exception) s1 w1 bytes)
 
 pub exchange_placed : (core : Core) (va len : ℕ) {places : Places} {held : ℕ} {s0 s1 s2 : List Read}
     {w0 w1 : List Write} {bytes : Bytes}
-    → Notes (store_places core va len true) (Ok places) s0 s1 w0 w1 bytes
+    → Notes (store_places core va len Amo) (Ok places) s0 s1 w0 w1 bytes → places.0.io ≡ false
     → held ≡ number_at (after_writes w1 bytes) places.0.pa len
     → s2 ≡ s1 ++ record { pa = places.0.pa; len = len } ∷ []
     → Notes (exchange_at core va len) (Ok (places.0, places.1, held)) s0 s2 w0 w1 bytes
-exchange_placed core va len {places} {held} {s1} {s2} {w1} {bytes} look read noted =
+exchange_placed core va len {places} {held} {s1} {s2} {w1} {bytes} look memory read noted =
     let asked : Read = record { pa = places.0.pa; len = len } in
     let gives : ℕ → Result LocatedValue Exception = λ n. Ok (places.0, places.1, n) in
-    let P : List Read → Type 0 =
-    λ s. Notes (found_with_read len (Ok places)) (Ok (places.0, places.1, held)) s1 s w1 w1 bytes in
+    let At : Bool → List Read → Type 0 =
+    λ io s. Notes (if io then pure (Ok (places.0, places.1, 0)) else mapped gives (read_memory asked))
+    (Ok (places.0, places.1, held)) s1 s w1 w1 bytes in
     let reads =
-    subst P (sym noted)
+    subst (At false) (sym noted)
     (Notes-mapped gives (read_memory asked)
     (Notes-observed (read_memory asked) (Observes-read_memory asked held s1 (after_writes w1 bytes) read))) in
-    Notes-then (store_places core va len true) (found_with_read len) look reads
+    Notes-then (store_places core va len Amo) (found_with_read len) look (subst (λ io. At io s2) (sym memory) reads)
+
+-- a device is not read
+pub exchange_at_device : (core : Core) (va len : ℕ) {places : Places} {s0 s1 : List Read} {w0 w1 : List Write}
+    {bytes : Bytes}
+    → Notes (store_places core va len Amo) (Ok places) s0 s1 w0 w1 bytes → places.0.io ≡ true
+    → Notes (exchange_at core va len) (Ok (places.0, places.1, 0)) s0 s1 w0 w1 bytes
+exchange_at_device core va len {places} {s1} {w1} {bytes} look device =
+    let asked : Read = record { pa = places.0.pa; len = len } in
+    let gives : ℕ → Result LocatedValue Exception = λ n. Ok (places.0, places.1, n) in
+    let At : Bool → Type 0 =
+    λ io. Notes (if io then pure (Ok (places.0, places.1, 0)) else mapped gives (read_memory asked))
+    (Ok (places.0, places.1, 0)) s1 s1 w1 w1 bytes in
+    Notes-then (store_places core va len Amo) (found_with_read len) look
+    (subst At (sym device) (Notes-pure (Ok (places.0, places.1, 0)) s1 w1 bytes))
 
 -- what is to be written
 pub put_as : (places : Places) (request : MemoryRequest) {written known : Option ℕ} {seen : List Read}
@@ -196,22 +214,41 @@ access_refused core choices request {exception} {s1} {w1} {bytes} looked =
     Notes-then (located_access core request) (access_after_location core choices request) looked
     (Notes-pure (Err exception) s1 w1 bytes)
 
+-- one that a device refuses
+pub access_refused_there : (core : Core) (choices : RowChoices) (request : MemoryRequest) {found : LocatedValue}
+    {s0 s1 : List Read} {w0 w1 : List Write} {bytes : Bytes}
+    → Notes (located_access core request) (Ok found) s0 s1 w0 w1 bytes
+    → device_refuses core choices found.0 ≡ true
+    → Notes (memory_access core choices request) (Err (fault_of request.op, request.address)) s0 s1 w0 w1 bytes
+unfolding memory_access
+access_refused_there core choices request {found} {s1} {w1} {bytes} looked refuses =
+    let refused : Result AccessResult Exception = Err (fault_of request.op, request.address) in
+    let At : Bool → Type 0 =
+    λ b. Notes (if b then pure refused else access_at_places core choices request found) refused s1 s1 w1 w1 bytes in
+    Notes-then (located_access core request) (access_after_location core choices request) looked
+    (subst At (sym refuses) (Notes-pure refused s1 w1 bytes))
+
 pub access_made : (core : Core) (choices : RowChoices) (request : MemoryRequest) {first : Place}
     {second : Option Place} {held : ℕ} {answer : AccessResult} {s0 s1 : List Read} {w0 w1 w2 : List Write}
     {bytes : Bytes}
     → Notes (located_access core request) (Ok (first, second, held)) s0 s1 w0 w1 bytes
+    → device_refuses core choices first ≡ false
     → answer ≡ access_result_by core choices request first held request.op
     → Notes (put (first, second) request (number_written answer.access)) tt s1 s1 w1 w2 bytes
     → Notes (memory_access core choices request) (Ok answer) s0 s1 w0 w2 bytes
 unfolding memory_access access_result_of
-access_made core choices request {first} {second} {answer} {s1} {w1} {w2} {bytes} looked is made =
+access_made core choices request {first} {second} {held} {answer} {s1} {w1} {w2} {bytes} looked goes is made =
     let given : AccessResult → Unit {0} → Result AccessResult Exception = λ a _. Ok a in
     let P : AccessResult → Type 0 =
     λ a. Notes (mapped (given a) (put (first, second) request (number_written a.access))) (Ok answer) s1 s1 w1 w2
     bytes in
+    let At : Bool → Type 0 =
+    λ b. Notes (if b then pure (Err (fault_of request.op, request.address))
+    else access_at_places core choices request (first, second, held)) (Ok answer) s1 s1 w1 w2 bytes in
     Notes-then (located_access core request) (access_after_location core choices request) looked
+    (subst At (sym goes)
     (subst P is
-    (Notes-mapped (given answer) (put (first, second) request (number_written answer.access)) made))
+    (Notes-mapped (given answer) (put (first, second) request (number_written answer.access)) made)))
 
 -- an instruction does what its result asks for
 pub executed_as : (core : Core) (choices : RowChoices) (i : Instruction) {result : IntResult} {operands : Operands}
@@ -426,6 +463,7 @@ pub gave_parts : (core : Core) (shown : Shown) (done : InstructionRun) (parts : 
                 parts.before.mode;
             insn =
                 parts.insn;
+            insn_bits = core.choices.insn_bits;
             effects = parts.effects;
             csrs_before = parts.before.csrs;
             csrs_after = parts.next.csrs;
@@ -456,6 +494,7 @@ gave_parts core shown done parts =
                 (p i).mode;
             insn =
                 bits i;
+            insn_bits = core.choices.insn_bits;
             effects = e i;
             csrs_before = (p i).csrs;
             csrs_after = (after i).csrs;

@@ -6,20 +6,22 @@ use Rattle.hart_words.specs.declared.span.Span.{Span}
 use Rattle.hart_words.specs.declared.map.Map.{Map}
 use Rattle.hart_words.specs.declared.choices.Choices.{Choices}
 use Rattle.hart_words.specs.declared.privilege.Mode.TheVariants.{Machine}
-use Rattle.csr_file.specs.Registers.{csrs_at_reset}
+use Rattle.csr_file.specs.declared.profile.CsrProfile.{CsrProfile}
+use Rattle.csr_file.specs.Profiles.{plain_profile}
+use Rattle.csr_file.specs.Registers.{csrs_at_reset_of}
 use Rattle.csr_file.specs.Legal.{IsLegal}
 use Rattle.rv_atomic.specs.declared.reservation.Block.{Block}
 use Rattle.rv_atomic.specs.declared.reservation.Reservation.{Reservation}
 use Rattle.hart_step.specs.declared.state.Core.{Core}
 use Rattle.hart_step.specs.declared.parts.CoreParts.{CoreParts}
 
--- at reset a hart is in M, its registers are 0, and nothing is reserved
-unfoldable pub core_at_reset : ℕ → Map → Choices → Core
-core_at_reset pc map choices = record {
+-- at reset a hart is in M, its integer registers are 0, and nothing is reserved
+unfoldable pub core_at_reset_of : CsrProfile → ℕ → Map → Choices → Core
+core_at_reset_of profile pc map choices = record {
   registers = registers_at_reset;
   pc = pc;
   mode = Machine;
-  csrs = csrs_at_reset;
+  csrs = csrs_at_reset_of profile;
   reservation = record { block = None };
   next_order = None;
   trapped_last = false;
@@ -27,6 +29,10 @@ core_at_reset pc map choices = record {
   map = map;
   choices = choices;
 }
+
+-- the same, where nothing is said of its control and status registers
+unfoldable pub core_at_reset : ℕ → Map → Choices → Core
+core_at_reset pc map choices = core_at_reset_of plain_profile pc map choices
 
 -- a block of so many bytes, at a multiple of them, all in RAM
 pub record IsBlockInRam (ram : Span) (bytes : ℕ) (block : Block) : Type 0 where

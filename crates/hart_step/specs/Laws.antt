@@ -17,10 +17,9 @@ use Rattle.rv_integer.specs.declared.int_result.SystemRequest.{SystemRequest}
 use Rattle.rv_integer.specs.declared.int_result.SystemRequest.TheVariants as system
 use Rattle.rv_integer.specs.declared.int_result.MemoryOp.{MemoryOp}
 use Rattle.rv_integer.specs.declared.int_result.MemoryOp.TheVariants as memory
+use Rattle.hart_words.specs.Options.{are_by_row}
 use Rattle.rv_integer.specs.Results.{result_of}
 use Rattle.rv_atomic.specs.Blocks.{is_covered}
-use Rattle.csr_table.specs.declared.registers.Csr.{Csr}
-use Rattle.csr_table.specs.declared.registers.Csr.TheVariants.{Time}
 use Rattle.csr_table.specs.declared.registers.CsrRow.{CsrRow}
 use Rattle.csr_table.specs.Addresses.{csr_row_of}
 use Rattle.csr_file.specs.declared.csrs.Csrs.{Csrs}
@@ -29,8 +28,8 @@ use Rattle.csr_file.specs.declared.csr_kind.CsrKind.TheVariants.{Stored, Status,
 use Rattle.csr_file.specs.declared.csr_kind.CsrKind.TheVariants.{SupervisorEnables, SupervisorPending, Translation}
 use Rattle.csr_file.specs.declared.csr_kind.CsrKind.TheVariants.{LowConfigurations, HighConfigurations, EntryAddress}
 use Rattle.csr_file.specs.declared.csr_kind.CsrKind.TheVariants.{Constant, ImplementationDefined, Counter}
-use Rattle.csr_file.specs.declared.csr_kind.CsrKind.TheVariants.{UnimplementedCounter}
-use Rattle.csr_file.specs.Table.{csr_kind_of}
+use Rattle.csr_file.specs.declared.profile.CsrProfile.{CsrProfile}
+use Rattle.csr_file.specs.Profiles.{kind_in, may_trap, presence_of}
 use Rattle.trap_entry.specs.Entries.{enter_of, mode_by_enter, pc_by_enter}
 use Rattle.trap_entry.specs.Returns.{mode_by_mret, mode_by_sret}
 use Rattle.interrupt_pick.specs.Laws.{IsTaken, IsPicked, TakesNone}
@@ -93,39 +92,52 @@ is_row_dependent (EntryAddress number) = false
 is_row_dependent (Constant number) = false
 is_row_dependent ImplementationDefined = true
 is_row_dependent (Counter bit) = true
-is_row_dependent UnimplementedCounter = true
 
--- a read takes `rd_wdata` where the register is one of those, and of `time` besides whether the row traps
-abbrev pub AgreeOnTime : Csr → Shown → Shown → Type 0
-AgreeOnTime Time one other = SameAt Trap one other
-AgreeOnTime _ one other = Unit {0}
+-- an access to a register that may trap takes whether the row traps, and a read of one that depends on the row
+-- `rd_wdata`
+abbrev pub AgreeOnTrap : CsrProfile → Option CsrRow → Shown → Shown → Type 0
+AgreeOnTrap profile None one other = Unit {0}
+AgreeOnTrap profile (Some row) one other = may_trap (presence_of profile row.csr) ≡ true → SameAt Trap one other
 
-abbrev pub AgreeOnRead : Option CsrRow → Shown → Shown → Type 0
-AgreeOnRead None one other = Unit {0}
-AgreeOnRead (Some row) one other =
-    AgreeOnTime row.csr one other × (is_row_dependent (csr_kind_of row.csr) ≡ true → SameAt RdWdata one other)
+abbrev pub AgreeOnRead : CsrProfile → Option CsrRow → Shown → Shown → Type 0
+AgreeOnRead profile None one other = Unit {0}
+AgreeOnRead profile (Some row) one other =
+    is_row_dependent (kind_in profile row.csr) ≡ true → SameAt RdWdata one other
 
-abbrev pub AgreeOnSystem : SystemRequest → Shown → Shown → Type 0
-AgreeOnSystem (system.Csr request) one other = request.reads ≡ true → AgreeOnRead (csr_row_of request.address) one other
-AgreeOnSystem system.WaitForInterrupt one other = SameAt Trap one other
-AgreeOnSystem _ one other = Unit {0}
+abbrev pub AgreeOnSystem : CsrProfile → SystemRequest → Shown → Shown → Type 0
+AgreeOnSystem profile (system.Csr request) one other =
+    AgreeOnTrap profile (csr_row_of request.address) one other
+    × (request.reads ≡ true → AgreeOnRead profile (csr_row_of request.address) one other)
+AgreeOnSystem profile system.WaitForInterrupt one other = SameAt Trap one other
+AgreeOnSystem profile _ one other = Unit {0}
 
 -- the access goes to a device
 abbrev pub is_device_found : Result LocatedValue Exception → Bool
 is_device_found (Err exception) = false
 is_device_found (Ok found) = found.0.io
 
-abbrev pub AgreeOnAccess : Result LocatedValue Exception → MemoryOp → Shown → Shown → Type 0
-AgreeOnAccess found (memory.Load signed) one other =
-    is_device_found found ≡ true → SameAt RdWdata one other × (SameAt MemAddr one other × SameAt MemRdata one other)
-AgreeOnAccess found (memory.StoreConditional value) one other = SameAt RdWdata one other × SameAt MemWmask one other
-AgreeOnAccess found _ one other = Unit {0}
+-- what a device gave, and whether it refused the access, where devices may
+abbrev pub AgreeOnDevice : Shown → Shown → Type 0
+AgreeOnDevice one other = SameAt RdWdata one other × (SameAt MemAddr one other × SameAt MemRdata one other)
+
+abbrev pub AgreeOnFault : Core → Shown → Shown → Type 0
+AgreeOnFault core one other = are_by_row core.choices.device_faults ≡ true → SameAt Trap one other
+
+abbrev pub AgreeOnValue : Result LocatedValue Exception → MemoryOp → Shown → Shown → Type 0
+AgreeOnValue found (memory.Load signed) one other = is_device_found found ≡ true → AgreeOnDevice one other
+AgreeOnValue found (memory.Amo op width b) one other = is_device_found found ≡ true → AgreeOnDevice one other
+AgreeOnValue found (memory.StoreConditional value) one other = SameAt RdWdata one other × SameAt MemWmask one other
+AgreeOnValue found _ one other = Unit {0}
+
+abbrev pub AgreeOnAccess : Core → Result LocatedValue Exception → MemoryOp → Shown → Shown → Type 0
+AgreeOnAccess core found op one other =
+    AgreeOnValue found op one other × (is_device_found found ≡ true → AgreeOnFault core one other)
 
 -- what an instruction takes from its row besides, where memory is as its fetch leaves it
 abbrev pub AgreeOnInstruction : Core → Bytes → Option IntResult → Shown → Shown → Type 0
 AgreeOnInstruction core bytes (Some (Access request)) one other =
-    AgreeOnAccess ((located_access core request).run bytes).value request.op one other
-AgreeOnInstruction core bytes (Some (System request)) one other = AgreeOnSystem request one other
+    AgreeOnAccess core ((located_access core request).run bytes).value request.op one other
+AgreeOnInstruction core bytes (Some (System request)) one other = AgreeOnSystem core.csrs.profile request one other
 AgreeOnInstruction core bytes _ one other = Unit {0}
 
 -- rows that agree on this give the same step: `rd_wdata` of an ADD never decides what it is held against

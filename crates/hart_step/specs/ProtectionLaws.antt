@@ -28,11 +28,12 @@ use Rattle.rvfi_rows.specs.declared.expected.Accessed.{Accessed}
 use Rattle.rvfi_rows.specs.declared.expected.Expected.{Expected}
 use Rattle.rvfi_rows.specs.declared.expected.Expected.TheVariants.{Halted, Retired}
 use Rattle.mem_access.specs.declared.place.AccessRequest.{AccessRequest}
-use Rattle.mem_access.specs.Accesses.{Exception, data_request}
+use Rattle.mem_access.specs.Accesses.{Exception, data_request, devices_answer}
 use Rattle.mem_access.specs.Laws.{AreReads}
 use Rattle.mem_access.specs.Places.{data_mode_of}
 use Rattle.mem_access.specs.Reads.{CheckedRead, PlacedPart, data_reads_of, fetch_reads_of, places_found}
 use Rattle.hart_step.specs.declared.state.Core.{Core}
+use Rattle.hart_step.specs.MemoryAccess.{atomicity_of}
 use Rattle.hart_step.specs.Rows.{HartState, RunBelowMachine, after_rows}
 use Rattle.hart_step.specs.Steps.{StepResult, before_instruction, step_of}
 use Rattle.hart_step.specs.Laws.{AreSetsAndStores, bytes_after_fetch, request_at_pc, next_of}
@@ -62,14 +63,6 @@ LowerModesLeaveProtection core shown bytes =
     (before_instruction core shown).mode ≢ Machine
     → pmp_entries_of (next_of core shown bytes).csrs ≡ pmp_entries_of core.csrs
 
--- LR, SC and the AMOs are atomic
-abbrev pub is_atomic : MemoryOp → Bool
-is_atomic (Load signed) = false
-is_atomic LoadReserved = true
-is_atomic (Store value) = false
-is_atomic (StoreConditional value) = true
-is_atomic (Amo op width b) = true
-
 -- what the access of an instruction is checked as: SC and the AMOs are stores
 abbrev pub access_kind_of : MemoryOp → Access
 access_kind_of (Load signed) = kind.Load
@@ -80,7 +73,8 @@ access_kind_of (Amo op width b) = kind.Store
 
 abbrev pub check_of : Core → MemoryRequest → AccessRequest
 check_of core request =
-    data_request core.csrs core.mode (access_kind_of request.op) (bytes_of request.size) (is_atomic request.op)
+    data_request core.csrs core.mode (access_kind_of request.op) (bytes_of request.size)
+    (devices_answer core.choices (atomicity_of request.op))
 
 -- it reads the bytes that stand at its place
 abbrev pub reads_its_bytes : MemoryOp → Bool
@@ -93,7 +87,7 @@ reads_its_bytes (Amo op width b) = true
 -- the reads of what an instruction asks for: the walks of its access's parts, and its own bytes where it reads them
 abbrev pub asked_reads_of : Core → Option IntResult → Bytes → List CheckedRead
 asked_reads_of core (Some (results.Access request)) bytes =
-    data_reads_of core.csrs core.map core.choices (check_of core request) (is_atomic request.op)
+    data_reads_of core.csrs core.map core.choices (check_of core request) (atomicity_of request.op)
     (reads_its_bytes request.op) request.address bytes
 asked_reads_of core _ bytes = []
 
@@ -121,7 +115,7 @@ IsPermittedStore core write =
 -- the places that are found for the parts of what an instruction asks for
 abbrev pub asked_places : Core → MemoryRequest → Bytes → Result (List PlacedPart) Exception
 asked_places core request bytes =
-    places_found core.csrs core.map core.choices (check_of core request) (is_atomic request.op) request.address bytes
+    places_found core.csrs core.map core.choices (check_of core request) (atomicity_of request.op) request.address bytes
 
 -- where a write goes, and where a part lies
 abbrev pub written_range : Write → ℕ × ℕ

@@ -8,7 +8,7 @@ use Rattle.std.specs.Option.{is_none}
 use Rattle.hart_words.specs.declared.privilege.Mode.{Mode}
 use Rattle.hart_words.specs.declared.privilege.Cause.{Cause}
 use Rattle.hart_words.specs.Privilege.{cause_code}
-use Rattle.hart_words.specs.Options.{are_zero}
+use Rattle.hart_words.specs.Options.{is_zero_for}
 use Rattle.hart_words.specs.declared.signal.Signal.TheVariants.{Order, Halt}
 use Rattle.hart_words.specs.Signals.{Shown}
 use Rattle.hart_words.specs.Registers.{register_of}
@@ -34,14 +34,14 @@ StepResult = Gave Core
 unfoldable pub core_after_count : Core → Shown → Core
 core_after_count core shown = record core { next_order = order_after core.next_order (shown Order) }
 
--- the trap value that is written: 0 where every one is
-abbrev pub written_trap_value : Core → ℕ → ℕ
-written_trap_value core value = trap_value_of (are_zero core.choices.trap_values) value
+-- the trap value that is written: 0 where that of the cause with this code always is
+abbrev pub written_trap_value : Core → ℕ → ℕ → ℕ
+written_trap_value core code value = trap_value_of (is_zero_for core.choices.trap_values code) value
 
 -- a trap is entered: an interrupt or an exception, by its code, with a trap value
 unfoldable pub core_after_entry : Core → Bool → ℕ → ℕ → Core
 core_after_entry core interrupt code value = record core {
-  csrs = enter_of core.csrs core.mode interrupt code (written_trap_value core value) core.pc;
+  csrs = enter_of core.csrs core.mode interrupt code (written_trap_value core code value) core.pc;
   mode = mode_by_enter core.csrs core.mode interrupt code;
   pc = pc_by_enter core.csrs core.mode interrupt code;
 }
@@ -106,6 +106,7 @@ expected_of core shown done =
       pc = before.pc;
       mode = before.mode;
       insn = insn_of done.executed;
+      insn_bits = core.choices.insn_bits;
       effects = effects_of before done.core done.executed;
       csrs_before = before.csrs;
       csrs_after = (core_after_run done shown).csrs;

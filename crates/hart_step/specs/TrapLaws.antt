@@ -86,7 +86,7 @@ pub record LeadsToMachine (before after : Core) (exception : Exception) : Type 0
   pub pc : after.pc ≡ vector_base (at before.csrs Mtvec)
   pub mepc : at after.csrs Mepc ≡ before.pc
   pub mcause : at after.csrs Mcause ≡ cause_code exception.0
-  pub mtval : at after.csrs Mtval ≡ written_trap_value before exception.1
+  pub mtval : at after.csrs Mtval ≡ written_trap_value before (cause_code exception.0) exception.1
   pub mstatus : IsStackedForMachine (at before.csrs Mstatus) before.mode (at after.csrs Mstatus)
   pub others : ChangesOnly is_of_machine before.csrs after.csrs
 
@@ -96,7 +96,7 @@ pub record LeadsToSupervisor (before after : Core) (exception : Exception) : Typ
   pub pc : after.pc ≡ vector_base (at before.csrs Stvec)
   pub sepc : at after.csrs Sepc ≡ before.pc
   pub scause : at after.csrs Scause ≡ cause_code exception.0
-  pub stval : at after.csrs Stval ≡ written_trap_value before exception.1
+  pub stval : at after.csrs Stval ≡ written_trap_value before (cause_code exception.0) exception.1
   pub mstatus : IsStackedForSupervisor (at before.csrs Mstatus) before.mode (at after.csrs Mstatus)
   pub others : ChangesOnly is_of_supervisor before.csrs after.csrs
 

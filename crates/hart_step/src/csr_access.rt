@@ -1,16 +1,16 @@
 //! The accesses of instructions to control and status registers. From the Unprivileged ISA's
 //! chapter ""Zicsr", Control and Status Register (CSR) Instructions".
 
-ghost use Rattle.std.specs.Prelude.{◌≡◌, ℕ};
+ghost use Rattle.std.specs.Prelude.{◌≡◌, ℕ, true};
 ghost use Rattle.std.specs.Result.{is_ok};
-ghost use Rattle.hart_step.specs.CsrAccess.{with_choices, traps_at, old_value_by, old_value_of, new_value_of, csrs_after_request, csr_access_result};
+ghost use Rattle.hart_step.specs.CsrAccess.{csr_read_and_write, with_choices, traps_at, traps_by, old_value_by, old_value_of, new_value_of, csrs_after_request, csr_access_result};
 ghost use Rattle.csr_file.specs.Access.{csr_write_at};
 ghost use Rattle.hart_step.specs.Changes.{csr_access_by, csrs_by};
 
 use crate::changes::CsrWrite;
 use crate::choices::RowChoices;
 use crate::state::Core;
-use csr_file::{CsrRead, Illegal};
+use csr_file::{CsrRead, Illegal, Presence};
 use csr_table::{Csr, CsrRow, row};
 use rv_decode::CsrOp;
 use rv_integer::CsrRequest;
@@ -25,6 +25,42 @@ impl Core {
     ) -> Result<(u64, Option<CsrWrite>), Illegal>
         ensures accessed { csr_access_by self.now result
             ≡ csr_access_result self.now choices.now request.now }
+    {
+        if self.traps_at(choices, request.address) {
+            Err(Illegal)
+        } else {
+            self.read_and_write(request, choices)
+        }
+    }
+
+    /// Whether the row makes an access to the register at an address trap, as a core may make each
+    /// access to some registers.
+    #[tactic(auto, unfolding(crate::specs::CsrAccess::traps_at))]
+    fn traps_at(&self, choices: &RowChoices, address: u16) -> bool
+        ensures { result ≡ traps_at self.now choices.now address }
+    {
+        choices.traps && self.may_trap(row(address))
+    }
+
+    fn may_trap(&self, row: Option<CsrRow>) -> bool
+        ensures { (choices : RowChoices) → choices.traps ≡ true
+            → result ≡ traps_by self.now.csrs.profile choices row }
+    {
+        match row {
+            None => false,
+            Some(row) => matches!(self.csrs.profile.presence(row.csr), Presence::MayTrap),
+        }
+    }
+
+    /// An access that the row does not say trapped.
+    #[tactic(auto, unfolding(crate::specs::CsrAccess::csr_read_and_write))]
+    fn read_and_write(
+        &self,
+        request: &CsrRequest,
+        choices: &RowChoices,
+    ) -> Result<(u64, Option<CsrWrite>), Illegal>
+        ensures accessed { csr_access_by self.now result
+            ≡ csr_read_and_write self.now choices.now request.now }
     {
         let (value, base) = self.old(request, choices)?;
         let write = self.write_of(request, base)?;
@@ -56,9 +92,6 @@ impl Core {
             None => return Err(Illegal),
             Some(row) => row,
         };
-        if traps_at(row.csr, choices) {
-            return Err(Illegal);
-        }
         let read = self.csrs.read(address, self.mode, choices.lines.up)?;
         Ok(self.with_choices(choices, row.csr, read))
     }
@@ -101,16 +134,6 @@ impl Core {
             None => false,
             Some(row) => !row.read_only && self.csrs.read(address, self.mode, 0).is_ok(),
         }
-    }
-}
-
-/// Whether the row makes a read of the register trap, as a core may make each read of `time`.
-fn traps_at(csr: Csr, choices: &RowChoices) -> bool
-    ensures { result ≡ traps_at csr choices.now }
-{
-    match csr {
-        Csr::Time => choices.traps,
-        _ => false,
     }
 }
 

@@ -1,14 +1,14 @@
 //! The accesses of instructions to memory.
 
-ghost use Rattle.std.specs.Prelude.{◌≡◌, ◌≤◌, ◌<◌, ◌+◌, ◌*◌, ◌^◌, ◌++◌, false, true, List, [], None, length, IfOk, IfSome};
+ghost use Rattle.std.specs.Prelude.{◌≡◌, ◌≤◌, ◌<◌, ◌+◌, ◌*◌, ◌++◌, false, true, List, [], None, length, IfOk, IfSome};
 ghost use Rattle.hart_words.specs.declared.accesses.Read.{Read};
 ghost use Rattle.hart_words.specs.declared.accesses.Write.{Write};
 ghost use Rattle.hart_words.specs.declared.span.Span.{Span};
 ghost use Rattle.hart_words.specs.Memory.{Bytes};
 ghost use Rattle.hart_words.specs.Actions.{Notes};
 ghost use Rattle.hart_words.specs.AccessSizes.{bytes_of};
-ghost use Rattle.hart_step.specs.MemoryAccess.{located_access, load_at, store_places, exchange_at, found_without_value, expected_access, value_found, loaded_value, is_stored, access_result_by, number_written, put_at, memory_access};
-ghost use Rattle.mem_access.specs.Accesses.{LieInRam, first_len};
+ghost use Rattle.hart_step.specs.MemoryAccess.{fault_of, device_refuses, located_access, load_at, store_places, exchange_at, found_without_value, expected_access, value_found, loaded_value, is_stored, access_result_by, number_written, put_at, memory_access};
+ghost use Rattle.mem_access.specs.Accesses.{LieInRam, devices_answer, first_len, is_atomic};
 ghost use Rattle.hart_step.specs.Cores.{IsSound, IsSoundReservation};
 ghost use Rattle.hart_step.specs.Changes.{AreInRam, AreStores};
 
@@ -16,9 +16,10 @@ use crate::accesses::Accesses;
 use crate::choices::RowChoices;
 use crate::instruction::Exception;
 use crate::state::Core;
-use hart_words::{MOST_READS, PhysMem, Wrote, sext};
+use hart_words::{Cause, MOST_READS, PhysMem, Wrote, sext};
 use mem_access::{
-    ACCESS_SETS, AddressSpace, FETCH_READS, FETCH_SETS, Place, first_len, load, store_place,
+    ACCESS_SETS, AddressSpace, Atomicity, FETCH_READS, FETCH_SETS, Place, first_len, load,
+    store_place,
 };
 use rv_atomic::{Reservation, amo};
 use rv_integer::{MemoryOp, MemoryRequest};
@@ -63,6 +64,9 @@ impl Core {
             Ok(found) => found,
             Err(exception) => return Err(exception),
         };
+        if self.device_refuses(choices, first) {
+            return Err((fault_of(request.op), request.address));
+        }
         let answer = self.answer(request, choices, first, held);
         if let Some(value) = written_by(answer.access) {
             note_store(request, first, second, value, &mut accesses.stores);
@@ -92,13 +96,13 @@ impl Core {
             (bytes_of request.now.size) (found.0, found.1)) }
     {
         match request.op {
-            MemoryOp::Load { .. } => self.load_at(request, false, mem, accesses),
-            MemoryOp::LoadReserved => self.load_at(request, true, mem, accesses),
+            MemoryOp::Load { .. } => self.load_at(request, Atomicity::Plain, mem, accesses),
+            MemoryOp::LoadReserved => { self.load_at(request, Atomicity::Reserved, mem, accesses) }
             MemoryOp::Store { .. } => {
-                without_value(self.store_places(request, false, mem, accesses))
+                without_value(self.store_places(request, Atomicity::Plain, mem, accesses))
             }
             MemoryOp::StoreConditional { .. } => {
-                without_value(self.store_places(request, true, mem, accesses))
+                without_value(self.store_places(request, Atomicity::Reserved, mem, accesses))
             }
             MemoryOp::Amo { .. } => self.exchange_at(request, mem, accesses),
         }
@@ -125,10 +129,13 @@ impl Core {
         ensures in_ram { IfOk result (λ found. LieInRam self.now.map.ram request.now.address
             (bytes_of request.now.size) (found.0, found.1)) }
     {
-        let (first, second) = match self.store_places(request, true, mem, accesses) {
+        let (first, second) = match self.store_places(request, Atomicity::Amo, mem, accesses) {
             Ok(places) => places,
             Err(exception) => return Err(exception),
         };
+        if first.io {
+            return Ok((first, second, 0));
+        }
         let len = request.size.bytes();
         accesses.seen.put(first.pa, len);
         let space = AddressSpace {
@@ -145,7 +152,7 @@ impl Core {
     fn load_at<M: PhysMem>(
         &self,
         request: &MemoryRequest,
-        atomic: bool,
+        atomicity: Atomicity,
         mem: &M,
         accesses: &mut Accesses,
     ) -> Result<(Place, Option<Place>, u64), Exception>
@@ -154,7 +161,7 @@ impl Core {
         requires sets { length accesses.old.sets ≤ FETCH_SETS }
         requires sets_in_ram { AreInRam self.now.map.ram accesses.old.sets }
         ensures located { Notes
-            (load_at self.now request.now.address (bytes_of request.now.size) atomic) result
+            (load_at self.now request.now.address (bytes_of request.now.size) atomicity) result
             accesses.old.seen accesses.new.seen accesses.old.sets accesses.new.sets
             (M.bytes mem.now) }
         ensures set { length accesses.new.sets ≤ FETCH_SETS + ACCESS_SETS }
@@ -170,7 +177,7 @@ impl Core {
             self.mode,
             request.address,
             request.size.bytes(),
-            atomic,
+            atomicity,
             &self.choices,
             &mut accesses.seen,
             &mut accesses.sets,
@@ -181,7 +188,7 @@ impl Core {
     fn store_places<M: PhysMem>(
         &self,
         request: &MemoryRequest,
-        atomic: bool,
+        atomicity: Atomicity,
         mem: &M,
         accesses: &mut Accesses,
     ) -> Result<(Place, Option<Place>), Exception>
@@ -190,15 +197,16 @@ impl Core {
         requires sets { length accesses.old.sets ≤ FETCH_SETS }
         requires sets_in_ram { AreInRam self.now.map.ram accesses.old.sets }
         ensures located { Notes
-            (store_places self.now request.now.address (bytes_of request.now.size) atomic) result
+            (store_places self.now request.now.address (bytes_of request.now.size) atomicity) result
             accesses.old.seen accesses.new.seen accesses.old.sets accesses.new.sets
             (M.bytes mem.now) }
         ensures room_left { length accesses.new.seen < MOST_READS }
         ensures set { length accesses.new.sets ≤ FETCH_SETS + ACCESS_SETS }
         ensures set_in_ram { AreInRam self.now.map.ram accesses.new.sets }
         ensures stores { accesses.new.stores ≡ accesses.old.stores }
-        ensures memory { atomic ≡ true → IfOk result (λ places. places.0.io ≡ false) }
-        ensures one { atomic ≡ true → IfOk result (λ places. places.1 ≡ None) }
+        ensures memory { devices_answer self.now.choices atomicity ≡ false
+            → IfOk result (λ places. places.0.io ≡ false) }
+        ensures one { is_atomic atomicity ≡ true → IfOk result (λ places. places.1 ≡ None) }
         ensures in_ram { IfOk result (LieInRam self.now.map.ram request.now.address
             (bytes_of request.now.size)) }
     {
@@ -209,7 +217,7 @@ impl Core {
             self.mode,
             request.address,
             request.size.bytes(),
-            atomic,
+            atomicity,
             &self.choices,
             &mut accesses.seen,
             &mut accesses.sets,
@@ -259,12 +267,23 @@ impl Core {
                     reservation: Reservation::NONE,
                 }
             }
-            MemoryOp::Amo { op, width, b } => AccessResult {
-                value: extended_value(true, request, held),
-                access: access_at(request, place, Some(held), Some(amo(op, width, held, b))),
-                reservation: self.reservation,
-            },
+            MemoryOp::Amo { op, width, b } => {
+                let found = value_found(choices, request, place, held);
+                let written = amo(op, width, found, b);
+                AccessResult {
+                    value: extended_value(true, request, found),
+                    access: access_at(request, place, Some(found), Some(written)),
+                    reservation: self.reservation,
+                }
+            }
         }
+    }
+
+    /// Whether a device refuses the access, where devices may and the row shows a trap.
+    fn device_refuses(&self, choices: &RowChoices, place: Place) -> bool
+        ensures { result ≡ device_refuses self.now choices.now place }
+    {
+        place.io && self.choices.device_faults.are_by_row() && choices.traps
     }
 
     /// Whether an SC stores: in the reserved block alone, and there as the row says.
@@ -272,6 +291,17 @@ impl Core {
         ensures { result ≡ is_stored self.now choices.now request.now place }
     {
         self.reservation.covers(place.pa, request.size.bytes()) && choices.says_stored()
+    }
+}
+
+/// The fault of an access that is refused.
+fn fault_of(op: MemoryOp) -> Cause
+    ensures { result ≡ fault_of op }
+{
+    match op {
+        MemoryOp::Load { .. } | MemoryOp::LoadReserved => Cause::LoadAccessFault,
+        MemoryOp::Store { .. } | MemoryOp::StoreConditional { .. } | MemoryOp::Amo { .. } =>
+            Cause::StoreAccessFault,
     }
 }
 
@@ -305,7 +335,7 @@ fn access_at(
     })
 }
 
-/// What a load found: a device gives what the row shows.
+/// What a load or an atomic memory operation found: a device gives what the row shows.
 fn value_found(choices: &RowChoices, request: &MemoryRequest, place: Place, held: u64) -> u64
     ensures { result ≡ value_found choices.now request.now place held }
 {

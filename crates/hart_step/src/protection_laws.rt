@@ -1,6 +1,6 @@
 //! What physical memory protection comes to over steps.
 
-ghost use Rattle.std.specs.Prelude.{◌≡◌, ℕ, List};
+ghost use Rattle.std.specs.Prelude.{◌≡◌, ◌<◌, ℕ, List, length};
 ghost use Rattle.hart_words.specs.Memory.{Bytes};
 ghost use Rattle.hart_words.specs.Signals.{Shown};
 ghost use Rattle.pmp_check.specs.Covering.{NoneCovers};
@@ -60,7 +60,8 @@ pub fn refused_bytes_are_preserved()
         → IsSound state.core → ForbidsStores (pmp_entries_of state.core.csrs) byte
         → IsPreserved state rows byte }
     ensures uncovered { (state : HartState) (rows : List Shown) (byte : ℕ)
-        → IsSound state.core → NoneCovers (pmp_entries_of state.core.csrs) byte 1
+        → IsSound state.core → 0 < length (pmp_entries_of state.core.csrs)
+        → NoneCovers (pmp_entries_of state.core.csrs) byte 1
         → IsPreserved state rows byte }
 {}
 

@@ -4,9 +4,10 @@ ghost use Rattle.std.specs.Prelude.{◌≡◌, Decides, IfOk};
 
 use crate::hart::Hart;
 use crate::state::Core;
-use csr_file::Csrs;
+use csr_file::{CsrProfile, Csrs, Presence};
 use hart_words::{
-    Choices, Map, Marks, Misaligned, Mode, NoMemory, PhysMem, PmpEntry, Registers, Span, TrapValues,
+    Choices, DeviceFaults, InsnBits, Map, Marks, Misaligned, Mode, NoMemory, PhysMem, PmpEntry,
+    Registers, Span, TrapValues,
 };
 use rv_atomic::{Block, Reservation};
 
@@ -65,7 +66,45 @@ fn same_mode(one: Mode, other: Mode) -> bool
 fn same_csrs(one: &Csrs, other: &Csrs) -> bool
     ensures { Decides result (one.now ≡ other.now) }
 {
-    one.values == other.values && same_entries(&one.entries, &other.entries)
+    one.values == other.values
+        && same_entries(&one.entries, &other.entries)
+        && same_profile(&one.profile, &other.profile)
+}
+
+fn same_profile(one: &CsrProfile, other: &CsrProfile) -> bool
+    ensures { Decides result (one.now ≡ other.now) }
+{
+    one.masks == other.masks
+        && one.fixed == other.fixed
+        && same_presences(&one.presences, &other.presences)
+        && one.entry_count.number() == other.entry_count.number()
+        && one.entry_bits == other.entry_bits
+        && one.lines == other.lines
+}
+
+fn same_presences(one: &[Presence], other: &[Presence]) -> bool
+    ensures { Decides result (one.now ≡ other.now) }
+{
+    match one.split_first() {
+        None => other.is_empty(),
+        Some((presence, presences)) => match other.split_first() {
+            None => false,
+            Some((second, seconds)) => {
+                same_presence(*presence, *second) && same_presences(presences, seconds)
+            }
+        },
+    }
+}
+
+fn same_presence(one: Presence, other: Presence) -> bool
+    ensures { Decides result (one ≡ other) }
+{
+    match one {
+        Presence::Kept => matches!(other, Presence::Kept),
+        Presence::FromRow => matches!(other, Presence::FromRow),
+        Presence::Absent => matches!(other, Presence::Absent),
+        Presence::MayTrap => matches!(other, Presence::MayTrap),
+    }
 }
 
 fn same_entries(one: &[PmpEntry; 16], other: &[PmpEntry; 16]) -> bool
@@ -107,10 +146,24 @@ fn same_number(one: Option<u64>, other: Option<u64>) -> bool
 fn same_map(one: &Map, other: &Map) -> bool
     ensures { Decides result (one.now ≡ other.now) }
 {
-    same_span(&one.ram, &other.ram) && same_devices(one.io, other.io)
+    same_span(&one.ram, &other.ram) && same_devices(&one.io, &other.io)
 }
 
-fn same_devices(one: Option<Span>, other: Option<Span>) -> bool
+fn same_devices(one: &[Option<Span>], other: &[Option<Span>]) -> bool
+    ensures { Decides result (one.now ≡ other.now) }
+{
+    match one.split_first() {
+        None => other.is_empty(),
+        Some((range, ranges)) => match other.split_first() {
+            None => false,
+            Some((second, seconds)) => {
+                same_range(*range, *second) && same_devices(ranges, seconds)
+            }
+        },
+    }
+}
+
+fn same_range(one: Option<Span>, other: Option<Span>) -> bool
     ensures { Decides result (one ≡ other) }
 {
     match one {
@@ -136,6 +189,20 @@ fn same_choices(one: &Choices, other: &Choices) -> bool
         && same_marks(one.marks, other.marks)
         && one.block_size == other.block_size
         && one.bits == other.bits
+        && same_insn_bits(one.insn_bits, other.insn_bits)
+        && same_device_faults(one.device_faults, other.device_faults)
+}
+
+fn same_insn_bits(one: InsnBits, other: InsnBits) -> bool
+    ensures { Decides result (one ≡ other) }
+{
+    one.are_cut() == other.are_cut()
+}
+
+fn same_device_faults(one: DeviceFaults, other: DeviceFaults) -> bool
+    ensures { Decides result (one ≡ other) }
+{
+    one.are_by_row() == other.are_by_row()
 }
 
 fn same_misaligned(one: Misaligned, other: Misaligned) -> bool
@@ -147,7 +214,14 @@ fn same_misaligned(one: Misaligned, other: Misaligned) -> bool
 fn same_trap_values(one: TrapValues, other: TrapValues) -> bool
     ensures { Decides result (one ≡ other) }
 {
-    one.are_zero() == other.are_zero()
+    match one {
+        TrapValues::Value => matches!(other, TrapValues::Value),
+        TrapValues::Zero => matches!(other, TrapValues::Zero),
+        TrapValues::ZeroFor(causes) => match other {
+            TrapValues::ZeroFor(others) => causes.codes == others.codes,
+            TrapValues::Value | TrapValues::Zero => false,
+        },
+    }
 }
 
 fn same_marks(one: Marks, other: Marks) -> bool

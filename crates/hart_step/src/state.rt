@@ -2,7 +2,7 @@
 
 ghost use Rattle.std.specs.Prelude.{◌≡◌, ◌%◌};
 
-use csr_file::Csrs;
+use csr_file::{CsrProfile, Csrs};
 use hart_words::{Choices, Map, Mode, Registers};
 use rv_atomic::Reservation;
 
@@ -30,9 +30,9 @@ pub struct Core {
 }
 
 impl Core {
-    ghost use Rattle.hart_step.specs.Cores.{core_at_reset, IsSound};
+    ghost use Rattle.hart_step.specs.Cores.{core_at_reset, core_at_reset_of, IsSound};
 
-    /// A hart at reset: in M, at `pc`, with all registers 0.
+    /// A hart at reset, where nothing is said of its control and status registers.
     #[tactic(auto, unfolding(crate::specs::Cores::core_at_reset))]
     pub fn reset(pc: u64, map: Map, choices: Choices) -> Core
         requires even { pc % 2 ≡ 0 }
@@ -40,11 +40,22 @@ impl Core {
         ensures map { result.map ≡ map }
         ensures sound { IsSound result }
     {
+        Core::reset_of(&CsrProfile::plain(), pc, map, choices)
+    }
+
+    /// A hart at reset: in M, at `pc`, with all integer registers 0.
+    #[tactic(auto, unfolding(crate::specs::Cores::core_at_reset_of))]
+    pub fn reset_of(profile: &CsrProfile, pc: u64, map: Map, choices: Choices) -> Core
+        requires even { pc % 2 ≡ 0 }
+        ensures state { result ≡ core_at_reset_of profile.now pc map choices }
+        ensures map { result.map ≡ map }
+        ensures sound { IsSound result }
+    {
         Core {
             registers: Registers::zeros(),
             pc,
             mode: Mode::Machine,
-            csrs: Csrs::reset(),
+            csrs: Csrs::reset_of(profile),
             reservation: Reservation::NONE,
             next_order: None,
             trapped_last: false,

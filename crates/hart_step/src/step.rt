@@ -1,6 +1,6 @@
 //! The step by one row, in its phases.
 
-ghost use Rattle.std.specs.Prelude.{◌≡◌, ◌%◌, true, [], IfOk, IsOk, OnOk, OnErr};
+ghost use Rattle.std.specs.Prelude.{◌≡◌, true, [], IfOk, IsOk, OnOk, OnErr};
 ghost use Rattle.hart_words.specs.Memory.{after_writes};
 ghost use Rattle.hart_words.specs.Actions.{Performs};
 ghost use Rattle.rvfi_rows.specs.Cells.{shown_in};
@@ -69,6 +69,7 @@ impl Core {
         }
         let mut accesses = Accesses::nothing();
         let order = self.next_order;
+        let insn_bits = self.choices.insn_bits;
         let (notes, lacks_interrupt) = match self.begin(mem, row, &mut accesses) {
             Ok(begun) => begun,
             Err(NoMemory) => return Err(NoMemory),
@@ -85,6 +86,7 @@ impl Core {
             pc,
             mode,
             insn: notes.executed.insn(),
+            insn_bits,
             effects,
             csrs_before,
             csrs_after: self.csrs,
@@ -256,7 +258,7 @@ impl Core {
             code,
             value,
             self.pc,
-            self.choices.trap_values.are_zero(),
+            self.choices.trap_values.is_zero_for(code),
         );
     }
 

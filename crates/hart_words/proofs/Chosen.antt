@@ -1,6 +1,11 @@
 -- Choices are determined by what they say.
 use Rattle.std.proofs.Common.{◌≡◌, ℕ, Bool, true, false, Some, None, IsTrue, refl, ap, subst}
 use Rattle.std.proofs.Props.{props}
+use Rattle.hart_words.specs.declared.options.Misaligned.{Misaligned}
+use Rattle.hart_words.specs.declared.options.TrapValues.{TrapValues}
+use Rattle.hart_words.specs.declared.options.Marks.{Marks}
+use Rattle.hart_words.specs.declared.options.InsnBits.TheVariants.{Full}
+use Rattle.hart_words.specs.declared.options.DeviceFaults.TheVariants.{Never}
 use Rattle.hart_words.specs.declared.choices.Choices.{Choices}
 use Rattle.hart_words.specs.BlockSizes.{is_block_size}
 use Rattle.hart_words.specs.Choices.{OtherChoices, choices_with, choices_by, choices_of}
@@ -16,12 +21,14 @@ same_with others size size' s one =
     subst P s (λ other. ap (choices_with others size) (block_prop size one other))
 
 -- all but the size
-others_of : Choices → OtherChoices
+pub others_of : Choices → OtherChoices
 others_of choices = record {
   misaligned = choices.misaligned;
   trap_values = choices.trap_values;
   marks = choices.marks;
   bits = choices.bits;
+  insn_bits = choices.insn_bits;
+  device_faults = choices.device_faults;
 }
 
 same_choices : (others : OtherChoices) (size : ℕ) (holds : is_block_size size ≡ true) (choices : Choices)
@@ -42,14 +49,45 @@ by_false : (others : OtherChoices) (size : ℕ) (test : Bool) (is : is_block_siz
 by_false others size false is test = refl
 by_false others size true is test = cc
 
-pub some_choices : (choices : Choices) → is_block_size choices.block_size ≡ true
+-- choices that say the same are the same
+pub equal_choices : (one other : Choices) → others_of one ≡ others_of other → one.block_size ≡ other.block_size
+    → one ≡ other
+unfolding others_of
+equal_choices one other others size = same_choices (others_of other) other.block_size other.block one others size
+
+-- what a constructor says, where rows show instructions whole and devices refuse nothing
+plain_others : Choices → OtherChoices
+plain_others choices = record {
+  misaligned = choices.misaligned;
+  trap_values = choices.trap_values;
+  marks = choices.marks;
+  bits = choices.bits;
+  insn_bits = Full;
+  device_faults = Never;
+}
+
+others_plain : (choices : Choices) → choices.insn_bits ≡ Full → choices.device_faults ≡ Never
+    → others_of choices ≡ plain_others choices
+unfolding others_of plain_others
+others_plain choices full never = λ i. record {
+  misaligned = choices.misaligned;
+  trap_values = choices.trap_values;
+  marks = choices.marks;
+  bits = choices.bits;
+  insn_bits = full i;
+  device_faults = never i;
+}
+
+pub some_choices : (choices : Choices) → choices.insn_bits ≡ Full → choices.device_faults ≡ Never
+    → is_block_size choices.block_size ≡ true
     → Some choices
     ≡ choices_of choices.misaligned choices.trap_values choices.marks choices.block_size choices.bits
-unfolding choices_of others_of
-some_choices choices test =
-    by_true (others_of choices) choices.block_size (is_block_size choices.block_size) refl choices refl refl test
+unfolding choices_of others_of plain_others
+some_choices choices full never test =
+    by_true (plain_others choices) choices.block_size (is_block_size choices.block_size) refl choices
+    (others_plain choices full never) refl test
 
-pub no_choices : (others : OtherChoices) (size : ℕ) → is_block_size size ≡ false
-    → None ≡ choices_of others.misaligned others.trap_values others.marks size others.bits
+pub no_choices : (misaligned : Misaligned) (trap_values : TrapValues) (marks : Marks) (size : ℕ) (bits : Bool)
+    → is_block_size size ≡ false → None ≡ choices_of misaligned trap_values marks size bits
 unfolding choices_of
-no_choices others size test = by_false others size (is_block_size size) refl test
+no_choices misaligned trap_values marks size bits test = by_false _ size (is_block_size size) refl test

@@ -1,29 +1,22 @@
--- The map of physical addresses: RAM, a range of devices, and nothing elsewhere.
-use Rattle.std.specs.Prelude.{◌≡◌, Bool, true, false, Option, Some, None, IsTrue}
-use Rattle.std.specs.Option.{ForSome}
-use Rattle.std.proofs.Common.{refl, subst}
+-- The map of physical addresses: RAM, up to eight ranges of devices, and nothing elsewhere.
+use Rattle.std.specs.Prelude.{◌≡◌, Bool, true, false, List, ◌∷◌, replicate, Option, Some, None, refl}
+use Rattle.std.specs.Prelude.{if◌then◌else◌}
 use Rattle.hart_words.specs.declared.span.Span.{Span}
 use Rattle.hart_words.specs.declared.map.Map.{Map}
-use Rattle.hart_words.specs.Spans.{is_apart_from}
+use Rattle.hart_words.specs.Devices.{are_apart, are_apart_from}
 
--- devices, where there are any, have no byte in common with RAM
-abbrev pub IsApart : Span → Option Span → Type 0
-IsApart ram io = ForSome io (λ devices. IsTrue (is_apart_from ram devices))
-
-pub apart_none : (ram : Span) → IsApart ram None
-apart_none ram devices is = cc
-
-pub apart_some : (ram io : Span) → is_apart_from ram io ≡ true → IsApart ram (Some io)
-apart_some ram io holds devices is =
-    let same : io ≡ devices = cc in
-    let P : Span → Type 0 = λ d. IsTrue (is_apart_from ram d) in
-    subst P same holds
-
-abbrev pub map_by : (ram io : Span) (test : Bool) → is_apart_from ram io ≡ test → Option Map
+abbrev pub map_by : (ram : Span) (io : List (Option Span)) (test : Bool) → are_apart_from ram io ≡ test → Option Map
 map_by ram io false fails = None
-map_by ram io true holds = Some (record { ram = ram; io = Some io; apart = apart_some ram io holds })
+map_by ram io true holds = Some (record { ram = ram; io = io; apart = holds })
 
--- RAM beside devices, where they have no byte in common
+-- RAM beside ranges of devices, where none of these has a byte in common with RAM
+unfoldable pub map_beside : Span → List (Option Span) → Option Map
+map_beside ram io = map_by ram io (are_apart_from ram io) refl
+
+-- the same, where no two of all have a byte in common
+unfoldable pub map_with : Span → List (Option Span) → Option Map
+map_with ram io = if are_apart io then map_beside ram io else None
+
+-- RAM beside one range of devices, or none
 unfoldable pub map_of : Span → Option Span → Option Map
-map_of ram None = Some (record { ram = ram; io = None; apart = apart_none ram })
-map_of ram (Some io) = map_by ram io (is_apart_from ram io) refl
+map_of ram io = map_with ram (io ∷ replicate 7 None)

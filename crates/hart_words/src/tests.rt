@@ -201,10 +201,10 @@ fn choices_have_a_block_size(rt: HostRuntime) -> Result<(), Fail> {
     }
     let all = Choices::new(Misaligned::Done, TrapValues::Zero, Marks::Set, 8, true);
     let all = all.ok_or("no choices")?;
-    assert!(rt; all.misaligned.are_done() && all.trap_values.are_zero() && all.marks.are_set());
+    assert!(rt; all.misaligned.are_done() && all.trap_values.is_zero_for(2) && all.marks.are_set());
     assert_eq!(rt; (all.block_size, all.bits), (8, true));
     let plain = Choices::plain();
-    assert!(rt; !plain.misaligned.are_done() && !plain.trap_values.are_zero());
+    assert!(rt; !plain.misaligned.are_done() && !plain.trap_values.is_zero_for(2));
     assert!(rt; !plain.marks.are_set() && !plain.bits);
     assert_eq!(rt; plain.block_size, 64);
     Ok(())

@@ -14,8 +14,8 @@ use hart_words::Mode;
 /// The order in which interrupts are taken.
 const ORDER: [u8; 6] = [MEIP, MSIP, MTIP, SEIP, SSIP, STIP];
 
-/// The interrupt that is taken in a mode with these lines from outside (bits 3, 7, 9 and 11 count):
-/// its code, and the mode that it is taken in. `None` where none is.
+/// The interrupt that is taken in a mode with these lines from outside, of which the bits count that
+/// the core has as lines: its code, and the mode that it is taken in. `None` where none is.
 #[tactic(auto, unfolding(crate::specs::Interrupts::pick_of))]
 pub fn pick(csrs: &Csrs, mode: Mode, lines: u64) -> Option<(u8, Mode)>
     ensures { result ≡ pick_of csrs.now mode lines }

@@ -22,7 +22,9 @@ use Rattle.rvfi_rows.specs.Columns.{TraceColumns, header_columns}
 use Rattle.rvfi_rows.specs.Rows.{RowReading, rows_of}
 use Rattle.trace_report.specs.declared.outcome.Ruling.{Ruling}
 use Rattle.trace_report.specs.declared.outcome.Ruling.TheVariants as rulings
-use Rattle.hart_step.specs.Cores.{core_at_reset}
+use Rattle.csr_file.specs.declared.profile.CsrProfile.{CsrProfile}
+use Rattle.csr_file.specs.Profiles.{plain_profile}
+use Rattle.hart_step.specs.Cores.{core_at_reset, core_at_reset_of}
 use Rattle.hart_step.specs.declared.state.Core.{Core}
 use Rattle.hart_step.specs.HartSets.{SetState}
 use Rattle.row_origin.specs.Histories.{HistoryView}
@@ -37,8 +39,8 @@ use Rattle.made_runs.specs.States.{IsMadeMap}
 use Rattle.made_runs.proofs.ImageTexts.{image_len}
 use Rattle.made_runs.proofs.MadeTexts.{texts_agree}
 use Rattle.made_runs.proofs.TraceLines.{trace_len}
-use Rattle.judge_run.specs.Answer.{AnswerView, Step, answer, answer_by_line, answer_of_step, answer_step_of, columns_in}
-use Rattle.judge_run.specs.Answer.{image_in, is_elf, is_saved, job_answer, lines_answer, made_of, outcome_of, rows_end}
+use Rattle.judge_run.specs.Answer.{AnswerView, answer, answer_by_line, answer_of_step, answer_step_of, columns_in}
+use Rattle.judge_run.specs.Answer.{image_in, is_elf, is_saved, job_answer, lines_answer, made_of, outcome_of}
 use Rattle.judge_run.specs.Answer.{asks_origins, origins_if, ruling_at_end, start_at, start_in, start_of, state_written, text_start, trace_answer}
 use Rattle.judge_run.specs.Answer.{trace_in}
 
@@ -112,28 +114,29 @@ unfolding answer answer_step_of
 words_ask words files job asked = rw asked refl
 
 -- the verdict on what is made by so many harts, with these settings
-verdict_by : JobView → (ℕ → Option ℕ) → List RowReading → Option ℕ → Choices → ℕ → Verdict
-verdict_by job bytes readings pc choices harts =
-    (judgement_of by_set (replicate harts (core_at_reset (unwrap_or pc FIRST_PC) job.map choices)) readings
+verdict_by : JobView → (ℕ → Option ℕ) → List RowReading → CsrProfile → Option ℕ → Choices → ℕ → Verdict
+verdict_by job bytes readings profile pc choices harts =
+    (judgement_of by_set (replicate harts (core_at_reset_of profile (unwrap_or pc FIRST_PC) job.map choices)) readings
     (λ a. unwrap_or (bytes a) 0)).verdict
 
 -- the verdict on what is made, from where it starts: that of its one harts alone
-verdict_is : (job : JobView) (number rows : ℕ) (bytes : ℕ → Option ℕ) → job.pc ≡ None → job.choices ≡ plain_choices
-    → job.harts ≡ 1
+verdict_is : (job : JobView) (number rows : ℕ) (bytes : ℕ → Option ℕ) → job.profile ≡ plain_profile → job.pc ≡ None
+    → job.choices ≡ plain_choices → job.harts ≡ 1
     → (judgement_of by_hart (core_at_reset FIRST_PC job.map plain_choices)
     (rows_of trace_columns (made_lines number rows)) (λ a. unwrap_or (bytes a) 0)).verdict ≡ Agrees rows rows
     → (conclusion_from by_set (start_at job bytes FIRST_PC)
     (rows_of (job_columns job) (made_lines number rows))).verdict ≡ Agrees rows rows
-unfolding conclusion_from verdict_by
-verdict_is job number rows bytes pc choices one is =
+unfolding conclusion_from verdict_by core_at_reset
+verdict_is job number rows bytes profile pc choices one is =
     let lines = made_lines number rows in
     let readings = rows_of trace_columns lines in
     let core = core_at_reset FIRST_PC job.map plain_choices in
     let memory : Bytes = λ a. unwrap_or (bytes a) 0 in
-    ap (λ harts. verdict_by job bytes (rows_of (record { named = made_columns; harts = harts }) lines) job.pc job.choices
-    job.harts) one
-    ∙ ap (verdict_by job bytes readings job.pc job.choices) one
-    ∙ ap₂ (λ pc choices. verdict_by job bytes readings pc choices 1) pc choices
+    ap (λ harts. verdict_by job bytes (rows_of (record { named = made_columns; harts = harts }) lines) job.profile job.pc
+    job.choices job.harts) one
+    ∙ ap (verdict_by job bytes readings job.profile job.pc job.choices) one
+    ∙ ap (λ profile. verdict_by job bytes readings profile job.pc job.choices 1) profile
+    ∙ ap₂ (λ pc choices. verdict_by job bytes readings plain_profile pc choices 1) pc choices
     ∙ ap (λ judgement. judgement.verdict) (judges_alone readings core memory (rows_first trace_columns lines refl))
     ∙ is
 
@@ -157,7 +160,7 @@ job_agrees job number rows made plain =
     (start_is job (made_image number) run.image.bytes image_fits (made_is_text number) run.image.image)
     ∙ trace_is job start (made_trace number rows) (made_left number rows) run.lines
     ∙ lines_are job start (made_lines number rows) (Agrees rows rows) made run.columns
-    (verdict_is job number rows run.image.bytes plain.pc plain.choices plain.harts run.verdict)
+    (verdict_is job number rows run.image.bytes plain.profile plain.pc plain.choices plain.harts run.verdict)
 
 pub made_agree : (words : List (List ℕ)) (job : JobView) (files : Files) (number rows : ℕ) → job_of words ≡ Some job
     → job.command ≡ Make number rows

@@ -32,18 +32,19 @@ use Rattle.rvfi_rows.specs.Rows.{RowReading, hart_of, rows_of}
 use Rattle.segment_judge.specs.Judgements.{by_set, judgement_of}
 use Rattle.segment_judge.specs.Laws.{Conclusion, conclusion_from}
 use Rattle.hart_step.proofs.KeptChoices.{next_keeps}
+use Rattle.hart_step.proofs.KeptProfile.{profile_stays}
 use Rattle.segment_judge.proofs.Maps.{map_stays}
 use Rattle.segment_judge.proofs.Parts.{by_different, by_invalid, by_valid}
 use Rattle.segment_judge.specs.Ram.{HaveRam}
 use Rattle.segment_judge.proofs.SetSteps.{row_keeps_ram, row_lies}
 use Rattle.segment_judge.proofs.Within.{WriteLies}
+use Rattle.csr_file.specs.declared.profile.CsrProfile.{CsrProfile}
 use Rattle.state_text.specs.Laws.{IsOver, IsZeroOutside}
 use Rattle.judge_run.specs.Starts.{HaveSettings}
 use Rattle.judge_words.specs.Job.{JobView}
 use Rattle.judge_words.specs.declared.job.Command.{Command}
 use Rattle.judge_words.specs.declared.job.Command.TheVariants.{Judge, Make}
 use Rattle.judge_words.specs.declared.job.Product.TheVariants.{Line, State, Origins}
-use Rattle.trace_lines.specs.declared.piece.Ending.{Ending}
 use Rattle.trace_lines.specs.Lines.{RemainingLines, file_lines}
 use Rattle.trace_report.specs.declared.outcome.Ruling.{Ruling}
 use Rattle.trace_report.specs.declared.outcome.Ruling.TheVariants as rulings
@@ -118,9 +119,9 @@ row_leaves ram state shown over =
       written_inside ram ((set_step_of state.core shown).run state.bytes).wrote state.bytes lies.writes over.1,
     )
 
--- a row keeps the maps and the choices, and how many harts there are
-pub record HasSettings (map : Map) (choices : Choices) (harts : ℕ) (state : SetState) : Type 0 where
-  pub settings : HaveSettings map choices state.core
+-- a row keeps the profiles, the maps and the choices, and how many harts there are
+pub record HasSettings (profile : CsrProfile) (map : Map) (choices : Choices) (harts : ℕ) (state : SetState) : Type 0 where
+  pub settings : HaveSettings profile map choices state.core
   pub many : length state.core ≡ harts
 
 many_there : (cores : List Core) (shown : Shown) (number : ℕ) (bytes : Bytes) (core : Core)
@@ -148,17 +149,22 @@ row_keeps_many state shown = by (slice_get cores number) refl
         (λ found. length ((stepped_by core_meaning cores shown number found).run state.bytes).value.next ≡ length cores)
         (sym there) (many_there cores shown number state.bytes core there)
 
-pub row_keeps : (map : Map) (choices : Choices) (harts : ℕ) (state : SetState) (shown : Shown)
-    → HasSettings map choices harts state → HasSettings map choices harts (set_after_row state shown)
-row_keeps map choices harts state shown has = record {
+pub row_keeps : (profile : CsrProfile) (map : Map) (choices : Choices) (harts : ℕ) (state : SetState) (shown : Shown)
+    → HasSettings profile map choices harts state → HasSettings profile map choices harts (set_after_row state shown)
+row_keeps profile map choices harts state shown has = record {
   settings =
-      harts_keep (IsOver map choices) state shown
+      harts_keep (IsOver profile map choices) state shown
       (record {
         stepped = λ core shown bytes has. record {
+          profile_is = profile_stays core shown bytes ∙ has.profile_is;
           map_is = map_stays core shown bytes ∙ has.map_is;
           choices_are = next_keeps core shown bytes ∙ has.choices_are;
         };
-        lost = λ core pa len has. record { map_is = has.map_is; choices_are = has.choices_are };
+        lost = λ core pa len has. record {
+          profile_is = has.profile_is;
+          map_is = has.map_is;
+          choices_are = has.choices_are;
+        };
       }) has.settings;
   many = row_keeps_many state shown ∙ has.many;
 }

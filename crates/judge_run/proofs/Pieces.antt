@@ -1,17 +1,17 @@
 -- Runs that go on from one another.
 use Rattle.std.proofs.Common.{◌≡◌, ℕ, Bool, true, false, List, [], ◌∷◌, ◌++◌, length, nat_lt, Option, Some, None, IfSome}
-use Rattle.std.proofs.Common.{Result, Ok, Err, refl, sym, ap, ap₂, subst, ◌∙◌, arith, if◌then◌else◌, drop}
-use Rattle.std.specs.Prelude.{◌<◌, ◌≤◌, IfOk, map, unwrap_or}
+use Rattle.std.proofs.Common.{Result, Ok, Err, refl, sym, ap, subst, ◌∙◌, arith, if◌then◌else◌}
+use Rattle.std.specs.Prelude.{◌<◌, IfOk, map, unwrap_or}
 use Rattle.std.specs.List.{All}
 use Rattle.std.proofs.lemmas.List.{length-map, length-replicate}
 use Rattle.std.proofs.lemmas.List.Elements.{All-cons, All-from_recursion, All-head, All-nil, All-replicate, All-tail}
-use Rattle.std.specs.List.{concat}
 use Rattle.std.proofs.lemmas.Bool.{le-ltb}
 use Rattle.hart_words.specs.declared.choices.Choices.{Choices}
 use Rattle.hart_words.specs.declared.map.Map.{Map}
 use Rattle.hart_words.specs.Memory.{Bytes}
 use Rattle.hart_step.specs.declared.state.Core.{Core}
-use Rattle.hart_step.specs.Cores.{core_at_reset}
+use Rattle.csr_file.specs.Registers.{csrs_at_reset_of}
+use Rattle.hart_step.specs.Cores.{core_at_reset_of}
 use Rattle.hart_step.specs.HartSets.{SetState}
 use Rattle.elf_image.specs.declared.fault.ElfFault.{ElfFault}
 use Rattle.elf_image.specs.Image.{elf_of}
@@ -30,22 +30,21 @@ use Rattle.rvfi_rows.specs.declared.verdict.Verdict.TheVariants.{Agrees, Differs
 use Rattle.rvfi_rows.specs.Columns.{ColumnList, TraceColumns, header_columns}
 use Rattle.rvfi_rows.specs.Rows.{RowReading, rows_of}
 use Rattle.rvfi_rows.proofs.PortRows.{rows_append}
-use Rattle.trace_report.specs.declared.outcome.Ruling.{Ruling}
 use Rattle.trace_report.specs.declared.outcome.Ruling.TheVariants as rulings
 use Rattle.row_origin.specs.Histories.{HistoryView}
 use Rattle.segment_judge.specs.Histories.{history_at, trail_from}
-use Rattle.segment_judge.specs.Judgements.{by_set, verdict_after_rows}
-use Rattle.segment_judge.specs.Laws.{Conclusion, conclusion_from, conclusion_then}
+use Rattle.segment_judge.specs.Judgements.{by_set}
+use Rattle.segment_judge.specs.Laws.{Conclusion, conclusion_from}
 use Rattle.segment_judge.proofs.Parts.{in_parts}
 use Rattle.state_text.specs.declared.fault.StateFault.{StateFault}
-use Rattle.state_text.specs.Lines.{version_line}
 use Rattle.state_text.specs.Texts.{saved_lines, saved_text, state_in}
 use Rattle.judge_words.specs.declared.values.TheConstants.{FIRST_PC}
 use Rattle.judge_run.specs.Answer.{AnswerView, Step, answer_with, columns_in, core_from, elf_start, is_elf, is_saved, job_answer}
 use Rattle.judge_run.specs.Answer.{lines_answer, outcome_of, rows_end, ruling_at_end, saved_start, start_at, start_in}
 use Rattle.judge_run.specs.Answer.{start_of, state_written, text_start, trace_answer}
-use Rattle.judge_run.specs.Pieces.{BeginsFrom, GoesOn, IsFirstPiece, RunsGoOn, counted_on}
+use Rattle.judge_run.specs.Pieces.{BeginsFrom, RunsGoOn, counted_on}
 use Rattle.judge_run.proofs.Outside.{HasSettings, row_keeps, trace_keeps}
+use Rattle.csr_file.specs.declared.profile.CsrProfile.{CsrProfile}
 use Rattle.state_text.specs.Laws.{IsOver}
 use Rattle.state_text.proofs.OneText.{has_state}
 use Rattle.judge_run.specs.Starts.{HaveSettings}
@@ -64,7 +63,7 @@ all_stay (core ∷ cores) = ap (λ rest. core ∷ rest) (all_stay cores)
 
 -- a run begins from the state whose text is its image
 begins : (first second : JobView) (saved : SetState) → BeginsFrom first saved second → 0 < length saved.core
-    → state_in second.map second.choices second.harts (saved_text saved.core saved.bytes)
+    → state_in second.profile second.map second.choices second.harts (saved_text saved.core saved.bytes)
     ≡ Ok (saved.core, saved.bytes)
     → start_of second (Some (saved_text saved.core saved.bytes)) ≡ Ok saved
 unfolding start_of start_in
@@ -76,70 +75,70 @@ begins first second saved from some back =
     (all_stay saved.core))
 
 reset_has : (job : JobView) (bytes : ℕ → Option ℕ) (pc : ℕ)
-    → HasSettings job.map job.choices job.harts (start_at job bytes pc)
-unfolding core_at_reset
+    → HasSettings job.profile job.map job.choices job.harts (start_at job bytes pc)
+unfolding core_at_reset_of csrs_at_reset_of
 reset_has job bytes pc =
-    let core = core_at_reset (unwrap_or job.pc pc) job.map job.choices in
+    let core = core_at_reset_of job.profile (unwrap_or job.pc pc) job.map job.choices in
     record {
       settings =
-          All-replicate (IsOver job.map job.choices) job.harts core
-          (record { map_is = refl; choices_are = refl });
+          All-replicate (IsOver job.profile job.map job.choices) job.harts core
+          (record { profile_is = refl; map_is = refl; choices_are = refl });
       many = length-replicate job.harts core;
     }
 
-settings_begun : (over : Map) (choices : Choices) (given : Option ℕ) (cores : List Core)
-    → HaveSettings over choices cores → HaveSettings over choices (map (core_from given) cores)
-settings_begun over choices given [] all = All-nil (IsOver over choices)
-settings_begun over choices given (core ∷ cores) all =
-    let first = All-head (IsOver over choices) core cores all in
-    All-cons (IsOver over choices) (core_from given core) (map (core_from given) cores)
-    (record { map_is = first.map_is; choices_are = first.choices_are })
-    (settings_begun over choices given cores (All-tail (IsOver over choices) core cores all))
+settings_begun : (profile : CsrProfile) (over : Map) (choices : Choices) (given : Option ℕ) (cores : List Core)
+    → HaveSettings profile over choices cores → HaveSettings profile over choices (map (core_from given) cores)
+settings_begun profile over choices given [] all = All-nil (IsOver profile over choices)
+settings_begun profile over choices given (core ∷ cores) all =
+    let first = All-head (IsOver profile over choices) core cores all in
+    All-cons (IsOver profile over choices) (core_from given core) (map (core_from given) cores)
+    (record { profile_is = first.profile_is; map_is = first.map_is; choices_are = first.choices_are })
+    (settings_begun profile over choices given cores (All-tail (IsOver profile over choices) core cores all))
 
 -- what was read of a text has the map and the choices, and is as many harts as it should be
-loaded_settings : (map : Map) (choices : Choices) (harts : ℕ) (text : List ℕ) (cores : List Core) (bytes : Bytes)
-    → state_in map choices harts text ≡ Ok (cores, bytes) → HaveSettings map choices cores
-loaded_settings map choices harts text cores bytes read =
-    let has = (has_state map choices harts text cores bytes read).has_cores in
-    subst (All (IsOver map choices)) (sym has.all) (All-from_recursion (IsOver map choices) has.read has.over)
+loaded_settings : (profile : CsrProfile) (map : Map) (choices : Choices) (harts : ℕ) (text : List ℕ) (cores : List Core) (bytes : Bytes)
+    → state_in profile map choices harts text ≡ Ok (cores, bytes) → HaveSettings profile map choices cores
+loaded_settings profile map choices harts text cores bytes read =
+    let has = (has_state profile map choices harts text cores bytes read).has_cores in
+    subst (All (IsOver profile map choices)) (sym has.all) (All-from_recursion (IsOver profile map choices) has.read has.over)
 
-loaded_many : (map : Map) (choices : Choices) (harts : ℕ) (text : List ℕ) (cores : List Core) (bytes : Bytes)
-    → state_in map choices harts text ≡ Ok (cores, bytes) → length cores ≡ harts
-loaded_many map choices harts text cores bytes read =
-    let has = (has_state map choices harts text cores bytes read).has_cores in
+loaded_many : (profile : CsrProfile) (map : Map) (choices : Choices) (harts : ℕ) (text : List ℕ) (cores : List Core) (bytes : Bytes)
+    → state_in profile map choices harts text ≡ Ok (cores, bytes) → length cores ≡ harts
+loaded_many profile map choices harts text cores bytes read =
+    let has = (has_state profile map choices harts text cores bytes read).has_cores in
     ap (λ (cores : List Core). length cores) has.all ∙ has.count
 
 saved_has : (job : JobView) (text : List ℕ) (loaded : List Core × Bytes)
-    → state_in job.map job.choices job.harts text ≡ Ok loaded
-    → HasSettings job.map job.choices job.harts
+    → state_in job.profile job.map job.choices job.harts text ≡ Ok loaded
+    → HasSettings job.profile job.map job.choices job.harts
     (record { core = map (core_from job.pc) loaded.0; bytes = loaded.1 })
 saved_has job text loaded read = record {
   settings =
-      settings_begun job.map job.choices job.pc loaded.0
-      (loaded_settings job.map job.choices job.harts text loaded.0 loaded.1 read);
+      settings_begun job.profile job.map job.choices job.pc loaded.0
+      (loaded_settings job.profile job.map job.choices job.harts text loaded.0 loaded.1 read);
   many = length-map loaded.0 (core_from job.pc)
-      ∙ loaded_many job.map job.choices job.harts text loaded.0 loaded.1 read;
+      ∙ loaded_many job.profile job.map job.choices job.harts text loaded.0 loaded.1 read;
 }
 
 text_has : (job : JobView) (read : Result (ℕ → Option ℕ) ImageFault)
-    → IfOk (text_start job read) (HasSettings job.map job.choices job.harts)
+    → IfOk (text_start job read) (HasSettings job.profile job.map job.choices job.harts)
 text_has job (Err fault) = tt
 text_has job (Ok bytes) = reset_has job bytes FIRST_PC
 
 elf_has : (job : JobView) (read : Result ((ℕ → Option ℕ) × ℕ) ElfFault)
-    → IfOk (elf_start job read) (HasSettings job.map job.choices job.harts)
+    → IfOk (elf_start job read) (HasSettings job.profile job.map job.choices job.harts)
 elf_has job (Err fault) = tt
 elf_has job (Ok image) = reset_has job image.0 image.1
 
 loaded_has : (job : JobView) (text : List ℕ) (read : Result (List Core × Bytes) StateFault)
-    → state_in job.map job.choices job.harts text ≡ read
-    → IfOk (saved_start job read) (HasSettings job.map job.choices job.harts)
+    → state_in job.profile job.map job.choices job.harts text ≡ read
+    → IfOk (saved_start job read) (HasSettings job.profile job.map job.choices job.harts)
 loaded_has job text (Err fault) is = tt
 loaded_has job text (Ok loaded) is = saved_has job text loaded is
 
 -- a run begins with as many harts as its job has, each with its map and choices
 all_have : (job : JobView) (image : Option (List ℕ))
-    → IfOk (start_of job image) (HasSettings job.map job.choices job.harts)
+    → IfOk (start_of job image) (HasSettings job.profile job.map job.choices job.harts)
 unfolding start_of start_in
 all_have job None = tt
 all_have job (Some text) =
@@ -150,13 +149,13 @@ all_have job (Some text) =
     file = elf_of job.map.ram text
 
     state : Result (List Core × Bytes) StateFault
-    state = state_in job.map job.choices job.harts text
+    state = state_in job.profile job.map job.choices job.harts text
 
     image : Result (ℕ → Option ℕ) ImageFault
     image = image_of job.map.ram text
 
     Has : Step SetState → Type 0
-    Has read = IfOk read (HasSettings job.map job.choices job.harts)
+    Has read = IfOk read (HasSettings job.profile job.map job.choices job.harts)
 
     by : (large elf saved : Bool) (file state image : Step SetState) → Has file → Has state → Has image
         → Has (if large then Err (Some (outcome_of job (rulings.ImageTooLarge job.max_image)))
@@ -167,9 +166,9 @@ all_have job (Some text) =
     by false false false file state image of_file of_state of_image = of_image
 
 starts_with_settings : (job : JobView) (image : Option (List ℕ)) (start : SetState) → start_of job image ≡ Ok start
-    → HasSettings job.map job.choices job.harts start
+    → HasSettings job.profile job.map job.choices job.harts start
 starts_with_settings job image start is =
-    subst (λ (read : Step SetState). IfOk read (HasSettings job.map job.choices job.harts)) is (all_have job image)
+    subst (λ (read : Step SetState). IfOk read (HasSettings job.profile job.map job.choices job.harts)) is (all_have job image)
 
 -- what was written is the state after rows that agree
 record IsWritten (judged : Conclusion (List Core)) (saved : SetState) : Type 0 where
@@ -271,19 +270,20 @@ runs_go_on first second image trace after header lines more ending saved piece f
     let left : RemainingLines = record { lines = header ∷ lines; ending = End } in
     let judged = piece_judged first piece.start saved header lines piece.given
     (sym (judged_lines first image trace left piece.start piece.starts piece.file) ∙ piece.judged) piece.writes in
-    let Has : SetState → Type 0 = HasSettings first.map first.choices first.harts in
+    let Has : SetState → Type 0 = HasSettings first.profile first.map first.choices first.harts in
     let has : IfSome (Some saved) Has =
     subst (λ state. IfSome state Has) piece.writes
     (trace_keeps Has first piece.start (Some trace) piece.given
-    (λ state shown has. row_keeps first.map first.choices first.harts state shown has)
+    (λ state shown has. row_keeps first.profile first.map first.choices first.harts state shown has)
     (starts_with_settings first image piece.start piece.starts)
     (sym (judged_trace first image (Some trace) piece.start piece.starts) ∙ piece.judged)) in
     let text = saved_text saved.core saved.bytes in
-    let back : state_in second.map second.choices second.harts text ≡ Ok (saved.core, saved.bytes) =
-    ap (λ harts. state_in second.map second.choices harts text) (from.harts ∙ sym has.many)
-    ∙ piece.back second.map second.choices
-    (subst (λ map. HaveSettings map second.choices saved.core) (sym from.map)
-    (subst (λ choices. HaveSettings first.map choices saved.core) (sym from.choices) has.settings)) in
+    let back : state_in second.profile second.map second.choices second.harts text ≡ Ok (saved.core, saved.bytes) =
+    ap (λ harts. state_in second.profile second.map second.choices harts text) (from.harts ∙ sym has.many)
+    ∙ piece.back second.profile second.map second.choices
+    (subst (λ profile. HaveSettings profile second.map second.choices saved.core) (sym from.profile)
+    (subst (λ map. HaveSettings first.profile map second.choices saved.core) (sym from.map)
+    (subst (λ choices. HaveSettings first.profile first.map choices saved.core) (sym from.choices) has.settings))) in
     record {
       columns = judged.columns;
       named = judged.named;

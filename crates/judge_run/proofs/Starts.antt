@@ -1,15 +1,15 @@
 -- Where a run starts, by what was read of an image.
 use Rattle.std.proofs.Common.{◌≡◌, ℕ, true, false, List, length, nat_lt, Option, Some, None, IsSome, Result, Ok, Err}
-use Rattle.std.proofs.Common.{refl, sym, ap, ◌∙◌, [], ◌∷◌, ◌+◌, ◌<◌, ◌≤◌, arith, IsTrue, is_some, map, replicate, subst}
+use Rattle.std.proofs.Common.{refl, sym, ap, ◌∙◌, [], ◌∷◌, ◌<◌, ◌≤◌, arith, IsTrue, is_some, map, replicate, subst}
 use Rattle.std.specs.Global.{Global}
 use Rattle.std.specs.Prelude.{Vec}
 use Rattle.std.specs.List.{All}
 use Rattle.std.proofs.lemmas.List.Elements.{All-cons, All-head, All-nil, All-tail, All-weaker}
 use Rattle.std.proofs.lemmas.List.{length-map, length-replicate}
 use Rattle.std.proofs.lemmas.Bool.Decides.{nat_tests}
-use Rattle.hart_step.specs.Cores.{IsSound, core_at_reset}
-use Rattle.image_text.specs.declared.pieces.Pieces.{Pieces}
+use Rattle.hart_step.specs.Cores.{IsSound, core_at_reset_of}
 use Rattle.image_text.specs.Bytes.{byte_at}
+use Rattle.csr_file.specs.declared.profile.CsrProfile.{CsrProfile}
 use Rattle.judge_run.specs.Starts.{CanBegin, IsStartOf}
 use Rattle.judge_run.specs.declared.start.Start.{Start}
 use Rattle.page_image.specs.Bytes.{byte_of}
@@ -50,7 +50,7 @@ use Rattle.state_text.specs.Memory.{memory_of}
 use Rattle.state_text.specs.Texts.{state_fault, state_in}
 use Rattle.state_text.specs.Laws.{IsOver}
 use Rattle.judge_run.specs.declared.stop.Stop.{Stop}
-use Rattle.judge_run.specs.Answer.{core_from, elf_start, image_start, outcome_of, required_text, saved_start, start_at}
+use Rattle.judge_run.specs.Answer.{core_from, elf_start, image_start, outcome_of, required_text, saved_start}
 use Rattle.judge_run.specs.Answer.{start_in, start_of, text_start}
 use Rattle.judge_run.specs.declared.stop.Stop.TheVariants.{Known, ReadFault, NoMemory}
 use Rattle.judge_run.specs.Stops.{MeantBy, MeantWhereKnown, LacksFile, elf_stop, image_stop, state_stop}
@@ -90,7 +90,7 @@ outside_none ram bytes inside a out = by (bytes a) refl
 
 -- what the text describes is the memory
 pub text_read : (job : JobView) (bytes : ℕ → Option ℕ) (cores : List Core) (read : Result (ℕ → Option ℕ) ImageFault)
-    → cores ≡ replicate job.harts (core_at_reset (unwrap_or job.pc FIRST_PC) job.map job.choices) → read ≡ Ok bytes
+    → cores ≡ replicate job.harts (core_at_reset_of job.profile (unwrap_or job.pc FIRST_PC) job.map job.choices) → read ≡ Ok bytes
     → text_start job read ≡ Ok (record { core = cores; bytes = λ a. unwrap_or (bytes a) 0 })
 text_read job bytes cores read begins is = ap (text_start job) is ∙ rw begins refl
 
@@ -103,7 +103,7 @@ text_refused job view errors.NoMemory read refused = tt
 -- the same of an ELF file
 pub elf_read : (job : JobView) (bytes : ℕ → Option ℕ) (entry : ℕ) (cores : List Core)
     (read : Result ((ℕ → Option ℕ) × ℕ) ElfFault)
-    → cores ≡ replicate job.harts (core_at_reset (unwrap_or job.pc entry) job.map job.choices)
+    → cores ≡ replicate job.harts (core_at_reset_of job.profile (unwrap_or job.pc entry) job.map job.choices)
     → read ≡ Ok (bytes, entry) → elf_start job read ≡ Ok (record { core = cores; bytes = λ a. unwrap_or (bytes a) 0 })
 elf_read job bytes entry cores read begins is = ap (elf_start job) is ∙ rw begins refl
 
@@ -135,27 +135,28 @@ pub as_many_at_reset : (core : Core) (cores : List Core) (count : ℕ) → cores
 as_many_at_reset core cores count is = ap (λ (xs : List Core). length xs) is ∙ length-replicate count core
 
 -- a saved state was read
-pub record ReadsSaved (map : Map) (choices : Choices) (harts : ℕ) (text : List ℕ) (state : State) : Type 0 where
-  pub read : state_in map choices harts text ≡ Ok (state.cores.items, memory_of state.pieces)
+pub record ReadsSaved (profile : CsrProfile) (map : Map) (choices : Choices) (harts : ℕ) (text : List ℕ) (state : State) : Type 0 where
+  pub read : state_in profile map choices harts text ≡ Ok (state.cores.items, memory_of state.pieces)
   pub inside : (a : ℕ) → IsTrue (is_some (byte_at state.pieces a)) → LiesIn a map.ram
   pub some : 0 < length state.cores.items
   pub few : length state.cores.items ≤ MOST_HARTS
-  pub over : HaveSettings map choices state.cores.items
+  pub over : HaveSettings profile map choices state.cores.items
 
-maps_begun : (over : Map) (choices : Choices) (given : Option ℕ) (cores : List Core) → HaveSettings over choices cores
+maps_begun : (profile : CsrProfile) (over : Map) (choices : Choices) (given : Option ℕ) (cores : List Core)
+    → HaveSettings profile over choices cores
     → All (λ core. core.map ≡ over) (map (core_from given) cores)
-maps_begun over choices given [] all = All-nil (λ core. core.map ≡ over)
-maps_begun over choices given (core ∷ cores) all =
-    let first = All-head (IsOver over choices) core cores all in
+maps_begun profile over choices given [] all = All-nil (λ core. core.map ≡ over)
+maps_begun profile over choices given (core ∷ cores) all =
+    let first = All-head (IsOver profile over choices) core cores all in
     All-cons (λ core. core.map ≡ over) (core_from given core) (map (core_from given) cores) first.map_is
-    (maps_begun over choices given cores (All-tail (IsOver over choices) core cores all))
+    (maps_begun profile over choices given cores (All-tail (IsOver profile over choices) core cores all))
 
 -- so a run may begin there
-pub saved_begins : {text : List ℕ} {over : Map} {choices : Choices} {harts : ℕ} {state : State} (given : Option ℕ)
-    (begun : Vec Core Global) → ReadsSaved over choices harts text state
+pub saved_begins : {text : List ℕ} {profile : CsrProfile} {over : Map} {choices : Choices} {harts : ℕ} {state : State} (given : Option ℕ)
+    (begun : Vec Core Global) → ReadsSaved profile over choices harts text state
     → begun.items ≡ map (core_from given) state.cores.items → All IsSound begun.items
     → IsStartOf over (record { cores = begun; pieces = state.pieces })
-saved_begins {text} {over} {choices} {harts} {state} given begun reads begins sound =
+saved_begins {text} {profile} {over} {choices} {harts} {state} given begun reads begins sound =
     let cores = state.cores.items in
     let many : length begun.items ≡ length cores =
     ap (λ (xs : List Core). length xs) begins ∙ length-map cores (core_from given) in
@@ -164,7 +165,7 @@ saved_begins {text} {over} {choices} {harts} {state} given begun reads begins so
       few = omega (arith, many, reads.few);
       sound = sound;
       maps = subst (All (λ core. core.map ≡ over)) (sym begins)
-          (maps_begun over choices given cores reads.over);
+          (maps_begun profile over choices given cores reads.over);
       outside = outside_none over.ram (byte_at state.pieces) reads.inside;
     }
 

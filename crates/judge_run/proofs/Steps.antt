@@ -6,16 +6,15 @@ use Rattle.outside_ports.specs.Ports.{Files}
 use Rattle.judge_words.specs.Job.{JobView, job_of, job_view, command_by}
 use Rattle.judge_words.specs.declared.job.Job.{Job}
 use Rattle.judge_words.specs.declared.job.Command.{Command}
-use Rattle.judge_words.specs.declared.job.Command.TheVariants.{Judge, Make}
+use Rattle.judge_words.specs.declared.job.Command.TheVariants.{Judge}
 use Rattle.judge_words.specs.declared.job.Product.{Product}
 use Rattle.hart_step.specs.HartSets.{SetState}
 use Rattle.hart_step.specs.declared.state.Core.{Core}
 use Rattle.hart_words.specs.Memory.{Bytes}
 use Rattle.state_text.specs.declared.fault.StateFault.{StateFault}
 use Rattle.state_text.specs.Texts.{state_in}
-use Rattle.trace_maker.specs.Texts.{made_image, made_trace}
 use Rattle.trace_report.specs.declared.outcome.Outcome.{Outcome}
-use Rattle.trace_report.specs.declared.outcome.Ruling.TheVariants.{ImageTooLarge, NoJob}
+use Rattle.trace_report.specs.declared.outcome.Ruling.TheVariants.{ImageTooLarge}
 use Rattle.elf_image.specs.declared.fault.ElfFault.{ElfFault}
 use Rattle.elf_image.specs.Image.{elf_of}
 use Rattle.image_text.specs.declared.fault.ImageFault.{ImageFault}
@@ -32,7 +31,7 @@ use Rattle.judge_run.specs.Answer.{Step, columns_in, elf_start, image_in, is_elf
 use Rattle.judge_run.specs.Answer.{answer_step_of, job_answer, lines_answer, made_of, outcome_of, start_in, start_of}
 use Rattle.judge_run.specs.Answer.{trace_answer, trace_in}
 use Rattle.judge_run.specs.Ends.{answer_view}
-use Rattle.judge_run.specs.Stops.{MeantBy, MeantWhereKnown, MissesStop, LacksFile, WasRead}
+use Rattle.judge_run.specs.Stops.{MeantBy, MeantWhereKnown, MissesStop, LacksFile}
 
 -- ---- the image, then the trace
 
@@ -153,7 +152,7 @@ start_lacks_none : (job : JobView) (text : List ℕ) → start_in job text ≡ E
 unfolding start_in
 start_lacks_none job text lacks =
     by (nat_lt job.max_image (length text)) (is_elf text) (is_saved text) (elf_of job.map.ram text)
-    (state_in job.map job.choices job.harts text) (image_of job.map.ram text) lacks
+    (state_in job.profile job.map job.choices job.harts text) (image_of job.map.ram text) lacks
   where
     by : (large elf saved : Bool) (file : Result ((ℕ → Option ℕ) × ℕ) ElfFault)
         (state : Result (List Core × Bytes) StateFault) (image : Result (ℕ → Option ℕ) ImageFault)

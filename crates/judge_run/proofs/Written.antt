@@ -9,6 +9,7 @@ use Rattle.hart_words.specs.declared.span.Span.{Span}
 use Rattle.hart_words.specs.Memory.{Bytes}
 use Rattle.hart_set.specs.declared.set.HartSet.{HartSet}
 use Rattle.hart_step.specs.declared.state.Core.{Core}
+use Rattle.csr_file.specs.declared.profile.CsrProfile.{CsrProfile}
 use Rattle.state_text.specs.Laws.{IsOver, IsZeroOutside}
 use Rattle.std.proofs.Math.Seq.{take-append_seam}
 use Rattle.outside_ports.specs.Counts.{Rose}
@@ -41,22 +42,22 @@ state_front {before} {now} given state is wrote rose =
     })
 
 -- harts over one map have memory that is 0 outside its RAM
-pub zeros_over : (map : Map) (choices : Choices) (cores : List Core) (bytes : Bytes) → 0 < length cores
-    → All (IsOver map choices) cores → All (λ core. IsZeroOutside core.map.ram bytes) cores
+pub zeros_over : (profile : CsrProfile) (map : Map) (choices : Choices) (cores : List Core) (bytes : Bytes) → 0 < length cores
+    → All (IsOver profile map choices) cores → All (λ core. IsZeroOutside core.map.ram bytes) cores
     → IsZeroOutside map.ram bytes
-zeros_over map choices [] bytes some over zeros = absurd (omega (arith, some))
-zeros_over map choices (core ∷ cores) bytes some over zeros =
-    subst (λ (map : Map). IsZeroOutside map.ram bytes) (All-head (IsOver map choices) core cores over).map_is
+zeros_over profile map choices [] bytes some over zeros = absurd (omega (arith, some))
+zeros_over profile map choices (core ∷ cores) bytes some over zeros =
+    subst (λ (map : Map). IsZeroOutside map.ram bytes) (All-head (IsOver profile map choices) core cores over).map_is
     (All-head (λ core. IsZeroOutside core.map.ram bytes) core cores zeros)
 
 -- the text of a state that an answer has is read back where memory is 0 outside RAM
 pub backs : (given : AnswerView) (state : SetState) → given.state ≡ Some state → 0 < length state.core
-    → ((map : Map) (choices : Choices) → All (IsOver map choices) state.core → IsZeroOutside map.ram state.bytes
-    → state_in map choices (length state.core) (saved_text state.core state.bytes) ≡ Ok (state.core, state.bytes))
+    → ((profile : CsrProfile) (map : Map) (choices : Choices) → All (IsOver profile map choices) state.core → IsZeroOutside map.ram state.bytes
+    → state_in profile map choices (length state.core) (saved_text state.core state.bytes) ≡ Ok (state.core, state.bytes))
     → IfSome given.state (λ state. HasZerosOutside state → IsReadBack state)
 backs given state is some back =
     subst (λ (state : Option SetState). IfSome state (λ state. HasZerosOutside state → IsReadBack state)) (sym is)
-    (λ zeros map choices over. back map choices over (zeros_over map choices state.core state.bytes some over zeros))
+    (λ zeros profile map choices over. back profile map choices over (zeros_over profile map choices state.core state.bytes some over zeros))
 
 -- harts that can be stepped on are some
 pub some_there : {M : Type 0} (ram_of : M → Span) {given : Option (HartSet Core M)} {harts : HartSet Core M}

@@ -21,7 +21,7 @@ use Rattle.rvfi_rows.specs.declared.fault.HeaderFault.{HeaderFault}
 use Rattle.rvfi_rows.specs.declared.verdict.Verdict.{Verdict}
 use Rattle.rvfi_rows.specs.declared.verdict.Verdict.TheVariants.{Agrees, Differs, Refused}
 use Rattle.rvfi_rows.specs.Columns.{ColumnList, TraceColumns, header_columns}
-use Rattle.rvfi_rows.specs.Rows.{RowReading, rows_of}
+use Rattle.rvfi_rows.specs.Rows.{rows_of}
 use Rattle.hart_words.specs.Results.{◌>>=◌}
 use Rattle.trace_report.specs.declared.outcome.Made.{Made}
 use Rattle.trace_report.specs.declared.outcome.Outcome.{Outcome}
@@ -30,7 +30,7 @@ use Rattle.trace_report.specs.declared.outcome.Ruling.TheVariants as rulings
 use Rattle.trace_report.specs.Report.{report_with}
 use Rattle.hart_words.specs.Memory.{Bytes}
 use Rattle.hart_step.specs.declared.state.Core.{Core}
-use Rattle.hart_step.specs.Cores.{core_at_reset}
+use Rattle.hart_step.specs.Cores.{core_at_reset_of}
 use Rattle.hart_step.specs.HartSets.{SetState}
 use Rattle.row_origin.specs.Histories.{HistoryView, origins_in_history}
 use Rattle.row_origin.specs.Origins.{OriginsView}
@@ -102,7 +102,7 @@ required_job (Some job) = Ok job
 -- that the words give, or else the image's
 abbrev pub start_at : JobView → (ℕ → Option ℕ) → ℕ → SetState
 start_at job bytes pc = record {
-  core = replicate job.harts (core_at_reset (unwrap_or job.pc pc) job.map job.choices);
+  core = replicate job.harts (core_at_reset_of job.profile (unwrap_or job.pc pc) job.map job.choices);
   bytes = λ address. unwrap_or (bytes address) 0;
 }
 
@@ -139,7 +139,7 @@ is_saved image = starts_with (λ a b. a == b) image version_line
 abbrev pub image_start : JobView → List ℕ → Step SetState
 image_start job image =
     if is_elf image then elf_start job (elf_of job.map.ram image)
-    else if is_saved image then saved_start job (state_in job.map job.choices job.harts image)
+    else if is_saved image then saved_start job (state_in job.profile job.map job.choices job.harts image)
     else text_start job (image_of job.map.ram image)
 
 -- an image of too many bytes is refused before anything else in it

@@ -8,6 +8,7 @@ use Rattle.outside_ports.specs.Ports.{Files}
 use Rattle.judge_words.specs.Job.{JobView, job_of}
 use Rattle.trace_report.specs.Report.{status_of}
 use Rattle.trace_maker.specs.Texts.{made_image, made_trace}
+use Rattle.csr_file.specs.declared.profile.CsrProfile.{CsrProfile}
 use Rattle.hart_step.specs.HartSets.{SetState, set_state_of}
 use Rattle.page_layers.specs.Memories.{layered_bytes, layered_ram}
 use Rattle.row_origin.specs.Origins.{origins_in}
@@ -54,11 +55,11 @@ answer_view given = record {
 abbrev pub CanStepOn : Answer → Type 0
 CanStepOn given = IfSome given.harts (CanGoOn layered_ram)
 
--- the text of a state is read again as that state, over the map and by the choices that its harts have
+-- the text of a state is read again as that state, by the profile, the map and the choices that its harts have
 abbrev pub IsReadBack : SetState → Type 0
 IsReadBack state =
-    (map : Map) (choices : Choices) → HaveSettings map choices state.core
-    → state_in map choices (length state.core) (saved_text state.core state.bytes) ≡ Ok (state.core, state.bytes)
+    (profile : CsrProfile) (map : Map) (choices : Choices) → HaveSettings profile map choices state.core
+    → state_in profile map choices (length state.core) (saved_text state.core state.bytes) ≡ Ok (state.core, state.bytes)
 
 -- memory is 0 outside the RAM of each hart's map
 abbrev pub HasZerosOutside : SetState → Type 0

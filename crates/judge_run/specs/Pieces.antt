@@ -7,7 +7,6 @@ use Rattle.trace_lines.specs.Lines.{file_lines}
 use Rattle.rvfi_rows.specs.declared.verdict.Verdict.TheVariants.{Agrees}
 use Rattle.rvfi_rows.specs.Columns.{TraceColumns, header_columns}
 use Rattle.rvfi_rows.specs.Rows.{rows_of}
-use Rattle.trace_report.specs.declared.outcome.Ruling.TheVariants.{Verdict}
 use Rattle.hart_step.specs.declared.state.Core.{Core}
 use Rattle.hart_step.specs.HartSets.{SetState}
 use Rattle.segment_judge.specs.Histories.{history_at, trail_from}
@@ -30,9 +29,10 @@ pub record IsFirstPiece (first : JobView) (image : Option (List ℕ)) (trace hea
   pub writes : given.state ≡ Some saved
   pub back : IsReadBack saved
 
--- a run that begins from what was saved: it has the same map, choices and number of harts, is given no first pc, and
--- takes the text
+-- a run that begins from what was saved: it has the same profile, map, choices and number of harts, is given no first
+-- pc, and takes the text
 pub record BeginsFrom (first : JobView) (saved : SetState) (second : JobView) : Type 0 where
+  pub profile : second.profile ≡ first.profile
   pub map : second.map ≡ first.map
   pub choices : second.choices ≡ first.choices
   pub harts : second.harts ≡ first.harts

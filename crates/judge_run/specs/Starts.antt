@@ -3,6 +3,7 @@ use Rattle.std.specs.Prelude.{◌≡◌, ◌<◌, ◌≤◌, List, All, length}
 use Rattle.hart_words.specs.declared.choices.Choices.{Choices}
 use Rattle.hart_words.specs.declared.map.Map.{Map}
 use Rattle.hart_words.specs.declared.span.Span.{Span}
+use Rattle.csr_file.specs.declared.profile.CsrProfile.{CsrProfile}
 use Rattle.hart_set.specs.declared.set.HartSet.{HartSet}
 use Rattle.hart_step.specs.declared.state.Core.{Core}
 use Rattle.hart_set.specs.Calls.{CanStep}
@@ -23,9 +24,9 @@ start_view start = record { core = start.cores.items; bytes = byte_of start.imag
 abbrev pub state_view : State → SetState
 state_view state = record { core = state.cores.items; bytes = memory_of state.pieces }
 
--- each hart has this map and these choices
-abbrev pub HaveSettings : Map → Choices → List Core → Type 0
-HaveSettings map choices cores = All (IsOver map choices) cores
+-- each hart has this profile of registers, this map and these choices
+abbrev pub HaveSettings : CsrProfile → Map → Choices → List Core → Type 0
+HaveSettings profile map choices cores = All (IsOver profile map choices) cores
 
 -- harts that can be stepped on, no more than a saved state may have
 pub record CanGoOn {M : Type 0} (ram_of : M → Span) (harts : HartSet Core M) : Type 0 where

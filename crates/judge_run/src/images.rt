@@ -3,7 +3,7 @@
 ghost use Rattle.std.specs.Prelude.{◌≡◌, ◌<◌, ◌≤◌, ◌%◌, ℕ, List, IfOk, length, map, replicate, unwrap_or};
 ghost use Rattle.std.specs.List.{All};
 ghost use Rattle.outside_ports.specs.Front.{HasFront};
-ghost use Rattle.hart_step.specs.Cores.{IsSound, core_at_reset};
+ghost use Rattle.hart_step.specs.Cores.{IsSound, core_at_reset_of};
 ghost use Rattle.image_text.specs.Image.{image_of};
 ghost use Rattle.elf_image.specs.Image.{elf_of};
 ghost use Rattle.judge_words.specs.Job.{job_view, IsLawful};
@@ -23,7 +23,7 @@ use image_text::{ImageError, read_image};
 use judge_words::{FIRST_PC, Job};
 use outside_ports::{Front, ReadError, Shelf, read_front};
 use page_image::PageImage;
-use state_text::{State, StateError, read_state};
+use state_text::{Platform, State, StateError, read_state};
 use std::alloc::Global;
 use trace_report::Ruling;
 
@@ -136,12 +136,17 @@ fn saved_state(alloc: Global, job: &Job, image: &[u8]) -> Result<State, Stop>
     requires { IsLawful (job_view job.now) }
     ensures meant { MeantBy state_view result
         (saved_start (job_view job.now)
-        (state_in job.now.map job.now.choices job.now.harts image.now)) }
+        (state_in job.now.profile job.now.map job.now.choices job.now.harts image.now)) }
     ensures start { IfOk result (IsStartOf job.now.map) }
     ensures jobs { IsJobs result }
     ensures read { WasRead result }
 {
-    match read_state(alloc, image, job.map, job.choices, job.harts) {
+    let platform = Platform {
+        profile: job.profile,
+        map: job.map,
+        choices: job.choices,
+    };
+    match read_state(alloc, image, &platform, job.harts) {
         Ok(state) => Ok(State {
             cores: cores_from(job, state.cores),
             pieces: state.pieces,
@@ -175,7 +180,8 @@ fn cores_at_reset(alloc: Global, job: &Job, pc: u64) -> Result<Vec<Core>, NoMemo
     requires lawful { IsLawful (job_view job.now) }
     requires even { pc % 2 ≡ 0 }
     ensures cores { IfOk result (λ cores. cores.items ≡ replicate job.now.harts
-        (core_at_reset (unwrap_or (job_view job.now).pc pc) job.now.map job.now.choices)) }
+        (core_at_reset_of job.now.profile (unwrap_or (job_view job.now).pc pc) job.now.map
+        job.now.choices)) }
     ensures some { IfOk result (λ cores. 0 < length cores.items) }
     ensures few { IfOk result (λ cores. length cores.items ≤ MOST_HARTS) }
     ensures sound { IfOk result (λ cores. All IsSound cores.items) }
@@ -194,7 +200,8 @@ fn core_at_reset(job: &Job, pc: u64) -> Core
     requires lawful { IsLawful (job_view job.now) }
     requires even { pc % 2 ≡ 0 }
     ensures core { result
-        ≡ core_at_reset (unwrap_or (job_view job.now).pc pc) job.now.map job.now.choices }
+        ≡ core_at_reset_of job.now.profile (unwrap_or (job_view job.now).pc pc) job.now.map
+        job.now.choices }
     ensures map { result.map ≡ job.now.map }
     ensures sound { IsSound result }
 {
@@ -202,7 +209,7 @@ fn core_at_reset(job: &Job, pc: u64) -> Core
         Some(given) => given,
         None => pc,
     };
-    Core::reset(first, job.map, job.choices)
+    Core::reset_of(&job.profile, first, job.map, job.choices)
 }
 
 /// Harts at the first pc that the words give, or else where they stand.

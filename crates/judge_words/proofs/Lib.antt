@@ -1,4 +1,6 @@
 pub mod CommandLine
-pub mod Spans
-pub mod MadeJobs
+pub mod Cuts
+pub mod Defaults
 pub mod Flags
+pub mod MadeJobs
+pub mod Spans

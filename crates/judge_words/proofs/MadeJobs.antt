@@ -3,20 +3,23 @@ use Rattle.std.proofs.Common.{◌≡◌, ◌∙◌, ◌≤◌, ℕ, Bool, true, 
 use Rattle.std.proofs.Common.{None, codes, refl, sym, subst, ap}
 use Rattle.std.proofs.lemmas.Bool.{leb-true}
 use Rattle.std.specs.Option.{ForSome}
-use Rattle.std.specs.Prelude.{option_map}
+use Rattle.std.specs.Prelude.{option_map, replicate}
 use Rattle.hart_words.specs.declared.span.Span.{Span}
 use Rattle.hart_words.specs.declared.map.Map.{Map}
-use Rattle.hart_words.specs.Map.{apart_none, map_of}
+use Rattle.hart_words.specs.declared.map.TheConstants.{MOST_DEVICES}
+use Rattle.hart_words.specs.Map.{map_beside, map_of, map_with}
 use Rattle.hart_words.specs.Spans.{is_span, is_span-true, span_by, span_of, span_with}
 use Rattle.clap.proofs.OnLiterals.{clap_on_literals}
 use Rattle.clap.specs.Walk.{Row, first_of}
 use Rattle.hart_words.specs.Numbers.{digits_number, number_of, number_within}
-use Rattle.judge_words.specs.Values.{◌>>=◌, at_most, harts_in, image_limit_in, io_in, made_number_in, made_rows_in}
-use Rattle.judge_words.specs.Values.{number_at_most, number_of_text, number_up_to, first_pc_in, span_in, trace_limit_in}
+use Rattle.judge_words.specs.Values.{◌>>=◌, at_most, harts_in, image_limit_in, made_number_in, made_rows_in}
+use Rattle.judge_words.specs.Values.{number_at_most, number_of_text, number_up_to, first_pc_in, trace_limit_in}
 use Rattle.judge_words.specs.Commands.{command_line, command_entered, values_given_to}
 use Rattle.hart_words.specs.Choices.{plain_choices}
-use Rattle.judge_words.specs.Job.{IsMadeJob, JobView, given_choices, files_job, job_from, job_of, line_product}
-use Rattle.judge_words.specs.Job.{made_job, sharing_of}
+use Rattle.csr_file.specs.Profiles.{plain_profile}
+use Rattle.judge_words.specs.Cores.{core_in}
+use Rattle.judge_words.specs.Job.{IsMadeJob, JobView, files_job, given_map, given_profile, job_from, job_of}
+use Rattle.judge_words.specs.Job.{line_product, made_job, rows_choices, sharing_of}
 use Rattle.judge_words.specs.declared.job.Command.TheVariants.{Judge, Make}
 use Rattle.judge_words.specs.declared.job.Product.{Product}
 use Rattle.judge_words.specs.declared.job.Product.TheVariants.{State}
@@ -41,6 +44,7 @@ made_with number rows map sharing =
       max_image = MOST_IMAGE_BYTES;
       max_trace = MOST_TRACE_BYTES;
       choices = plain_choices;
+      profile = plain_profile;
       sharing = sharing;
     }
 
@@ -82,13 +86,13 @@ files_named product given =
     following IfMade (first_of (codes "image") given) _ (λ image e1.
     following IfMade (first_of (codes "trace") given) _ (λ trace e2.
     following IfMade (first_pc_in (first_of (codes "pc") given)) _ (λ pc e3.
-    following IfMade (first_of (codes "ram") given >>= span_in) _ (λ ram e4.
-    following IfMade (io_in (first_of (codes "io") given)) _ (λ io e5.
-    following IfMade (map_of ram io) _ (λ map e6.
+    following IfMade (given_map given) _ (λ map e4.
     following IfMade (first_of (codes "harts") given >>= harts_in) _ (λ harts h1.
     following IfMade (first_of (codes "max-image") given >>= image_limit_in) _ (λ max_image e7.
     following IfMade (first_of (codes "max-trace") given >>= trace_limit_in) _ (λ max_trace e8.
-    following IfMade (given_choices given) _ (λ choices e9.
+    following IfMade (core_in (first_of (codes "profile") given)) _ (λ core e5.
+    following IfMade (rows_choices core given) _ (λ choices e6.
+    following IfMade (given_profile core given) _ (λ profile e9.
     following IfMade (sharing_of given) _ (λ sharing e10.
     of_files
     (record {
@@ -100,6 +104,7 @@ files_named product given =
       max_image = max_image;
       max_trace = max_trace;
       choices = choices;
+      profile = profile;
       sharing = sharing;
     })
     image trace product refl)))))))))))
@@ -117,17 +122,18 @@ span_has base size = by (is_span base size) refl
     by false is span same = cc
 
 -- RAM alone is a map of it
-map_alone : (ram : Span) → ForSome (map_of ram None) (λ map. (map.ram ≡ ram) × (map.io ≡ None))
-unfolding map_of
+map_alone : (ram : Span)
+    → ForSome (map_of ram None) (λ map. (map.ram ≡ ram) × (map.io ≡ replicate MOST_DEVICES None))
+unfolding map_of map_with map_beside
 map_alone ram map same =
-    let one : record { ram = ram; io = None; apart = apart_none ram } ≡ map = cc in
+    let one : record { ram = ram; io = replicate MOST_DEVICES None; apart = refl } ≡ map = cc in
     (ap (λ (map : Map). map.ram) (sym one), ap (λ (map : Map). map.io) (sym one))
 
 -- RAM is what it is where nothing else is said, and there are no devices
 record IsPlainMap (map : Map) : Type 0 where
   pub base : map.ram.base ≡ RAM_BASE
   pub size : map.ram.size ≡ RAM_SIZE
-  pub io : map.io ≡ None
+  pub io : map.io ≡ replicate MOST_DEVICES None
 
 of_made : (number rows : ℕ) (map : Map) (sharing : Sharing) → number ≤ MOST_MADE_NUMBER → rows ≤ MOST_MADE_ROWS
     → IsPlainMap map → ForSome (Some (made_with number rows map sharing)) IfMade
@@ -148,6 +154,7 @@ of_made number rows map sharing small within_most plain job same n r made =
       max_image = ap (λ (job : JobView). job.max_image) (sym one);
       max_trace = ap (λ (job : JobView). job.max_trace) (sym one);
       choices = ap (λ (job : JobView). job.choices) (sym one);
+      profile = ap (λ (job : JobView). job.profile) (sym one);
     }
 
 made_given : (given : List Row) → ForSome (made_job given) IfMade
@@ -159,7 +166,7 @@ made_given given =
     following IfMade (map_of ram None) _ (λ map maps.
     following IfMade (sharing_of given) _ (λ sharing shared.
     let span : (ram.base ≡ RAM_BASE) × (ram.size ≡ RAM_SIZE) = span_has RAM_BASE RAM_SIZE ram spans in
-    let alone : (map.ram ≡ ram) × (map.io ≡ None) = map_alone ram map maps in
+    let alone : (map.ram ≡ ram) × (map.io ≡ replicate MOST_DEVICES None) = map_alone ram map maps in
     of_made number rows map sharing
     (within MOST_MADE_NUMBER (first_of (codes "number") given) number small)
     (within MOST_MADE_ROWS (first_of (codes "rows") given) rows few)
@@ -188,5 +195,5 @@ pub made_asked : option_map (λ job. job.command)
     (job_of (codes "rvjudge" ∷ codes "make" ∷ codes "7" ∷ codes "3" ∷ [])) ≡ Some (Make 7 3)
 unfolding job_of command_line command_entered made_job sharing_of number_at_most number_up_to number_of_text
     number_within
-    number_of digits_number span_of map_of clap_on_literals
+    number_of digits_number span_of map_of map_with map_beside clap_on_literals
 made_asked = refl

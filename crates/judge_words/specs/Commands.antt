@@ -27,14 +27,26 @@ option_of name = record (new_rule name) { long = Some name }
 abbrev pub flag_of : Text → Rule
 flag_of name = record (new_rule name) { long = Some name; action = Some SetTrue }
 
--- the choices of the implementation that is judged
+-- the choices of the implementation that is judged, and the name of a core that has them
 abbrev pub choices_rules : List Rule
 choices_rules =
-    option_or (codes "misaligned") (codes "trap")
-    ∷ option_or (codes "mtval") (codes "value")
-    ∷ option_or (codes "ad") (codes "fault")
-    ∷ option_or (codes "reserve") (codes "64")
-    ∷ option_or (codes "bits") (codes "off")
+    option_of (codes "profile")
+    ∷ option_of (codes "misaligned")
+    ∷ option_of (codes "mtval")
+    ∷ option_of (codes "ad")
+    ∷ option_of (codes "reserve")
+    ∷ option_of (codes "bits")
+    ∷ []
+
+-- the choices of what rows show, and of its control and status registers
+abbrev pub register_rules : List Rule
+register_rules =
+    option_of (codes "insn")
+    ∷ option_of (codes "io-faults")
+    ∷ option_of (codes "csr")
+    ∷ option_of (codes "pmp")
+    ∷ option_of (codes "pmp-bits")
+    ∷ option_of (codes "lines")
     ∷ []
 
 -- how the work is shared out
@@ -52,7 +64,7 @@ with_rules command rules = fold with_rule command rules
 -- a command with the names of two files, as `judge` and `state` are
 abbrev pub files_command : Text → App
 files_command name =
-    with_rules (with_rules (with_rules (new_app name) (
+    with_rules (with_rules (with_rules (with_rules (new_app name) (
     required_word (codes "image")
     ∷ required_word (codes "trace")
     ∷ option_of (codes "pc")
@@ -62,7 +74,7 @@ files_command name =
     ∷ option_or (codes "max-image") (codes "0x40000000")
     ∷ option_or (codes "max-trace") (codes "0x10000000000")
     ∷ []
-    )) choices_rules) sharing_rules
+    )) choices_rules) register_rules) sharing_rules
 
 -- `judge`, which alone takes the flag `--origin`
 abbrev pub judge_command : App

@@ -14,5 +14,6 @@ settings_view product settings = record {
   max_image = settings.max_image;
   max_trace = settings.max_trace;
   choices = settings.choices;
+  profile = settings.profile;
   sharing = settings.sharing;
 }

@@ -9,10 +9,12 @@ use Rattle.hart_words.specs.Spans.{span_of}
 use Rattle.hart_words.specs.declared.span.Span.{Span}
 use Rattle.hart_words.specs.declared.options.Misaligned.{Misaligned}
 use Rattle.hart_words.specs.declared.options.Misaligned.TheVariants as misaligned
-use Rattle.hart_words.specs.declared.options.TrapValues.{TrapValues}
-use Rattle.hart_words.specs.declared.options.TrapValues.TheVariants as values
 use Rattle.hart_words.specs.declared.options.Marks.{Marks}
 use Rattle.hart_words.specs.declared.options.Marks.TheVariants as marks
+use Rattle.hart_words.specs.declared.options.InsnBits.{InsnBits}
+use Rattle.hart_words.specs.declared.options.InsnBits.TheVariants as insn
+use Rattle.hart_words.specs.declared.options.DeviceFaults.{DeviceFaults}
+use Rattle.hart_words.specs.declared.options.DeviceFaults.TheVariants as faults
 use Rattle.judge_words.specs.declared.values.TheConstants.{MOST_IMAGE_BYTES, MOST_TRACE_BYTES, MOST_WORKERS, MOST_LINES}
 use Rattle.judge_words.specs.declared.values.TheConstants.{MOST_SEGMENTS, MOST_HARTS, MOST_BLOCK_BYTES, MOST_MADE_NUMBER}
 use Rattle.judge_words.specs.declared.values.TheConstants.{MOST_MADE_ROWS}
@@ -84,10 +86,6 @@ one_of_two first second x y text =
 unfoldable pub misaligned_in : List ℕ → Option Misaligned
 misaligned_in text = one_of_two (codes "trap") (codes "done") misaligned.Trap misaligned.Done text
 
--- what traps put into mtval and stval
-unfoldable pub trap_values_in : List ℕ → Option TrapValues
-trap_values_in text = one_of_two (codes "value") (codes "zero") values.Value values.Zero text
-
 -- what becomes of an access whose page lacks A or D
 unfoldable pub marks_in : List ℕ → Option Marks
 marks_in text = one_of_two (codes "fault") (codes "set") marks.Fault marks.Set text
@@ -95,6 +93,14 @@ marks_in text = one_of_two (codes "fault") (codes "set") marks.Fault marks.Set t
 -- whether the extensions of bit manipulation are there
 unfoldable pub bits_in : List ℕ → Option Bool
 bits_in text = one_of_two (codes "on") (codes "off") true false text
+
+-- what rows show of an instruction of 16 bits
+unfoldable pub insn_bits_in : List ℕ → Option InsnBits
+insn_bits_in text = one_of_two (codes "full") (codes "length") insn.Full insn.Length text
+
+-- whether a device may refuse an access
+unfoldable pub device_faults_in : List ℕ → Option DeviceFaults
+device_faults_in text = one_of_two (codes "none") (codes "row") faults.Never faults.ByRow text
 
 -- a number up to `most`
 abbrev pub at_most : ℕ → ℕ → Option ℕ
@@ -122,8 +128,3 @@ span_in text = do
   base ← number_of_text (before_first (λ byte. byte == colon) text)
   size ← number_of_text (after_first (λ byte. byte == colon) text)
   span_of base size
-
--- a range that may be left out
-abbrev pub io_in : Option (List ℕ) → Option (Option Span)
-io_in None = Some None
-io_in (Some text) = option_map (λ span. Some span) (span_in text)

@@ -1,9 +1,9 @@
 //! The command line as `clap` reads it.
 
 ghost use Rattle.std.specs.Prelude.{◌≡◌, IfOk, MatchResult, None, true, false, map, option_map, string_bytes};
-ghost use Rattle.clap.specs.Words.{Row, app_of, first_of, found_of, is_simple_and_free, rows_of, rule_of, subcommand_rows_of};
+ghost use Rattle.clap.specs.Words.{app_of, first_of, found_of, is_simple_and_free, rows_of, rule_of, subcommand_rows_of};
 ghost use Rattle.clap.specs.declared.builder.command.Command.TheViews.{out-Command};
-ghost use Rattle.judge_words.specs.Commands.{IsCommand, command_line, command_entered, values_given_to, files_command, judge_command, make_command, flag_of, is_given, option_of, option_or, required_word, choices_rules, sharing_rules, with_rules};
+ghost use Rattle.judge_words.specs.Commands.{IsCommand, command_line, command_entered, values_given_to, files_command, judge_command, make_command, flag_of, is_given, option_of, option_or, required_word, choices_rules, register_rules, sharing_rules, with_rules};
 ghost use Rattle.judge_words.specs.declared.job.WordError.TheVariants.{NotAJob};
 
 use crate::job::WordError;
@@ -11,10 +11,12 @@ use clap::error::ErrorKind;
 use clap::{Arg, ArgAction, ArgMatches, Command};
 use std::alloc::{AllocError, Global};
 
-/// `rvjudge judge IMAGE TRACE [--pc A] [--ram B:S] [--io B:S] [--harts H] [--max-image M]
-/// [--max-trace M] [--misaligned trap|done] [--mtval value|zero] [--ad fault|set] [--reserve R] [--bits on|off]`,
-/// `rvjudge state` with the same, and `rvjudge make NUMBER ROWS`, each with
-/// `[--workers N] [--segment K] [--window W]`, and `judge` alone with `[--origin]`.
+/// `rvjudge judge IMAGE TRACE [--pc A] [--ram B:S] [--io LIST] [--harts H] [--max-image M]
+/// [--max-trace M] [--profile NAME] [--misaligned trap|done] [--mtval value|zero|zero:LIST]
+/// [--ad fault|set] [--reserve R] [--bits on|off] [--insn full|length] [--io-faults none|row]
+/// [--csr LIST] [--pmp N] [--pmp-bits B] [--lines MASK]`, `rvjudge state` with the same, and
+/// `rvjudge make NUMBER ROWS`, each with `[--workers N] [--segment K] [--window W]`, and `judge`
+/// alone with `[--origin]`.
 pub fn command_line<'a>(alloc: Global) -> Result<Command<'a>, AllocError>
     ensures { IfOk result (λ line. app_of line ≡ command_line) }
 {
@@ -44,7 +46,7 @@ fn files_command<'a>(alloc: Global, name: &'a str) -> Result<Command<'a>, AllocE
         .arg(option_or(alloc, "harts", "1"))?
         .arg(option_or(alloc, "max-image", "0x40000000"))?
         .arg(option_or(alloc, "max-trace", "0x10000000000"))?;
-    with_sharing(alloc, with_choices(alloc, files)?)
+    with_sharing(alloc, with_registers(alloc, with_choices(alloc, files)?)?)
 }
 
 /// `make`, with two numbers.
@@ -57,17 +59,34 @@ fn make_command<'a>(alloc: Global) -> Result<Command<'a>, AllocError>
     with_sharing(alloc, make)
 }
 
-/// The command, and the options that say the choices of the implementation that is judged.
+/// The command, and the options that say the choices of the implementation that is judged, and name
+/// a core that has them.
 fn with_choices<'a>(alloc: Global, command: Command<'a>) -> Result<Command<'a>, AllocError>
     requires { (out-Command command).has_globals ≡ false }
     ensures { IfOk result (IsCommand (with_rules (app_of command.entry) choices_rules)) }
 {
     command
-        .arg(option_or(alloc, "misaligned", "trap"))?
-        .arg(option_or(alloc, "mtval", "value"))?
-        .arg(option_or(alloc, "ad", "fault"))?
-        .arg(option_or(alloc, "reserve", "64"))?
-        .arg(option_or(alloc, "bits", "off"))
+        .arg(option(alloc, "profile"))?
+        .arg(option(alloc, "misaligned"))?
+        .arg(option(alloc, "mtval"))?
+        .arg(option(alloc, "ad"))?
+        .arg(option(alloc, "reserve"))?
+        .arg(option(alloc, "bits"))
+}
+
+/// The command, and the options that say what rows show, and what its control and status registers
+/// are.
+fn with_registers<'a>(alloc: Global, command: Command<'a>) -> Result<Command<'a>, AllocError>
+    requires { (out-Command command).has_globals ≡ false }
+    ensures { IfOk result (IsCommand (with_rules (app_of command.entry) register_rules)) }
+{
+    command
+        .arg(option(alloc, "insn"))?
+        .arg(option(alloc, "io-faults"))?
+        .arg(option(alloc, "csr"))?
+        .arg(option(alloc, "pmp"))?
+        .arg(option(alloc, "pmp-bits"))?
+        .arg(option(alloc, "lines"))
 }
 
 /// The command, and the options that say how its work is shared out.

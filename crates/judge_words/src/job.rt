@@ -1,19 +1,23 @@
 //! A job, and the words that ask for it.
 
-ghost use Rattle.std.specs.Prelude.{◌≡◌, ◌≤◌, ◌%◌, ◌^◌, IfOk, IfSome, map, option_map, string_bytes};
+ghost use Rattle.std.specs.Prelude.{◌≡◌, IfOk, IfSome, map, option_map, string_bytes};
 ghost use Rattle.clap.specs.Words.{found_of, rows_of};
-ghost use Rattle.judge_words.specs.Job.{GivesJob, IsLawful, IsLawfulSharing, given_choices, files_job, job_of, job_view, line_product, made_job, sharing_of};
+ghost use Rattle.judge_words.specs.Job.{GivesJob, IsLawful, IsLawfulSharing, files_job, given_choices, given_map, given_profile, job_of, job_view, line_product, made_job, rows_choices, sharing_of};
 ghost use Rattle.judge_words.specs.Settings.{settings_view};
 ghost use Rattle.judge_words.specs.declared.job.WordError.TheVariants.{NoMemory};
 
 use crate::command_line::{command_line, given_to, is_given, parse, text_of};
+use crate::cores::{Core, read_core, said};
+use crate::lists::{read_io, read_trap_values};
+use crate::profiles::{read_csrs, read_entry_bits, read_entry_count, read_lines};
 use crate::values::{
-    MOST_IMAGE_BYTES, MOST_TRACE_BYTES, RAM_BASE, RAM_SIZE, read_bits, read_block_size, read_harts,
-    read_image_limit, read_io, read_made_number, read_made_rows, read_marks, read_misaligned,
-    read_pc, read_segment, read_span, read_trace_limit, read_trap_values, read_window,
-    read_workers,
+    MOST_IMAGE_BYTES, MOST_TRACE_BYTES, RAM_BASE, RAM_SIZE, read_bits, read_block_size,
+    read_device_faults, read_harts, read_image_limit, read_insn_bits, read_made_number,
+    read_made_rows, read_marks, read_misaligned, read_pc, read_segment, read_span,
+    read_trace_limit, read_window, read_workers,
 };
 use clap::ArgMatches;
+use csr_file::CsrProfile;
 use hart_words::{Choices, Map, Span};
 use std::alloc::{AllocError, Global};
 use thiserror::Error;
@@ -58,7 +62,7 @@ pub struct Sharing {
 
 /// What the judge is asked to do: the command, the address of the first instruction, the ranges of
 /// RAM and of devices, how many harts there are, how many bytes either text may have, the choices
-/// of the implementation, and how the work is to be shared out.
+/// of the implementation, its control and status registers, and how the work is to be shared out.
 #[derive(Debug, Drop)]
 pub struct Job {
     pub command: Command<String>,
@@ -72,6 +76,7 @@ pub struct Job {
     /// The most bytes that the trace may have, from 1 to 2^40.
     pub max_trace: u64,
     pub choices: Choices,
+    pub profile: CsrProfile,
     pub sharing: Sharing,
 }
 
@@ -95,8 +100,10 @@ impl From<AllocError> for WordError {
 
 /// The job that the words of a command line ask for, the program's name first:
 ///
-/// `rvjudge judge IMAGE TRACE [--pc A] [--ram B:S] [--io B:S] [--harts H] [--max-image M]
-/// [--max-trace M] [--misaligned trap|done] [--mtval value|zero] [--ad fault|set] [--reserve R] [--bits on|off]
+/// `rvjudge judge IMAGE TRACE [--pc A] [--ram B:S] [--io B:S,..] [--harts H] [--max-image M]
+/// [--max-trace M] [--misaligned trap|done] [--mtval value|zero|zero:C,..] [--ad fault|set]
+/// [--reserve R] [--bits on|off] [--insn full|length] [--io-faults none|row]
+/// [--csr NAME=VALUE,..] [--pmp 0|8|16] [--pmp-bits L] [--lines MASK] [--profile CORE]
 /// [--workers N] [--segment K] [--window W] [--origin]`
 ///
 /// `rvjudge state` with the same words but for `--origin`, and
@@ -106,21 +113,28 @@ impl From<AllocError> for WordError {
 /// `state` gives the state after the last row where the trace agrees, in place of a line. With
 /// `--origin`, which has no value, `judge` also gives, where the trace differs, who wrote what the
 /// differing row read. Each option stands at most once, as `--name value` or `--name=value`, and
-/// `--origin` alone. Numbers are decimal, or hexadecimal after `0x`. A is even; B and S are multiples of 4,096, S at least 4,096 and B + S at
-/// most 2^56, and the two ranges have no byte in common; H is from 1 to 8; the M of the image is from 1 to 2^30, that
-/// of the trace to 2^40, R a power of two from 8 to 4,096, N from 1 to 64, K from 1 to 2^20, and W
-/// from 1 to 2^10. NUMBER is below 2^32, ROWS at most 2^18.
+/// `--origin` alone. Numbers are decimal, or hexadecimal after `0x`. A is even; B and S are
+/// multiples of 4,096, S at least 4,096 and B + S at most 2^56, of `--io` there are one to eight,
+/// and no two ranges have a byte in common; H is from 1 to 8; the M of the image is from 1 to 2^30,
+/// that of the trace to 2^40, R a power of two from 8 to 4,096, N from 1 to 64, K from 1 to 2^20,
+/// and W from 1 to 2^10. NUMBER is below 2^32, ROWS at most 2^18.
 ///
 /// The choices are those of the implementation that is judged: what misaligned loads and stores do
-/// (`--misaligned`), what traps put into mtval and stval (`--mtval`), what becomes of an access
-/// whose page lacks A or D (`--ad`), the bytes of the block that LR reserves (`--reserve`), and
-/// whether Zba, Zbb and Zbs are there (`--bits`). Their words are taken as they are written here.
+/// (`--misaligned`), what traps put into mtval and stval (`--mtval`, 0 for the causes C, each
+/// once), what becomes of an access whose page lacks A or D (`--ad`), the bytes of the block that
+/// LR reserves (`--reserve`), whether Zba, Zbb and Zbs are there (`--bits`), what rows show of
+/// instructions of 16 bits (`--insn`), and whether devices may refuse accesses (`--io-faults`). The
+/// profile is what its control and status registers are (`--csr`, each named once, as
+/// `specs/Profiles.antt` has them), how many entries of protection there are (`--pmp`) with how
+/// many bits, L from 10 to 54 (`--pmp-bits`), and which bits of mip are lines (`--lines`). CORE
+/// stands for what is known of a core, as `specs/Cores.antt` has it, where a word of these is left
+/// out. Words are taken as they are written here.
 ///
 /// Left out, A is not given, and the hart begins where the image says, or else at `FIRST_PC`; the
-/// B:S of RAM is 0x80000000:0x8000000, H is 1, either M is the most that it may be, N is 4, K is 4,096, and
-/// W is 64; the choices are `trap`, `value`, `fault`, 64 and `off`; without `--io` there are no
-/// devices. So it is with `make` too. All other words are no job, those that ask for help among
-/// them.
+/// B:S of RAM is 0x80000000:0x8000000, H is 1, either M is the most that it may be, N is 4, K is
+/// 4,096, and W is 64; the choices are `trap`, `value`, `fault`, 64, `off`, `full` and `none`, and
+/// the profile is the plain one; without `--io` there are no devices. So it is with `make` too. All
+/// other words are no job, those that ask for help among them.
 #[tactic(auto, unfolding(crate::specs::Job::job_of))]
 pub fn read_words(alloc: Global, words: &Vec<String>) -> Result<Job, WordError>
     ensures job { GivesJob (job_of (map string_bytes words.now.items)) result }
@@ -169,6 +183,7 @@ fn files_job(alloc: Global, product: Product, given: &ArgMatches<'_>) -> Result<
             max_image: settings.max_image,
             max_trace: settings.max_trace,
             choices: settings.choices,
+            profile: settings.profile,
             sharing: settings.sharing,
         }),
     }
@@ -185,6 +200,7 @@ struct Settings<'a> {
     max_image: u64,
     max_trace: u64,
     choices: Choices,
+    profile: CsrProfile,
     sharing: Sharing,
 }
 
@@ -196,18 +212,17 @@ fn settings_from<'a>(product: Product, given: &ArgMatches<'a>) -> Option<Setting
         ≡ files_job product (rows_of (found_of given.now)) }
     ensures lawful { IfSome result (λ settings. IsLawful (settings_view product settings)) }
 {
-    let ram = read_span(text_of(given, "ram")?)?;
-    let io = read_io(text_of(given, "io"))?;
-    let map = Map::new(ram, io)?;
+    let core = read_core(text_of(given, "profile"))?;
     Some(Settings {
         image: text_of(given, "image")?,
         trace: text_of(given, "trace")?,
         pc: read_pc(text_of(given, "pc"))?,
-        map,
+        map: given_map(given)?,
         harts: read_harts(text_of(given, "harts")?)?,
         max_image: read_image_limit(text_of(given, "max-image")?)?,
         max_trace: read_trace_limit(text_of(given, "max-trace")?)?,
-        choices: given_choices(given)?,
+        choices: rows_choices(core, given)?,
+        profile: given_profile(core, given)?,
         sharing: sharing_of(given)?,
     })
 }
@@ -230,22 +245,56 @@ fn made_job(given: &ArgMatches<'_>) -> Option<Job>
         max_image: MOST_IMAGE_BYTES,
         max_trace: MOST_TRACE_BYTES,
         choices: Choices::plain(),
+        profile: CsrProfile::plain(),
         sharing: sharing_of(given)?,
     })
 }
 
-/// The choices of the implementation.
+/// RAM and the ranges of devices.
+#[tactic(auto, unfolding(crate::specs::Job::given_map))]
+fn given_map(given: &ArgMatches<'_>) -> Option<Map>
+    ensures { result ≡ given_map (rows_of (found_of given.now)) }
+{
+    Map::with_devices(
+        read_span(text_of(given, "ram")?)?,
+        read_io(text_of(given, "io"))?,
+    )
+}
+
+/// The choices of the implementation, with what rows show of instructions, and say of devices.
+#[tactic(auto, unfolding(crate::specs::Job::rows_choices))]
+fn rows_choices(core: Core, given: &ArgMatches<'_>) -> Option<Choices>
+    ensures { result ≡ rows_choices core (rows_of (found_of given.now)) }
+{
+    let insn_bits = read_insn_bits(said(given, core, "insn")?)?;
+    let device_faults = read_device_faults(said(given, core, "io-faults")?)?;
+    Some(given_choices(core, given)?.with_rows(insn_bits, device_faults))
+}
+
+/// The choices of the implementation alone.
 #[tactic(auto, unfolding(crate::specs::Job::given_choices))]
-fn given_choices(given: &ArgMatches<'_>) -> Option<Choices>
-    ensures { result ≡ given_choices (rows_of (found_of given.now)) }
+fn given_choices(core: Core, given: &ArgMatches<'_>) -> Option<Choices>
+    ensures { result ≡ given_choices core (rows_of (found_of given.now)) }
 {
     Choices::new(
-        read_misaligned(text_of(given, "misaligned")?)?,
-        read_trap_values(text_of(given, "mtval")?)?,
-        read_marks(text_of(given, "ad")?)?,
-        read_block_size(text_of(given, "reserve")?)?,
-        read_bits(text_of(given, "bits")?)?,
+        read_misaligned(said(given, core, "misaligned")?)?,
+        read_trap_values(said(given, core, "mtval")?)?,
+        read_marks(said(given, core, "ad")?)?,
+        read_block_size(said(given, core, "reserve")?)?,
+        read_bits(said(given, core, "bits")?)?,
     )
+}
+
+/// The choices of the implementation for its control and status registers.
+#[tactic(auto, unfolding(crate::specs::Job::given_profile))]
+fn given_profile(core: Core, given: &ArgMatches<'_>) -> Option<CsrProfile>
+    ensures { result ≡ given_profile core (rows_of (found_of given.now)) }
+{
+    let mut profile = read_csrs(said(given, core, "csr"))?;
+    profile.entry_count = read_entry_count(said(given, core, "pmp")?)?;
+    profile.entry_bits = read_entry_bits(said(given, core, "pmp-bits")?)?;
+    profile.lines = read_lines(said(given, core, "lines")?)?;
+    Some(profile)
 }
 
 /// How the work is to be shared out.

@@ -5,12 +5,17 @@
 #![tactic(auto)]
 
 mod command_line;
+mod cores;
 mod job;
 pub mod laws;
+mod lists;
+mod profiles;
 mod values;
 
 pub use job::{Command, Job, Product, Sharing, WordError, read_words};
 pub use values::FIRST_PC;
 
+#[cfg(test)]
+mod profile_tests;
 #[cfg(test)]
 mod tests;

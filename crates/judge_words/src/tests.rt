@@ -1,10 +1,11 @@
 use super::*;
+use csr_file::CsrProfile;
 use hart_words::{Choices, Marks, Misaligned, TrapValues};
 use std::alloc::{AllocError, Global};
 use std::process::Abort;
 use std::test::Fail;
 
-fn job_at(alloc: Global, words: &[&str]) -> Result<Result<Job, WordError>, AllocError> {
+pub fn job_at(alloc: Global, words: &[&str]) -> Result<Result<Job, WordError>, AllocError> {
     let mut list = Vec::new(alloc);
     for word in words {
         list.push(String::from_str(alloc, *word)?)?;
@@ -38,7 +39,7 @@ fn takes(
     Ok(())
 }
 
-fn refuses(rt: &impl Abort, alloc: Global, words: &[&str]) -> Result<(), Fail> {
+pub fn refuses(rt: &impl Abort, alloc: Global, words: &[&str]) -> Result<(), Fail> {
     let is_refused = matches!(job_at(alloc, words)?, Err(WordError::NotAJob));
     assert!(rt; is_refused);
     Ok(())
@@ -145,7 +146,7 @@ fn takes_devices(rt: HostRuntime) -> Result<(), Fail> {
     for (words, devices) in lines {
         let job = job_at(rt.alloc(), words)??;
         assert_eq!(rt; job.map.ram.base, 0x8000_0000);
-        assert_eq!(rt; job.map.io.map(|io| (io.base, io.size)), devices);
+        assert_eq!(rt; job.map.io[0].map(|io| (io.base, io.size)), devices);
     }
     Ok(())
 }
@@ -203,7 +204,7 @@ fn takes_devices_at_their_ends(rt: HostRuntime) -> Result<(), Fail> {
     ];
     for (option, devices) in options {
         let job = job_at(rt.alloc(), &["rvjudge", "judge", "i", "t", option])??;
-        assert_eq!(rt; job.map.io.map(|io| (io.base, io.size)), Some(devices));
+        assert_eq!(rt; job.map.io[0].map(|io| (io.base, io.size)), Some(devices));
     }
     Ok(())
 }
@@ -357,7 +358,9 @@ fn takes_numbers_of_made_traces(rt: HostRuntime) -> Result<(), Fail> {
             (None, 0x8000_0000, 0x800_0000)
         );
         assert_eq!(rt; (job.max_image, job.max_trace), (1 << 30, 1 << 40));
-        assert!(rt; job.map.io.is_none());
+        let io = job.map.io[0];
+        assert!(rt; io.is_none());
+        assert_eq!(rt; job.profile, CsrProfile::plain());
         assert_eq!(rt; said(&job.choices), NONE_SAID);
     }
     Ok(())
@@ -501,13 +504,20 @@ const HARTS: [&str; 7] = [
 ];
 
 /// Options that `make` does not know.
-const OF_JUDGE: [&str; 6] = [
+const OF_JUDGE: [&str; 13] = [
     "--harts=1",
     "--misaligned=trap",
     "--mtval=value",
     "--ad=fault",
     "--reserve=64",
     "--bits=off",
+    "--insn=full",
+    "--io-faults=none",
+    "--csr=time=maybe",
+    "--pmp=16",
+    "--pmp-bits=54",
+    "--lines=0xA88",
+    "--profile=qemu",
 ];
 
 /// The same of the options that both commands take.

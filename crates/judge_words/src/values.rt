@@ -1,9 +1,9 @@
 //! The values of options, read from their texts.
 
 ghost use Rattle.std.specs.Prelude.{◌≡◌, ◌≤◌, ◌%◌, IfSome, option_map};
-ghost use Rattle.judge_words.specs.Values.{number_of_text, number_up_to, even_in, image_limit_in, trace_limit_in, workers_in, segment_in, window_in, harts_in, block_size_in, misaligned_in, trap_values_in, marks_in, bits_in, number_at_most, made_number_in, made_rows_in, span_in, io_in, first_pc_in};
+ghost use Rattle.judge_words.specs.Values.{number_of_text, number_up_to, even_in, image_limit_in, trace_limit_in, workers_in, segment_in, window_in, harts_in, block_size_in, misaligned_in, marks_in, bits_in, insn_bits_in, device_faults_in, number_at_most, made_number_in, made_rows_in, span_in, first_pc_in};
 
-use hart_words::{Marks, Misaligned, Span, TrapValues, read_number};
+use hart_words::{DeviceFaults, InsnBits, Marks, Misaligned, Span, read_number};
 
 /// Where the hart begins where a job gives no address.
 pub const FIRST_PC: u64 = 0x8000_0000;
@@ -43,7 +43,7 @@ pub const MOST_MADE_ROWS: u64 = 1 << 18;
 
 /// A number below 2^64.
 #[tactic(auto, unfolding(crate::specs::Values::number_of_text))]
-fn read_u64(text: &str) -> Option<u64>
+pub fn read_u64(text: &str) -> Option<u64>
     ensures { result ≡ number_of_text text.now }
 {
     read_number(text.as_bytes(), 64).ok()
@@ -159,18 +159,6 @@ pub fn read_misaligned(text: &str) -> Option<Misaligned>
     }
 }
 
-/// What traps put into mtval and stval: `value` or `zero`.
-#[tactic(auto, unfolding(crate::specs::Values::trap_values_in))]
-pub fn read_trap_values(text: &str) -> Option<TrapValues>
-    ensures { result ≡ trap_values_in text.now }
-{
-    match text {
-        "value" => Some(TrapValues::Value),
-        "zero" => Some(TrapValues::Zero),
-        _ => None,
-    }
-}
-
 /// What becomes of an access whose page lacks A or D: `fault` or `set`.
 #[tactic(auto, unfolding(crate::specs::Values::marks_in))]
 pub fn read_marks(text: &str) -> Option<Marks>
@@ -191,6 +179,30 @@ pub fn read_bits(text: &str) -> Option<bool>
     match text {
         "on" => Some(true),
         "off" => Some(false),
+        _ => None,
+    }
+}
+
+/// What rows show of an instruction of 16 bits: `full` or `length`.
+#[tactic(auto, unfolding(crate::specs::Values::insn_bits_in))]
+pub fn read_insn_bits(text: &str) -> Option<InsnBits>
+    ensures { result ≡ insn_bits_in text.now }
+{
+    match text {
+        "full" => Some(InsnBits::Full),
+        "length" => Some(InsnBits::Length),
+        _ => None,
+    }
+}
+
+/// Whether a device may refuse an access: `none` or `row`.
+#[tactic(auto, unfolding(crate::specs::Values::device_faults_in))]
+pub fn read_device_faults(text: &str) -> Option<DeviceFaults>
+    ensures { result ≡ device_faults_in text.now }
+{
+    match text {
+        "none" => Some(DeviceFaults::Never),
+        "row" => Some(DeviceFaults::ByRow),
         _ => None,
     }
 }
@@ -228,17 +240,4 @@ pub fn read_span(text: &str) -> Option<Span>
 {
     let (base, size) = text.split_once(':')?;
     Span::new(read_u64(base)?, read_u64(size)?)
-}
-
-/// A range that may be left out.
-pub fn read_io(text: Option<&str>) -> Option<Option<Span>>
-    ensures { result ≡ io_in (option_map (λ text. text.now) text.entry) }
-{
-    match text {
-        None => Some(None),
-        Some(text) => match read_span(text) {
-            None => None,
-            Some(span) => Some(Some(span)),
-        },
-    }
 }

@@ -15,7 +15,9 @@ use Rattle.hart_words.specs.Spans.{holds_all}
 use Rattle.hart_words.proofs.Runs.{run_then-is}
 use Rattle.hart_words.proofs.Extended.{extends_signs}
 use Rattle.std.proofs.Math.Nat.{mod-eq_of_lt}
-use Rattle.csr_file.specs.Registers.{at, csrs_at_reset}
+use Rattle.csr_file.specs.Profiles.{fixed_bits, plain_profile}
+use Rattle.csr_file.specs.Registers.{at, csrs_at_reset, csrs_at_reset_of}
+use Rattle.mem_access.specs.declared.place.Atomicity.TheVariants.{Plain}
 use Rattle.rv_integer.specs.declared.int_result.MemoryRequest.{MemoryRequest}
 use Rattle.rv_integer.specs.declared.int_result.MemoryOp.TheVariants as memory
 use Rattle.mem_access.specs.Places.{data_mode_of}
@@ -30,7 +32,7 @@ use Rattle.made_runs.proofs.Fetches.{reached_at_reset}
 
 -- in M no other mode's accesses are made
 mode_at_reset : data_mode_of csrs_at_reset Machine ≡ Machine
-unfolding data_mode_of at csrs_at_reset
+unfolding data_mode_of at csrs_at_reset csrs_at_reset_of plain_profile fixed_bits
 mode_at_reset = refl
 
 cell_inside : (map : Map) → IsMadeMap map → holds_all map.ram 0x80001000 8 ≡ true
@@ -38,7 +40,7 @@ cell_inside map made = rw (made.base, made.size) refl
 
 -- the one place of an access to the cell
 cell_place : (map : Map) (access : Access) (misaligned : Cause) (bytes : Bytes) → IsMadeMap map
-    → (data_places_of csrs_at_reset map plain_choices (data_request csrs_at_reset Machine access 8 false) false
+    → (data_places_of csrs_at_reset map plain_choices (data_request csrs_at_reset Machine access 8 true) Plain
     misaligned 0x80001000).run bytes
     ≡ record { value = Ok (record { pa = 0x80001000; io = false }, None); reads = []; wrote = [] }
 unfolding data_places_of part_place_of mapped
@@ -47,14 +49,14 @@ cell_place map access misaligned bytes made =
 
 -- the place of the store
 stored_place : (map : Map) (bytes : Bytes) → IsMadeMap map
-    → (store_place_of csrs_at_reset map plain_choices Machine 0x80001000 8 false).run bytes
+    → (store_place_of csrs_at_reset map plain_choices Machine 0x80001000 8 Plain).run bytes
     ≡ record { value = Ok (record { pa = 0x80001000; io = false }, None); reads = []; wrote = [] }
 unfolding store_place_of
 stored_place map bytes made = cell_place map Store StoreAddressMisaligned bytes made
 
 -- what the load finds
 loaded_cell : (map : Map) (bytes : Bytes) → IsMadeMap map
-    → (load_result csrs_at_reset map plain_choices Machine 0x80001000 8 false).run bytes
+    → (load_result csrs_at_reset map plain_choices Machine 0x80001000 8 Plain).run bytes
     ≡ record {
       value =
           Ok (record { pa = 0x80001000; io = false }, None, number_at bytes 0x80001000 8);
@@ -65,7 +67,7 @@ loaded_cell : (map : Map) (bytes : Bytes) → IsMadeMap map
 unfolding load_result mapped read_memory after_writes
 loaded_cell map bytes made =
     run_then-is
-    (data_places_of csrs_at_reset map plain_choices (data_load csrs_at_reset Machine 8 false) false
+    (data_places_of csrs_at_reset map plain_choices (data_load csrs_at_reset plain_choices Machine 8 Plain) Plain
     LoadAddressMisaligned 0x80001000) (load_from 0x80001000 8) bytes
     ∙ rw (cell_place map Load LoadAddressMisaligned bytes made) refl
 

@@ -15,7 +15,7 @@ use Rattle.rvfi_rows.specs.declared.expected.Retired.{Retired}
 use Rattle.rvfi_rows.specs.declared.expected.Effects.{Effects}
 use Rattle.rvfi_rows.specs.declared.expected.Accessed.{Accessed}
 use Rattle.row_compare.specs.Difference.{difference_between, first_among, signal_difference}
-use Rattle.row_compare.specs.Signals.{expected_signal}
+use Rattle.row_compare.specs.Signals.{expected_signal, insn_mask}
 use Rattle.row_compare.specs.Wanted.{whole, where_known}
 use Rattle.trace_maker.specs.declared.made_row.MadeRow.{MadeRow}
 use Rattle.made_runs.specs.Shows.{shown_of}
@@ -27,10 +27,14 @@ unfolding first_among
 none_among retired shown [] all = refl
 none_among retired shown (entry ∷ entries) all = rw (all entry.signal) (none_among retired shown entries all)
 
--- a value that is wanted whole does not differ from itself
+-- a value does not differ from itself, whichever of its bits are compared
+pub same_masked : (signal : Signal) (value mask : ℕ)
+    → difference_between signal (Some value) (Some (record { value = value; mask = mask })) ≡ None
+same_masked signal value mask =
+    let same : (bit_and value mask == bit_and value mask) ≡ true = eq-eqb _ _ refl in rw same refl
+
 pub same_value : (signal : Signal) (value : ℕ) → difference_between signal (Some value) (whole value) ≡ None
-same_value signal value =
-    let same : (bit_and value all_bits == bit_and value all_bits) ≡ true = eq-eqb _ _ refl in rw same refl
+same_value signal value = same_masked signal value all_bits
 
 -- the order index that is wanted, if one is, is this one
 abbrev pub IsOrder : Option ℕ → ℕ → Type 0
@@ -73,7 +77,8 @@ done_agrees retired effects row is memory PcRdata = rw is.pc (same_value PcRdata
 done_agrees retired effects row is memory Mode = refl
 done_agrees retired effects row is memory Ixl = refl
 done_agrees retired effects row is memory Trap = rw (is.done, is.trap) refl
-done_agrees retired effects row is memory Insn = rw is.insn (same_value Insn row.insn)
+done_agrees retired effects row is memory Insn =
+    rw is.insn (same_masked Insn row.insn (insn_mask retired.insn_bits row.insn))
 done_agrees retired effects row is memory Rs1Addr = refl
 done_agrees retired effects row is memory Rs1Rdata = refl
 done_agrees retired effects row is memory Rs2Addr = refl

@@ -11,7 +11,8 @@ use Rattle.hart_words.specs.Choices.{plain_choices}
 use Rattle.hart_words.specs.Memory.{Bytes, number_at, after_writes}
 use Rattle.hart_words.specs.Spans.{holds_all}
 use Rattle.hart_words.proofs.Runs.{run_then-is}
-use Rattle.csr_file.specs.Registers.{csrs_at_reset, no_entry}
+use Rattle.csr_file.specs.Profiles.{plain_profile}
+use Rattle.csr_file.specs.Registers.{csrs_at_reset, csrs_at_reset_of, no_entry, pmp_entries_of}
 use Rattle.pmp_check.specs.Protection.{covers_some, is_allowed, is_allowed_after, region_of}
 use Rattle.mem_access.specs.declared.place.AccessRequest.{AccessRequest}
 use Rattle.mem_access.specs.Places.{place_in, place_of}
@@ -31,8 +32,9 @@ unfolding is_allowed_after
 off_allows zero before pa len access = refl
 off_allows (suc entries) before pa len access = rw (off_covers_none before pa len) (off_allows entries 0 pa len access)
 
-pub allowed_at_reset : (pa len : ℕ) (access : Access) → is_allowed csrs_at_reset.entries Machine pa len access ≡ true
-unfolding is_allowed csrs_at_reset
+pub allowed_at_reset : (pa len : ℕ) (access : Access)
+    → is_allowed (pmp_entries_of csrs_at_reset) Machine pa len access ≡ true
+unfolding is_allowed csrs_at_reset csrs_at_reset_of plain_profile
 allowed_at_reset pa len access = off_allows 16 0 pa len access
 
 -- an access of M at reset goes where the map says

@@ -17,7 +17,8 @@ use Rattle.trace_maker.specs.declared.made_row.MadeRow.{MadeRow}
 use Rattle.trace_maker.specs.Rows.{immediate_of, made_row, turn_place, turn_of, turn_row, x1_after, x3_after}
 use Rattle.trace_maker.proofs.Runs.{x1_goes_on, x3_goes_on}
 use Rattle.hart_words.specs.Registers.{registers_at_reset}
-use Rattle.hart_step.specs.Cores.{core_at_reset}
+use Rattle.csr_file.specs.Registers.{csrs_at_reset, csrs_at_reset_of}
+use Rattle.hart_step.specs.Cores.{core_at_reset, core_at_reset_of}
 use Rattle.made_runs.specs.Laws.{MadeState}
 use Rattle.made_runs.specs.Shows.{made_readings, shown_of}
 use Rattle.made_runs.specs.States.{HasImage, IsMadeMap, core_at}
@@ -209,7 +210,7 @@ mutual
 pub made_agree : (map : Map) (number rows : ℕ) (bytes : Bytes) → IsMadeMap map → HasImage number bytes → rows < 2 ^ 64
     → (judgement_of by_hart (core_at_reset 0x80000000 map plain_choices) (made_readings number rows) bytes).verdict
     ≡ Agrees rows rows
-unfolding core_at_reset registers_at_reset after_writes made_row
+unfolding core_at_reset core_at_reset_of registers_at_reset csrs_at_reset csrs_at_reset_of after_writes made_row
 made_agree map number zero bytes is_map image small = none_left number _ bytes 0
 made_agree map number (suc n) bytes is_map image small =
     let made : MadeState number = record { map = map; bytes = bytes; is_map = is_map; has_image = image } in

@@ -19,6 +19,7 @@ use Rattle.csr_file.specs.declared.csrs.Csrs.{Csrs}
 use Rattle.csr_file.specs.Registers.{pmp_entries_of}
 use Rattle.sv39_walk.specs.Walk.{Visit, entry_read, entry_reads_of}
 use Rattle.mem_access.specs.declared.place.AccessRequest.{AccessRequest}
+use Rattle.mem_access.specs.declared.place.Atomicity.{Atomicity}
 use Rattle.mem_access.specs.declared.place.Place.{Place}
 use Rattle.mem_access.specs.Translation.{is_readable, is_translated}
 use Rattle.mem_access.specs.Accesses.{Exception, LocatedValue, Part, Places, data_load, data_store, parcel_fetch}
@@ -204,20 +205,20 @@ pub own_parts_all : (P : CheckedRead → Type 0) (request : AccessRequest) (foun
 own_parts_all P request (Err exception) all = All-nil P
 own_parts_all P request (Ok placed) all = each_own P request placed all
 
-abbrev pub look_places : Look → Bool → ℕ → Result (List PlacedPart) Exception
-look_places look atomic va = places_found look.csrs look.map look.choices look.request atomic va look.bytes
+abbrev pub look_places : Look → Atomicity → ℕ → Result (List PlacedPart) Exception
+look_places look atomicity va = places_found look.csrs look.map look.choices look.request atomicity va look.bytes
 
-pub data_all : (P : CheckedRead → Type 0) (look : Look) (atomic own : Bool) (va : ℕ)
-    → HoldsOfEntries look.csrs look.map P → IfOk (look_places look atomic va) (All (HoldsOfOwn P look.request))
-    → All P (data_reads_of look.csrs look.map look.choices look.request atomic own va look.bytes)
+pub data_all : (P : CheckedRead → Type 0) (look : Look) (atomicity : Atomicity) (own : Bool) (va : ℕ)
+    → HoldsOfEntries look.csrs look.map P → IfOk (look_places look atomicity va) (All (HoldsOfOwn P look.request))
+    → All P (data_reads_of look.csrs look.map look.choices look.request atomicity own va look.bytes)
 unfolding data_reads_of
-data_all P look atomic own va of_entry of_bytes =
+data_all P look atomicity own va of_entry of_bytes =
     let asked = request_at look.request va in
-    let parts = parts_of look.choices look.request atomic va in
-    let reads = own_reads_of look.request (look_places look atomic va) in
+    let parts = parts_of look.choices look.request atomicity va in
+    let reads = own_reads_of look.request (look_places look atomicity va) in
     All-append P (part_walks_of look.csrs look.map look.choices asked parts look.bytes) (if own then reads else [])
     (walks_all P look.csrs look.map look.choices asked parts look.bytes of_entry)
-    (all_if P reads own (own_parts_all P look.request (look_places look atomic va) of_bytes))
+    (all_if P reads own (own_parts_all P look.request (look_places look atomicity va) of_bytes))
 
 -- each read is permitted
 entry_permitted : (csrs : Csrs) (map : Map) (pa : ℕ) → is_readable csrs map pa ≡ true
@@ -257,13 +258,13 @@ at_any csrs map request false (Ok placed) all =
     each_is (IsPermittedPart csrs map (record request { devices = false })) (IsPermittedPart csrs map request) placed
     (λ one granted. record { granted = granted.granted; inside = granted.inside }) all
 
-pub places_granted : (csrs : Csrs) (map : Map) (choices : Choices) (request : AccessRequest) (atomic : Bool)
+pub places_granted : (csrs : Csrs) (map : Map) (choices : Choices) (request : AccessRequest) (atomicity : Atomicity)
     (va : ℕ) (bytes : Bytes)
-    → IfOk (places_found csrs map choices request atomic va bytes) (All (IsPermittedPart csrs map request))
+    → IfOk (places_found csrs map choices request atomicity va bytes) (All (IsPermittedPart csrs map request))
 unfolding request_at
-places_granted csrs map choices request atomic va bytes =
-    at_any csrs map request (va % request.len == 0) (places_found csrs map choices request atomic va bytes)
-    (parts_granted csrs map choices (request_at request va) (parts_of choices request atomic va) bytes)
+places_granted csrs map choices request atomicity va bytes =
+    at_any csrs map request (va % request.len == 0) (places_found csrs map choices request atomicity va bytes)
+    (parts_granted csrs map choices (request_at request va) (parts_of choices request atomicity va) bytes)
 
 granted_own : (csrs : Csrs) (map : Map) (request : AccessRequest) (found : Result (List PlacedPart) Exception)
     → IfOk found (All (IsPermittedPart csrs map request))
@@ -273,45 +274,46 @@ granted_own csrs map request (Ok placed) all =
     each_is (IsPermittedPart csrs map request) (HoldsOfOwn (IsPermittedRead csrs map) request) placed
     (λ one granted memory. (granted.inside memory, granted.granted)) all
 
-pub data_permitted : (csrs : Csrs) (map : Map) (choices : Choices) (request : AccessRequest) (atomic own : Bool)
-    (va : ℕ) (bytes : Bytes)
-    → All (IsPermittedRead csrs map) (data_reads_of csrs map choices request atomic own va bytes)
-data_permitted csrs map choices request atomic own va bytes =
+pub data_permitted : (csrs : Csrs) (map : Map) (choices : Choices) (request : AccessRequest) (atomicity : Atomicity)
+    (own : Bool) (va : ℕ) (bytes : Bytes)
+    → All (IsPermittedRead csrs map) (data_reads_of csrs map choices request atomicity own va bytes)
+data_permitted csrs map choices request atomicity own va bytes =
     let look : Look =
     record { csrs = csrs; map = map; choices = choices; request = request; bytes = bytes } in
-    data_all (IsPermittedRead csrs map) look atomic own va (entry_permitted csrs map)
-    (granted_own csrs map request (places_found csrs map choices request atomic va bytes)
-    (places_granted csrs map choices request atomic va bytes))
+    data_all (IsPermittedRead csrs map) look atomicity own va (entry_permitted csrs map)
+    (granted_own csrs map request (places_found csrs map choices request atomicity va bytes)
+    (places_granted csrs map choices request atomicity va bytes))
 
 -- the places are those found
-abbrev AreFound : Look → Bool → ℕ → Places → Type 0
-AreFound look atomic va =
-    ArePlacesFound look.csrs look.map look.choices look.request atomic va look.bytes
+abbrev AreFound : Look → Atomicity → ℕ → Places → Type 0
+AreFound look atomicity va =
+    ArePlacesFound look.csrs look.map look.choices look.request atomicity va look.bytes
 
-found_by : (look : Look) (atomic : Bool) (va : ℕ) (trap : Exception) (found : Result (List PlacedPart) Exception)
-    → (look_places look atomic va ≡ found)
-    × IfOk found (λ placed. parts_in placed ≡ parts_of look.choices look.request atomic va)
+found_by : (look : Look) (atomicity : Atomicity) (va : ℕ) (trap : Exception)
+    (found : Result (List PlacedPart) Exception)
+    → (look_places look atomicity va ≡ found)
+    × IfOk found (λ placed. parts_in placed ≡ parts_of look.choices look.request atomicity va)
     × IfOk found (All (IsPermittedPart look.csrs look.map look.request))
-    → IfOk (places_by trap found) (AreFound look atomic va)
-found_by look atomic va trap (Err exception) is = tt
-found_by look atomic va trap (Ok []) is = tt
-found_by look atomic va trap (Ok (one ∷ [])) is =
+    → IfOk (places_by trap found) (AreFound look atomicity va)
+found_by look atomicity va trap (Err exception) is = tt
+found_by look atomicity va trap (Ok []) is = tt
+found_by look atomicity va trap (Ok (one ∷ [])) is =
     record { placed = one ∷ []; found = is.0; parts = is.1; order = refl; permitted = is.2 }
-found_by look atomic va trap (Ok (one ∷ two ∷ [])) is =
+found_by look atomicity va trap (Ok (one ∷ two ∷ [])) is =
     record { placed = one ∷ two ∷ []; found = is.0; parts = is.1; order = refl; permitted = is.2 }
-found_by look atomic va trap (Ok (one ∷ two ∷ three ∷ more)) is = tt
+found_by look atomicity va trap (Ok (one ∷ two ∷ three ∷ more)) is = tt
 
-pub found_places : (csrs : Csrs) (map : Map) (choices : Choices) (request : AccessRequest) (atomic : Bool)
+pub found_places : (csrs : Csrs) (map : Map) (choices : Choices) (request : AccessRequest) (atomicity : Atomicity)
     (trap : Exception) (va : ℕ) (bytes : Bytes)
-    → IfOk (places_by trap (places_found csrs map choices request atomic va bytes))
-    (ArePlacesFound csrs map choices request atomic va bytes)
-found_places csrs map choices request atomic trap va bytes =
+    → IfOk (places_by trap (places_found csrs map choices request atomicity va bytes))
+    (ArePlacesFound csrs map choices request atomicity va bytes)
+found_places csrs map choices request atomicity trap va bytes =
     let look : Look =
     record { csrs = csrs; map = map; choices = choices; request = request; bytes = bytes } in
-    found_by look atomic va trap (places_found csrs map choices request atomic va bytes) (
+    found_by look atomicity va trap (places_found csrs map choices request atomicity va bytes) (
       refl,
-      same_parts csrs map choices (request_at request va) (parts_of choices request atomic va) bytes,
-      places_granted csrs map choices request atomic va bytes,
+      same_parts csrs map choices (request_at request va) (parts_of choices request atomicity va) bytes,
+      places_granted csrs map choices request atomicity va bytes,
     )
 
 -- the law
@@ -322,34 +324,34 @@ fetch_granted csrs map choices mode pc bytes = record {
   permitted = fetch_permitted csrs map choices mode pc bytes;
 }
 
-pub load_granted : (csrs : Csrs) (map : Map) (choices : Choices) (mode : Mode) (va len : ℕ) (atomic : Bool)
-    (bytes : Bytes) → LoadIsPermitted csrs map choices mode va len atomic bytes
-load_granted csrs map choices mode va len atomic bytes =
-    let request = data_load csrs mode len atomic in
+pub load_granted : (csrs : Csrs) (map : Map) (choices : Choices) (mode : Mode) (va len : ℕ) (atomicity : Atomicity)
+    (bytes : Bytes) → LoadIsPermitted csrs map choices mode va len atomicity bytes
+load_granted csrs map choices mode va len atomicity bytes =
+    let request = data_load csrs choices mode len atomicity in
     let trap : Exception = (LoadAddressMisaligned, va) in
-    let places = places_by trap (places_found csrs map choices request atomic va bytes) in
-    let now = after_writes (data_sets_of csrs map choices request atomic va bytes) bytes in
-    let Found : Places → Type 0 = ArePlacesFound csrs map choices request atomic va bytes in
+    let places = places_by trap (places_found csrs map choices request atomicity va bytes) in
+    let now = after_writes (data_sets_of csrs map choices request atomicity va bytes) bytes in
+    let Found : Places → Type 0 = ArePlacesFound csrs map choices request atomicity va bytes in
     let P : Result LocatedValue Exception → Type 0 = λ loaded. IfOk loaded (λ found. Found (found.0, found.1)) in (
       record {
-        order = (load_noted csrs map choices mode va len atomic bytes).reads;
-        permitted = data_permitted csrs map choices request atomic true va bytes;
+        order = (load_noted csrs map choices mode va len atomicity bytes).reads;
+        permitted = data_permitted csrs map choices request atomicity true va bytes;
       },
-      subst P (sym (load_value csrs map choices mode va len atomic bytes))
-          (load_from_places va len places Found now (found_places csrs map choices request atomic trap va bytes)),
+      subst P (sym (load_value csrs map choices mode va len atomicity bytes))
+          (load_from_places va len places Found now (found_places csrs map choices request atomicity trap va bytes)),
     )
 
-pub store_granted : (csrs : Csrs) (map : Map) (choices : Choices) (mode : Mode) (va len : ℕ) (atomic : Bool)
-    (bytes : Bytes) → StoreIsPermitted csrs map choices mode va len atomic bytes
-store_granted csrs map choices mode va len atomic bytes =
-    let request = data_store csrs mode len atomic in
+pub store_granted : (csrs : Csrs) (map : Map) (choices : Choices) (mode : Mode) (va len : ℕ) (atomicity : Atomicity)
+    (bytes : Bytes) → StoreIsPermitted csrs map choices mode va len atomicity bytes
+store_granted csrs map choices mode va len atomicity bytes =
+    let request = data_store csrs choices mode len atomicity in
     let trap : Exception = (StoreAddressMisaligned, va) in
     let P : Result Places Exception → Type 0 =
-    λ places. IfOk places (ArePlacesFound csrs map choices request atomic va bytes) in (
+    λ places. IfOk places (ArePlacesFound csrs map choices request atomicity va bytes) in (
       record {
-        order = (store_noted csrs map choices mode va len atomic bytes).reads;
-        permitted = data_permitted csrs map choices request atomic false va bytes;
+        order = (store_noted csrs map choices mode va len atomicity bytes).reads;
+        permitted = data_permitted csrs map choices request atomicity false va bytes;
       },
-      subst P (sym (store_value csrs map choices mode va len atomic bytes))
-          (found_places csrs map choices request atomic trap va bytes),
+      subst P (sym (store_value csrs map choices mode va len atomicity bytes))
+          (found_places csrs map choices request atomicity trap va bytes),
     )

@@ -6,6 +6,7 @@ use Rattle.std.proofs.lemmas.List.Elements.{All-nil, All-push, All-append}
 use Rattle.hart_words.specs.declared.privilege.Cause.{Cause}
 use Rattle.hart_words.specs.declared.map.Map.{Map}
 use Rattle.hart_words.specs.Memory.{Bytes, after_writes}
+use Rattle.hart_words.specs.Devices.{is_device}
 use Rattle.hart_words.specs.Spans.{holds_all}
 use Rattle.hart_words.specs.Privilege.{access_fault_of}
 use Rattle.hart_words.specs.Actions.{Action, ◌>>=◌}
@@ -13,7 +14,7 @@ use Rattle.hart_words.proofs.Runs.{run_then-is}
 use Rattle.csr_file.specs.declared.csrs.Csrs.{Csrs}
 use Rattle.mem_access.specs.declared.place.AccessRequest.{AccessRequest}
 use Rattle.mem_access.specs.declared.place.Place.{Place}
-use Rattle.mem_access.specs.Places.{is_device, is_permitted, place_in, place_of}
+use Rattle.mem_access.specs.Places.{is_permitted, place_in, place_of}
 use Rattle.mem_access.specs.Translation.{place_after_translation}
 use Rattle.mem_access.specs.Laws.{IsPermittedPlace}
 

@@ -23,6 +23,7 @@ use Rattle.sv39_walk.specs.Entries.{address_in, entry_address, is_canonical, is_
 use Rattle.sv39_walk.specs.Entries.{with_marks, page_number}
 use Rattle.sv39_walk.specs.Walk.{Visit, chain, chain_from, root_of, visit_at}
 use Rattle.mem_access.specs.declared.place.AccessRequest.{AccessRequest}
+use Rattle.mem_access.specs.declared.place.Atomicity.{Atomicity}
 use Rattle.mem_access.specs.Translation.{is_readable, is_settable, walk_flags_of}
 use Rattle.mem_access.specs.Accesses.{Exception, Part, first_part, has_second_part, is_split, request_for}
 use Rattle.mem_access.specs.Accesses.{second_part}
@@ -250,11 +251,11 @@ not_over va len over = grind (arith, nat_tests)
 second_in_page : (va len : ℕ) → len ≤ 8 → has_second_part va len ≡ true → LiesInPage (second_part va len)
 second_in_page va len few over = omega (arith, few, over_page va len over)
 
-parts_in_page : (choices : Choices) (request : AccessRequest) (atomic : Bool) (va : ℕ) → IsLength request.len
-    → All LiesInPage (parts_of choices request atomic va)
+parts_in_page : (choices : Choices) (request : AccessRequest) (atomicity : Atomicity) (va : ℕ) → IsLength request.len
+    → All LiesInPage (parts_of choices request atomicity va)
 unfolding parts_of
-parts_in_page choices request atomic va sized =
-    by (va % request.len == 0) (is_split choices request atomic va) (has_second_part va request.len) refl refl
+parts_in_page choices request atomicity va sized =
+    by (va % request.len == 0) (is_split choices request atomicity va) (has_second_part va request.len) refl refl
   where
     by : (aligned split over : Bool) → (va % request.len == 0) ≡ aligned → has_second_part va request.len ≡ over
         → All LiesInPage
@@ -332,10 +333,10 @@ at_any csrs map choices request false bytes (Ok placed) all =
     (λ one mapped on i below.
     mapped_with_devices csrs map choices (request_for request one.part) (mapped on i below)) all
 
-pub places_mapped : (csrs : Csrs) (map : Map) (choices : Choices) (request : AccessRequest) (atomic : Bool) (va : ℕ)
-    (bytes : Bytes) → PlacesAreMapped csrs map choices request atomic va bytes
+pub places_mapped : (csrs : Csrs) (map : Map) (choices : Choices) (request : AccessRequest) (atomicity : Atomicity)
+    (va : ℕ) (bytes : Bytes) → PlacesAreMapped csrs map choices request atomicity va bytes
 unfolding request_at AreTableSets after_writes
-places_mapped csrs map choices request atomic va bytes sized =
+places_mapped csrs map choices request atomicity va bytes sized =
     let look : Look = record {
       csrs = csrs;
       map = map;
@@ -344,5 +345,5 @@ places_mapped csrs map choices request atomic va bytes sized =
       bytes = bytes;
     } in
     at_any csrs map choices request (va % request.len == 0) bytes
-    (places_found csrs map choices request atomic va bytes)
-    (parts_mapped look (parts_of choices request atomic va) [] tt (parts_in_page choices request atomic va sized))
+    (places_found csrs map choices request atomicity va bytes)
+    (parts_mapped look (parts_of choices request atomicity va) [] tt (parts_in_page choices request atomicity va sized))

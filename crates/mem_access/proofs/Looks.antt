@@ -16,13 +16,14 @@ use Rattle.hart_words.specs.Actions.{Action, Notes, pure, read_memory, mapped, �
 use Rattle.hart_words.proofs.Runs.{Notes-mapped, Notes-observed, Notes-pure, Notes-then, Observes-read_memory}
 use Rattle.csr_file.specs.declared.csrs.Csrs.{Csrs}
 use Rattle.mem_access.specs.declared.place.AccessRequest.{AccessRequest}
+use Rattle.mem_access.specs.declared.place.Atomicity.{Atomicity}
 use Rattle.mem_access.specs.declared.place.Place.{Place}
 use Rattle.mem_access.specs.Places.{place_of}
 use Rattle.mem_access.specs.Translation.{is_translated, physical_address_of, place_after_translation, virtual_place_of}
 use Rattle.mem_access.specs.Accesses.{Exception, LocatedValue, Part, Places, after_first, after_place, one_place}
 use Rattle.mem_access.specs.Accesses.{data_places_of}
 use Rattle.mem_access.specs.Accesses.{data_load, data_store, fetch_result, first_len, first_part, has_second_part}
-use Rattle.mem_access.specs.Accesses.{joined_value, load_by, load_from, load_result, parcel_at, parcel_fetch}
+use Rattle.mem_access.specs.Accesses.{is_atomic, joined_value, load_by, load_from, load_result, parcel_at, parcel_fetch}
 use Rattle.mem_access.specs.Accesses.{parcel_from, part_place_of, second_part, second_place_of, split_places_of}
 use Rattle.mem_access.specs.Accesses.{store_place_of, value_at, value_of_parts, whole_place_of, with_address}
 use Rattle.mem_access.specs.Accesses.{with_second}
@@ -309,8 +310,8 @@ no_multiple : (va len : ℕ) → (va % len ≡ 0 → ⊥) → (va % len == 0) �
 no_multiple va len is = grind (arith, nat_tests)
 
 -- what is misaligned traps
-abbrev pub is_trapped : Choices → Bool → Bool
-is_trapped choices atomic = atomic || not (are_done choices.misaligned)
+abbrev pub is_trapped : Choices → Atomicity → Bool
+is_trapped choices atomicity = is_atomic atomicity || not (are_done choices.misaligned)
 
 trap_test : (atomic done test : Bool) → (atomic || not done) ≡ true → (not test && not atomic && done) ≡ false
 trap_test true done true trapped = refl
@@ -319,58 +320,60 @@ trap_test false true test trapped = cc
 trap_test false false true trapped = refl
 trap_test false false false trapped = refl
 
-data_trapped : (csrs : Csrs) (map : Map) (choices : Choices) (request : AccessRequest) (atomic : Bool)
-    (misaligned : Cause) (va : ℕ) → (va % request.len ≡ 0 → ⊥) × (is_trapped choices atomic ≡ true)
-    → data_places_of csrs map choices request atomic misaligned va ≡ pure (Err (misaligned, va))
+data_trapped : (csrs : Csrs) (map : Map) (choices : Choices) (request : AccessRequest) (atomicity : Atomicity)
+    (misaligned : Cause) (va : ℕ) → (va % request.len ≡ 0 → ⊥) × (is_trapped choices atomicity ≡ true)
+    → data_places_of csrs map choices request atomicity misaligned va ≡ pure (Err (misaligned, va))
 unfolding data_places_of
-data_trapped csrs map choices request atomic misaligned va is =
+data_trapped csrs map choices request atomicity misaligned va is =
     let none = no_multiple va request.len is.0 in
-    rw (none, trap_test atomic (are_done choices.misaligned) false is.1) refl
+    rw (none, trap_test (is_atomic atomicity) (are_done choices.misaligned) false is.1) refl
 
 -- the reads, writes and value of a load whose places are known
-pub load_at : (csrs : Csrs) (map : Map) (choices : Choices) (mode : Mode) (va len : ℕ) (atomic : Bool)
+pub load_at : (csrs : Csrs) (map : Map) (choices : Choices) (mode : Mode) (va len : ℕ) (atomicity : Atomicity)
     {places : Action (Result Places Exception)} {loaded : Result LocatedValue Exception} {seen seen' : List Read}
     {wrote wrote' : List Write} {bytes : Bytes}
-    → data_places_of csrs map choices (data_load csrs mode len atomic) atomic LoadAddressMisaligned va ≡ places
+    → data_places_of csrs map choices (data_load csrs choices mode len atomicity) atomicity LoadAddressMisaligned va
+    ≡ places
     → Notes (load_by places va len) loaded seen seen' wrote wrote' bytes
-    → Notes (load_result csrs map choices mode va len atomic) loaded seen seen' wrote wrote' bytes
+    → Notes (load_result csrs map choices mode va len atomicity) loaded seen seen' wrote wrote' bytes
 unfolding load_result
-load_at csrs map choices mode va len atomic {loaded} {seen} {seen'} {wrote} {wrote'} {bytes} is looks =
+load_at csrs map choices mode va len atomicity {loaded} {seen} {seen'} {wrote} {wrote'} {bytes} is looks =
     let P : Action (Result Places Exception) → Type 0 =
     λ places. Notes (load_by places va len) loaded seen seen' wrote wrote' bytes in
     subst P (sym is) looks
 
-pub load_trapped : (csrs : Csrs) (map : Map) (choices : Choices) (mode : Mode) (va len : ℕ) (atomic : Bool)
+pub load_trapped : (csrs : Csrs) (map : Map) (choices : Choices) (mode : Mode) (va len : ℕ) (atomicity : Atomicity)
     {seen : List Read} {wrote : List Write} {bytes : Bytes}
-    → (va % len ≡ 0 → ⊥) × (is_trapped choices atomic ≡ true)
-    → Notes (load_result csrs map choices mode va len atomic) (Err (LoadAddressMisaligned, va))
+    → (va % len ≡ 0 → ⊥) × (is_trapped choices atomicity ≡ true)
+    → Notes (load_result csrs map choices mode va len atomicity) (Err (LoadAddressMisaligned, va))
     seen seen wrote wrote bytes
-load_trapped csrs map choices mode va len atomic {seen} {wrote} {bytes} is =
+load_trapped csrs map choices mode va len atomicity {seen} {wrote} {bytes} is =
     let exception : Exception = (LoadAddressMisaligned, va) in
-    load_at csrs map choices mode va len atomic
-    (data_trapped csrs map choices (data_load csrs mode len atomic) atomic LoadAddressMisaligned va is)
+    load_at csrs map choices mode va len atomicity
+    (data_trapped csrs map choices (data_load csrs choices mode len atomicity) atomicity LoadAddressMisaligned va is)
     (Notes-then (pure (Err exception)) (load_from va len) (Notes-pure (Err exception) seen wrote bytes)
     (Notes-pure (Err exception) seen wrote bytes))
 
 -- so with the places of a store
-pub store_at : (csrs : Csrs) (map : Map) (choices : Choices) (mode : Mode) (va len : ℕ) (atomic : Bool)
+pub store_at : (csrs : Csrs) (map : Map) (choices : Choices) (mode : Mode) (va len : ℕ) (atomicity : Atomicity)
     {looked : Action (Result Places Exception)} {places : Result Places Exception} {seen seen' : List Read}
     {wrote wrote' : List Write} {bytes : Bytes}
-    → data_places_of csrs map choices (data_store csrs mode len atomic) atomic StoreAddressMisaligned va ≡ looked
+    → data_places_of csrs map choices (data_store csrs choices mode len atomicity) atomicity StoreAddressMisaligned va
+    ≡ looked
     → Notes looked places seen seen' wrote wrote' bytes
-    → Notes (store_place_of csrs map choices mode va len atomic) places seen seen' wrote wrote' bytes
+    → Notes (store_place_of csrs map choices mode va len atomicity) places seen seen' wrote wrote' bytes
 unfolding store_place_of
-store_at csrs map choices mode va len atomic {places} {seen} {seen'} {wrote} {wrote'} {bytes} is looks =
+store_at csrs map choices mode va len atomicity {places} {seen} {seen'} {wrote} {wrote'} {bytes} is looks =
     let P : Action (Result Places Exception) → Type 0 =
     λ looked. Notes looked places seen seen' wrote wrote' bytes in
     subst P (sym is) looks
 
-pub store_trapped : (csrs : Csrs) (map : Map) (choices : Choices) (mode : Mode) (va len : ℕ) (atomic : Bool)
+pub store_trapped : (csrs : Csrs) (map : Map) (choices : Choices) (mode : Mode) (va len : ℕ) (atomicity : Atomicity)
     {seen : List Read} {wrote : List Write} {bytes : Bytes}
-    → (va % len ≡ 0 → ⊥) × (is_trapped choices atomic ≡ true)
-    → Notes (store_place_of csrs map choices mode va len atomic) (Err (StoreAddressMisaligned, va))
+    → (va % len ≡ 0 → ⊥) × (is_trapped choices atomicity ≡ true)
+    → Notes (store_place_of csrs map choices mode va len atomicity) (Err (StoreAddressMisaligned, va))
     seen seen wrote wrote bytes
-store_trapped csrs map choices mode va len atomic {seen} {wrote} {bytes} is =
-    store_at csrs map choices mode va len atomic
-    (data_trapped csrs map choices (data_store csrs mode len atomic) atomic StoreAddressMisaligned va is)
+store_trapped csrs map choices mode va len atomicity {seen} {wrote} {bytes} is =
+    store_at csrs map choices mode va len atomicity
+    (data_trapped csrs map choices (data_store csrs choices mode len atomicity) atomicity StoreAddressMisaligned va is)
     (Notes-pure (Err (StoreAddressMisaligned, va)) seen wrote bytes)

@@ -19,6 +19,7 @@ use Rattle.csr_file.specs.Registers.{at}
 use Rattle.sv39_walk.proofs.Walks.{translation-by_chain}
 use Rattle.sv39_walk.specs.Walk.{chain_result, chain_wrote, entry_reads_of, translation_of}
 use Rattle.mem_access.specs.declared.place.AccessRequest.{AccessRequest}
+use Rattle.mem_access.specs.declared.place.Atomicity.{Atomicity}
 use Rattle.mem_access.specs.declared.place.Place.{Place}
 use Rattle.mem_access.specs.Translation.{is_readable, is_translated, physical_address_of, place_after_translation}
 use Rattle.mem_access.specs.Translation.{tables_of, virtual_place_of, walk_flags_of}
@@ -379,14 +380,14 @@ places_by_kind csrs map choices request trap va (false, true) bytes =
     split_by csrs map choices (record request { devices = false }) trap va (has_second_part va request.len) bytes
 places_by_kind csrs map choices request trap va (false, false) bytes = refl
 
-pub places_is : (csrs : Csrs) (map : Map) (choices : Choices) (request : AccessRequest) (atomic : Bool)
+pub places_is : (csrs : Csrs) (map : Map) (choices : Choices) (request : AccessRequest) (atomicity : Atomicity)
     (misaligned : Cause) (va : ℕ) (bytes : Bytes)
-    → (data_places_of csrs map choices request atomic misaligned va).run bytes
-    ≡ parts_run csrs map choices (request_at request va) (misaligned, va) (parts_of choices request atomic va) bytes
+    → (data_places_of csrs map choices request atomicity misaligned va).run bytes
+    ≡ parts_run csrs map choices (request_at request va) (misaligned, va) (parts_of choices request atomicity va) bytes
 unfolding data_places_of request_at parts_of
-places_is csrs map choices request atomic misaligned va bytes =
+places_is csrs map choices request atomicity misaligned va bytes =
     places_by_kind csrs map choices request (misaligned, va) va
-    (va % request.len == 0, is_split choices request atomic va) bytes
+    (va % request.len == 0, is_split choices request atomicity va) bytes
 
 -- the own bytes of one part
 own_whole : (request : AccessRequest) (va : ℕ) (trap : Exception) (found : Result Place Cause) (now : Bytes)
@@ -466,13 +467,13 @@ own_by_kind csrs map choices request trap va (false, true) bytes now =
     refl now
 own_by_kind csrs map choices request trap va (false, false) bytes now = refl
 
-own_order : (csrs : Csrs) (map : Map) (choices : Choices) (request : AccessRequest) (atomic : Bool) (trap : Exception)
-    (va : ℕ) (bytes : Bytes) (now : Bytes)
-    → let found = places_found csrs map choices request atomic va bytes in
+own_order : (csrs : Csrs) (map : Map) (choices : Choices) (request : AccessRequest) (atomicity : Atomicity)
+    (trap : Exception) (va : ℕ) (bytes : Bytes) (now : Bytes)
+    → let found = places_found csrs map choices request atomicity va bytes in
     ((load_from va request.len (places_by trap found)).run now).reads ≡ reads_in (own_reads_of request found)
 unfolding request_at parts_of
-own_order csrs map choices request atomic trap va bytes now =
-    own_by_kind csrs map choices request trap va (va % request.len == 0, is_split choices request atomic va) bytes
+own_order csrs map choices request atomicity trap va bytes now =
+    own_by_kind csrs map choices request trap va (va % request.len == 0, is_split choices request atomicity va) bytes
     now
 
 -- a load writes nothing of its own
@@ -489,46 +490,46 @@ load_from_wrote va len (Ok (place, None)) now = value_wrote place len place.io n
 load_from_wrote va len (Ok (first, Some second)) now = refl
 
 -- what a load or the look for a store's places sets
-abbrev pub data_sets_of : Csrs → Map → Choices → AccessRequest → Bool → ℕ → Bytes → List Write
-data_sets_of csrs map choices request atomic va bytes =
-    part_sets_of csrs map choices (request_at request va) (parts_of choices request atomic va) bytes
+abbrev pub data_sets_of : Csrs → Map → Choices → AccessRequest → Atomicity → ℕ → Bytes → List Write
+data_sets_of csrs map choices request atomicity va bytes =
+    part_sets_of csrs map choices (request_at request va) (parts_of choices request atomicity va) bytes
 
-pub load_noted : (csrs : Csrs) (map : Map) (choices : Choices) (mode : Mode) (va len : ℕ) (atomic : Bool)
+pub load_noted : (csrs : Csrs) (map : Map) (choices : Choices) (mode : Mode) (va len : ℕ) (atomicity : Atomicity)
     (bytes : Bytes)
-    → IsNoted ((load_result csrs map choices mode va len atomic).run bytes)
-    (data_reads_of csrs map choices (data_load csrs mode len atomic) atomic true va bytes)
-    (data_sets_of csrs map choices (data_load csrs mode len atomic) atomic va bytes)
+    → IsNoted ((load_result csrs map choices mode va len atomicity).run bytes)
+    (data_reads_of csrs map choices (data_load csrs choices mode len atomicity) atomicity true va bytes)
+    (data_sets_of csrs map choices (data_load csrs choices mode len atomicity) atomicity va bytes)
 unfolding load_result data_reads_of
-load_noted csrs map choices mode va len atomic bytes =
-    let request = data_load csrs mode len atomic in
+load_noted csrs map choices mode va len atomicity bytes =
+    let request = data_load csrs choices mode len atomicity in
     let trap : Exception = (LoadAddressMisaligned, va) in
     let asked = request_at request va in
-    let parts = parts_of choices request atomic va in
+    let parts = parts_of choices request atomicity va in
     let known = parts_run csrs map choices asked trap parts bytes in
     let now = after_writes known.wrote bytes in
     let walks = part_walks_of csrs map choices asked parts bytes in
-    let own = own_reads_of request (places_found csrs map choices request atomic va bytes) in
+    let own = own_reads_of request (places_found csrs map choices request atomicity va bytes) in
     let both =
-    then_known (data_places_of csrs map choices request atomic LoadAddressMisaligned va) (load_from va len) bytes
-    known (places_is csrs map choices request atomic LoadAddressMisaligned va bytes) in
+    then_known (data_places_of csrs map choices request atomicity LoadAddressMisaligned va) (load_from va len) bytes
+    known (places_is csrs map choices request atomicity LoadAddressMisaligned va bytes) in
     record {
       reads = ap (λ t. t.reads) both
-          ∙ ap (λ reads. reads_in walks ++ reads) (own_order csrs map choices request atomic trap va bytes now)
+          ∙ ap (λ reads. reads_in walks ++ reads) (own_order csrs map choices request atomicity trap va bytes now)
           ∙ sym (reads_append walks own);
       wrote = ap (λ t. t.wrote) both ∙ ap (λ wrote. known.wrote ++ wrote) (load_from_wrote va len known.value now)
           ∙ append-nil known.wrote;
     }
 
-pub store_noted : (csrs : Csrs) (map : Map) (choices : Choices) (mode : Mode) (va len : ℕ) (atomic : Bool)
+pub store_noted : (csrs : Csrs) (map : Map) (choices : Choices) (mode : Mode) (va len : ℕ) (atomicity : Atomicity)
     (bytes : Bytes)
-    → IsNoted ((store_place_of csrs map choices mode va len atomic).run bytes)
-    (data_reads_of csrs map choices (data_store csrs mode len atomic) atomic false va bytes)
-    (data_sets_of csrs map choices (data_store csrs mode len atomic) atomic va bytes)
+    → IsNoted ((store_place_of csrs map choices mode va len atomicity).run bytes)
+    (data_reads_of csrs map choices (data_store csrs choices mode len atomicity) atomicity false va bytes)
+    (data_sets_of csrs map choices (data_store csrs choices mode len atomicity) atomicity va bytes)
 unfolding store_place_of data_reads_of
-store_noted csrs map choices mode va len atomic bytes =
-    let request = data_store csrs mode len atomic in
-    let walks = part_walks_of csrs map choices (request_at request va) (parts_of choices request atomic va) bytes in
-    let is = places_is csrs map choices request atomic StoreAddressMisaligned va bytes in
+store_noted csrs map choices mode va len atomicity bytes =
+    let request = data_store csrs choices mode len atomicity in
+    let walks = part_walks_of csrs map choices (request_at request va) (parts_of choices request atomicity va) bytes in
+    let is = places_is csrs map choices request atomicity StoreAddressMisaligned va bytes in
     record {
       reads = ap (λ t. t.reads) is ∙ ap reads_in (sym (append-nil walks));
       wrote = ap (λ t. t.wrote) is;
@@ -547,29 +548,29 @@ load_from_places va len (Ok (place, None)) P now holds = by place.io
     by false = holds
 load_from_places va len (Ok (first, Some second)) P now holds = holds
 
-pub load_value : (csrs : Csrs) (map : Map) (choices : Choices) (mode : Mode) (va len : ℕ) (atomic : Bool)
+pub load_value : (csrs : Csrs) (map : Map) (choices : Choices) (mode : Mode) (va len : ℕ) (atomicity : Atomicity)
     (bytes : Bytes)
-    → let request = data_load csrs mode len atomic in
-    ((load_result csrs map choices mode va len atomic).run bytes).value
+    → let request = data_load csrs choices mode len atomicity in
+    ((load_result csrs map choices mode va len atomicity).run bytes).value
     ≡ ((load_from va len
-    (places_by (LoadAddressMisaligned, va) (places_found csrs map choices request atomic va bytes))).run
-    (after_writes (data_sets_of csrs map choices request atomic va bytes) bytes)).value
+    (places_by (LoadAddressMisaligned, va) (places_found csrs map choices request atomicity va bytes))).run
+    (after_writes (data_sets_of csrs map choices request atomicity va bytes) bytes)).value
 unfolding load_result
-load_value csrs map choices mode va len atomic bytes =
-    let request = data_load csrs mode len atomic in
+load_value csrs map choices mode va len atomicity bytes =
+    let request = data_load csrs choices mode len atomicity in
     let asked = request_at request va in
     let known =
-    parts_run csrs map choices asked (LoadAddressMisaligned, va) (parts_of choices request atomic va) bytes in
+    parts_run csrs map choices asked (LoadAddressMisaligned, va) (parts_of choices request atomicity va) bytes in
     ap (λ t. t.value)
-    (then_known (data_places_of csrs map choices request atomic LoadAddressMisaligned va) (load_from va len) bytes
-    known (places_is csrs map choices request atomic LoadAddressMisaligned va bytes))
+    (then_known (data_places_of csrs map choices request atomicity LoadAddressMisaligned va) (load_from va len) bytes
+    known (places_is csrs map choices request atomicity LoadAddressMisaligned va bytes))
 
-pub store_value : (csrs : Csrs) (map : Map) (choices : Choices) (mode : Mode) (va len : ℕ) (atomic : Bool)
+pub store_value : (csrs : Csrs) (map : Map) (choices : Choices) (mode : Mode) (va len : ℕ) (atomicity : Atomicity)
     (bytes : Bytes)
-    → ((store_place_of csrs map choices mode va len atomic).run bytes).value
+    → ((store_place_of csrs map choices mode va len atomicity).run bytes).value
     ≡ places_by (StoreAddressMisaligned, va)
-    (places_found csrs map choices (data_store csrs mode len atomic) atomic va bytes)
+    (places_found csrs map choices (data_store csrs choices mode len atomicity) atomicity va bytes)
 unfolding store_place_of
-store_value csrs map choices mode va len atomic bytes =
+store_value csrs map choices mode va len atomicity bytes =
     ap (λ t. t.value)
-    (places_is csrs map choices (data_store csrs mode len atomic) atomic StoreAddressMisaligned va bytes)
+    (places_is csrs map choices (data_store csrs choices mode len atomicity) atomicity StoreAddressMisaligned va bytes)

@@ -21,6 +21,7 @@ use Rattle.sv39_walk.specs.Walk.{Visit, chain, chain_from, chain_wrote, root_of}
 use Rattle.sv39_walk.proofs.Marked.{sets_its_last, writes_at_most_one}
 use Rattle.sv39_walk.proofs.Walks.{translation-by_chain}
 use Rattle.mem_access.specs.declared.place.AccessRequest.{AccessRequest}
+use Rattle.mem_access.specs.declared.place.Atomicity.{Atomicity}
 use Rattle.mem_access.specs.declared.place.Place.{Place}
 use Rattle.mem_access.specs.Translation.{is_readable, is_translated, tables_of, walk_flags_of}
 use Rattle.mem_access.specs.Accesses.{Part, data_load, data_store, parcel_fetch}
@@ -185,16 +186,16 @@ fetch_sets_alone csrs map choices mode pc bytes =
     alone csrs map choices bytes (fetch_noted csrs map choices mode pc bytes).wrote
     (fetch_sets csrs map choices mode pc bytes)
 
-pub load_sets_alone : (csrs : Csrs) (map : Map) (choices : Choices) (mode : Mode) (va len : ℕ) (atomic : Bool)
-    (bytes : Bytes) → LoadSetsAlone csrs map choices mode va len atomic bytes
-load_sets_alone csrs map choices mode va len atomic bytes =
-    let request = data_load csrs mode len atomic in
-    alone csrs map choices bytes (load_noted csrs map choices mode va len atomic bytes).wrote
-    (parts_sets csrs map choices (request_at request va) (parts_of choices request atomic va) bytes)
+pub load_sets_alone : (csrs : Csrs) (map : Map) (choices : Choices) (mode : Mode) (va len : ℕ) (atomicity : Atomicity)
+    (bytes : Bytes) → LoadSetsAlone csrs map choices mode va len atomicity bytes
+load_sets_alone csrs map choices mode va len atomicity bytes =
+    let request = data_load csrs choices mode len atomicity in
+    alone csrs map choices bytes (load_noted csrs map choices mode va len atomicity bytes).wrote
+    (parts_sets csrs map choices (request_at request va) (parts_of choices request atomicity va) bytes)
 
-pub store_sets_alone : (csrs : Csrs) (map : Map) (choices : Choices) (mode : Mode) (va len : ℕ) (atomic : Bool)
-    (bytes : Bytes) → StoreSetsAlone csrs map choices mode va len atomic bytes
-store_sets_alone csrs map choices mode va len atomic bytes =
-    let request = data_store csrs mode len atomic in
-    alone csrs map choices bytes (store_noted csrs map choices mode va len atomic bytes).wrote
-    (parts_sets csrs map choices (request_at request va) (parts_of choices request atomic va) bytes)
+pub store_sets_alone : (csrs : Csrs) (map : Map) (choices : Choices) (mode : Mode) (va len : ℕ) (atomicity : Atomicity)
+    (bytes : Bytes) → StoreSetsAlone csrs map choices mode va len atomicity bytes
+store_sets_alone csrs map choices mode va len atomicity bytes =
+    let request = data_store csrs choices mode len atomicity in
+    alone csrs map choices bytes (store_noted csrs map choices mode va len atomicity bytes).wrote
+    (parts_sets csrs map choices (request_at request va) (parts_of choices request atomicity va) bytes)

@@ -1,8 +1,9 @@
 -- Entries that are not configured cover nothing.
-use Rattle.std.proofs.Common.{◌≡◌, ℕ, ◌+◌, Bool, true, false, ◌&&◌, nat_lt, List, [], ◌∷◌, max, min, refl, sym, ap, ◌∙◌}
-use Rattle.std.proofs.Common.{subst, arith, if◌then◌else◌}
+use Rattle.std.proofs.Common.{◌≡◌, ℕ, zero, suc, ◌+◌, Bool, true, false, ◌&&◌, nat_lt, List, [], ◌∷◌, length, take, max}
+use Rattle.std.proofs.Common.{min, refl, sym, ap, ◌∙◌, subst, arith, if◌then◌else◌}
 use Rattle.std.specs.Prelude.{◌==◌}
 use Rattle.std.specs.List.{list_all}
+use Rattle.std.proofs.lemmas.Bool.{and_from}
 use Rattle.std.proofs.lemmas.Bool.Decides.{nat_tests}
 use Rattle.hart_words.specs.declared.privilege.Mode.{Mode}
 use Rattle.hart_words.specs.declared.privilege.Access.{Access}
@@ -49,9 +50,45 @@ allowed_after (entry ∷ entries) before mode pa len access all =
     ≡ is_machine mode in
     subst P (sym none) (allowed_after entries entry.addr mode pa len access unset.1)
 
--- then M alone has access
-pub machine_alone : (csrs : Csrs) (mode : Mode) (pa len : ℕ) (access : Access)
-    → list_all (λ entry. entry.cfg == 0) csrs.entries ≡ true
-    → is_allowed (pmp_entries_of csrs) mode pa len access ≡ is_machine mode
+-- the first of them are not configured either
+first_unset : (n : ℕ) (entries : List PmpEntry) → list_all (λ entry. entry.cfg == 0) entries ≡ true
+    → list_all (λ entry. entry.cfg == 0) (take n entries) ≡ true
+first_unset zero entries all = refl
+first_unset (suc n) [] all = refl
+first_unset (suc n) (entry ∷ entries) all =
+    let unset = both (entry.cfg == 0) (list_all (λ one. one.cfg == 0) entries) all in
+    and_from (entry.cfg == 0) (list_all (λ one. one.cfg == 0) (take n entries)) unset.0
+    (first_unset n entries unset.1)
+
+-- then M has access
+machine_by : (entries : List PmpEntry) (mode : Mode) (pa len : ℕ) (access : Access)
+    → list_all (λ entry. entry.cfg == 0) entries ≡ true → is_machine mode ≡ true
+    → is_allowed entries mode pa len access ≡ true
 unfolding is_allowed
-machine_alone csrs mode pa len access all = allowed_after csrs.entries 0 mode pa len access all
+machine_by [] mode pa len access all machine = refl
+machine_by (entry ∷ entries) mode pa len access all machine =
+    allowed_after (entry ∷ entries) 0 mode pa len access all ∙ machine
+
+pub machine_allowed : (csrs : Csrs) (mode : Mode) (pa len : ℕ) (access : Access)
+    → list_all (λ entry. entry.cfg == 0) csrs.entries ≡ true → is_machine mode ≡ true
+    → is_allowed (pmp_entries_of csrs) mode pa len access ≡ true
+machine_allowed csrs mode pa len access all machine =
+    machine_by (pmp_entries_of csrs) mode pa len access (first_unset _ csrs.entries all) machine
+
+-- and another mode where there are no entries
+none_there : (entry : PmpEntry) (entries : List PmpEntry) → (length (entry ∷ entries) == 0) ≡ false
+none_there entry entries = grind (arith, nat_tests)
+
+others_by : (entries : List PmpEntry) (mode : Mode) (pa len : ℕ) (access : Access)
+    → list_all (λ entry. entry.cfg == 0) entries ≡ true → is_machine mode ≡ false
+    → is_allowed entries mode pa len access ≡ (length entries == 0)
+unfolding is_allowed
+others_by [] mode pa len access all other = refl
+others_by (entry ∷ entries) mode pa len access all other =
+    allowed_after (entry ∷ entries) 0 mode pa len access all ∙ other ∙ sym (none_there entry entries)
+
+pub others_allowed : (csrs : Csrs) (mode : Mode) (pa len : ℕ) (access : Access)
+    → list_all (λ entry. entry.cfg == 0) csrs.entries ≡ true → is_machine mode ≡ false
+    → is_allowed (pmp_entries_of csrs) mode pa len access ≡ (length (pmp_entries_of csrs) == 0)
+others_allowed csrs mode pa len access all other =
+    others_by (pmp_entries_of csrs) mode pa len access (first_unset _ csrs.entries all) other

@@ -11,11 +11,13 @@ use Rattle.hart_words.specs.declared.map.Map.{Map}
 use Rattle.hart_words.specs.declared.span.Span.{Span}
 use Rattle.hart_words.specs.declared.span.TheConstants.{PAGE_SIZE}
 use Rattle.hart_words.specs.declared.choices.Choices.{Choices}
-use Rattle.hart_words.specs.Options.{are_done}
+use Rattle.hart_words.specs.Options.{are_by_row, are_done}
 use Rattle.hart_words.specs.Spans.{IsPlace}
 use Rattle.hart_words.specs.Actions.{Action, pure, read_memory, mapped, ◌>>=◌}
 use Rattle.csr_file.specs.declared.csrs.Csrs.{Csrs}
 use Rattle.mem_access.specs.declared.place.AccessRequest.{AccessRequest}
+use Rattle.mem_access.specs.declared.place.Atomicity.{Atomicity}
+use Rattle.mem_access.specs.declared.place.Atomicity.TheVariants.{Plain, Amo, Reserved}
 use Rattle.mem_access.specs.declared.place.Place.{Place}
 use Rattle.mem_access.specs.Places.{data_mode_of}
 use Rattle.mem_access.specs.Translation.{virtual_place_of}
@@ -23,19 +25,31 @@ use Rattle.mem_access.specs.Translation.{virtual_place_of}
 abbrev pub Exception : Type 0
 Exception = Cause × ℕ
 
--- devices answer no fetch and no atomic access
+-- devices answer no fetch
 abbrev pub parcel_fetch : Mode → AccessRequest
 parcel_fetch mode = record { mode = mode; access = Fetch; len = 2; devices = false }
 
+-- LR and SC, and the atomic memory operations, are atomic
+abbrev pub is_atomic : Atomicity → Bool
+is_atomic Plain = false
+is_atomic Amo = true
+is_atomic Reserved = true
+
+-- devices answer loads and stores, and where the row says what they refuse atomic memory operations, but no LR or SC
+abbrev pub devices_answer : Choices → Atomicity → Bool
+devices_answer choices Plain = true
+devices_answer choices Amo = are_by_row choices.device_faults
+devices_answer choices Reserved = false
+
 abbrev pub data_request : Csrs → Mode → Access → ℕ → Bool → AccessRequest
-data_request csrs mode access len atomic =
-    record { mode = data_mode_of csrs mode; access = access; len = len; devices = not atomic }
+data_request csrs mode access len devices =
+    record { mode = data_mode_of csrs mode; access = access; len = len; devices = devices }
 
-abbrev pub data_load : Csrs → Mode → ℕ → Bool → AccessRequest
-data_load csrs mode len atomic = data_request csrs mode Load len atomic
+abbrev pub data_load : Csrs → Choices → Mode → ℕ → Atomicity → AccessRequest
+data_load csrs choices mode len atomicity = data_request csrs mode Load len (devices_answer choices atomicity)
 
-abbrev pub data_store : Csrs → Mode → ℕ → Bool → AccessRequest
-data_store csrs mode len atomic = data_request csrs mode Store len atomic
+abbrev pub data_store : Csrs → Choices → Mode → ℕ → Atomicity → AccessRequest
+data_store csrs choices mode len atomicity = data_request csrs mode Store len (devices_answer choices atomicity)
 
 -- two bytes of an instruction
 abbrev pub parcel_from : ℕ → Result Place Cause → Action (Result ℕ Exception)
@@ -129,16 +143,16 @@ split_places_of csrs map choices request va =
     else whole_place_of csrs map choices request va
 
 -- the access is carried out part by part: it is misaligned, and neither atomic nor trapped
-abbrev pub is_split : Choices → AccessRequest → Bool → ℕ → Bool
-is_split choices request atomic va =
-    not (va % request.len == 0) && not atomic && are_done choices.misaligned
+abbrev pub is_split : Choices → AccessRequest → Atomicity → ℕ → Bool
+is_split choices request atomicity va =
+    not (va % request.len == 0) && not (is_atomic atomicity) && are_done choices.misaligned
 
 -- the places of a load or a store: an access at a multiple of its length has one part; no device answers another
-unfoldable pub data_places_of : Csrs → Map → Choices → AccessRequest → Bool → Cause → ℕ
+unfoldable pub data_places_of : Csrs → Map → Choices → AccessRequest → Atomicity → Cause → ℕ
     → Action (Result Places Exception)
-data_places_of csrs map choices request atomic misaligned va =
+data_places_of csrs map choices request atomicity misaligned va =
     if va % request.len == 0 then whole_place_of csrs map choices request va
-    else if is_split choices request atomic va
+    else if is_split choices request atomicity va
     then split_places_of csrs map choices (record request { devices = false }) va
     else pure (Err (misaligned, va))
 
@@ -170,15 +184,15 @@ load_from va len (Ok (first, Some second)) =
     value_of_parts first second (first_len va len) (len - first_len va len)
 
 -- a load
-unfoldable pub load_result : Csrs → Map → Choices → Mode → ℕ → ℕ → Bool → Action (Result LocatedValue Exception)
-load_result csrs map choices mode va len atomic =
-    data_places_of csrs map choices (data_load csrs mode len atomic) atomic LoadAddressMisaligned va
+unfoldable pub load_result : Csrs → Map → Choices → Mode → ℕ → ℕ → Atomicity → Action (Result LocatedValue Exception)
+load_result csrs map choices mode va len atomicity =
+    data_places_of csrs map choices (data_load csrs choices mode len atomicity) atomicity LoadAddressMisaligned va
     >>= load_from va len
 
 -- the places of a store
-unfoldable pub store_place_of : Csrs → Map → Choices → Mode → ℕ → ℕ → Bool → Action (Result Places Exception)
-store_place_of csrs map choices mode va len atomic =
-    data_places_of csrs map choices (data_store csrs mode len atomic) atomic StoreAddressMisaligned va
+unfoldable pub store_place_of : Csrs → Map → Choices → Mode → ℕ → ℕ → Atomicity → Action (Result Places Exception)
+store_place_of csrs map choices mode va len atomicity =
+    data_places_of csrs map choices (data_store csrs choices mode len atomicity) atomicity StoreAddressMisaligned va
 
 -- a load, by its places
 abbrev pub load_by : Action (Result Places Exception) → ℕ → ℕ → Action (Result LocatedValue Exception)

@@ -1,5 +1,5 @@
 -- What accesses read and set, and where they go.
-use Rattle.std.specs.Prelude.{◌≡◌, ℕ, ◌+◌, ◌%◌, ◌^◌, ◌≤◌, ◌⊎◌, Bool, true, false, List, [], ◌∷◌, All, Contains, map}
+use Rattle.std.specs.Prelude.{◌≡◌, ℕ, ◌+◌, ◌%◌, ◌^◌, ◌≤◌, ◌⊎◌, true, false, List, [], ◌∷◌, All, Contains, map}
 use Rattle.std.specs.Prelude.{Some, None, IfSome, IfOk, Ok}
 use Rattle.hart_words.specs.declared.privilege.Access.{Access}
 use Rattle.hart_words.specs.declared.privilege.Mode.{Mode}
@@ -22,6 +22,7 @@ use Rattle.csr_file.specs.Registers.{at}
 use Rattle.sv39_walk.specs.declared.entry.TheConstants.{ENTRY_SIZE}
 use Rattle.sv39_walk.specs.Entries.{is_leaf, with_marks}
 use Rattle.mem_access.specs.declared.place.AccessRequest.{AccessRequest}
+use Rattle.mem_access.specs.declared.place.Atomicity.{Atomicity}
 use Rattle.mem_access.specs.declared.place.Place.{Place}
 use Rattle.mem_access.specs.Places.{data_mode_of, is_permitted}
 use Rattle.mem_access.specs.Translation.{is_readable, is_settable}
@@ -58,13 +59,13 @@ abbrev pub FetchSetsAlone : Csrs → Map → Choices → Mode → ℕ → Bytes 
 FetchSetsAlone csrs map choices mode pc bytes =
     SetsAlone csrs map choices bytes ((fetch_result csrs map choices mode pc).run bytes).wrote
 
-abbrev pub LoadSetsAlone : Csrs → Map → Choices → Mode → ℕ → ℕ → Bool → Bytes → Type 0
-LoadSetsAlone csrs map choices mode va len atomic bytes =
-    SetsAlone csrs map choices bytes ((load_result csrs map choices mode va len atomic).run bytes).wrote
+abbrev pub LoadSetsAlone : Csrs → Map → Choices → Mode → ℕ → ℕ → Atomicity → Bytes → Type 0
+LoadSetsAlone csrs map choices mode va len atomicity bytes =
+    SetsAlone csrs map choices bytes ((load_result csrs map choices mode va len atomicity).run bytes).wrote
 
-abbrev pub StoreSetsAlone : Csrs → Map → Choices → Mode → ℕ → ℕ → Bool → Bytes → Type 0
-StoreSetsAlone csrs map choices mode va len atomic bytes =
-    SetsAlone csrs map choices bytes ((store_place_of csrs map choices mode va len atomic).run bytes).wrote
+abbrev pub StoreSetsAlone : Csrs → Map → Choices → Mode → ℕ → ℕ → Atomicity → Bytes → Type 0
+StoreSetsAlone csrs map choices mode va len atomicity bytes =
+    SetsAlone csrs map choices bytes ((store_place_of csrs map choices mode va len atomicity).run bytes).wrote
 
 -- reads are those of a list, in its order, and each is permitted
 pub record AreReads (csrs : Csrs) (map : Map) (checks : List CheckedRead) (reads : List Read) : Type 0 where
@@ -91,11 +92,11 @@ place_list (first, None) = first ∷ []
 place_list (first, Some second) = first ∷ second ∷ []
 
 -- the places of an access are those that are found for its parts, in their order, and each is permitted by itself
-pub record ArePlacesFound (csrs : Csrs) (map : Map) (choices : Choices) (request : AccessRequest) (atomic : Bool)
-    (va : ℕ) (bytes : Bytes) (places : Places) : Type 0 where
+pub record ArePlacesFound (csrs : Csrs) (map : Map) (choices : Choices) (request : AccessRequest)
+    (atomicity : Atomicity) (va : ℕ) (bytes : Bytes) (places : Places) : Type 0 where
   pub placed : List PlacedPart
-  pub found : places_found csrs map choices request atomic va bytes ≡ Ok placed
-  pub parts : parts_in placed ≡ parts_of choices request atomic va
+  pub found : places_found csrs map choices request atomicity va bytes ≡ Ok placed
+  pub parts : parts_in placed ≡ parts_of choices request atomicity va
   pub order : places_in placed ≡ place_list places
   pub permitted : All (IsPermittedPart csrs map request) placed
 
@@ -106,31 +107,31 @@ FetchIsPermitted csrs map choices mode pc bytes =
     ((fetch_result csrs map choices mode pc).run bytes).reads
 
 -- a load reads its bytes after the entries of its walks
-abbrev pub LoadIsPermitted : Csrs → Map → Choices → Mode → ℕ → ℕ → Bool → Bytes → Type 0
-LoadIsPermitted csrs map choices mode va len atomic bytes =
-    let request = data_load csrs mode len atomic in
-    let run = (load_result csrs map choices mode va len atomic).run bytes in
-    AreReads csrs map (data_reads_of csrs map choices request atomic true va bytes) run.reads
+abbrev pub LoadIsPermitted : Csrs → Map → Choices → Mode → ℕ → ℕ → Atomicity → Bytes → Type 0
+LoadIsPermitted csrs map choices mode va len atomicity bytes =
+    let request = data_load csrs choices mode len atomicity in
+    let run = (load_result csrs map choices mode va len atomicity).run bytes in
+    AreReads csrs map (data_reads_of csrs map choices request atomicity true va bytes) run.reads
     × IfOk run.value
-    (λ found. ArePlacesFound csrs map choices request atomic va bytes (found.0, found.1))
+    (λ found. ArePlacesFound csrs map choices request atomicity va bytes (found.0, found.1))
 
 -- looking for the places of a store reads the entries of its walks alone
-abbrev pub StoreIsPermitted : Csrs → Map → Choices → Mode → ℕ → ℕ → Bool → Bytes → Type 0
-StoreIsPermitted csrs map choices mode va len atomic bytes =
-    let request = data_store csrs mode len atomic in
-    let run = (store_place_of csrs map choices mode va len atomic).run bytes in
-    AreReads csrs map (data_reads_of csrs map choices request atomic false va bytes) run.reads
-    × IfOk run.value (ArePlacesFound csrs map choices request atomic va bytes)
+abbrev pub StoreIsPermitted : Csrs → Map → Choices → Mode → ℕ → ℕ → Atomicity → Bytes → Type 0
+StoreIsPermitted csrs map choices mode va len atomicity bytes =
+    let request = data_store csrs choices mode len atomicity in
+    let run = (store_place_of csrs map choices mode va len atomicity).run bytes in
+    AreReads csrs map (data_reads_of csrs map choices request atomicity false va bytes) run.reads
+    × IfOk run.value (ArePlacesFound csrs map choices request atomicity va bytes)
 
 -- where the access is translated, each byte of a part is where a leaf puts it, in memory as the access finds it
 abbrev pub IsMappedPart : Csrs → Map → Choices → AccessRequest → Bytes → PlacedPart → Type 0
 IsMappedPart csrs map choices request bytes placed =
     AreMapped csrs map choices (request_for request placed.part) bytes placed.part.va placed.place.pa
 
-abbrev pub PlacesAreMapped : Csrs → Map → Choices → AccessRequest → Bool → ℕ → Bytes → Type 0
-PlacesAreMapped csrs map choices request atomic va bytes =
+abbrev pub PlacesAreMapped : Csrs → Map → Choices → AccessRequest → Atomicity → ℕ → Bytes → Type 0
+PlacesAreMapped csrs map choices request atomicity va bytes =
     IsLength request.len
-    → IfOk (places_found csrs map choices request atomic va bytes)
+    → IfOk (places_found csrs map choices request atomicity va bytes)
     (All (IsMappedPart csrs map choices request bytes))
 
 -- so with each access that lies in one page, as those of a fetch do
@@ -163,17 +164,17 @@ ArePhysical va len places =
     (places.0.pa ≡ va) × IfSome places.1 (λ second. second.pa ≡ (second_part va len).va)
 
 -- a load reads the bytes at its parts' addresses alone, and sets nothing
-abbrev pub LoadIsPhysical : Csrs → Map → Choices → Mode → ℕ → ℕ → Bool → Bytes → Type 0
-LoadIsPhysical csrs map choices mode va len atomic bytes =
-    let parts = parts_of choices (data_load csrs mode len atomic) atomic va in
-    let run = (load_result csrs map choices mode va len atomic).run bytes in
+abbrev pub LoadIsPhysical : Csrs → Map → Choices → Mode → ℕ → ℕ → Atomicity → Bytes → Type 0
+LoadIsPhysical csrs map choices mode va len atomicity bytes =
+    let parts = parts_of choices (data_load csrs choices mode len atomicity) atomicity va in
+    let run = (load_result csrs map choices mode va len atomicity).run bytes in
     IsUntranslated csrs (data_mode_of csrs mode)
     → All (IsPartRead parts) run.reads × (run.wrote ≡ [])
     × IfOk run.value (λ found. ArePhysical va len (found.0, found.1))
 
 -- the places of a store are its parts' addresses, and nothing is read or set for them
-abbrev pub StoreIsPhysical : Csrs → Map → Choices → Mode → ℕ → ℕ → Bool → Bytes → Type 0
-StoreIsPhysical csrs map choices mode va len atomic bytes =
-    let run = (store_place_of csrs map choices mode va len atomic).run bytes in
+abbrev pub StoreIsPhysical : Csrs → Map → Choices → Mode → ℕ → ℕ → Atomicity → Bytes → Type 0
+StoreIsPhysical csrs map choices mode va len atomicity bytes =
+    let run = (store_place_of csrs map choices mode va len atomicity).run bytes in
     IsUntranslated csrs (data_mode_of csrs mode)
     → (run.reads ≡ []) × (run.wrote ≡ []) × IfOk run.value (ArePhysical va len)

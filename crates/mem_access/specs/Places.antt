@@ -1,11 +1,11 @@
 -- Where an access to a physical address goes, and why it may not go there. From the Privileged Architecture's
 -- chapter "Machine-Level ISA" (physical memory attributes and protection, exception codes).
-use Rattle.std.specs.Prelude.{ℕ, Bool, true, false, ◌&&◌, if◌then◌else◌, Option, Some, None, Result, Ok, Err}
+use Rattle.std.specs.Prelude.{ℕ, Bool, true, false, ◌&&◌, if◌then◌else◌, Result, Ok, Err}
 use Rattle.hart_words.specs.declared.privilege.Mode.{Mode}
 use Rattle.hart_words.specs.declared.privilege.Mode.TheVariants.{User, Supervisor, Machine}
 use Rattle.hart_words.specs.declared.privilege.Cause.{Cause}
-use Rattle.hart_words.specs.declared.span.Span.{Span}
 use Rattle.hart_words.specs.declared.map.Map.{Map}
+use Rattle.hart_words.specs.Devices.{is_device}
 use Rattle.hart_words.specs.Spans.{holds_all}
 use Rattle.hart_words.specs.Privilege.{access_fault_of}
 use Rattle.csr_file.specs.declared.csrs.Csrs.{Csrs}
@@ -24,12 +24,7 @@ data_mode_of csrs Machine =
 data_mode_of csrs Supervisor = Supervisor
 data_mode_of csrs User = User
 
--- the bytes are all of the range of devices, where there is one
-abbrev pub is_device : Option Span → ℕ → ℕ → Bool
-is_device None pa len = false
-is_device (Some io) pa len = holds_all io pa len
-
--- RAM, or, for accesses that devices answer, IO; elsewhere is nothing
+-- RAM, or, for accesses that devices answer, one range of devices; elsewhere is nothing
 abbrev pub place_in : Map → AccessRequest → ℕ → Result Place Cause
 place_in map request pa =
     if holds_all map.ram pa request.len then Ok (record { pa = pa; io = false })

@@ -22,6 +22,7 @@ use Rattle.pmp_check.specs.Protection.{is_allowed}
 use Rattle.sv39_walk.specs.Entries.{address_in, is_leaf, is_marked, leaf_allows}
 use Rattle.sv39_walk.specs.Walk.{Visit, chain, chain_result, chain_wrote, entry_in, entry_reads_of, visit_at}
 use Rattle.mem_access.specs.declared.place.AccessRequest.{AccessRequest}
+use Rattle.mem_access.specs.declared.place.Atomicity.{Atomicity}
 use Rattle.mem_access.specs.declared.place.Place.{Place}
 use Rattle.mem_access.specs.Translation.{is_readable, is_settable, is_translated, place_after_translation, tables_of}
 use Rattle.mem_access.specs.Translation.{walk_flags_of}
@@ -132,10 +133,10 @@ whole_part va len = record { va = va; len = len }
 
 -- the parts of a data access: an access at a multiple of its length is one part, another is split at the end of a page
 -- where it runs into the next, and one that traps because it is misaligned has none
-unfoldable pub parts_of : Choices → AccessRequest → Bool → ℕ → List Part
-parts_of choices request atomic va =
+unfoldable pub parts_of : Choices → AccessRequest → Atomicity → ℕ → List Part
+parts_of choices request atomicity va =
     if va % request.len == 0 then whole_part va request.len ∷ []
-    else if is_split choices request atomic va
+    else if is_split choices request atomicity va
     then
     (if has_second_part va request.len then first_part va request.len ∷ second_part va request.len ∷ []
     else whole_part va request.len ∷ [])
@@ -171,10 +172,10 @@ parts_found csrs map choices request (part ∷ parts) bytes =
     (parts_found csrs map choices request parts (bytes_after_walk csrs map choices request part.va bytes))
 
 -- the parts of a data access with their places
-abbrev pub places_found : Csrs → Map → Choices → AccessRequest → Bool → ℕ → Bytes
+abbrev pub places_found : Csrs → Map → Choices → AccessRequest → Atomicity → ℕ → Bytes
     → Result (List PlacedPart) Exception
-places_found csrs map choices request atomic va bytes =
-    parts_found csrs map choices (request_at request va) (parts_of choices request atomic va) bytes
+places_found csrs map choices request atomicity va bytes =
+    parts_found csrs map choices (request_at request va) (parts_of choices request atomicity va) bytes
 
 -- what follows a part that has its place
 abbrev pub if_found : {A : Type 0} → Result Place Cause → List A → List A
@@ -199,10 +200,10 @@ own_reads_of request (Err exception) = []
 own_reads_of request (Ok placed) = flat_map (part_reads_of request) placed
 
 -- a load or a store: the walks of its parts, and then, where its own bytes are read, those; whether they are is given
-unfoldable pub data_reads_of : Csrs → Map → Choices → AccessRequest → Bool → Bool → ℕ → Bytes → List CheckedRead
-data_reads_of csrs map choices request atomic own va bytes =
-    part_walks_of csrs map choices (request_at request va) (parts_of choices request atomic va) bytes
-    ++ (if own then own_reads_of request (places_found csrs map choices request atomic va bytes) else [])
+unfoldable pub data_reads_of : Csrs → Map → Choices → AccessRequest → Atomicity → Bool → ℕ → Bytes → List CheckedRead
+data_reads_of csrs map choices request atomicity own va bytes =
+    part_walks_of csrs map choices (request_at request va) (parts_of choices request atomicity va) bytes
+    ++ (if own then own_reads_of request (places_found csrs map choices request atomicity va bytes) else [])
 
 -- a leaf of the chain of a virtual address puts its byte at a physical address: it can be read, allows the access, has
 -- A and for a store D set or can get them, and its page number joined with the offset is that address

@@ -7,10 +7,10 @@ ghost use Rattle.hart_words.specs.declared.span.TheConstants.{PAGE_SIZE};
 ghost use Rattle.hart_words.specs.Actions.{Notes};
 ghost use Rattle.hart_words.specs.Options.{are_done};
 ghost use Rattle.hart_words.specs.AccessSizes.{IsLength};
-ghost use Rattle.mem_access.specs.Accesses.{LieInRam, data_request, first_len, load_by, load_result, split_places_of, store_place_of, whole_place_of};
+ghost use Rattle.mem_access.specs.Accesses.{LieInRam, data_request, devices_answer, first_len, is_atomic, load_by, load_result, split_places_of, store_place_of, whole_place_of};
 
 use crate::address_space::{AddressSpace, WALK_READS, WALK_SETS};
-use crate::place::{AccessRequest, Place, data_mode};
+use crate::place::{AccessRequest, Atomicity, Place, data_mode};
 use csr_file::Csrs;
 use hart_words::{
     Access, Cause, Choices, MOST_READS, MOST_SETS, Map, Mode, PAGE_SIZE, PhysMem, Read, Seen, Sets,
@@ -27,7 +27,7 @@ pub const ACCESS_SETS: usize = 2 * WALK_SETS;
 
 /// Loads `len` bytes, 1, 2, 4 or 8, from a virtual address: the place of each of its parts, and the
 /// number that stands there, 0 where a device answers. `mode` is that of the instruction; with MPRV
-/// in M the access is one of MPP. `atomic` is true for LR, which no device answers.
+/// in M the access is one of MPP. LR is `Reserved`, any other load `Plain`.
 ///
 /// An access at a multiple of its length has one part. Another is misaligned: it traps, unless it
 /// is not atomic and `choices` has it done. Then it is split where it runs into the next page, and
@@ -46,7 +46,7 @@ pub fn load<M: PhysMem>(
     mode: Mode,
     va: u64,
     len: u8,
-    atomic: bool,
+    atomicity: Atomicity,
     choices: &Choices,
     seen: &mut Seen,
     sets: &mut Sets,
@@ -55,18 +55,20 @@ pub fn load<M: PhysMem>(
     requires length { IsLength len }
     requires room { length seen.old + ACCESS_READS ≤ MOST_READS }
     requires sets { length sets.old + ACCESS_SETS ≤ MOST_SETS }
-    ensures looked { Notes (load_result csrs.now map.now choices.now mode va len atomic) result
+    ensures looked { Notes (load_result csrs.now map.now choices.now mode va len atomicity) result
         seen.old seen.new sets.old sets.new (M.bytes mem.now) }
     ensures noted { length seen.new ≤ length seen.old + ACCESS_READS }
     ensures set { length sets.new ≤ length sets.old + ACCESS_SETS }
     ensures set_none { choices.now.marks ≡ Fault → sets.new ≡ sets.old }
     ensures fits { IfOk result (λ found. found.2 < 2 ^ (8 * len)) }
-    ensures one { (atomic ≡ true) ⊎ ((choices.now.misaligned ≡ Trap) ⊎ (va % len ≡ 0))
+    ensures one { (is_atomic atomicity ≡ true) ⊎ ((choices.now.misaligned ≡ Trap) ⊎ (va % len ≡ 0))
         → IfOk result (λ found. found.1 ≡ None) }
-    ensures memory { atomic ≡ true → IfOk result (λ found. found.0.io ≡ false) }
+    ensures memory { devices_answer choices.now atomicity ≡ false
+        → IfOk result (λ found. found.0.io ≡ false) }
     ensures placed { IfOk result (λ found. LieInRam map.now.ram va len (found.0, found.1)) }
 {
-    let request = data_request(csrs, mode, Access::Load, len, atomic);
+    let devices = atomicity.devices_answer(choices);
+    let request = data_request(csrs, mode, Access::Load, len, devices);
     let space = AddressSpace {
         mem,
         csrs,
@@ -76,16 +78,17 @@ pub fn load<M: PhysMem>(
     if va % u64::from(len) == 0 {
         return load_whole(&space, request, va, seen, sets);
     }
-    if is_trapped(choices, atomic) {
+    if is_trapped(choices, atomicity) {
         return Err((Cause::LoadAddressMisaligned, va));
     }
     load_split(&space, without_devices(request), va, seen, sets)
 }
 
 /// The places of a store of `len` bytes, 1, 2, 4 or 8, at a virtual address, one for each of its
-/// parts; mode, parts and exceptions are as for a load. `atomic` is true for SC and AMO, which no
-/// device answers. What is read on the way is noted in `seen`, which has room for `ACCESS_READS`
-/// more, and what is set in `sets`, which has room for `ACCESS_SETS` more.
+/// parts; mode, parts and exceptions are as for a load. SC is `Reserved`, an atomic memory
+/// operation `Amo`, and any other store `Plain`. What is read on the way is noted in `seen`, which
+/// has room for `ACCESS_READS` more, and what is set in `sets`, which has room for `ACCESS_SETS`
+/// more.
 #[tactic(auto, unfolding(crate::specs::Accesses::store_place_of, crate::specs::Accesses::data_places_of))]
 pub fn store_place<M: PhysMem>(
     mem: &M,
@@ -94,7 +97,7 @@ pub fn store_place<M: PhysMem>(
     mode: Mode,
     va: u64,
     len: u8,
-    atomic: bool,
+    atomicity: Atomicity,
     choices: &Choices,
     seen: &mut Seen,
     sets: &mut Sets,
@@ -103,17 +106,19 @@ pub fn store_place<M: PhysMem>(
     requires length { IsLength len }
     requires room { length seen.old + ACCESS_READS ≤ MOST_READS }
     requires sets { length sets.old + ACCESS_SETS ≤ MOST_SETS }
-    ensures looked { Notes (store_place_of csrs.now map.now choices.now mode va len atomic) result
-        seen.old seen.new sets.old sets.new (M.bytes mem.now) }
+    ensures looked { Notes (store_place_of csrs.now map.now choices.now mode va len atomicity)
+        result seen.old seen.new sets.old sets.new (M.bytes mem.now) }
     ensures noted { length seen.new ≤ length seen.old + 2 * WALK_READS }
     ensures set { length sets.new ≤ length sets.old + ACCESS_SETS }
     ensures set_none { choices.now.marks ≡ Fault → sets.new ≡ sets.old }
-    ensures one { (atomic ≡ true) ⊎ ((choices.now.misaligned ≡ Trap) ⊎ (va % len ≡ 0))
+    ensures one { (is_atomic atomicity ≡ true) ⊎ ((choices.now.misaligned ≡ Trap) ⊎ (va % len ≡ 0))
         → IfOk result (λ places. places.1 ≡ None) }
-    ensures memory { atomic ≡ true → IfOk result (λ places. places.0.io ≡ false) }
+    ensures memory { devices_answer choices.now atomicity ≡ false
+        → IfOk result (λ places. places.0.io ≡ false) }
     ensures placed { IfOk result (LieInRam map.now.ram va len) }
 {
-    let request = data_request(csrs, mode, Access::Store, len, atomic);
+    let devices = atomicity.devices_answer(choices);
+    let request = data_request(csrs, mode, Access::Store, len, devices);
     let space = AddressSpace {
         mem,
         csrs,
@@ -123,28 +128,28 @@ pub fn store_place<M: PhysMem>(
     if va % u64::from(len) == 0 {
         return whole_place(&space, request, va, seen, sets);
     }
-    if is_trapped(choices, atomic) {
+    if is_trapped(choices, atomicity) {
         return Err((Cause::StoreAddressMisaligned, va));
     }
     split_places(&space, without_devices(request), va, seen, sets)
 }
 
 /// Whether an access that is misaligned traps.
-fn is_trapped(choices: &Choices, atomic: bool) -> bool
-    ensures { result ≡ (atomic || not (are_done choices.now.misaligned)) }
+fn is_trapped(choices: &Choices, atomicity: Atomicity) -> bool
+    ensures { result ≡ (is_atomic atomicity || not (are_done choices.now.misaligned)) }
 {
-    atomic || !choices.misaligned.are_done()
+    atomicity.is_atomic() || !choices.misaligned.are_done()
 }
 
-/// A load or a store as it is asked for. Devices answer none that is atomic.
-fn data_request(csrs: &Csrs, mode: Mode, access: Access, len: u8, atomic: bool) -> AccessRequest
-    ensures { result ≡ data_request csrs.now mode access len atomic }
+/// A load or a store as it is asked for, and whether devices answer it.
+fn data_request(csrs: &Csrs, mode: Mode, access: Access, len: u8, devices: bool) -> AccessRequest
+    ensures { result ≡ data_request csrs.now mode access len devices }
 {
     AccessRequest {
         mode: data_mode(csrs, mode),
         access,
         len,
-        devices: !atomic,
+        devices,
     }
 }
 

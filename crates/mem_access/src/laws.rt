@@ -1,12 +1,13 @@
 //! What holds of every access.
 
-ghost use Rattle.std.specs.Prelude.{ℕ, Bool};
+ghost use Rattle.std.specs.Prelude.{ℕ};
 ghost use Rattle.hart_words.specs.declared.privilege.Mode.{Mode};
 ghost use Rattle.hart_words.specs.declared.map.Map.{Map};
 ghost use Rattle.hart_words.specs.declared.choices.Choices.{Choices};
 ghost use Rattle.hart_words.specs.Memory.{Bytes};
 ghost use Rattle.csr_file.specs.declared.csrs.Csrs.{Csrs};
 ghost use Rattle.mem_access.specs.declared.place.AccessRequest.{AccessRequest};
+ghost use Rattle.mem_access.specs.declared.place.Atomicity.{Atomicity};
 ghost use Rattle.mem_access.specs.Laws.{FetchIsPermitted, FetchIsPhysical, FetchSetsAlone, LoadIsPermitted, LoadIsPhysical, LoadSetsAlone, PlaceIsMapped, PlacesAreMapped, StoreIsPermitted, StoreIsPhysical, StoreSetsAlone};
 
 /// All that fetching, loading, and looking for the places of a store write is entries of page
@@ -16,11 +17,11 @@ pub fn accesses_write_entries_alone()
     ensures fetch { (csrs : Csrs) (map : Map) (choices : Choices) (mode : Mode) (pc : ℕ)
         (bytes : Bytes) → FetchSetsAlone csrs map choices mode pc bytes }
     ensures load { (csrs : Csrs) (map : Map) (choices : Choices) (mode : Mode) (va len : ℕ)
-        (atomic : Bool) (bytes : Bytes)
-        → LoadSetsAlone csrs map choices mode va len atomic bytes }
+        (atomicity : Atomicity) (bytes : Bytes)
+        → LoadSetsAlone csrs map choices mode va len atomicity bytes }
     ensures store { (csrs : Csrs) (map : Map) (choices : Choices) (mode : Mode) (va len : ℕ)
-        (atomic : Bool) (bytes : Bytes)
-        → StoreSetsAlone csrs map choices mode va len atomic bytes }
+        (atomicity : Atomicity) (bytes : Bytes)
+        → StoreSetsAlone csrs map choices mode va len atomicity bytes }
 {}
 
 /// The reads of an access are, in order, those of its walk, which are the entries of the address's
@@ -35,11 +36,11 @@ pub fn accesses_are_permitted()
     ensures fetch { (csrs : Csrs) (map : Map) (choices : Choices) (mode : Mode) (pc : ℕ)
         (bytes : Bytes) → FetchIsPermitted csrs map choices mode pc bytes }
     ensures load { (csrs : Csrs) (map : Map) (choices : Choices) (mode : Mode) (va len : ℕ)
-        (atomic : Bool) (bytes : Bytes)
-        → LoadIsPermitted csrs map choices mode va len atomic bytes }
+        (atomicity : Atomicity) (bytes : Bytes)
+        → LoadIsPermitted csrs map choices mode va len atomicity bytes }
     ensures store { (csrs : Csrs) (map : Map) (choices : Choices) (mode : Mode) (va len : ℕ)
-        (atomic : Bool) (bytes : Bytes)
-        → StoreIsPermitted csrs map choices mode va len atomic bytes }
+        (atomicity : Atomicity) (bytes : Bytes)
+        → StoreIsPermitted csrs map choices mode va len atomicity bytes }
 {}
 
 /// Where the access's mode is M or satp's MODE is Bare, the physical address of each part is its
@@ -48,11 +49,11 @@ pub fn untranslated_addresses_are_physical()
     ensures fetch { (csrs : Csrs) (map : Map) (choices : Choices) (mode : Mode) (pc : ℕ)
         (bytes : Bytes) → FetchIsPhysical csrs map choices mode pc bytes }
     ensures load { (csrs : Csrs) (map : Map) (choices : Choices) (mode : Mode) (va len : ℕ)
-        (atomic : Bool) (bytes : Bytes)
-        → LoadIsPhysical csrs map choices mode va len atomic bytes }
+        (atomicity : Atomicity) (bytes : Bytes)
+        → LoadIsPhysical csrs map choices mode va len atomicity bytes }
     ensures store { (csrs : Csrs) (map : Map) (choices : Choices) (mode : Mode) (va len : ℕ)
-        (atomic : Bool) (bytes : Bytes)
-        → StoreIsPhysical csrs map choices mode va len atomic bytes }
+        (atomicity : Atomicity) (bytes : Bytes)
+        → StoreIsPhysical csrs map choices mode va len atomicity bytes }
 {}
 
 /// Each byte of a translated access is where a leaf of its virtual address puts it: the leaf is in
@@ -63,6 +64,6 @@ pub fn translated_places_are_mapped()
     ensures one { (csrs : Csrs) (map : Map) (choices : Choices) (request : AccessRequest) (va : ℕ)
         (bytes : Bytes) → PlaceIsMapped csrs map choices request va bytes }
     ensures parts { (csrs : Csrs) (map : Map) (choices : Choices) (request : AccessRequest)
-        (atomic : Bool) (va : ℕ) (bytes : Bytes)
-        → PlacesAreMapped csrs map choices request atomic va bytes }
+        (atomicity : Atomicity) (va : ℕ) (bytes : Bytes)
+        → PlacesAreMapped csrs map choices request atomicity va bytes }
 {}

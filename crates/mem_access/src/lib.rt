@@ -15,7 +15,7 @@ mod place;
 pub use address_space::{AddressSpace, is_translated};
 pub use data_access::{ACCESS_READS, ACCESS_SETS, first_len, load, store_place};
 pub use instruction_fetch::{FETCH_READS, FETCH_SETS, fetch};
-pub use place::{Place, data_mode};
+pub use place::{Atomicity, Place, data_mode};
 
 #[cfg(test)]
 mod tests;

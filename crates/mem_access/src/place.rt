@@ -6,11 +6,12 @@ ghost use Rattle.hart_words.specs.declared.span.TheConstants.{PAGE_SIZE};
 ghost use Rattle.hart_words.specs.Spans.{IsPlace};
 ghost use Rattle.csr_file.specs.Registers.{pmp_entries_of};
 ghost use Rattle.pmp_check.specs.Protection.{is_allowed, is_machine};
-ghost use Rattle.mem_access.specs.Places.{data_mode_of, is_device, place_in, place_of};
+ghost use Rattle.mem_access.specs.Accesses.{devices_answer, is_atomic};
+ghost use Rattle.mem_access.specs.Places.{data_mode_of, place_of};
 
 use csr_file::fields::{MPP, MPRV};
 use csr_file::{Csrs, StoredCsr, has_bit, mode_of_encoding};
-use hart_words::{Access, Cause, Map, Mode, PmpEntry, Span};
+use hart_words::{Access, Cause, Choices, Map, Mode, PmpEntry};
 use pmp_check::allows;
 
 /// The physical address of an access, and whether it is one of a device.
@@ -30,6 +31,41 @@ pub struct AccessRequest {
     pub len: u8,
     /// Whether devices answer it.
     pub devices: bool,
+}
+
+/// What a data access is, as far as its address and its place go.
+#[derive(Clone, Copy, Debug, PartialEq, Eq)]
+pub enum Atomicity {
+    /// A load or a store: it may be misaligned.
+    Plain,
+    /// An atomic memory operation: it is never misaligned, and devices answer it only where the row
+    /// says whether they refuse it.
+    Amo,
+    /// LR or SC: it is never misaligned, and no device answers it.
+    Reserved,
+}
+
+impl Atomicity {
+    /// Whether the access is atomic.
+    pub fn is_atomic(self) -> bool
+        ensures { result ≡ is_atomic self }
+    {
+        match self {
+            Atomicity::Plain => false,
+            Atomicity::Amo | Atomicity::Reserved => true,
+        }
+    }
+
+    /// Whether devices answer the access.
+    pub fn devices_answer(self, choices: &Choices) -> bool
+        ensures { result ≡ devices_answer choices.now self }
+    {
+        match self {
+            Atomicity::Plain => true,
+            Atomicity::Amo => choices.device_faults.are_by_row(),
+            Atomicity::Reserved => false,
+        }
+    }
 }
 
 /// The mode of a load or a store: MPP in M where MPRV is set, else the mode of the instruction.
@@ -67,21 +103,21 @@ pub fn place_of(csrs: &Csrs, map: &Map, request: AccessRequest, pa: u64) -> Resu
     if map.ram.holds(pa, request.len) {
         return Ok(Place { pa, io: false });
     }
-    if request.devices && is_device(&map.io, pa, request.len) {
+    if request.devices && map.is_device(pa, request.len) {
         return Ok(Place { pa, io: true });
     }
     Err(request.access.access_fault())
 }
 
-/// Whether protection allows an access. Where no entry is configured M alone has access, so that
-/// none is looked at.
+/// Whether protection allows an access. Where no entry is configured M alone has access, or
+/// everyone where the core has none, so that none is looked at.
 pub fn is_allowed(csrs: &Csrs, mode: Mode, pa: u64, len: u8, access: Access) -> bool
     ensures { result ≡ is_allowed (pmp_entries_of csrs.now) mode pa len access }
 {
     if is_unset(&csrs.entries) {
-        return is_machine(mode);
+        return is_machine(mode) || csrs.pmp_entries().is_empty();
     }
-    allows(&csrs.entries, mode, pa, len, access)
+    allows(csrs.pmp_entries(), mode, pa, len, access)
 }
 
 /// Whether no entry is configured.
@@ -96,13 +132,4 @@ pub fn is_machine(mode: Mode) -> bool
     ensures { result ≡ is_machine mode }
 {
     matches!(mode, Mode::Machine)
-}
-
-fn is_device(io: &Option<Span>, pa: u64, len: u8) -> bool
-    ensures { result ≡ is_device io.now pa len }
-{
-    match io {
-        None => false,
-        Some(io) => io.holds(pa, len),
-    }
 }

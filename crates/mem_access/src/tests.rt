@@ -3,10 +3,11 @@ ghost use Rattle.hart_words.specs.Memory.{after_writes};
 
 use super::*;
 use crate::address_space::join_numbers;
-use csr_file::{Csrs, StoredCsr};
+use crate::place::is_allowed;
+use csr_file::{Csrs, EntryCount, StoredCsr};
 use hart_words::{
-    Cause, Choices, Map, Marks, Misaligned, Mode, NoMemory, PhysMem, PmpEntry, Seen, Sets, Span,
-    TrapValues, Write,
+    Access, Cause, Choices, DeviceFaults, InsnBits, Map, Marks, Misaligned, Mode, NoMemory,
+    PhysMem, PmpEntry, Seen, Sets, Span, TrapValues, Write,
 };
 use std::test::Fail;
 
@@ -137,22 +138,24 @@ fn memory(pa: u64) -> Place {
 /// comes of it; the place is given by whether a device has it.
 #[test]
 fn loads(rt: HostRuntime) -> Result<(), Fail> {
+    let plain = Atomicity::Plain;
+    let reserved = Atomicity::Reserved;
     let map = ram_and_devices()?;
     let mem = tables(map.ram, [0; 3]);
     let misaligned = Cause::LoadAddressMisaligned;
     let fault = Cause::LoadAccessFault;
     let cases = [
-        (0x8000_0ff8, false, Ok(false)),
-        (0x8000_0ff8, true, Ok(false)),
-        (0x8000_0ffc, false, Err((misaligned, 0x8000_0ffc))),
-        (0x1_0000_0000, false, Err((fault, 0x1_0000_0000))),
-        (0x7fff_fff8, false, Err((fault, 0x7fff_fff8))),
-        (0x1000_0000, false, Ok(true)),
-        (0x1000_0000, true, Err((fault, 0x1000_0000))),
-        (0x1000_0004, true, Err((misaligned, 0x1000_0004))),
-        (u64::MAX - 7, false, Err((fault, u64::MAX - 7))),
+        (0x8000_0ff8, plain, Ok(false)),
+        (0x8000_0ff8, reserved, Ok(false)),
+        (0x8000_0ffc, plain, Err((misaligned, 0x8000_0ffc))),
+        (0x1_0000_0000, plain, Err((fault, 0x1_0000_0000))),
+        (0x7fff_fff8, plain, Err((fault, 0x7fff_fff8))),
+        (0x1000_0000, plain, Ok(true)),
+        (0x1000_0000, reserved, Err((fault, 0x1000_0000))),
+        (0x1000_0004, reserved, Err((misaligned, 0x1000_0004))),
+        (u64::MAX - 7, plain, Err((fault, u64::MAX - 7))),
     ];
-    for (va, atomic, want) in cases {
+    for (va, atomicity, want) in cases {
         let mut seen = Seen::empty();
         let found = load(
             &mem,
@@ -161,7 +164,7 @@ fn loads(rt: HostRuntime) -> Result<(), Fail> {
             Mode::Machine,
             va,
             8,
-            atomic,
+            atomicity,
             &Choices::plain(),
             &mut seen,
             &mut Sets::empty(),
@@ -176,22 +179,24 @@ fn loads(rt: HostRuntime) -> Result<(), Fail> {
     Ok(())
 }
 
-/// Places of stores where misaligned accesses trap, for SC and the AMOs without devices.
+/// Places of stores where misaligned accesses trap, for SC without devices.
 #[test]
 fn places_of_stores(rt: HostRuntime) -> Result<(), Fail> {
+    let plain = Atomicity::Plain;
+    let reserved = Atomicity::Reserved;
     let map = ram_and_devices()?;
     let mem = tables(map.ram, [0; 3]);
     let misaligned = Cause::StoreAddressMisaligned;
     let fault = Cause::StoreAccessFault;
     let cases = [
-        (0x8000_0ffc, false, Ok(false)),
-        (0x8000_0ffe, false, Err((misaligned, 0x8000_0ffe))),
-        (0x1_0000_0000, true, Err((fault, 0x1_0000_0000))),
-        (0x1000_0ffc, false, Ok(true)),
-        (0x1000_0ffc, true, Err((fault, 0x1000_0ffc))),
-        (0x1000_1000, false, Err((fault, 0x1000_1000))),
+        (0x8000_0ffc, plain, Ok(false)),
+        (0x8000_0ffe, plain, Err((misaligned, 0x8000_0ffe))),
+        (0x1_0000_0000, reserved, Err((fault, 0x1_0000_0000))),
+        (0x1000_0ffc, plain, Ok(true)),
+        (0x1000_0ffc, reserved, Err((fault, 0x1000_0ffc))),
+        (0x1000_1000, plain, Err((fault, 0x1000_1000))),
     ];
-    for (va, atomic, want) in cases {
+    for (va, atomicity, want) in cases {
         let found = store_place(
             &mem,
             &Csrs::reset(),
@@ -199,7 +204,7 @@ fn places_of_stores(rt: HostRuntime) -> Result<(), Fail> {
             Mode::Machine,
             va,
             4,
-            atomic,
+            atomicity,
             &Choices::plain(),
             &mut Seen::empty(),
             &mut Sets::empty(),
@@ -209,6 +214,71 @@ fn places_of_stores(rt: HostRuntime) -> Result<(), Fail> {
             Err(exception) => Err(exception),
         };
         assert_eq!(rt; of_device, want);
+    }
+    Ok(())
+}
+
+/// Places of atomic memory operations of four bytes, where devices refuse nothing and where the row
+/// says what they refuse. None is misaligned, whatever other accesses do.
+#[test]
+fn places_of_amos(rt: HostRuntime) -> Result<(), Fail> {
+    let map = ram_and_devices()?;
+    let mem = tables(map.ram, [0; 3]);
+    let never = done(Marks::Fault)?;
+    let by_row = never.with_rows(InsnBits::Full, DeviceFaults::ByRow);
+    let misaligned = Cause::StoreAddressMisaligned;
+    let fault = Cause::StoreAccessFault;
+    let cases = [
+        (never, 0x8000_0ffc, Ok(false)),
+        (never, 0x1000_0ffc, Err((fault, 0x1000_0ffc))),
+        (by_row, 0x8000_0ffc, Ok(false)),
+        (by_row, 0x1000_0ffc, Ok(true)),
+        (by_row, 0x1000_0ffe, Err((misaligned, 0x1000_0ffe))),
+        (by_row, 0x1000_1000, Err((fault, 0x1000_1000))),
+    ];
+    for (choices, va, want) in cases {
+        let found = store_place(
+            &mem,
+            &Csrs::reset(),
+            &map,
+            Mode::Machine,
+            va,
+            4,
+            Atomicity::Amo,
+            &choices,
+            &mut Seen::empty(),
+            &mut Sets::empty(),
+        );
+        let of_device = match found {
+            Ok((place, _)) => Ok(place.io),
+            Err(exception) => Err(exception),
+        };
+        assert_eq!(rt; of_device, want);
+    }
+    Ok(())
+}
+
+/// Whether a supervisor may load, by the number of entries that the core has and the configuration
+/// of entry 8, which covers all. Where the core has none, everyone may.
+#[test]
+fn entries_of_the_core(rt: HostRuntime) -> Result<(), Fail> {
+    let cases = [
+        (EntryCount::Sixteen, 0x1f, true),
+        (EntryCount::Eight, 0x1f, false),
+        (EntryCount::Zero, 0x1e, true),
+        (EntryCount::Sixteen, 0, false),
+        (EntryCount::Eight, 0, false),
+        (EntryCount::Zero, 0, true),
+    ];
+    for (count, cfg, allowed) in cases {
+        let mut csrs = Csrs::reset();
+        csrs.profile.entry_count = count;
+        csrs.entries[8] = PmpEntry {
+            cfg,
+            addr: 0x3f_ffff_ffff_ffff,
+        };
+        let found = is_allowed(&csrs, Mode::Supervisor, 0x8000_0000, 8, Access::Load);
+        assert_eq!(rt; found, allowed);
     }
     Ok(())
 }
@@ -285,7 +355,7 @@ fn loads_by_page_tables(rt: HostRuntime) -> Result<(), Fail> {
             mode,
             va,
             1,
-            false,
+            Atomicity::Plain,
             &Choices::plain(),
             &mut seen,
             &mut Sets::empty(),
@@ -308,6 +378,8 @@ fn loads_by_page_tables(rt: HostRuntime) -> Result<(), Fail> {
 /// does every load where misaligned accesses trap.
 #[test]
 fn misaligned_loads(rt: HostRuntime) -> Result<(), Fail> {
+    let plain = Atomicity::Plain;
+    let reserved = Atomicity::Reserved;
     let map = ram_and_devices()?;
     let mem = tables(map.ram, [0; 3]);
     let carried = done(Marks::Fault)?;
@@ -350,15 +422,15 @@ fn misaligned_loads(rt: HostRuntime) -> Result<(), Fail> {
     ];
     for (va, want) in cases {
         let ways = [
-            (carried, false, want),
-            (carried, true, Err((Cause::LoadAddressMisaligned, va))),
+            (carried, plain, want),
+            (carried, reserved, Err((Cause::LoadAddressMisaligned, va))),
             (
                 Choices::plain(),
-                false,
+                plain,
                 Err((Cause::LoadAddressMisaligned, va)),
             ),
         ];
-        for (choices, atomic, comes) in ways {
+        for (choices, atomicity, comes) in ways {
             let found = load(
                 &mem,
                 &Csrs::reset(),
@@ -366,7 +438,7 @@ fn misaligned_loads(rt: HostRuntime) -> Result<(), Fail> {
                 Mode::Machine,
                 va,
                 8,
-                atomic,
+                atomicity,
                 &choices,
                 &mut Seen::empty(),
                 &mut Sets::empty(),
@@ -380,6 +452,8 @@ fn misaligned_loads(rt: HostRuntime) -> Result<(), Fail> {
 /// The places of misaligned stores of four bytes without translation.
 #[test]
 fn misaligned_stores(rt: HostRuntime) -> Result<(), Fail> {
+    let plain = Atomicity::Plain;
+    let reserved = Atomicity::Reserved;
     let map = ram_and_devices()?;
     let mem = tables(map.ram, [0; 3]);
     let carried = done(Marks::Fault)?;
@@ -389,19 +463,24 @@ fn misaligned_stores(rt: HostRuntime) -> Result<(), Fail> {
     let low = memory(0x8000_0ffd);
     let high = memory(0x8000_1000);
     let cases = [
-        (carried, false, 0x8000_0ff9, Ok((one, None))),
-        (carried, false, 0x8000_0ffd, Ok((low, Some(high)))),
-        (carried, false, 0xffff_fffd, Err((fault, 0x1_0000_0000))),
-        (carried, false, 0x1000_0001, Err((fault, 0x1000_0001))),
-        (carried, true, 0x8000_0ffd, Err((misaligned, 0x8000_0ffd))),
+        (carried, plain, 0x8000_0ff9, Ok((one, None))),
+        (carried, plain, 0x8000_0ffd, Ok((low, Some(high)))),
+        (carried, plain, 0xffff_fffd, Err((fault, 0x1_0000_0000))),
+        (carried, plain, 0x1000_0001, Err((fault, 0x1000_0001))),
+        (
+            carried,
+            reserved,
+            0x8000_0ffd,
+            Err((misaligned, 0x8000_0ffd)),
+        ),
         (
             Choices::plain(),
-            false,
+            plain,
             0x8000_0ffd,
             Err((misaligned, 0x8000_0ffd)),
         ),
     ];
-    for (choices, atomic, va, want) in cases {
+    for (choices, atomicity, va, want) in cases {
         let found = store_place(
             &mem,
             &Csrs::reset(),
@@ -409,7 +488,7 @@ fn misaligned_stores(rt: HostRuntime) -> Result<(), Fail> {
             Mode::Machine,
             va,
             4,
-            atomic,
+            atomicity,
             &choices,
             &mut Seen::empty(),
             &mut Sets::empty(),
@@ -497,7 +576,7 @@ fn loads_over_two_entries(rt: HostRuntime) -> Result<(), Fail> {
             Mode::Supervisor,
             va,
             8,
-            false,
+            Atomicity::Plain,
             &choices,
             &mut seen,
             &mut set,
@@ -576,7 +655,7 @@ fn entries_set_before(rt: HostRuntime) -> Result<(), Fail> {
             Mode::Machine,
             va,
             8,
-            false,
+            Atomicity::Plain,
             &choices,
             &mut Seen::empty(),
             &mut sets,
@@ -592,7 +671,7 @@ fn entries_set_before(rt: HostRuntime) -> Result<(), Fail> {
         Mode::Supervisor,
         0x3fff_fffe,
         4,
-        false,
+        Atomicity::Plain,
         &choices,
         &mut Seen::empty(),
         &mut sets,

@@ -9,9 +9,9 @@ use Rattle.hart_words.specs.declared.privilege.PmpEntry.{PmpEntry}
 use Rattle.pmp_check.specs.declared.region.Region.{Region}
 use Rattle.pmp_check.specs.Protection.{region_of, covers_some, covers_all, entry_permits, is_machine, is_allowed_after}
 use Rattle.pmp_check.specs.Protection.{is_allowed}
-use Rattle.pmp_check.specs.Covering.{Covers, CoversAt, Decides, IsRegister, SomeByte, entry_at}
+use Rattle.pmp_check.specs.Covering.{Covers, Decides, IsRegister, SomeByte, entry_at}
 use Rattle.pmp_check.specs.Covering.{register_before}
-use Rattle.pmp_check.specs.Laws.{LeastDecides, LeastRefusesPart}
+use Rattle.pmp_check.specs.Laws.{LeastDecides, LeastRefusesPart, NoEntryAllowsAll, NoneLeavesMachine}
 use Rattle.pmp_check.proofs.Covering.{region_of-Covers, some_byte, each_byte}
 
 -- the entry at a place of a list that comes after an entry with the address register `first`
@@ -120,11 +120,17 @@ after_least {first} (entry ∷ entries) (suc i) mode {pa} {len} access h found =
     ∙ ap (λ b. covers_all (region_of b (entry_at entries i)) pa len
     && entry_permits (entry_at entries i).cfg mode access) (before_shift first entry entries i)
 
-pub none_decides : (entries : List PmpEntry) (mode : Mode) (pa len : ℕ) (access : Access) → All IsRegister entries
-    → ((i : ℕ) → i < length entries → SomeByte pa len (CoversAt entries i) → ⊥)
-    → is_allowed entries mode pa len access ≡ is_machine mode
+pub none_decides : (entries : List PmpEntry) (mode : Mode) (pa len : ℕ) (access : Access)
+    → NoneLeavesMachine entries mode pa len access
 unfolding is_allowed
-none_decides entries mode pa len access h none = after_none 0 entries mode pa len access h none
+none_decides [] mode pa len access there h none = absurd (omega (arith, there))
+none_decides (entry ∷ entries) mode pa len access there h none =
+    after_none 0 (entry ∷ entries) mode pa len access h none
+
+-- without entries every access is allowed
+pub no_entry_allows : (mode : Mode) (pa len : ℕ) (access : Access) → NoEntryAllowsAll mode pa len access
+unfolding is_allowed
+no_entry_allows mode pa len access = refl
 
 pub some_is : (pa len : ℕ) {P : ℕ → Type 0} → SomeByte pa len P → 1 ≤ len
 some_is pa len byte = omega (arith, byte.low, byte.high)
@@ -136,8 +142,9 @@ pub least_decides : {entries : List PmpEntry} {i : ℕ} (mode : Mode) {pa len : 
     ≡ (covers_all (region_of (register_before 0 entries i) (entry_at entries i)) pa len
     && entry_permits (entry_at entries i).cfg mode access)
 unfolding is_allowed answer
-least_decides {entries} {i} mode access h below decides =
-    after_least entries i mode access h
+least_decides {entries = []} {i} mode access h below decides = absurd (omega (arith, below))
+least_decides {entries = entry ∷ entries} {i} mode access h below decides =
+    after_least (entry ∷ entries) i mode access h
     (record { exists = below; touches = decides.touches; least = decides.least })
 
 pub whole_decides : (entries : List PmpEntry) (i : ℕ) (mode : Mode) (pa len : ℕ) (access : Access)

@@ -13,7 +13,7 @@ use Rattle.pmp_check.specs.Covering.{Decides, IsIn, IsRegister, EachByte, entry_
 use Rattle.pmp_check.specs.Laws.{PermitsAccess, IsPermitted}
 use Rattle.pmp_check.proofs.Covering.{region_of-Covers, some_byte, each_byte}
 use Rattle.pmp_check.proofs.Deciding.{Touches, SomeByte-map, accesses, shift, unshift, head, tail, register_at, some_is}
-use Rattle.pmp_check.proofs.Deciding.{none_decides, whole_decides, least_decides}
+use Rattle.pmp_check.proofs.Deciding.{no_entry_allows, none_decides, whole_decides, least_decides}
 
 -- the least entry that covers any byte of an access, among those after an entry with the address register `first`
 record IsLeast (first : ℕ) (entries : List PmpEntry) (pa len : ℕ) : Type 0 where
@@ -106,16 +106,24 @@ least_grants entries mode pa len access h allowed found =
 
 allowed_is_granted : (entries : List PmpEntry) (mode : Mode) (pa len : ℕ) (access : Access) → All IsRegister entries
     → IsTrue (is_allowed entries mode pa len access) → IsPermitted entries mode pa len access
-allowed_is_granted entries mode pa len access h allowed = elim (searched 0 entries pa len h) [
-  | inl found ↦ inl (least_grants entries mode pa len access h allowed found)
-  | inr none ↦ inr (machine_alone mode (sym (none_decides entries mode pa len access h none) ∙ allowed), none)
-]
+allowed_is_granted [] mode pa len access h allowed = inr (inr refl)
+allowed_is_granted (entry ∷ entries) mode pa len access h allowed =
+    let all : List PmpEntry = entry ∷ entries in
+    elim (searched 0 all pa len h) [
+      | inl found ↦ inl (least_grants all mode pa len access h allowed found)
+      | inr none ↦
+          let alone : is_machine mode ≡ true =
+          sym (none_decides all mode pa len access (omega arith) h none) ∙ allowed in
+          inr (inl (machine_alone mode alone, none))
+    ]
 
 granted_is_allowed : (entries : List PmpEntry) (mode : Mode) (pa len : ℕ) (access : Access) → All IsRegister entries
     → IsPermitted entries mode pa len access → IsTrue (is_allowed entries mode pa len access)
-granted_is_allowed entries mode pa len access h granted = elim granted [
-  | inl by ↦ whole_decides entries by.number mode pa len access h by.exists by.decides by.covers ∙ by.permits
-  | inr free ↦ none_decides entries mode pa len access h free.1 ∙ ap is_machine free.0
+granted_is_allowed [] mode pa len access h granted = no_entry_allows mode pa len access
+granted_is_allowed (entry ∷ entries) mode pa len access h granted = elim granted [
+  | inl by ↦ whole_decides (entry ∷ entries) by.number mode pa len access h by.exists by.decides by.covers ∙ by.permits
+  | inr (inl free) ↦ none_decides (entry ∷ entries) mode pa len access (omega arith) h free.1 ∙ ap is_machine free.0
+  | inr (inr none) ↦ cc
 ]
 
 pub just_granted : (entries : List PmpEntry) (mode : Mode) (pa len : ℕ) (access : Access) → All IsRegister entries

@@ -95,8 +95,9 @@ part_after before (entry ∷ entries) mode {pa} {len} access {part} {count} is_p
 pub part_allowed : (entries : List PmpEntry) (mode : Mode) (pa len : ℕ) (access : Access)
     → AllowsParts entries mode pa len access
 unfolding is_allowed
-part_allowed entries mode pa len access allowed part count low nonempty high =
-    part_after 0 entries mode access (record { low = low; nonempty = nonempty; high = high }) allowed
+part_allowed [] mode pa len access allowed part count low nonempty high = refl
+part_allowed (entry ∷ entries) mode pa len access allowed part count low nonempty high =
+    part_after 0 (entry ∷ entries) mode access (record { low = low; nonempty = nonempty; high = high }) allowed
 
 -- each byte of an access that is allowed
 pub byte_allowed : (entries : List PmpEntry) (mode : Mode) (pa len : ℕ) (access : Access)
@@ -123,4 +124,5 @@ alike_after before (entry ∷ entries) pa len access =
 pub both_alike : (entries : List PmpEntry) (pa len : ℕ) (access : Access)
     → is_allowed entries User pa len access ≡ is_allowed entries Supervisor pa len access
 unfolding is_allowed
-both_alike entries pa len access = alike_after 0 entries pa len access
+both_alike [] pa len access = refl
+both_alike (entry ∷ entries) pa len access = alike_after 0 (entry ∷ entries) pa len access

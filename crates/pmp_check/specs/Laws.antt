@@ -1,5 +1,5 @@
 -- What the check amounts to, byte by byte, from the Privileged Architecture's chapter "Machine-Level ISA".
-use Rattle.std.specs.Prelude.{◌≡◌, ℕ, ◌+◌, ◌<◌, ◌≤◌, ◌↔◌, ◌⊎◌, List, All, length, IsTrue, false}
+use Rattle.std.specs.Prelude.{◌≡◌, ℕ, ◌+◌, ◌<◌, ◌≤◌, ◌↔◌, ◌⊎◌, List, [], All, length, IsTrue, false}
 use Rattle.hart_words.specs.declared.privilege.Mode.{Mode}
 use Rattle.hart_words.specs.declared.privilege.Mode.TheVariants.{User, Supervisor, Machine}
 use Rattle.hart_words.specs.declared.privilege.Access.{Access}
@@ -32,10 +32,15 @@ LeastRefusesPart entries i mode pa len access =
     All IsRegister entries → i < length entries → Decides entries i pa len
     → SomeByte pa len (λ a. CoversAt entries i a → ⊥) → is_allowed entries mode pa len access ≡ false
 
--- without an entry that covers any byte M alone has access
+-- without entries every access is allowed
+abbrev pub NoEntryAllowsAll : Mode → ℕ → ℕ → Access → Type 0
+NoEntryAllowsAll mode pa len access = IsTrue (is_allowed [] mode pa len access)
+
+-- where there are entries, and none covers any byte, M alone has access
 abbrev pub NoneLeavesMachine : List PmpEntry → Mode → ℕ → ℕ → Access → Type 0
 NoneLeavesMachine entries mode pa len access =
-    All IsRegister entries → NoneCovers entries pa len → is_allowed entries mode pa len access ≡ is_machine mode
+    0 < length entries → All IsRegister entries → NoneCovers entries pa len
+    → is_allowed entries mode pa len access ≡ is_machine mode
 
 -- an entry is the least that covers any byte of an access, covers every byte of it, and permits it
 pub record PermitsAccess (entries : List PmpEntry) (mode : Mode) (pa len : ℕ) (access : Access) : Type 0 where
@@ -45,10 +50,10 @@ pub record PermitsAccess (entries : List PmpEntry) (mode : Mode) (pa len : ℕ) 
   pub covers : EachByte pa len (CoversAt entries number)
   pub permits : IsTrue (entry_permits (entry_at entries number).cfg mode access)
 
--- an entry grants the access, or it is M's and no entry covers a byte of it
+-- an entry grants the access, or it is M's and no entry covers a byte of it, or there are no entries
 abbrev pub IsPermitted : List PmpEntry → Mode → ℕ → ℕ → Access → Type 0
 IsPermitted entries mode pa len access =
-    PermitsAccess entries mode pa len access ⊎ ((mode ≡ Machine) × NoneCovers entries pa len)
+    PermitsAccess entries mode pa len access ⊎ (((mode ≡ Machine) × NoneCovers entries pa len) ⊎ (entries ≡ []))
 
 -- the check allows what is granted, and nothing else
 abbrev pub AllowsJustPermitted : List PmpEntry → Mode → ℕ → ℕ → Access → Type 0

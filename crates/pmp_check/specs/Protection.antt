@@ -71,6 +71,7 @@ is_allowed_after before (entry ∷ entries) mode pa len access =
     then covers_all region pa len && entry_permits entry.cfg mode access
     else is_allowed_after entry.addr entries mode pa len access
 
--- an access of so many bytes from an address on is allowed
+-- an access of so many bytes from an address on is allowed; it always is where there are no entries
 unfoldable pub is_allowed : List PmpEntry → Mode → ℕ → ℕ → Access → Bool
-is_allowed entries mode pa len access = is_allowed_after 0 entries mode pa len access
+is_allowed [] mode pa len access = true
+is_allowed (entry ∷ entries) mode pa len access = is_allowed_after 0 (entry ∷ entries) mode pa len access

@@ -2,7 +2,7 @@
 //! "Machine-Level ISA".
 
 ghost use Rattle.std.specs.Prelude.{◌≡◌};
-ghost use Rattle.pmp_check.specs.Protection.{is_allowed, entry_permits, permits};
+ghost use Rattle.pmp_check.specs.Protection.{is_allowed, is_allowed_after, entry_permits, permits};
 
 use crate::region::Region;
 use hart_words::{Access, Mode, PmpEntry};
@@ -18,10 +18,18 @@ pub const L: u8 = 7;
 
 /// Whether the entries allow an access of `len` bytes from the physical address `pa` on, made in
 /// `mode`. The lowest-numbered entry that covers any byte of it decides, and has to cover all of
-/// them; where there is none, M alone has access.
-#[tactic(auto, unfolding(crate::specs::Protection::is_allowed, crate::specs::Protection::is_allowed_after))]
-pub fn allows(entries: &[PmpEntry; 16], mode: Mode, pa: u64, len: u8, access: Access) -> bool
+/// them; where there is none, M alone has access. Without any entries every access is allowed.
+#[tactic(auto, unfolding(crate::specs::Protection::is_allowed))]
+pub fn allows(entries: &[PmpEntry], mode: Mode, pa: u64, len: u8, access: Access) -> bool
     ensures { result ≡ is_allowed entries.now mode pa len access }
+{
+    entries.is_empty() || first_allows(entries, mode, pa, len, access)
+}
+
+/// The same where M alone has access without any entries.
+#[tactic(auto, unfolding(crate::specs::Protection::is_allowed_after))]
+fn first_allows(entries: &[PmpEntry], mode: Mode, pa: u64, len: u8, access: Access) -> bool
+    ensures { result ≡ is_allowed_after 0 entries.now mode pa len access }
 {
     let mut before = 0;
     for entry in entries {

@@ -5,7 +5,7 @@ ghost use Rattle.hart_words.specs.declared.privilege.Mode.{Mode};
 ghost use Rattle.hart_words.specs.declared.privilege.Access.{Access};
 ghost use Rattle.hart_words.specs.declared.privilege.PmpEntry.{PmpEntry};
 ghost use Rattle.pmp_check.specs.declared.region.Region.{Region};
-ghost use Rattle.pmp_check.specs.Laws.{AllowsBothAlike, AllowsJustPermitted, AllowsParts, ComparesEach, ComparesSome, HasJustCovered, LeastDecides, LeastRefusesPart, NoneLeavesMachine};
+ghost use Rattle.pmp_check.specs.Laws.{AllowsBothAlike, AllowsJustPermitted, AllowsParts, ComparesEach, ComparesSome, HasJustCovered, LeastDecides, LeastRefusesPart, NoEntryAllowsAll, NoneLeavesMachine};
 
 /// The region of an entry has just the bytes that the entry covers.
 pub fn regions_are_what_entries_cover()
@@ -19,8 +19,8 @@ pub fn comparisons_are_of_bytes()
 {}
 
 /// The lowest-numbered entry that covers any byte of an access decides: it refuses where it does
-/// not cover every byte, and else says what its rights and its lock say. Without one, M alone has
-/// access.
+/// not cover every byte, and else says what its rights and its lock say. Where none of the entries
+/// does, M alone has access; without any entries every access is allowed.
 pub fn least_entry_decides()
     ensures whole { (entries : List PmpEntry) (i : ℕ) (mode : Mode) (pa len : ℕ) (access : Access)
         → LeastDecides entries i mode pa len access }
@@ -28,10 +28,13 @@ pub fn least_entry_decides()
         → LeastRefusesPart entries i mode pa len access }
     ensures none { (entries : List PmpEntry) (mode : Mode) (pa len : ℕ) (access : Access)
         → NoneLeavesMachine entries mode pa len access }
+    ensures no_entry { (mode : Mode) (pa len : ℕ) (access : Access)
+        → NoEntryAllowsAll mode pa len access }
 {}
 
 /// An access is allowed exactly where it is granted: the lowest-numbered entry that covers any byte
-/// of it covers every byte and permits it, or M makes it and no entry covers a byte of it.
+/// of it covers every byte and permits it, or M makes it and no entry covers a byte of it, or there
+/// are no entries.
 pub fn just_what_is_permitted_is_allowed()
     ensures { (entries : List PmpEntry) (mode : Mode) (pa len : ℕ) (access : Access)
         → AllowsJustPermitted entries mode pa len access }

@@ -1,4 +1,4 @@
-//! Physical memory protection. The sixteen entries, the mode, and an access by its physical
+//! Physical memory protection. The entries of the core, the mode, and an access by its physical
 //! address, length and kind come in; out goes whether it is allowed. The check is `is_allowed` in
 //! `specs/Protection.antt`, with what it amounts to byte by byte in `specs/Laws.antt`, from the
 //! Privileged Architecture's chapter "Machine-Level ISA".

@@ -97,6 +97,27 @@ fn edges(rt: HostRuntime) -> Result<(), Fail> {
     Ok(())
 }
 
+/// The entries that are there decide. Without any everything is allowed.
+#[test]
+fn fewer_entries(rt: HostRuntime) -> Result<(), Fail> {
+    let page = PmpEntry {
+        cfg: 0x99,
+        addr: 0x5ff,
+    };
+    let all = entries(NONE, page, NONE);
+    let cases = [
+        (&all[..0], Mode::User, true),
+        (&all[..0], Mode::Machine, true),
+        (&all[..1], Mode::User, false),
+        (&all[..1], Mode::Machine, true),
+        (&all[..2], Mode::Machine, false),
+    ];
+    for (some, mode, allowed) in cases {
+        assert_eq!(rt; allows(some, mode, 0x1000, 8, Access::Store), allowed);
+    }
+    Ok(())
+}
+
 /// Each right for its access alone, a lock that binds M, and an earlier entry over a later one.
 #[test]
 fn rights_and_order(rt: HostRuntime) -> Result<(), Fail> {

@@ -1,8 +1,11 @@
 -- What is wanted of each signal of a row, from what the reference hart did. A signal of which nothing is
 -- wanted is free.
-use Rattle.std.specs.Prelude.{Bool, true, false, if◌then◌else◌, Option, Some, None, Result, Ok, Err}
+use Rattle.std.specs.Prelude.{ℕ, ◌-◌, ◌%◌, ◌^◌, Bool, true, false, not, ◌&&◌, ◌==◌, if◌then◌else◌, Option, Some, None}
+use Rattle.std.specs.Prelude.{Result, Ok, Err}
 use Rattle.std.specs.Option.{option_and_then}
+use Rattle.hart_words.specs.Options.{are_cut}
 use Rattle.hart_words.specs.Privilege.{mode_number}
+use Rattle.hart_words.specs.declared.options.InsnBits.{InsnBits}
 use Rattle.hart_words.specs.declared.privilege.Cause.{Cause}
 use Rattle.hart_words.specs.declared.privilege.Cause.TheVariants.{Breakpoint, EnvironmentCallFromUser}
 use Rattle.hart_words.specs.declared.privilege.Cause.TheVariants.{EnvironmentCallFromSupervisor}
@@ -14,6 +17,7 @@ use Rattle.hart_words.specs.declared.signal.Signal.TheVariants.{PcWdata, MemAddr
 use Rattle.hart_words.specs.declared.signal.Signal.TheVariants.{MemWdata, MemPaddr, Halt, Hart, Csr}
 use Rattle.hart_words.specs.declared.signal.CsrSide.TheVariants.{Rmask, Wmask, Rdata, Wdata}
 use Rattle.hart_words.specs.Signals.{Shown}
+use Rattle.csr_file.specs.Fields.{all_bits}
 use Rattle.csr_file.specs.Values.{shown_csr}
 use Rattle.rvfi_rows.specs.declared.expected.Retired.{Retired}
 use Rattle.rvfi_rows.specs.declared.expected.Effects.{Effects}
@@ -36,6 +40,15 @@ is_call_or_breakpoint _ = false
 abbrev pub expected_trap : Result Effects Cause → Option ExpectedSignal
 expected_trap (Ok effects) = whole 0
 expected_trap (Err cause) = if is_call_or_breakpoint cause then None else whole 1
+
+-- the bits of an instruction that are compared: of one of 16 bits, of which bits 1:0 are not 11, these alone where
+-- those above them say nothing
+abbrev pub insn_mask : InsnBits → ℕ → ℕ
+insn_mask bits insn = if are_cut bits && not (insn % 4 == 3) then 2 ^ 16 - 1 else all_bits
+
+abbrev pub expected_insn : InsnBits → Option ℕ → Option ExpectedSignal
+expected_insn bits None = None
+expected_insn bits (Some insn) = Some (record { value = insn; mask = insn_mask bits insn })
 
 -- what the instruction did, unless it took a trap, and its access, if it made one
 abbrev pub effects_in : Result Effects Cause → Option Effects
@@ -60,7 +73,7 @@ expected_signal retired shown PcRdata = whole retired.pc
 expected_signal retired shown Mode = whole (mode_number retired.mode)
 expected_signal retired shown Ixl = whole 2
 expected_signal retired shown Trap = expected_trap retired.effects
-expected_signal retired shown Insn = where_known retired.insn
+expected_signal retired shown Insn = expected_insn retired.insn_bits retired.insn
 expected_signal retired shown Rs1Addr = unless_trap retired (λ effects. where_known (source_read effects.rs1))
 expected_signal retired shown Rs1Rdata =
     unless_trap retired (λ effects. where_known (source_value effects.registers effects.rs1 (shown Rs1Addr)))
@@ -82,6 +95,8 @@ expected_signal retired shown Hart = None
 expected_signal retired shown (Csr name Rmask) = None
 expected_signal retired shown (Csr name Wmask) = None
 expected_signal retired shown (Csr name Rdata) =
-    Some (record { value = shown_csr retired.csrs_before name retired.lines; mask = bits_before name shown })
+    let csrs = retired.csrs_before in
+    Some (record { value = shown_csr csrs name retired.lines; mask = bits_before csrs.profile name shown })
 expected_signal retired shown (Csr name Wdata) =
-    Some (record { value = shown_csr retired.csrs_after name retired.lines; mask = bits_after name shown })
+    let csrs = retired.csrs_after in
+    Some (record { value = shown_csr csrs name retired.lines; mask = bits_after csrs.profile name shown })

@@ -3,7 +3,7 @@
 ghost use Rattle.std.specs.Prelude.{◌≡◌, option_copied};
 ghost use Rattle.hart_words.specs.declared.signal.Signal.TheVariants.{Csr};
 ghost use Rattle.rvfi_rows.specs.Cells.{shown_in};
-ghost use Rattle.row_compare.specs.Signals.{access_in, effects_in, is_call_or_breakpoint, expected_signal, expected_trap};
+ghost use Rattle.row_compare.specs.Signals.{access_in, effects_in, expected_insn, is_call_or_breakpoint, insn_mask, expected_signal, expected_trap};
 
 use crate::csrs::{bits_after, bits_before};
 use crate::expected_signal::{ExpectedSignal, where_known, whole};
@@ -12,7 +12,7 @@ use crate::memory::{
     expected_write_mask,
 };
 use crate::sources::{source_read, source_value};
-use hart_words::{Cause, CsrName, CsrSide, Signal};
+use hart_words::{Cause, CsrName, CsrSide, InsnBits, Signal};
 use rvfi_rows::{Accessed, Effects, Retired, Row};
 
 /// What is wanted of a signal of the row; it is `None` where the signal is free. Of an instruction
@@ -34,7 +34,7 @@ pub fn expected_signal(retired: &Retired, row: &Row, signal: Signal) -> Option<E
         Signal::Mode => whole(u64::from(retired.mode.number())),
         Signal::Ixl => whole(2),
         Signal::Trap => expected_trap(&retired.effects),
-        Signal::Insn => where_known(retired.insn),
+        Signal::Insn => expected_insn(retired.insn_bits, retired.insn),
         Signal::Rs1Addr => where_known(source_read(effects?.rs1)),
         Signal::Rs1Rdata => {
             let effects = effects?;
@@ -72,11 +72,11 @@ fn expected_csr(
         CsrSide::Rmask | CsrSide::Wmask => None,
         CsrSide::Rdata => Some(ExpectedSignal {
             value: retired.csrs_before.shown(name, retired.lines),
-            mask: bits_before(name, row),
+            mask: bits_before(&retired.csrs_before.profile, name, row),
         }),
         CsrSide::Wdata => Some(ExpectedSignal {
             value: retired.csrs_after.shown(name, retired.lines),
-            mask: bits_after(name, row),
+            mask: bits_after(&retired.csrs_after.profile, name, row),
         }),
     }
 }
@@ -94,6 +94,30 @@ fn expected_trap(effects: &Result<Effects, Cause>) -> Option<ExpectedSignal>
                 whole(1)
             }
         }
+    }
+}
+
+/// The instruction that was fetched, in the bits that are compared.
+fn expected_insn(bits: InsnBits, insn: Option<u64>) -> Option<ExpectedSignal>
+    ensures { result ≡ expected_insn bits insn }
+{
+    match insn {
+        None => None,
+        Some(value) => Some(ExpectedSignal {
+            value,
+            mask: insn_mask(bits, value),
+        }),
+    }
+}
+
+/// Of an instruction of 16 bits these alone, where those above them say nothing.
+fn insn_mask(bits: InsnBits, insn: u64) -> u64
+    ensures { result ≡ insn_mask bits insn }
+{
+    if bits.are_cut() && insn % 4 != 3 {
+        0xFFFF
+    } else {
+        u64::MAX
     }
 }
 

@@ -1,6 +1,7 @@
 use super::*;
-use csr_file::{Csrs, StoredCsr};
-use hart_words::{Cause, CsrName, CsrSide, Difference, Mode, Registers, Signal};
+use csr_file::profile::OptionalCsr;
+use csr_file::{CsrProfile, Csrs, EntryCount, Presence, StoredCsr};
+use hart_words::{Cause, CsrName, CsrSide, Difference, InsnBits, Mode, Registers, Signal};
 use rvfi_rows::{Accessed, Effects, Expected, Retired, read_header, read_row};
 use std::alloc::Global;
 use std::process::Abort;
@@ -50,6 +51,7 @@ fn retirement_with(effects: Result<Effects, Cause>) -> Retired {
         pc: 0x8000_0000,
         mode: Mode::Supervisor,
         insn: Some(0x13),
+        insn_bits: InsnBits::Full,
         effects,
         csrs_before: Csrs::reset(),
         csrs_after: Csrs::reset(),
@@ -491,6 +493,133 @@ fn interrupt_lines(rt: HostRuntime) -> Result<(), Fail> {
         ),
     ];
     differs(&rt, rt.alloc(), &row, &masked)
+}
+
+/// Where rows say nothing above an instruction of 16 bits, these alone are compared and given. One
+/// of 32 bits is compared whole. Rows show 0x13 here.
+#[test]
+fn instructions_of_16_bits(rt: HostRuntime) -> Result<(), Fail> {
+    for (insn, insn_bits, difference) in [
+        (0x13, InsnBits::Length, None),
+        (
+            0x1_0013,
+            InsnBits::Length,
+            Some((Signal::Insn, 0x1_0013, 0x13)),
+        ),
+        (0x4501, InsnBits::Length, Some((Signal::Insn, 0x4501, 0x13))),
+        (0x4501, InsnBits::Full, Some((Signal::Insn, 0x4501, 0x13))),
+    ] {
+        let expected = Expected::Retired(Retired {
+            insn: Some(insn),
+            insn_bits,
+            ..retirement_with(Ok(effects(None)))
+        });
+        differs(&rt, rt.alloc(), &expected, &[("trap", "0", difference)])?;
+    }
+    for (insn_bits, shown, found) in [
+        (InsnBits::Length, "0x93004501", None),
+        (InsnBits::Length, "0x4501", None),
+        (InsnBits::Length, "0x93004503", Some(0x4503)),
+        (InsnBits::Full, "0x93004501", Some(0x9300_4501)),
+        (InsnBits::Full, "0x4501", None),
+    ] {
+        let expected = Expected::Retired(Retired {
+            insn: Some(0x4501),
+            insn_bits,
+            ..retirement_with(Ok(effects(None)))
+        });
+        let columns = read_header(rt.alloc(), b"insn,pc_rdata")?;
+        let line = format!(in rt.alloc(); "{shown},0x80000000")?;
+        let row = read_row(rt.alloc(), &columns, line.as_bytes(), 0, 1)?.ok_or("a row")?;
+        let difference = found.map(|found| Difference {
+            signal: Signal::Insn,
+            expected: 0x4501,
+            found,
+        });
+        assert_eq!(rt; first_difference(&expected, &row), difference);
+    }
+    Ok(())
+}
+
+/// A row of a core that makes this of its registers, in which those of each kind hold a value.
+fn row_of(profile: &CsrProfile) -> Expected {
+    let mut csrs = Csrs::reset_of(profile);
+    csrs.set(StoredCsr::Mideleg, 0x222);
+    Expected::Retired(Retired {
+        csrs_before: csrs,
+        csrs_after: csrs,
+        lines: 0x22,
+        ..retirement_with(Ok(effects(None)))
+    })
+}
+
+/// A line that a core adds is compared where mip shows it before the instruction, and not after it.
+#[test]
+fn added_lines(rt: HostRuntime) -> Result<(), Fail> {
+    let added = CsrProfile {
+        lines: 0x20,
+        ..CsrProfile::plain()
+    };
+    let cases: [Case; 7] = [
+        ("csr_mip_rdata", "0x20", None),
+        ("csr_mip_rdata", "0", Some((before(CsrName::Mip), 0x20, 0))),
+        ("csr_mip_wdata", "0xaa8", None),
+        ("csr_mip_wdata", "0x22", Some((after(CsrName::Mip), 0, 2))),
+        ("csr_sip_rdata,csr_sip_wdata", "0x220,0x220", None),
+        (
+            "csr_sip_rdata,csr_mip_rdata",
+            "0,0x20",
+            Some((before(CsrName::Sip), 0x20, 0)),
+        ),
+        ("csr_sip_rdata,csr_mip_rdata,csr_mip_rmask", "0,0,0x2", None),
+    ];
+    differs(&rt, rt.alloc(), &row_of(&added), &cases)?;
+    let cases: [Case; 2] = [
+        (
+            "csr_mip_wdata",
+            "0xaa8",
+            Some((after(CsrName::Mip), 0, 0x20)),
+        ),
+        (
+            "csr_sip_rdata",
+            "0x220",
+            Some((before(CsrName::Sip), 0, 0x20)),
+        ),
+    ];
+    differs(&rt, rt.alloc(), &row_of(&CsrProfile::plain()), &cases)
+}
+
+/// A misa that the core decides is not compared, and registers of no entries read 0.
+#[test]
+fn registers_of_a_core(rt: HostRuntime) -> Result<(), Fail> {
+    let decided = CsrProfile::plain().with_presence(OptionalCsr::Misa, Presence::FromRow);
+    let cases: [Case; 2] = [
+        ("csr_misa_rdata,csr_misa_wdata", "1,2", None),
+        (
+            "csr_misa_rdata,csr_mscratch_wdata",
+            "1,2",
+            Some((after(CsrName::Mscratch), 0, 2)),
+        ),
+    ];
+    differs(&rt, rt.alloc(), &row_of(&decided), &cases)?;
+    let unprotected = CsrProfile {
+        entry_count: EntryCount::Zero,
+        ..CsrProfile::plain()
+    };
+    let cases: [Case; 3] = [
+        (
+            "csr_misa_rdata",
+            "1",
+            Some((before(CsrName::Misa), 0x8000_0000_0014_1105, 1)),
+        ),
+        ("csr_pmpcfg0_rdata,csr_pmpcfg2_wdata", "0,0", None),
+        (
+            "csr_pmpcfg2_rdata",
+            "0x1f",
+            Some((before(CsrName::Pmpcfg2), 0, 0x1f)),
+        ),
+    ];
+    differs(&rt, rt.alloc(), &row_of(&unprotected), &cases)
 }
 
 /// The signals in the order of comparison, with the value expected and another.

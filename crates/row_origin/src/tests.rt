@@ -6,7 +6,7 @@ ghost use Rattle.row_origin.specs.Last.{CountsFrom, IsNarrow};
 
 use super::*;
 use csr_file::Csrs;
-use hart_words::{Cause, Mode, NoMemory, Read, Registers, Seen, Write, Wrote};
+use hart_words::{Cause, InsnBits, Mode, NoMemory, Read, Registers, Seen, Write, Wrote};
 use rvfi_rows::{Accessed, Effects, Expected, Retired, Stepped};
 use std::alloc::Global;
 use std::process::Abort;
@@ -22,6 +22,7 @@ fn retired(effects: Result<Effects, Cause>) -> Expected {
         pc: 0x8000_0000,
         mode: Mode::Machine,
         insn: Some(0x13),
+        insn_bits: InsnBits::Full,
         effects,
         csrs_before: Csrs::reset(),
         csrs_after: Csrs::reset(),

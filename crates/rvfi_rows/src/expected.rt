@@ -4,7 +4,7 @@ ghost use Rattle.std.specs.Prelude.{◌≡◌, []};
 ghost use Rattle.rvfi_rows.specs.declared.expected.Expected.TheVariants.{Halted};
 
 use csr_file::Csrs;
-use hart_words::{Cause, Mode, Registers, Seen, Wrote};
+use hart_words::{Cause, InsnBits, Mode, Registers, Seen, Wrote};
 
 /// What a step gave: what the reference hart did, and what was read from memory and written to it.
 #[derive(Debug, Drop)]
@@ -52,6 +52,8 @@ pub struct Retired {
     pub mode: Mode,
     /// The instruction's bits, where it could be fetched.
     pub insn: Option<u64>,
+    /// What rows show of an instruction of 16 bits.
+    pub insn_bits: InsnBits,
     /// What the instruction did, or the cause of its trap.
     pub effects: Result<Effects, Cause>,
     /// The control and status registers before the instruction, after an interrupt's entry.

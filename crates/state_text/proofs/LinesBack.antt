@@ -13,6 +13,7 @@ use Rattle.hex.specs.Hex.{lower_digits, encode_with}
 use Rattle.hart_words.specs.declared.span.Span.{Span}
 use Rattle.hart_words.specs.declared.privilege.Mode.{Mode}
 use Rattle.hart_words.specs.declared.privilege.Mode.TheVariants.{User, Supervisor, Machine}
+use Rattle.csr_file.specs.declared.profile.CsrProfile.{CsrProfile}
 use Rattle.state_text.specs.declared.fault.StateFault.{StateFault}
 use Rattle.state_text.specs.declared.head.Head.{Head}
 use Rattle.state_text.specs.declared.numbers.NumberKind.{NumberKind}
@@ -240,25 +241,27 @@ same_done : (x y : List ℕ) (l m : ℕ) (t u : List ℕ) → x ≡ y → l ≡ 
 same_done x y l m t u p q r = cc
 
 -- the numbers that are written are read again
-pub numbers_back : (names : List (List ℕ)) (kinds : List NumberKind) (numbers before : List ℕ) (left : Remaining)
-    (rest : List ℕ) → length names ≡ length kinds → length numbers ≡ length names → AreLegal kinds numbers
+pub numbers_back : (profile : CsrProfile) (names : List (List ℕ)) (kinds : List NumberKind) (numbers before : List ℕ)
+    (left : Remaining)
+    (rest : List ℕ) → length names ≡ length kinds → length numbers ≡ length names → AreLegal profile kinds numbers
     → ((k : ℕ) → get_or numbers k 0 < 2 ^ 64) → left.text ≡ concat (number_lines names numbers) ++ rest
-    → numbers_in names kinds before left ≡ Ok (before ++ numbers, left_after left (length names) rest)
+    → numbers_in profile names kinds before left ≡ Ok (before ++ numbers, left_after left (length names) rest)
 unfolding numbers_in number_lines AreLegal
-numbers_back [] [] [] before left rest one two legal small stands =
+numbers_back profile [] [] [] before left rest one two legal small stands =
     same_done before (before ++ []) left.line (left.line + 0) left.text rest (sym (append-nil before))
     (omega arith) stands
-numbers_back [] (kind ∷ kinds) numbers before left rest one two legal small stands = absurd (omega arith)
-numbers_back [] [] (number ∷ numbers) before left rest one two legal small stands = absurd (omega arith)
-numbers_back (name ∷ names) [] numbers before left rest one two legal small stands = absurd (omega arith)
-numbers_back (name ∷ names) (kind ∷ kinds) [] before left rest one two legal small stands = absurd (omega arith)
-numbers_back (name ∷ names) (kind ∷ kinds) (number ∷ numbers) before left rest one two legal small stands =
+numbers_back profile [] (kind ∷ kinds) numbers before left rest one two legal small stands = absurd (omega arith)
+numbers_back profile [] [] (number ∷ numbers) before left rest one two legal small stands = absurd (omega arith)
+numbers_back profile (name ∷ names) [] numbers before left rest one two legal small stands = absurd (omega arith)
+numbers_back profile (name ∷ names) (kind ∷ kinds) [] before left rest one two legal small stands = absurd (omega arith)
+numbers_back profile (name ∷ names) (kind ∷ kinds) (number ∷ numbers) before left rest one two legal small stands =
     let more = concat (number_lines names numbers) ++ rest in
     let first : left.text ≡ number_line name number ++ more =
     stands ∙ append_assoc (number_line name number) (concat (number_lines names numbers)) rest in
     let read = number_back name number left more (small 0) first in
     let others =
-    numbers_back names kinds numbers (before ++ number ∷ []) (left_after left 1 more) rest (omega arith) (omega arith)
+    numbers_back profile names kinds numbers (before ++ number ∷ []) (left_after left 1 more) rest (omega arith)
+    (omega arith)
     legal.1 (λ k. small (suc k)) refl in
     rw (read, legal.0)
     (others ∙ same_done _ _ (left.line + 1 + length names) (left.line + suc (length names)) rest rest

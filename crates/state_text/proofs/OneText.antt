@@ -7,6 +7,7 @@ use Rattle.std.proofs.lemmas.List.{append-nil}
 use Rattle.hart_words.specs.declared.map.Map.{Map}
 use Rattle.hart_words.specs.declared.choices.Choices.{Choices}
 use Rattle.hart_words.specs.Memory.{Bytes}
+use Rattle.csr_file.specs.declared.profile.CsrProfile.{CsrProfile}
 use Rattle.hart_step.specs.declared.state.Core.{Core}
 use Rattle.hart_step.specs.Cores.{IsSound}
 use Rattle.state_text.specs.declared.fault.StateFault.{StateFault}
@@ -24,20 +25,22 @@ use Rattle.state_text.proofs.Blocks.{has_memory}
 use Rattle.state_text.proofs.Sound.{over_core, sound_core}
 
 -- what is known of harts that were read after some
-pub record HasCores (map : Map) (choices : Choices) (harts : ℕ) (before cores : List Core) (left next : Remaining)
+pub record HasCores (profile : CsrProfile) (map : Map) (choices : Choices) (harts : ℕ) (before cores : List Core)
+    (left next : Remaining)
     : Type 0 where
   pub read : List Core
   pub all : cores ≡ before ++ read
   pub count : length read ≡ harts
   pub stand : left.text ≡ concat (cores_lines read) ++ next.text
   pub sound : AllByRecursion IsSound read
-  pub over : AllByRecursion (IsOver map choices) read
+  pub over : AllByRecursion (IsOver profile map choices) read
 
-pub has_cores : (map : Map) (choices : Choices) (harts : ℕ) (before : List Core) (left : Remaining) (cores : List Core)
-    (next : Remaining) → cores_in map choices harts before left ≡ Ok (cores, next)
-    → HasCores map choices harts before cores left next
+pub has_cores : (profile : CsrProfile) (map : Map) (choices : Choices) (harts : ℕ) (before : List Core)
+    (left : Remaining) (cores : List Core)
+    (next : Remaining) → cores_in profile map choices harts before left ≡ Ok (cores, next)
+    → HasCores profile map choices harts before cores left next
 unfolding cores_in cores_lines
-has_cores map choices zero before left cores next h =
+has_cores profile map choices zero before left cores next h =
     let read = same_read before cores left next h in
     record {
       read = [];
@@ -47,38 +50,40 @@ has_cores map choices zero before left cores next h =
       sound = tt;
       over = tt;
     }
-has_cores map choices (suc harts) before left cores next h =
-    let first = then_read (core_in map choices left) _ (cores, next) h in
-    let core = has_core map choices left first.0.0 first.0.1 first.1 in
-    let more = has_cores map choices harts (before ++ first.0.0 ∷ []) first.0.1 cores next first.2 in
+has_cores profile map choices (suc harts) before left cores next h =
+    let first = then_read (core_in profile map choices left) _ (cores, next) h in
+    let core = has_core profile map choices left first.0.0 first.0.1 first.1 in
+    let more = has_cores profile map choices harts (before ++ first.0.0 ∷ []) first.0.1 cores next first.2 in
     record {
       read = first.0.0 ∷ more.read;
       all = more.all ∙ append_assoc before (first.0.0 ∷ []) more.read;
       count = omega (arith, more.count);
       stand = joined left.text (concat (core_lines first.0.0)) first.0.1.text (concat (cores_lines more.read))
-          next.text (core_stands map choices left first.0.0 first.0.1 core) more.stand
+          next.text (core_stands profile map choices left first.0.0 first.0.1 core) more.stand
           ∙ ap (λ (t : List ℕ). t ++ next.text) (sym (concat_both (core_lines first.0.0) (cores_lines more.read)));
-      sound = (sound_core map choices left first.0.0 first.0.1 core, more.sound);
-      over = (over_core map choices left first.0.0 first.0.1 core, more.over);
+      sound = (sound_core profile map choices left first.0.0 first.0.1 core, more.sound);
+      over = (over_core profile map choices left first.0.0 first.0.1 core, more.over);
     }
 
 -- what is known of a state that was read
-pub record HasState (map : Map) (choices : Choices) (harts : ℕ) (text : List ℕ) (cores : List Core) (bytes : Bytes)
+pub record HasState (profile : CsrProfile) (map : Map) (choices : Choices) (harts : ℕ) (text : List ℕ)
+    (cores : List Core) (bytes : Bytes)
     : Type 0 where
   pub before_cores : Remaining
   pub before_memory : Remaining
   pub front : text ≡ concat (front_lines harts) ++ before_cores.text
-  pub has_cores : HasCores map choices harts [] cores before_cores before_memory
+  pub has_cores : HasCores profile map choices harts [] cores before_cores before_memory
   pub memory : memory_in map.ram (length before_memory.text + 1) 0 (λ _. 0) before_memory ≡ Ok bytes
 
-pub has_state : (map : Map) (choices : Choices) (harts : ℕ) (text : List ℕ) (cores : List Core) (bytes : Bytes)
-    → state_in map choices harts text ≡ Ok (cores, bytes) → HasState map choices harts text cores bytes
+pub has_state : (profile : CsrProfile) (map : Map) (choices : Choices) (harts : ℕ) (text : List ℕ)
+    (cores : List Core) (bytes : Bytes)
+    → state_in profile map choices harts text ≡ Ok (cores, bytes) → HasState profile map choices harts text cores bytes
 unfolding state_in lines_in
-has_state map choices harts text cores bytes h =
+has_state profile map choices harts text cores bytes h =
     let start : Remaining = record { line = 1; text = text } in
-    let lines = said (says_harts harts text) (lines_in map choices harts start) h in
+    let lines = said (says_harts harts text) (lines_in profile map choices harts start) h in
     let front = then_read (front_in harts start) _ (cores, bytes) lines in
-    let read = then_read (cores_in map choices harts [] front.0.1) _ (cores, bytes) front.2 in
+    let read = then_read (cores_in profile map choices harts [] front.0.1) _ (cores, bytes) front.2 in
     let memory =
     then_read (memory_in map.ram (length read.0.1.text + 1) 0 (λ _. 0) read.0.1) _ (cores, bytes) read.2 in
     let same = both_same read.0.0 cores memory.0 bytes memory.2 in
@@ -86,8 +91,8 @@ has_state map choices harts text cores bytes h =
       before_cores = front.0.1;
       before_memory = read.0.1;
       front = front_stands harts start front.0.0 front.0.1 front.1;
-      has_cores = subst (λ (cores : List Core). HasCores map choices harts [] cores front.0.1 read.0.1) same.0
-          (has_cores map choices harts [] front.0.1 read.0.0 read.0.1 read.1);
+      has_cores = subst (λ (cores : List Core). HasCores profile map choices harts [] cores front.0.1 read.0.1) same.0
+          (has_cores profile map choices harts [] front.0.1 read.0.0 read.0.1 read.1);
       memory = memory.1 ∙ ap done same.1;
     }
   where
@@ -109,11 +114,12 @@ has_state map choices harts text cores bytes h =
         (ap (λ (q : List Core × Bytes). q.0) p, ap (λ (q : List Core × Bytes). q.1) p)
 
 -- harts over one map have its RAM
-pub same_ram : (map : Map) (choices : Choices) (cores : List Core) (bytes : Bytes) → 1 ≤ length cores
-    → AllByRecursion (IsOver map choices) cores
+pub same_ram : (profile : CsrProfile) (map : Map) (choices : Choices) (cores : List Core) (bytes : Bytes)
+    → 1 ≤ length cores
+    → AllByRecursion (IsOver profile map choices) cores
     → ram_lines cores bytes ≡ memory_lines bytes map.ram.base (map.ram.size / 16)
-same_ram map choices [] bytes some over = absurd (omega arith)
-same_ram map choices (core ∷ cores) bytes some over =
+same_ram profile map choices [] bytes some over = absurd (omega arith)
+same_ram profile map choices (core ∷ cores) bytes some over =
     ap (λ (map : Map). memory_lines bytes map.ram.base (map.ram.size / 16)) over.0.map_is
 
 -- the text in its three parts
@@ -137,10 +143,11 @@ joined_text cores bytes harts lines count same text one two first second third =
     (third ∙ ap (λ (lines : List (List ℕ)). concat (lines ++ end_line ∷ [])) (sym same)))
     ∙ sym (text_parts cores bytes)
 
-pub one_text : (map : Map) (choices : Choices) (harts : ℕ) (text : List ℕ) (cores : List Core) (bytes : Bytes)
-    → 1 ≤ harts → state_in map choices harts text ≡ Ok (cores, bytes) → text ≡ saved_text cores bytes
-one_text map choices harts text cores bytes some h =
-    let has = has_state map choices harts text cores bytes h in
+pub one_text : (profile : CsrProfile) (map : Map) (choices : Choices) (harts : ℕ) (text : List ℕ) (cores : List Core)
+    (bytes : Bytes)
+    → 1 ≤ harts → state_in profile map choices harts text ≡ Ok (cores, bytes) → text ≡ saved_text cores bytes
+one_text profile map choices harts text cores bytes some h =
+    let has = has_state profile map choices harts text cores bytes h in
     let read = has.has_cores in
     let whole = map.ram.whole_size in
     let memory =
@@ -148,7 +155,7 @@ one_text map choices harts text cores bytes some h =
     (map.ram.size / 16) has.memory (omega (arith, whole)) (omega (arith, map.ram.whole_base))
     (λ a at_least in_ram. in_ram) (λ a at_least. refl) in
     let same : cores ≡ read.read = read.all in
-    let ram = same_ram map choices read.read bytes (omega (arith, some, read.count)) read.over in
+    let ram = same_ram profile map choices read.read bytes (omega (arith, some, read.count)) read.over in
     subst (λ (cores : List Core). text ≡ saved_text cores bytes) (sym same)
     (joined_text read.read bytes harts _ read.count ram text has.before_cores.text has.before_memory.text has.front
     read.stand memory.stands)

@@ -7,6 +7,7 @@ use Rattle.hart_words.specs.declared.map.Map.{Map}
 use Rattle.hart_words.specs.declared.choices.Choices.{Choices}
 use Rattle.hart_words.specs.Spans.{holds_all}
 use Rattle.csr_file.specs.Legal.{IsLegal}
+use Rattle.csr_file.specs.declared.profile.CsrProfile.{CsrProfile}
 use Rattle.hart_step.specs.declared.state.Core.{Core}
 use Rattle.hart_step.specs.Cores.{IsSound, IsSoundReservation}
 use Rattle.state_text.specs.Numbers.{csrs_with}
@@ -24,19 +25,22 @@ not_not : (test : Bool) → not test ≡ false → test ≡ true
 not_not true h = refl
 not_not false h = absurd cc
 
--- it has the map and the choices that are given
-pub over_core : (map : Map) (choices : Choices) (left : Remaining) (core : Core) (next : Remaining)
-    → HasCore map choices left core next → IsOver map choices core
-over_core map choices left core next has =
-    subst (IsOver map choices) has.same (record { map_is = refl; choices_are = refl })
+-- it has the profile, the map and the choices that are given
+pub over_core : (profile : CsrProfile) (map : Map) (choices : Choices) (left : Remaining) (core : Core)
+    (next : Remaining)
+    → HasCore profile map choices left core next → IsOver profile map choices core
+unfolding csrs_with
+over_core profile map choices left core next has =
+    subst (IsOver profile map choices) has.same (record { profile_is = refl; map_is = refl; choices_are = refl })
 
-pub sound_core : (map : Map) (choices : Choices) (left : Remaining) (core : Core) (next : Remaining)
-    → HasCore map choices left core next → IsSound core
-sound_core map choices left core next has =
+pub sound_core : (profile : CsrProfile) (map : Map) (choices : Choices) (left : Remaining) (core : Core)
+    (next : Remaining)
+    → HasCore profile map choices left core next → IsSound core
+sound_core profile map choices left core next has =
     let same : has.numbers ≡ has.has_numbers.read = has.has_numbers.all in
-    let legal : IsLegal (csrs_with has.numbers) =
-    subst (λ (n : List ℕ). IsLegal (csrs_with n)) (sym same)
-    (legal_csrs has.has_numbers.read has.has_numbers.len has.has_numbers.legal) in
+    let legal : IsLegal (csrs_with profile has.numbers) =
+    subst (λ (n : List ℕ). IsLegal (csrs_with profile n)) (sym same)
+    (legal_csrs profile has.has_numbers.read has.has_numbers.len has.has_numbers.legal) in
     subst IsSound has.same (record {
       even = even has.head.pc has.has_head.even;
       legal = legal;

@@ -5,6 +5,7 @@ use Rattle.hart_words.specs.declared.map.Map.{Map}
 use Rattle.hart_words.specs.declared.choices.Choices.{Choices}
 use Rattle.hart_words.specs.Memory.{Bytes}
 use Rattle.hart_words.specs.Results.{FailsAs}
+use Rattle.csr_file.specs.declared.profile.CsrProfile.{CsrProfile}
 use Rattle.hart_step.specs.declared.state.Core.{Core}
 use Rattle.state_text.specs.declared.fault.StateFault.{StateFault}
 use Rattle.state_text.specs.declared.fault.StateFault.TheVariants.{WrongHarts}
@@ -18,68 +19,75 @@ abbrev pub start_of : List ℕ → Remaining
 start_of text = record { line = 1; text = text }
 
 -- a text that says another number of harts
-pub wrong_harts : (map : Map) (choices : Choices) (harts : ℕ) (text : List ℕ) (said : Bool)
-    → said ≡ says_harts harts text → said ≡ false → state_in map choices harts text ≡ Err WrongHarts
+pub wrong_harts : (profile : CsrProfile) (map : Map) (choices : Choices) (harts : ℕ) (text : List ℕ) (said : Bool)
+    → said ≡ says_harts harts text → said ≡ false → state_in profile map choices harts text ≡ Err WrongHarts
 unfolding state_in
-wrong_harts map choices harts text said is other = let test = sym is ∙ other in rw test refl
+wrong_harts profile map choices harts text said is other = let test = sym is ∙ other in rw test refl
 
 -- what was read before memory, of a text that says as many harts
-pub record BeforeMemory (map : Map) (choices : Choices) (harts : ℕ) (text : List ℕ) (cores : List Core)
+pub record BeforeMemory (profile : CsrProfile) (map : Map) (choices : Choices) (harts : ℕ) (text : List ℕ)
+    (cores : List Core)
     (next left : Remaining) :
     Type 0 where
   pub said : says_harts harts text ≡ true
   pub fronted : front_in harts (start_of text) ≡ Ok (tt, next)
-  pub read : cores_in map choices harts [] next ≡ Ok (cores, left)
+  pub read : cores_in profile map choices harts [] next ≡ Ok (cores, left)
 
-pub no_front : (map : Map) (choices : Choices) (harts : ℕ) (text : List ℕ) (said : Bool) (fault : StateFault)
+pub no_front : (profile : CsrProfile) (map : Map) (choices : Choices) (harts : ℕ) (text : List ℕ) (said : Bool)
+    (fault : StateFault)
     → said ≡ says_harts harts text → said ≡ true → front_in harts (start_of text) ≡ Err fault
-    → state_in map choices harts text ≡ Err fault
+    → state_in profile map choices harts text ≡ Err fault
 unfolding state_in lines_in
-no_front map choices harts text said fault is holds fails = let test = sym is ∙ holds in rw (test, fails) refl
+no_front profile map choices harts text said fault is holds fails = let test = sym is ∙ holds in rw (test, fails) refl
 
-unread : (map : Map) (choices : Choices) (harts : ℕ) (text : List ℕ) (said : Bool) (next : Remaining)
+unread : (profile : CsrProfile) (map : Map) (choices : Choices) (harts : ℕ) (text : List ℕ) (said : Bool)
+    (next : Remaining)
     (fault : StateFault) → said ≡ says_harts harts text → said ≡ true
-    → front_in harts (start_of text) ≡ Ok (tt, next) → cores_in map choices harts [] next ≡ Err fault
-    → state_in map choices harts text ≡ Err fault
+    → front_in harts (start_of text) ≡ Ok (tt, next) → cores_in profile map choices harts [] next ≡ Err fault
+    → state_in profile map choices harts text ≡ Err fault
 unfolding state_in lines_in
-unread map choices harts text said next fault is holds fronted fails =
+unread profile map choices harts text said next fault is holds fronted fails =
     let test = sym is ∙ holds in rw (test, fronted, fails) refl
 
-pub no_cores : (map : Map) (choices : Choices) (harts : ℕ) (text : List ℕ) (said : Bool) (next : Remaining)
+pub no_cores : (profile : CsrProfile) (map : Map) (choices : Choices) (harts : ℕ) (text : List ℕ) (said : Bool)
+    (next : Remaining)
     (e : StateError) → said ≡ says_harts harts text → said ≡ true
     → front_in harts (start_of text) ≡ Ok (tt, next)
-    → FailsAs (state_fault e) (cores_in map choices harts [] next)
-    → FailsAs (state_fault e) (state_in map choices harts text)
-no_cores map choices harts text said next e is holds fronted fails = by (state_fault e) fails
+    → FailsAs (state_fault e) (cores_in profile map choices harts [] next)
+    → FailsAs (state_fault e) (state_in profile map choices harts text)
+no_cores profile map choices harts text said next e is holds fronted fails = by (state_fault e) fails
   where
-    by : (fault : Option StateFault) → FailsAs fault (cores_in map choices harts [] next)
-        → FailsAs fault (state_in map choices harts text)
+    by : (fault : Option StateFault) → FailsAs fault (cores_in profile map choices harts [] next)
+        → FailsAs fault (state_in profile map choices harts text)
     by None fails = tt
-    by (Some fault) fails = unread map choices harts text said next fault is holds fronted fails
+    by (Some fault) fails = unread profile map choices harts text said next fault is holds fronted fails
 
-refused : (map : Map) (choices : Choices) (harts : ℕ) (text : List ℕ) (cores : List Core) (next left : Remaining)
-    (fault : StateFault) → BeforeMemory map choices harts text cores next left
+refused : (profile : CsrProfile) (map : Map) (choices : Choices) (harts : ℕ) (text : List ℕ) (cores : List Core)
+    (next left : Remaining)
+    (fault : StateFault) → BeforeMemory profile map choices harts text cores next left
     → memory_in map.ram (length left.text + 1) 0 (λ _. 0) left ≡ Err fault
-    → state_in map choices harts text ≡ Err fault
+    → state_in profile map choices harts text ≡ Err fault
 unfolding state_in lines_in
-refused map choices harts text cores next left fault before fails =
+refused profile map choices harts text cores next left fault before fails =
     rw (before.said, before.fronted, before.read, fails) refl
 
-pub no_memory : (map : Map) (choices : Choices) (harts : ℕ) (text : List ℕ) (cores : List Core) (next left : Remaining)
-    (e : StateError) → BeforeMemory map choices harts text cores next left
+pub no_memory : (profile : CsrProfile) (map : Map) (choices : Choices) (harts : ℕ) (text : List ℕ)
+    (cores : List Core) (next left : Remaining)
+    (e : StateError) → BeforeMemory profile map choices harts text cores next left
     → FailsAs (state_fault e) (memory_in map.ram (length left.text + 1) 0 (λ _. 0) left)
-    → FailsAs (state_fault e) (state_in map choices harts text)
-no_memory map choices harts text cores next left e before fails = by (state_fault e) fails
+    → FailsAs (state_fault e) (state_in profile map choices harts text)
+no_memory profile map choices harts text cores next left e before fails = by (state_fault e) fails
   where
     by : (fault : Option StateFault) → FailsAs fault (memory_in map.ram (length left.text + 1) 0 (λ _. 0) left)
-        → FailsAs fault (state_in map choices harts text)
+        → FailsAs fault (state_in profile map choices harts text)
     by None fails = tt
-    by (Some fault) fails = refused map choices harts text cores next left fault before fails
+    by (Some fault) fails = refused profile map choices harts text cores next left fault before fails
 
-pub all_read : (map : Map) (choices : Choices) (harts : ℕ) (text : List ℕ) (cores : List Core) (next left : Remaining)
-    (bytes : Bytes) → BeforeMemory map choices harts text cores next left
+pub all_read : (profile : CsrProfile) (map : Map) (choices : Choices) (harts : ℕ) (text : List ℕ) (cores : List Core)
+    (next left : Remaining)
+    (bytes : Bytes) → BeforeMemory profile map choices harts text cores next left
     → memory_in map.ram (length left.text + 1) 0 (λ _. 0) left ≡ Ok bytes
-    → state_in map choices harts text ≡ Ok (cores, bytes)
+    → state_in profile map choices harts text ≡ Ok (cores, bytes)
 unfolding state_in lines_in
-all_read map choices harts text cores next left bytes before filled =
+all_read profile map choices harts text cores next left bytes before filled =
     rw (before.said, before.fronted, before.read, filled) refl

@@ -23,6 +23,7 @@ use Rattle.rv_atomic.specs.declared.reservation.Block.{Block}
 use Rattle.csr_file.specs.declared.csrs.Csrs.{Csrs}
 use Rattle.csr_file.specs.Legal.{IsLegalValue}
 use Rattle.csr_file.specs.Registers.{at, no_entry}
+use Rattle.csr_file.specs.declared.profile.CsrProfile.{CsrProfile}
 use Rattle.hart_step.specs.declared.state.Core.{Core}
 use Rattle.state_text.specs.declared.head.Head.{Head}
 use Rattle.state_text.specs.declared.numbers.TheConstants.{KINDS}
@@ -51,21 +52,26 @@ has_back core saved =
     let registers : core.registers ≡ registers_from r =
     ap (λ (values : List ℕ). with_values values) (fill_by_all r core.registers.values 31 0 saved.whole.registers
     (λ k h. refl)) in
-    let csrs : core.csrs ≡ csrs_from v e =
+    let csrs : core.csrs ≡ csrs_from profile v e =
     ap (λ (values : List ℕ). with_both values core.csrs.entries)
     (fill_by_all v core.csrs.values 21 0 saved.sound.legal.whole (λ k h. refl))
     ∙ ap (λ (entries : List PmpEntry). with_both (map v (range_with_len 0 21)) entries)
     (fill_by_all e core.csrs.entries 16 no_entry saved.whole.entries (λ k h. refl)) in
-    let fit : AreFit r v e = record {
+    let fit : AreFit profile r v e = record {
       registers = register_value core.registers saved.words.registers;
       csrs = csr_value core.csrs saved.words.csrs saved.sound.legal.whole;
       configurations = configuration_at core.csrs saved.words.configurations;
-      stored = λ stored. subst (λ (c : Csrs). IsLegalValue stored (at c stored)) csrs (saved.sound.legal.values stored);
+      stored = λ stored. subst (λ (c : Csrs). IsLegalValue profile stored (at c stored)) csrs
+          (saved.sound.legal.values stored);
       entries = λ k h. saved.sound.legal.entries k no_entry (omega (arith, h, saved.whole.entries));
+      missing = λ k none. saved.sound.legal.missing k none;
     } in
     subst (λ (g : Registers). HasBack g core.csrs) (sym registers)
-    (subst (λ (c : Csrs). HasBack (registers_from r) c) (sym csrs) (back_from r v e fit))
+    (subst (λ (c : Csrs). HasBack (registers_from r) c) (sym csrs) (back_from profile r v e fit))
   where
+    profile : CsrProfile
+    profile = core.csrs.profile
+
     r : ℕ → ℕ
     r k = get_or core.registers.values k 0
 
@@ -79,7 +85,7 @@ has_back core saved =
     with_values values = record { values = values }
 
     with_both : List ℕ → List PmpEntry → Csrs
-    with_both values entries = record { values = values; entries = entries }
+    with_both values entries = record { values = values; entries = entries; profile = profile }
 
 abbrev address_of : Option Block → Option ℕ
 address_of block = option_map (λ block. block.address) block
@@ -120,13 +126,13 @@ head_of core = record {
 }
 
 same_core : (core : Core) → IsSavedCore core
-    → core_with core.map core.choices (head_of core) (numbers_of core.registers core.csrs) ≡ core
+    → core_with core.csrs.profile core.map core.choices (head_of core) (numbers_of core.registers core.csrs) ≡ core
 unfolding head_of
 same_core core saved =
     let back = has_back core saved in
     let block = (reserved core.map.ram core.choices.block_size core.reservation.block saved.sound.reserved).same in
     let numbers = numbers_of core.registers core.csrs in
-    ap (λ (g : Registers). made g (csrs_with numbers) (option_map (block_with core.choices.block_size)
+    ap (λ (g : Registers). made g (csrs_with core.csrs.profile numbers) (option_map (block_with core.choices.block_size)
     (address_of core.reservation.block)))
     back.registers_back
     ∙ ap (λ (c : Csrs). made core.registers c (option_map (block_with core.choices.block_size)
@@ -151,7 +157,7 @@ same_core core saved =
 -- the lines of a hart are read as that hart
 core_back : (core : Core) → IsSavedCore core → (left : Remaining) (rest : List ℕ)
     → left.text ≡ concat (core_lines core) ++ rest
-    → (next : Remaining) × (next.text ≡ rest) × (core_in core.map core.choices left ≡ Ok (core, next))
+    → (next : Remaining) × (next.text ≡ rest) × (core_in core.csrs.profile core.map core.choices left ≡ Ok (core, next))
 unfolding core_in core_lines head_of
 core_back core saved left rest stands =
     let ram = core.map.ram in
@@ -175,29 +181,33 @@ core_back core saved left rest stands =
     let first = head_back ram size (head_of core) left two is split in
     let after_head : Remaining = record { line = left.line + 1 + 1 + 1 + 1 + 1; text = two } in
     let second =
-    numbers_back number_names KINDS numbers [] after_head rest refl back.len back.legal back.small refl in
+    numbers_back core.csrs.profile number_names KINDS numbers [] after_head rest refl back.len back.legal back.small
+    refl in
     let next = left_after after_head 70 rest in
     (next, refl, rw (first, second) (ap (λ (c : Core). read_as c next) (same_core core saved)))
 
 -- the lines of harts are read as those harts
-cores_back : (map : Map) (choices : Choices) (cores before : List Core) → AllByRecursion IsSavedCore cores
-    → AllByRecursion (IsOver map choices) cores → (left : Remaining) (rest : List ℕ)
+cores_back : (profile : CsrProfile) (map : Map) (choices : Choices) (cores before : List Core)
+    → AllByRecursion IsSavedCore cores
+    → AllByRecursion (IsOver profile map choices) cores → (left : Remaining) (rest : List ℕ)
     → left.text ≡ concat (cores_lines cores) ++ rest
     → (next : Remaining) × (next.text ≡ rest)
-    × (cores_in map choices (length cores) before left ≡ Ok (before ++ cores, next))
+    × (cores_in profile map choices (length cores) before left ≡ Ok (before ++ cores, next))
 unfolding cores_in cores_lines
-cores_back map choices [] before saved over left rest stands =
+cores_back profile map choices [] before saved over left rest stands =
     (left, stands, ap (λ (cores : List Core). read_as cores left) (sym (append-nil before)))
-cores_back map choices (core ∷ cores) before saved over left rest stands =
+cores_back profile map choices (core ∷ cores) before saved over left rest stands =
     let more = concat (cores_lines cores) ++ rest in
     let split : left.text ≡ concat (core_lines core) ++ more =
     stands ∙ ap (λ (t : List ℕ). t ++ rest) (concat_both (core_lines core) (cores_lines cores))
     ∙ append_assoc (concat (core_lines core)) (concat (cores_lines cores)) rest in
     let first = core_back core saved.0 left more split in
-    let read : core_in map choices left ≡ read_as core first.0 =
-    ap₂ (λ (map : Map) (choices : Choices). core_in map choices left) (sym over.0.map_is) (sym over.0.choices_are)
+    let read : core_in profile map choices left ≡ read_as core first.0 =
+    ap (λ (profile : CsrProfile). core_in profile map choices left) (sym over.0.profile_is)
+    ∙ ap₂ (λ (map : Map) (choices : Choices). core_in core.csrs.profile map choices left) (sym over.0.map_is)
+    (sym over.0.choices_are)
     ∙ first.2 in
-    let others = cores_back map choices cores (before ++ core ∷ []) saved.1 over.1 first.0 rest first.1 in (
+    let others = cores_back profile map choices cores (before ++ core ∷ []) saved.1 over.1 first.0 rest first.1 in (
       others.0,
       others.1,
       rw read (others.2 ∙ ap (λ (cores : List Core). read_as cores others.0) (append_assoc before (core ∷ []) cores)),
@@ -237,11 +247,12 @@ first_pc [] rest some = absurd (omega arith)
 first_pc (core ∷ cores) rest some = (_, refl)
 
 -- harts as code has them can be saved
-pub saved_set : (map : Map) (choices : Choices) (cores : List Core) (bytes : Bytes) → 0 < length cores
+pub saved_set : (profile : CsrProfile) (map : Map) (choices : Choices) (cores : List Core) (bytes : Bytes)
+    → 0 < length cores
     → length cores ≤ MOST_HARTS → All IsSound cores → All CoreHoldsWords cores → All IsWhole cores
-    → All (IsOver map choices) cores → ((address : ℕ) → bytes address < 2 ^ 8) → IsZeroOutside map.ram bytes
-    → IsSaved map choices cores bytes
-saved_set map choices cores bytes some few sound words whole over small outside = record {
+    → All (IsOver profile map choices) cores → ((address : ℕ) → bytes address < 2 ^ 8) → IsZeroOutside map.ram bytes
+    → IsSaved profile map choices cores bytes
+saved_set profile map choices cores bytes some few sound words whole over small outside = record {
   some = some;
   few = few;
   each = λ k d within. record { sound = sound k d within; words = words k d within; whole = whole k d within };
@@ -250,15 +261,15 @@ saved_set map choices cores bytes some few sound words whole over small outside 
   outside = outside;
 }
 
-pub text_back : (map : Map) (choices : Choices) (cores : List Core) (bytes : Bytes)
-    → IsSaved map choices cores bytes
-    → state_in map choices (length cores) (saved_text cores bytes) ≡ Ok (cores, bytes)
+pub text_back : (profile : CsrProfile) (map : Map) (choices : Choices) (cores : List Core) (bytes : Bytes)
+    → IsSaved profile map choices cores bytes
+    → state_in profile map choices (length cores) (saved_text cores bytes) ≡ Ok (cores, bytes)
 unfolding state_in lines_in
-text_back map choices cores bytes saved =
+text_back profile map choices cores bytes saved =
     let ram = map.ram in
     let text = saved_text cores bytes in
     let some : 1 ≤ length cores = omega (arith, saved.some) in
-    let over = recursion_from_All (IsOver map choices) cores saved.over in
+    let over = recursion_from_All (IsOver profile map choices) cores saved.over in
     let three = concat (ram_lines cores bytes ++ end_line ∷ []) in
     let two = concat (cores_lines cores) ++ three in
     let parts : text ≡ concat (front_lines (length cores)) ++ two = text_parts cores bytes in
@@ -268,10 +279,11 @@ text_back map choices cores bytes saved =
     ∙ said_back (length cores) two begins.0 some saved.few begins.1 in
     let front = front_back (length cores) (record { line = 1; text = text }) two parts in
     let read =
-    cores_back map choices cores [] (recursion_from_All IsSavedCore cores saved.each) over front.0 three front.1 in
+    cores_back profile map choices cores []
+    (recursion_from_All IsSavedCore cores saved.each) over front.0 three front.1 in
     let stands : read.0.text ≡ concat (memory_lines bytes ram.base (ram.size / 16) ++ end_line ∷ []) =
     read.1 ∙ ap (λ (lines : List (List ℕ)). concat (lines ++ end_line ∷ []))
-    (same_ram map choices cores bytes some over) in
+    (same_ram profile map choices cores bytes some over) in
     let third =
     memory_back ram (length read.0.text + 1) 0 (λ _. 0) bytes read.0 ram.base (ram.size / 16)
     saved.small stands (omega arith) (omega arith) (omega (arith, ram.whole_base)) (omega arith) (omega

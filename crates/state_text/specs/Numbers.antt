@@ -6,6 +6,7 @@ use Rattle.std.specs.Int.{w64, to_le_bytes}
 use Rattle.hart_words.specs.declared.privilege.PmpEntry.{PmpEntry}
 use Rattle.hart_words.specs.declared.registers.Registers.{Registers}
 use Rattle.csr_file.specs.declared.csrs.Csrs.{Csrs}
+use Rattle.csr_file.specs.declared.profile.CsrProfile.{CsrProfile}
 use Rattle.csr_file.specs.declared.stored_csr.StoredCsr.{StoredCsr}
 use Rattle.csr_file.specs.declared.stored_csr.StoredCsr.TheVariants.{Mstatus, Medeleg, Mideleg, Mie, Mtvec, Mcounteren}
 use Rattle.csr_file.specs.declared.stored_csr.StoredCsr.TheVariants.{Menvcfg, Mcountinhibit, Mscratch, Mepc, Mcause}
@@ -64,8 +65,10 @@ abbrev pub pmp_entry_in : List ℕ → ℕ → PmpEntry
 pmp_entry_in numbers k =
     record { cfg = slice_index (configurations_in numbers) k; addr = slice_index numbers (54 + k) }
 
-unfoldable pub csrs_with : List ℕ → Csrs
-csrs_with numbers = record {
+-- the control and status registers of a core that have the numbers
+unfoldable pub csrs_with : CsrProfile → List ℕ → Csrs
+csrs_with profile numbers = record {
   values = map (slice_index numbers) stored_places;
   entries = map (pmp_entry_in numbers) (range_with_len 0 16);
+  profile = profile;
 }

@@ -12,6 +12,7 @@ use Rattle.hart_words.specs.declared.privilege.Mode.{Mode}
 use Rattle.hart_words.specs.declared.privilege.Mode.TheVariants.{User, Supervisor, Machine}
 use Rattle.hart_words.specs.Results.{◌>>=◌, ◌>>◌, refuse_if}
 use Rattle.hart_words.specs.Spans.{holds_all}
+use Rattle.csr_file.specs.declared.profile.CsrProfile.{CsrProfile}
 use Rattle.state_text.specs.declared.fault.FaultKind.{FaultKind}
 use Rattle.state_text.specs.declared.fault.FaultKind.TheVariants.{BadLine, BadValue, OutsideRam}
 use Rattle.state_text.specs.declared.fault.StateFault.{StateFault}
@@ -131,12 +132,12 @@ head_in ram size remaining = do
 
 -- the numbers of lines with these names, after some numbers; each is one that the hart can have there
 unfoldable pub numbers_in :
-    List (List ℕ) → List NumberKind → List ℕ → Remaining → Result (List ℕ × Remaining) StateFault
-numbers_in (name ∷ names) (kind ∷ kinds) before remaining = do
+    CsrProfile → List (List ℕ) → List NumberKind → List ℕ → Remaining → Result (List ℕ × Remaining) StateFault
+numbers_in profile (name ∷ names) (kind ∷ kinds) before remaining = do
   read ← number_in name remaining
-  refuse_if (not (is_legal kind read.0)) (fault_at remaining BadValue)
-  numbers_in names kinds (before ++ read.0 ∷ []) read.1
-numbers_in _ _ before remaining = Ok (before, remaining)
+  refuse_if (not (is_legal profile kind read.0)) (fault_at remaining BadValue)
+  numbers_in profile names kinds (before ++ read.0 ∷ []) read.1
+numbers_in profile _ _ before remaining = Ok (before, remaining)
 
 abbrev pub is_zero : List ℕ → Bool
 is_zero bytes = list_all (λ byte. byte == 0) bytes

@@ -7,6 +7,7 @@ use Rattle.hart_words.specs.declared.choices.Choices.{Choices}
 use Rattle.hart_words.specs.Memory.{Bytes}
 use Rattle.hart_words.specs.Results.{◌>>=◌}
 use Rattle.rv_atomic.specs.declared.reservation.Block.{Block}
+use Rattle.csr_file.specs.declared.profile.CsrProfile.{CsrProfile}
 use Rattle.hart_step.specs.declared.state.Core.{Core}
 use Rattle.state_text.specs.declared.fault.StateFault.{StateFault}
 use Rattle.state_text.specs.declared.fault.StateFault.TheVariants.{WrongHarts}
@@ -62,13 +63,13 @@ saved_text cores bytes = concat (saved_lines cores bytes)
 abbrev pub block_with : ℕ → ℕ → Block
 block_with size address = record { address = address; size = size }
 
--- the hart that its lines say
-abbrev pub core_with : Map → Choices → Head → List ℕ → Core
-core_with map choices head numbers = record {
+-- the hart that its lines say, of a core that makes this of its registers
+abbrev pub core_with : CsrProfile → Map → Choices → Head → List ℕ → Core
+core_with profile map choices head numbers = record {
   registers = registers_with numbers;
   pc = head.pc;
   mode = head.mode;
-  csrs = csrs_with numbers;
+  csrs = csrs_with profile numbers;
   reservation = record { block = option_map (block_with choices.block_size) head.reserved };
   next_order = head.next_order;
   trapped_last = head.trapped_last;
@@ -78,31 +79,32 @@ core_with map choices head numbers = record {
 }
 
 -- the hart of the next lines
-unfoldable pub core_in : Map → Choices → Remaining → Result (Core × Remaining) StateFault
-core_in map choices remaining = do
+unfoldable pub core_in : CsrProfile → Map → Choices → Remaining → Result (Core × Remaining) StateFault
+core_in profile map choices remaining = do
   head ← head_in map.ram choices.block_size remaining
-  numbers ← numbers_in number_names KINDS [] head.1
-  Ok (core_with map choices head.0 numbers.0, numbers.1)
+  numbers ← numbers_in profile number_names KINDS [] head.1
+  Ok (core_with profile map choices head.0 numbers.0, numbers.1)
 
 -- so many harts more, after some
-unfoldable pub cores_in : Map → Choices → ℕ → List Core → Remaining → Result (List Core × Remaining) StateFault
-cores_in map choices zero before remaining = Ok (before, remaining)
-cores_in map choices (suc left) before remaining = do
-  core ← core_in map choices remaining
-  cores_in map choices left (before ++ core.0 ∷ []) core.1
+unfoldable pub cores_in :
+    CsrProfile → Map → Choices → ℕ → List Core → Remaining → Result (List Core × Remaining) StateFault
+cores_in profile map choices zero before remaining = Ok (before, remaining)
+cores_in profile map choices (suc left) before remaining = do
+  core ← core_in profile map choices remaining
+  cores_in profile map choices left (before ++ core.0 ∷ []) core.1
 
--- the state of so many harts that lines say, over a map and choices, or their first fault
-unfoldable pub lines_in : Map → Choices → ℕ → Remaining → Result (List Core × Bytes) StateFault
-lines_in map choices harts remaining = do
+-- the state of so many harts that lines say, of a core over a map and choices, or their first fault
+unfoldable pub lines_in : CsrProfile → Map → Choices → ℕ → Remaining → Result (List Core × Bytes) StateFault
+lines_in profile map choices harts remaining = do
   front ← front_in harts remaining
-  cores ← cores_in map choices harts [] front.1
+  cores ← cores_in profile map choices harts [] front.1
   bytes ← memory_in map.ram (length cores.1.text + 1) 0 (λ _. 0) cores.1
   Ok (cores.0, bytes)
 
 -- the state of so many harts that a text says; a text that says another number of harts is read no further
-unfoldable pub state_in : Map → Choices → ℕ → List ℕ → Result (List Core × Bytes) StateFault
-state_in map choices harts text =
-    if says_harts harts text then lines_in map choices harts (record { line = 1; text = text })
+unfoldable pub state_in : CsrProfile → Map → Choices → ℕ → List ℕ → Result (List Core × Bytes) StateFault
+state_in profile map choices harts text =
+    if says_harts harts text then lines_in profile map choices harts (record { line = 1; text = text })
     else Err WrongHarts
 
 -- the fault that an error stands for; want of memory is none

@@ -1,6 +1,6 @@
-//! The text of a saved state: harts without their map and choices, and the memory that they share.
+//! The text of a saved state: harts without their platform, and the memory that they share.
 //!
-//! In come a text, a map and choices, and how many harts there are to be. Out comes the state, or
+//! In come a text, a platform, and how many harts there are to be. Out comes the state, or
 //! the first rule that the text breaks and the line that does: what `state_in` (`specs/Texts.antt`)
 //! gives. Or in come harts over a memory, and their text goes out to a sink. The lines are
 //! `saved_lines` there, each of them in `specs/Lines.antt`. The reader guesses each value from the
@@ -24,7 +24,7 @@ mod values;
 mod writing;
 
 pub use fault::{FaultKind, StateError, StateFault};
-pub use state::{MOST_HARTS, State, read_state};
+pub use state::{MOST_HARTS, Platform, State, read_state};
 pub use writing::write_state;
 
 #[cfg(test)]

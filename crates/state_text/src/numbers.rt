@@ -13,7 +13,7 @@ use crate::fault::{FaultKind, StateFault};
 use crate::head::read_number;
 use crate::remaining::Remaining;
 use crate::values::is_legal;
-use csr_file::{Csrs, STORED_CSRS, StoredCsr};
+use csr_file::{CsrProfile, Csrs, STORED_CSRS, StoredCsr};
 use hart_words::{CsrName, PmpEntry, Registers};
 
 /// How many there are.
@@ -100,10 +100,10 @@ pub enum NumberKind {
     Register,
     /// A control and status register that is stored.
     Stored(StoredCsr),
-    /// The configurations of eight entries of physical memory protection.
-    Configurations,
+    /// The configurations of eight entries of physical memory protection, from one on.
+    Configurations(u8),
     /// The address of an entry of it.
-    EntryAddress,
+    EntryAddress(u8),
 }
 
 /// What each number is, in the same order.
@@ -160,42 +160,43 @@ pub const KINDS: [NumberKind; NUMBERS] = [
     NumberKind::Stored(StoredCsr::Stval),
     NumberKind::Stored(StoredCsr::Mip),
     NumberKind::Stored(StoredCsr::Satp),
-    NumberKind::Configurations,
-    NumberKind::Configurations,
-    NumberKind::EntryAddress,
-    NumberKind::EntryAddress,
-    NumberKind::EntryAddress,
-    NumberKind::EntryAddress,
-    NumberKind::EntryAddress,
-    NumberKind::EntryAddress,
-    NumberKind::EntryAddress,
-    NumberKind::EntryAddress,
-    NumberKind::EntryAddress,
-    NumberKind::EntryAddress,
-    NumberKind::EntryAddress,
-    NumberKind::EntryAddress,
-    NumberKind::EntryAddress,
-    NumberKind::EntryAddress,
-    NumberKind::EntryAddress,
-    NumberKind::EntryAddress,
+    NumberKind::Configurations(0),
+    NumberKind::Configurations(8),
+    NumberKind::EntryAddress(0),
+    NumberKind::EntryAddress(1),
+    NumberKind::EntryAddress(2),
+    NumberKind::EntryAddress(3),
+    NumberKind::EntryAddress(4),
+    NumberKind::EntryAddress(5),
+    NumberKind::EntryAddress(6),
+    NumberKind::EntryAddress(7),
+    NumberKind::EntryAddress(8),
+    NumberKind::EntryAddress(9),
+    NumberKind::EntryAddress(10),
+    NumberKind::EntryAddress(11),
+    NumberKind::EntryAddress(12),
+    NumberKind::EntryAddress(13),
+    NumberKind::EntryAddress(14),
+    NumberKind::EntryAddress(15),
 ];
 
 /// The numbers of the lines with these names, or the first fault. Each is one that the hart can
 /// have there.
 pub fn read_numbers<'a>(
     remaining: Remaining<'a>,
+    profile: &CsrProfile,
     names: &[&[u8]; NUMBERS],
     kinds: &[NumberKind; NUMBERS],
 ) -> Result<([u64; NUMBERS], Remaining<'a>), StateFault>
     requires { map (λ name. name.now) names.now ≡ number_names }
     ensures { result_view value_and_remaining result
-        ≡ numbers_in number_names kinds.now [] (remaining_of remaining.entry) }
+        ≡ numbers_in profile.now number_names kinds.now [] (remaining_of remaining.entry) }
 {
     let mut numbers = [0; NUMBERS];
     let mut remaining = remaining;
     for place in 0..NUMBERS {
         let (number, after) = read_number(remaining, names[place])?;
-        if !is_legal(kinds[place], number) {
+        if !is_legal(profile, kinds[place], number) {
             return Err(remaining.fault(FaultKind::BadValue));
         }
         numbers[place] = number;
@@ -213,14 +214,15 @@ pub fn registers_with(numbers: &[u64; NUMBERS]) -> Registers
     Registers { values }
 }
 
-/// The control and status registers that have the numbers.
+/// The control and status registers of a core that have the numbers.
 #[tactic(auto, unfolding(crate::specs::Numbers::csrs_with))]
-pub fn csrs_with(numbers: &[u64; NUMBERS]) -> Csrs
-    ensures { result ≡ csrs_with numbers.now }
+pub fn csrs_with(profile: &CsrProfile, numbers: &[u64; NUMBERS]) -> Csrs
+    ensures { result ≡ csrs_with profile.now numbers.now }
 {
     Csrs {
         values: stored_values(numbers),
         entries: entries_with(numbers),
+        profile: *profile,
     }
 }
 
@@ -339,7 +341,7 @@ fn number_of_protection(csrs: &Csrs, place: usize) -> u64
     match place {
         0 => csrs.shown(CsrName::Pmpcfg0, 0),
         1 => csrs.shown(CsrName::Pmpcfg2, 0),
-        _ => address_of(csrs.pmp_entries(), place - 2),
+        _ => address_of(&csrs.entries, place - 2),
     }
 }
 

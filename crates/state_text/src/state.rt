@@ -17,6 +17,7 @@ use crate::head::{Head, read_front, read_head};
 use crate::memory::read_memory;
 use crate::numbers::{KINDS, NAMES, NUMBERS, csrs_with, read_numbers, registers_with};
 use crate::remaining::Remaining;
+use csr_file::CsrProfile;
 use hart_step::{Core, CoreParts};
 use hart_words::{Choices, Map};
 use image_text::Pieces;
@@ -33,24 +34,33 @@ pub struct State {
     pub pieces: Pieces,
 }
 
-/// The state of so many harts that a text says, over a map and choices; the pieces stand for 0
-/// where they have no byte. The error is the first fault of the text.
+/// What a text does not say of its harts: what the core makes of its registers, what stands at
+/// which address, and what else the standard leaves to the maker.
+#[derive(Clone, Copy)]
+pub struct Platform {
+    pub profile: CsrProfile,
+    pub map: Map,
+    pub choices: Choices,
+}
+
+/// The state of so many harts that a text says, on a platform; the pieces stand for 0 where they
+/// have no byte. The error is the first fault of the text.
 pub fn read_state(
     alloc: Global,
     bytes: &[u8],
-    map: Map,
-    choices: Choices,
+    platform: &Platform,
     harts: u32,
 ) -> Result<State, StateError>
     requires some { 1 ≤ harts }
     requires few { harts ≤ MOST_HARTS }
     ensures exact { Gives state_fault (λ state. (state.cores.items, memory_of state.pieces)) result
-        (state_in map choices harts bytes.now) }
+        (state_in platform.now.profile platform.now.map platform.now.choices harts bytes.now) }
     ensures count { IfOk result (λ state. length state.cores.items ≡ harts) }
     ensures sound { IfOk result (λ state. All IsSound state.cores.items) }
-    ensures over { IfOk result (λ state. All (IsOver map choices) state.cores.items) }
+    ensures over { IfOk result (λ state. All (IsOver platform.now.profile platform.now.map
+        platform.now.choices) state.cores.items) }
     ensures inside { IfOk result (λ state. (a : ℕ) → IsTrue (is_some (byte_at state.pieces a))
-        → LiesIn a map.ram) }
+        → LiesIn a platform.now.map.ram) }
 {
     if !says_harts(bytes, harts) {
         return Err(StateError::Fault(StateFault::WrongHarts));
@@ -60,8 +70,8 @@ pub fn read_state(
         text: bytes,
     };
     let (_, remaining) = read_front(remaining, harts)?;
-    let (cores, remaining) = read_cores(alloc, remaining, map, choices, harts)?;
-    let pieces = read_memory(alloc, remaining, map.ram)?;
+    let (cores, remaining) = read_cores(alloc, remaining, platform, harts)?;
+    let pieces = read_memory(alloc, remaining, platform.map.ram)?;
     Ok(State { cores, pieces })
 }
 
@@ -69,17 +79,17 @@ pub fn read_state(
 fn read_cores<'a>(
     alloc: Global,
     remaining: Remaining<'a>,
-    map: Map,
-    choices: Choices,
+    platform: &Platform,
     harts: u32,
 ) -> Result<(Vec<Core>, Remaining<'a>), StateError>
     ensures { Gives state_fault (λ read. (read.0.items, remaining_of read.1)) result
-        (cores_in map choices harts [] (remaining_of remaining.entry)) }
+        (cores_in platform.now.profile platform.now.map platform.now.choices harts []
+        (remaining_of remaining.entry)) }
 {
     let mut cores = Vec::new(alloc);
     let mut remaining = remaining;
     for _ in 0..harts {
-        let (core, after) = read_core(remaining, map, choices)?;
+        let (core, after) = read_core(remaining, platform)?;
         cores.push(core)?;
         remaining = after;
     }
@@ -88,36 +98,39 @@ fn read_cores<'a>(
 
 /// The hart of the next lines, with what is left after them, or their first fault.
 #[tactic(auto, unfolding(crate::specs::Texts::core_in))]
-fn read_core(
-    remaining: Remaining<'_>,
-    map: Map,
-    choices: Choices,
-) -> Result<(Core, Remaining<'_>), StateFault>
+fn read_core<'a>(
+    remaining: Remaining<'a>,
+    platform: &Platform,
+) -> Result<(Core, Remaining<'a>), StateFault>
     ensures { result_view value_and_remaining result
-        ≡ core_in map choices (remaining_of remaining.entry) }
+        ≡ core_in platform.now.profile platform.now.map platform.now.choices
+        (remaining_of remaining.entry) }
 {
-    let (head, remaining) = read_head(remaining, map.ram, choices.block_size)?;
-    let (numbers, remaining) = read_numbers(remaining, &NAMES, &KINDS)?;
-    Ok((core_with(map, choices, head, &numbers), remaining))
+    let (ram, block_size) = (platform.map.ram, platform.choices.block_size);
+    let (head, remaining) = read_head(remaining, ram, block_size)?;
+    let (numbers, remaining) = read_numbers(remaining, &platform.profile, &NAMES, &KINDS)?;
+    Ok((core_with(platform, head, &numbers), remaining))
 }
 
 /// The hart that its lines say.
-fn core_with(map: Map, choices: Choices, head: Head, numbers: &[u64; NUMBERS]) -> Core
-    requires { IsSound (core_with map choices head numbers.now) }
-    ensures value { result ≡ core_with map choices head numbers.now }
+fn core_with(platform: &Platform, head: Head, numbers: &[u64; NUMBERS]) -> Core
+    requires { IsSound (core_with platform.now.profile platform.now.map platform.now.choices head
+        numbers.now) }
+    ensures value { result
+        ≡ core_with platform.now.profile platform.now.map platform.now.choices head numbers.now }
     ensures sound { IsSound result }
 {
     let parts = CoreParts {
         registers: registers_with(numbers),
         pc: head.pc,
         mode: head.mode,
-        csrs: csrs_with(numbers),
-        reservation: reservation_with(head.reserved, choices.block_size),
+        csrs: csrs_with(&platform.profile, numbers),
+        reservation: reservation_with(head.reserved, platform.choices.block_size),
         next_order: head.next_order,
         trapped_last: head.trapped_last,
         halted: head.halted,
     };
-    Core::of(parts, map, choices)
+    Core::of(parts, platform.map, platform.choices)
 }
 
 /// A reserved block of `size` bytes at an address, or none.

@@ -1,5 +1,6 @@
 use super::*;
-use csr_file::StoredCsr;
+use csr_file::profile::ChosenCsr;
+use csr_file::{CsrProfile, EntryCount, StoredCsr};
 use hart_words::{Choices, Map, Mode, Span};
 use std::alloc::Global;
 use std::test::Fail;
@@ -97,6 +98,14 @@ pub(crate) fn map() -> Result<Map, Fail> {
     Ok(Map::new(ram, None).ok_or("no map")?)
 }
 
+pub(crate) fn platform() -> Result<Platform, Fail> {
+    Ok(Platform {
+        profile: CsrProfile::plain(),
+        map: map()?,
+        choices: Choices::plain(),
+    })
+}
+
 /// The text with another text in place of one line and its line feed.
 pub(crate) fn text_with(alloc: Global, line: usize, other: &str) -> Result<Vec<u8>, Fail> {
     let mut text = Vec::new(alloc);
@@ -143,10 +152,20 @@ pub(crate) fn text_of_two(
 
 /// The fault of a text that is to be of so many harts.
 fn fault_of(alloc: Global, text: &[u8], harts: u32) -> Result<Option<StateFault>, Fail> {
+    fault_on(alloc, &platform()?, text, harts)
+}
+
+/// The same on a platform.
+fn fault_on(
+    alloc: Global,
+    platform: &Platform,
+    text: &[u8],
+    harts: u32,
+) -> Result<Option<StateFault>, Fail> {
     if harts == 0 || harts > MOST_HARTS {
         return Ok(None);
     }
-    match read_state(alloc, text, map()?, Choices::plain(), harts) {
+    match read_state(alloc, text, platform, harts) {
         Err(StateError::Fault(fault)) => Ok(Some(fault)),
         _ => Ok(None),
     }
@@ -161,7 +180,7 @@ fn fault_with(alloc: Global, line: usize, other: &str) -> Result<Option<StateFau
 #[test]
 fn a_state_after_one_row(rt: HostRuntime) -> Result<(), Fail> {
     let text = text_with(rt.alloc(), 0, "")?;
-    let state = read_state(rt.alloc(), text.as_slice(), map()?, Choices::plain(), 1)?;
+    let state = read_state(rt.alloc(), text.as_slice(), &platform()?, 1)?;
     assert_eq!(rt; state.cores.len(), 1);
     let core = &state.cores[0];
     assert_eq!(rt; core.pc, 0x8000_0004);
@@ -218,19 +237,16 @@ fn each_number_has_its_place(rt: HostRuntime) -> Result<(), Fail> {
         ),
     ] {
         let text = text_with(rt.alloc(), line, other)?;
-        let state = read_state(rt.alloc(), text.as_slice(), map()?, Choices::plain(), 1)?;
+        let state = read_state(rt.alloc(), text.as_slice(), &platform()?, 1)?;
         assert_eq!(rt; state.cores[0].csrs.get(stored), value);
     }
     let text = text_with(rt.alloc(), 60, "csr_pmpcfg2 000000000000991f\n")?;
-    let state = read_state(rt.alloc(), text.as_slice(), map()?, Choices::plain(), 1)?;
-    assert_eq!(rt; state.cores[0].csrs.pmp_entries()[8].cfg, 0x1f);
-    assert_eq!(rt; state.cores[0].csrs.pmp_entries()[9].cfg, 0x99);
+    let state = read_state(rt.alloc(), text.as_slice(), &platform()?, 1)?;
+    assert_eq!(rt; state.cores[0].csrs.entries[8].cfg, 0x1f);
+    assert_eq!(rt; state.cores[0].csrs.entries[9].cfg, 0x99);
     let text = text_with(rt.alloc(), 76, "csr_pmpaddr15 003fffffffffffff\n")?;
-    let state = read_state(rt.alloc(), text.as_slice(), map()?, Choices::plain(), 1)?;
-    assert_eq!(rt;
-        state.cores[0].csrs.pmp_entries()[15].addr,
-        0x3f_ffff_ffff_ffff
-    );
+    let state = read_state(rt.alloc(), text.as_slice(), &platform()?, 1)?;
+    assert_eq!(rt; state.cores[0].csrs.entries[15].addr, 0x3f_ffff_ffff_ffff);
     Ok(())
 }
 
@@ -278,6 +294,53 @@ fn lines_that_are_not_of_the_form(rt: HostRuntime) -> Result<(), Fail> {
     let again = "@0000000080000000 ffffffffffffffffffffffffffffffff\nend\n";
     let second = StateFault::InLine { kind, line: 78 };
     assert_eq!(rt; fault_with(rt.alloc(), END, again)?, Some(second));
+    Ok(())
+}
+
+/// What a number can be follows what the core makes of its registers: how many entries of physical
+/// memory protection it has, and with how many bits; which bits a write changes; and which are 1.
+#[test]
+fn values_of_a_core(rt: HostRuntime) -> Result<(), Fail> {
+    let plain = CsrProfile::plain();
+    let few = CsrProfile {
+        entry_count: EntryCount::Eight,
+        ..plain
+    };
+    let short = CsrProfile {
+        entry_bits: 10,
+        ..plain
+    };
+    let narrow = plain.with_bits(ChosenCsr::Medeleg, 0, 0);
+    let fixed = plain.with_bits(ChosenCsr::Menvcfg, 0, 0x80);
+    let cases: [(CsrProfile, usize, &str, bool); 10] = [
+        (few, 59, "csr_pmpcfg0 1f00000000000000\n", true),
+        (few, 60, "csr_pmpcfg2 000000000000001f\n", false),
+        (few, 68, "csr_pmpaddr7 003fffffffffffff\n", true),
+        (few, 69, "csr_pmpaddr8 0000000000000001\n", false),
+        (short, 61, "csr_pmpaddr0 00000000000003ff\n", true),
+        (short, 61, "csr_pmpaddr0 0000000000000400\n", false),
+        (narrow, 39, "csr_medeleg 0000000000000000\n", true),
+        (narrow, 39, "csr_medeleg 0000000000000001\n", false),
+        (fixed, 46, "csr_menvcfg 0000000000000080\n", true),
+        (fixed, 46, "csr_menvcfg 0000000000000000\n", false),
+    ];
+    for (profile, line, other, is_read) in cases {
+        let platform = Platform {
+            profile,
+            ..platform()?
+        };
+        let text = text_with(rt.alloc(), line, other)?;
+        let refused = StateFault::InLine {
+            kind: FaultKind::BadValue,
+            line: line as u64,
+        };
+        let wanted = if is_read { None } else { Some(refused) };
+        assert_eq!(rt;
+            fault_on(rt.alloc(), &platform, text.as_slice(), 1)?,
+            wanted,
+            "{other}"
+        );
+    }
     Ok(())
 }
 
@@ -371,7 +434,7 @@ fn texts_of_faults(rt: HostRuntime) -> Result<(), Fail> {
 #[test]
 fn a_state_of_two_harts(rt: HostRuntime) -> Result<(), Fail> {
     let text = text_of_two(rt.alloc(), "harts 2\n", 2, "pc 0000000080000008\n")?;
-    let state = read_state(rt.alloc(), text.as_slice(), map()?, Choices::plain(), 2)?;
+    let state = read_state(rt.alloc(), text.as_slice(), &platform()?, 2)?;
     assert_eq!(rt; state.cores.len(), 2);
     assert_eq!(rt; state.cores[0].pc, 0x8000_0004);
     assert_eq!(rt; state.cores[1].pc, 0x8000_0008);

@@ -3,6 +3,7 @@
 ghost use Rattle.std.specs.Prelude.{◌≡◌, ◌≤◌, ◌<◌, ◌+◌, ◌-◌, ◌*◌, ◌%◌, ◌^◌, ◌++◌, length, map, option_map, IfOk, IfSome, OnOk, OnErr, Ok};
 ghost use Rattle.std.specs.List.{All, concat};
 ghost use Rattle.outside_ports.specs.Counts.{Rose};
+ghost use Rattle.csr_file.specs.declared.profile.CsrProfile.{CsrProfile};
 ghost use Rattle.hart_words.specs.declared.choices.Choices.{Choices};
 ghost use Rattle.hart_words.specs.declared.map.Map.{Map};
 ghost use Rattle.hart_words.specs.declared.span.TheConstants.{PAGE_SIZE};
@@ -49,9 +50,10 @@ pub fn write_state<S: Sink>(set: &Harts<Layered>, sink: &mut S) -> Result<(), Fa
         (S.held sink.new)) }
     ensures fault { OnErr result (Rose (S.faults sink.old) (S.faults sink.new)) }
     ensures kept { S.faults sink.old ≤ S.faults sink.new }
-    ensures back { (map : Map) (choices : Choices) → All (IsOver map choices) set.now.cores.items
+    ensures back { (profile : CsrProfile) (map : Map) (choices : Choices)
+        → All (IsOver profile map choices) set.now.cores.items
         → IsZeroOutside map.ram (layered_bytes set.now.mem)
-        → state_in map choices (length set.now.cores.items)
+        → state_in profile map choices (length set.now.cores.items)
         (saved_text set.now.cores.items (layered_bytes set.now.mem))
         ≡ Ok (set.now.cores.items, layered_bytes set.now.mem) }
 {

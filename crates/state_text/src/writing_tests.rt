@@ -1,7 +1,7 @@
 use super::*;
-use crate::tests::{BLOCK, END, map, text_of_two, text_with};
+use crate::tests::{BLOCK, END, platform, text_of_two, text_with};
 use hart_step::Harts;
-use hart_words::{Choices, PhysMem};
+use hart_words::PhysMem;
 use outside_ports::{FailSink, MemSink, Sink};
 use page_image::PageImage;
 use page_layers::Layered;
@@ -18,9 +18,9 @@ fn write_again<S: Sink>(
     if harts == 0 || harts > MOST_HARTS {
         return Ok(false);
     }
-    let map = map()?;
-    let state = read_state(alloc, text, map, Choices::plain(), harts)?;
-    let image = PageImage::build(alloc, &state.pieces, map.ram)?;
+    let platform = platform()?;
+    let state = read_state(alloc, text, &platform, harts)?;
+    let image = PageImage::build(alloc, &state.pieces, platform.map.ram)?;
     let set = Harts {
         cores: state.cores,
         mem: Layered::over(alloc, &image),
@@ -102,9 +102,9 @@ fn failing_sinks_have_a_front(rt: HostRuntime) -> Result<(), Fail> {
 #[test]
 fn stores_are_written(rt: HostRuntime) -> Result<(), Fail> {
     let text = text_with(rt.alloc(), 0, "")?;
-    let map = map()?;
-    let state = read_state(rt.alloc(), text.as_slice(), map, Choices::plain(), 1)?;
-    let ram = map.ram;
+    let platform = platform()?;
+    let state = read_state(rt.alloc(), text.as_slice(), &platform, 1)?;
+    let ram = platform.map.ram;
     let image = PageImage::build(rt.alloc(), &state.pieces, ram)?;
     let mut mem = Layered::over(rt.alloc(), &image);
     assert!(&rt; ram.is_place(0x8000_0000, 8));

@@ -363,7 +363,7 @@ fn change(core: &mut Core, part: u8) -> Result<(), Fail> {
         9 => core.halted = true,
         10 => {
             let ram = Span::new(CODE, 0x1000).ok_or("no range")?;
-            core.map = Map::new(ram, core.map.io).ok_or("no map")?;
+            core.map = Map::with_devices(ram, core.map.io).ok_or("no map")?;
         }
         11 => core.map = Map::new(core.map.ram, None).ok_or("no map")?,
         12 => core.choices.misaligned = Misaligned::Done,

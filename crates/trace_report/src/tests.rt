@@ -7,7 +7,7 @@ ghost use Rattle.row_origin.specs.Last.{IsNarrow};
 use super::*;
 use csr_file::Csrs;
 use elf_image::ElfFault;
-use hart_words::{CsrName, CsrSide, Difference, Mode, Registers, Seen, Signal, Wrote};
+use hart_words::{CsrName, CsrSide, Difference, InsnBits, Mode, Registers, Seen, Signal, Wrote};
 use image_text::{FaultKind, ImageFault};
 use row_origin::Last;
 use rvfi_rows::{
@@ -159,6 +159,7 @@ fn retired(rs1: u8, rs2: u8, rd: u8, access: Option<Accessed>) -> Expected {
         pc: 0x8000_0000,
         mode: Mode::Machine,
         insn: Some(0x13),
+        insn_bits: InsnBits::Full,
         effects: Ok(Effects {
             registers: Registers::zeros(),
             rs1,

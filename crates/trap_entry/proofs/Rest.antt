@@ -35,6 +35,7 @@ machine_only csrs mode interrupt cause tval pc = record {
       ∙ unnamed is_of_machine _ Mcause _ stored refl out
       ∙ unnamed is_of_machine csrs Mepc _ stored refl out;
   entries = refl;
+  profile = refl;
 }
 
 supervisor_only : (csrs : Csrs) (mode : Mode) (interrupt : Bool) (cause tval pc : ℕ)
@@ -47,6 +48,7 @@ supervisor_only csrs mode interrupt cause tval pc = record {
       ∙ unnamed is_of_supervisor _ Scause _ stored refl out
       ∙ unnamed is_of_supervisor csrs Sepc _ stored refl out;
   entries = refl;
+  profile = refl;
 }
 
 pub enters_only : (csrs : Csrs) (mode : Mode) (interrupt : Bool) (cause tval pc : ℕ)
@@ -67,6 +69,7 @@ unfolding mret_of with_at
 mret_only csrs = record {
   registers = λ stored out. unnamed is_status csrs Mstatus _ stored refl out;
   entries = refl;
+  profile = refl;
 }
 
 pub sret_only : (csrs : Csrs) → ChangesOnly is_status csrs (sret_of csrs)
@@ -74,4 +77,5 @@ unfolding sret_of with_at
 sret_only csrs = record {
   registers = λ stored out. unnamed is_status csrs Mstatus _ stored refl out;
   entries = refl;
+  profile = refl;
 }

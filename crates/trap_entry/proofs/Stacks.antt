@@ -33,6 +33,15 @@ mpp_taken mask old value small low high =
     ∙ ap (λ b. bit_at value 11 + 2 * b) (bit_taken mask old value 12 small (lit< tt) high)
     ∙ sym (mpp_bits value)
 
+-- and kept as a whole
+pub mpp_kept : (mask old value : ℕ) → mask < 2 ^ 64 → bit_at mask 11 ≡ 0 → bit_at mask 12 ≡ 0
+    → mpp_of (masked_update mask old value) ≡ mpp_of old
+mpp_kept mask old value small low high =
+    mpp_bits (masked_update mask old value)
+    ∙ ap (λ b. b + 2 * bit_at (masked_update mask old value) 12) (bit_kept mask old value 11 small (lit< tt) low)
+    ∙ ap (λ b. bit_at old 11 + 2 * b) (bit_kept mask old value 12 small (lit< tt) high)
+    ∙ sym (mpp_bits old)
+
 pub number_fits : (mode : Mode) → mode_number mode < 4
 number_fits User = lit< tt
 number_fits Supervisor = lit< tt

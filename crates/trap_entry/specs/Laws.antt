@@ -39,6 +39,7 @@ NeverLowers csrs mode interrupt cause = mode_number mode ≤ mode_number (mode_b
 pub record ChangesOnly (some : StoredCsr → Bool) (before after : Csrs) : Type 0 where
   pub registers : (stored : StoredCsr) → some stored ≡ false → at after stored ≡ at before stored
   pub entries : after.entries ≡ before.entries
+  pub profile : after.profile ≡ before.profile
 
 -- an entry changes the registers of the mode that it enters, and no other
 abbrev pub EntersOnly : Csrs → Mode → Bool → ℕ → ℕ → ℕ → Type 0

@@ -1,5 +1,5 @@
 use Rattle.std.proofs.Common.{refl}
-use Rattle.hart_step.specs.Cores.{core_at_reset}
+use Rattle.hart_step.specs.Cores.{core_at_reset_of}
 use Rattle.hart_laws.proofs.Rows.{is_reserved_still, stores_after, was_reserved}
 use Rattle.hart_laws.proofs.laws.stores_follow_their_reservation.Goals as goal
 
@@ -13,5 +13,5 @@ pub returns-clause-stores : goal.returns-clause-stores
 returns-clause-stores c = stores_after
 
 pub returns-clause-reset : goal.returns-clause-reset
-unfolding core_at_reset
-returns-clause-reset c pc map choices = refl
+unfolding core_at_reset_of
+returns-clause-reset c profile pc map choices = refl

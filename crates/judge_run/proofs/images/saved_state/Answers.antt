@@ -6,7 +6,7 @@ use Rattle.judge_run.proofs.images.saved_state.Goals as goal
 pub returns-in-Ok-clause-start : goal.returns-in-Ok-clause-start
 returns-in-Ok-clause-start c =
     let job = c.args.job.now in
-    let reads : ReadsSaved job.map job.choices job.harts c.args.image.now c.in-Ok.state =
+    let reads : ReadsSaved job.profile job.map job.choices job.harts c.args.image.now c.in-Ok.state =
     record {
       read = c.in-Ok.ensures.exact;
       inside = c.in-Ok.ensures.inside;

@@ -1,7 +1,7 @@
 use Rattle.std.proofs.Common.{◌∙◌, ap}
 use Rattle.std.proofs.lemmas.Result.{IfOk-weaker}
 use Rattle.clap.specs.Words.{App}
-use Rattle.judge_words.specs.Commands.{choices_rules, sharing_rules, with_rules}
+use Rattle.judge_words.specs.Commands.{choices_rules, register_rules, sharing_rules, with_rules}
 use Rattle.judge_words.proofs.CommandLine.{adds_rule}
 use Rattle.judge_words.proofs.command_line.files_command.Goals as goal
 
@@ -47,6 +47,8 @@ returns c =
     c.option_or-4.ensures.local in
     let choices =
     c.in_ok-with_choices.ensures.0 ∙ ap (λ (app : App). with_rules app choices_rules) max_trace.0 in
+    let registers =
+    c.in_ok-with_registers.ensures.0 ∙ ap (λ (app : App). with_rules app register_rules) choices in
     IfOk-weaker c.with_sharing.result _ _
-    (λ command h. (h.0 ∙ ap (λ (app : App). with_rules app sharing_rules) choices, h.1))
+    (λ command h. (h.0 ∙ ap (λ (app : App). with_rules app sharing_rules) registers, h.1))
     c.with_sharing.ensures

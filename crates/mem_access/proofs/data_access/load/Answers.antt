@@ -13,7 +13,7 @@ returns-then-va-from-eq0-clause-placed g c =
 
 pub returns-then-is_trapped-clause-looked : goal.returns-then-is_trapped-clause-looked
 returns-then-is_trapped-clause-looked g c =
-    load_trapped c.args.csrs.now c.args.map.now c.args.choices.now c.args.mode c.args.va c.args.len c.args.atomic
+    load_trapped c.args.csrs.now c.args.map.now c.args.choices.now c.args.mode c.args.va c.args.len c.args.atomicity
     (rw c.from.ensures at c.if-va-from-eq0.false, sym c.is_trapped.ensures ∙ c.if-is_trapped.true)
 
 pub returns-clause-placed : goal.returns-clause-placed

@@ -4,5 +4,5 @@ use Rattle.mem_access.proofs.data_access.store_place.Goals as goal
 
 pub returns-then-is_trapped-clause-looked : goal.returns-then-is_trapped-clause-looked
 returns-then-is_trapped-clause-looked g c =
-    store_trapped c.args.csrs.now c.args.map.now c.args.choices.now c.args.mode c.args.va c.args.len c.args.atomic
+    store_trapped c.args.csrs.now c.args.map.now c.args.choices.now c.args.mode c.args.va c.args.len c.args.atomicity
     (rw c.from.ensures at c.if-va-from-eq0.false, sym c.is_trapped.ensures ∙ c.if-is_trapped.true)

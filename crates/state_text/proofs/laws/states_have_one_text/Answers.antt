@@ -2,4 +2,5 @@ use Rattle.state_text.proofs.OneText.{one_text}
 use Rattle.state_text.proofs.laws.states_have_one_text.Goals as goal
 
 pub returns : goal.returns
-returns c = λ map choices harts text cores bytes some h. one_text map choices harts text cores bytes some h
+returns c =
+    λ profile map choices harts text cores bytes some h. one_text profile map choices harts text cores bytes some h

@@ -18,7 +18,8 @@ pub returns-in_err-number : goal.returns-in_err-number
 returns-in_err-number c =
     let p = err_from_is_err_and c.from_residual.result c.from_residual.ensures.1 in
     rw (p.1, p.2)
-    (numbers_unread number_names c.args.kinds.now _ (remaining_of c.loop-place.remaining) c.loop-place.place _ _ _
+    (numbers_unread c.args.profile.now number_names c.args.kinds.now _
+    (remaining_of c.loop-place.remaining) c.loop-place.place _ _ _
     c.loop-place-test.true (omega arith) c.loop-place.invariant.leads
     (name_at (λ (name : Bor (List ℕ)). name.now) c.args.names.now number_names c.loop-place.place
     (record { ref_ptr = (0, 0); now = [] }) c.requires c.loop-place-test.true) c.in_err-number.ensures)
@@ -26,7 +27,8 @@ returns-in_err-number c =
 pub returns-then-not-is_legal : goal.returns-then-not-is_legal
 returns-then-not-is_legal c =
     rw c.fault.ensures
-    (numbers_refused number_names c.args.kinds.now _ (remaining_of c.loop-place.remaining) c.loop-place.place _ _
+    (numbers_refused c.args.profile.now number_names c.args.kinds.now _
+    (remaining_of c.loop-place.remaining) c.loop-place.place _ _
     c.is_legal.result c.in_ok-number.number _ _ c.loop-place-test.true (omega arith) c.loop-place.invariant.leads
     (name_at (λ (name : Bor (List ℕ)). name.now) c.args.names.now number_names c.loop-place.place
     (record { ref_ptr = (0, 0); now = [] }) c.requires c.loop-place-test.true) c.in_ok-number.ensures
@@ -35,7 +37,7 @@ returns-then-not-is_legal c =
 pub loop-place-preserved : goal.loop-place-preserved
 loop-place-preserved c = record {
   len = length-set c.loop-place.numbers c.loop-place.place c.in_ok-number.number ∙ c.loop-place.invariant.len;
-  leads = numbers_on number_names c.args.kinds.now c.loop-place.numbers
+  leads = numbers_on c.args.profile.now number_names c.args.kinds.now c.loop-place.numbers
       (remaining_of c.loop-place.remaining) c.loop-place.place _ _
       c.is_legal.result c.in_ok-number.number (remaining_of c.in_ok-number.after) _ c.loop-place-test.true (omega arith)
       (omega (arith, c.loop-place.invariant.len)) c.loop-place.invariant.leads
@@ -46,5 +48,6 @@ loop-place-preserved c = record {
 
 pub returns : goal.returns
 returns c =
-    numbers_all number_names c.args.kinds.now c.loop-place.numbers (remaining_of c.loop-place.remaining) c.loop-place.place _
+    numbers_all c.args.profile.now number_names c.args.kinds.now c.loop-place.numbers
+    (remaining_of c.loop-place.remaining) c.loop-place.place _
     c.loop-place-test.false (omega (arith, c.loop-place.invariant.len)) c.loop-place.invariant.leads

@@ -8,6 +8,7 @@ abbrev pub invariant-loop-place : goal.invariant-loop-place
 invariant-loop-place l = record {
   len : length l.numbers ≡ 70;
   leads :
-      numbers_in (drop l.place number_names) (drop l.place l.kinds) (take l.place l.numbers) (remaining_of l.remaining)
-      ≡ numbers_in number_names l.kinds [] (remaining_of l.fn.remaining);
+      numbers_in l.profile (drop l.place number_names) (drop l.place l.kinds) (take l.place l.numbers)
+      (remaining_of l.remaining)
+      ≡ numbers_in l.profile number_names l.kinds [] (remaining_of l.fn.remaining);
 }

@@ -48,18 +48,18 @@ returns-in-Ok-clause-front g c =
     (on_err_more c.write_memory.result (sends_fails rest sent) c.write_memory.ensures.front)
 
 pub returns-in-Ok-clause-back : goal.returns-in-Ok-clause-back
-returns-in-Ok-clause-back g c = λ map choices over outside.
+returns-in-Ok-clause-back g c = λ profile map choices over outside.
     let whole = subst (All IsWhole) c.as_slice.ensures.value c.hold_whole.ensures in
-    text_back map choices c.args.set.now.cores.items (layered_bytes c.args.set.now.mem)
-    (saved_set map choices c.args.set.now.cores.items (layered_bytes c.args.set.now.mem) c.requires.can.some
+    text_back profile map choices c.args.set.now.cores.items (layered_bytes c.args.set.now.mem)
+    (saved_set profile map choices c.args.set.now.cores.items (layered_bytes c.args.set.now.mem) c.requires.can.some
     c.requires.few c.requires.can.sound c.set_holds_words.ensures.cores whole
     over c.set_holds_words.ensures.bytes outside)
 
 pub returns-in-Err-clause-back : goal.returns-in-Err-clause-back
-returns-in-Err-clause-back g c = λ map choices over outside.
+returns-in-Err-clause-back g c = λ profile map choices over outside.
     let whole = subst (All IsWhole) c.as_slice.ensures.value c.hold_whole.ensures in
-    text_back map choices c.args.set.now.cores.items (layered_bytes c.args.set.now.mem)
-    (saved_set map choices c.args.set.now.cores.items (layered_bytes c.args.set.now.mem) c.requires.can.some
+    text_back profile map choices c.args.set.now.cores.items (layered_bytes c.args.set.now.mem)
+    (saved_set profile map choices c.args.set.now.cores.items (layered_bytes c.args.set.now.mem) c.requires.can.some
     c.requires.few c.requires.can.sound c.set_holds_words.ensures.cores whole
     over c.set_holds_words.ensures.bytes outside)
 

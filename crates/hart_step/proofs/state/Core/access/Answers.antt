@@ -1,7 +1,9 @@
-use Rattle.std.proofs.Common.{◌≡◌, ◌∙◌, sym, None}
+use Rattle.std.proofs.Common.{◌≡◌, ◌∙◌, sym, subst, Err, None}
+use Rattle.hart_words.specs.declared.privilege.Cause.{Cause}
+use Rattle.hart_words.specs.Actions.{Notes}
 use Rattle.hart_step.specs.MemoryAccess.{memory_access, number_written}
 use Rattle.hart_step.proofs.ReservedBlocks.{answer_sound}
-use Rattle.hart_step.proofs.Ways.{nothing_stored, access_refused, access_made, puts_nothing, puts_value}
+use Rattle.hart_step.proofs.Ways.{nothing_stored, access_refused, access_refused_there, access_made, puts_nothing, puts_value}
 use Rattle.hart_step.proofs.state.Core.access.Goals as goal
 
 pub returns-in-Err-clause-accessed : goal.returns-in-Err-clause-accessed
@@ -11,12 +13,27 @@ returns-in-Err-clause-accessed g c =
     nothing_stored (memory_access core c.args.choices.now request) (c.locate.ensures.stores ∙ c.requires.blank)
     (access_refused core c.args.choices.now request c.in-Err.ensures.located)
 
+pub returns-then-device_refuses-clause-accessed : goal.returns-then-device_refuses-clause-accessed
+returns-then-device_refuses-clause-accessed g c =
+    let core = c.args.self.now in
+    let choices = c.args.choices.now in
+    let request = c.args.request.now in
+    let P : Cause → Type 0 =
+    λ cause. Notes (memory_access core choices request) (Err (cause, request.address)) c.args.accesses.now.seen
+    c.locate.new.accesses.seen c.args.accesses.now.sets c.locate.new.accesses.sets
+    (g.M.PhysMem.bytes c.args.mem.now) in
+    nothing_stored (memory_access core choices request) (c.locate.ensures.stores ∙ c.requires.blank)
+    (subst P (sym c.fault_of.ensures)
+    (access_refused_there core choices request c.in-Ok.ensures.located
+    (sym c.device_refuses.ensures ∙ c.if-device_refuses.true)))
+
 pub returns-in-Some-clause-accessed : goal.returns-in-Some-clause-accessed
 returns-in-Some-clause-accessed g c =
     let core = c.args.self.now in
     let request = c.args.request.now in
     let found = c.in-Ok.found in
-    access_made core c.args.choices.now request c.in-Ok.ensures.located c.answer-answer.ensures
+    access_made core c.args.choices.now request c.in-Ok.ensures.located
+    (sym c.device_refuses.ensures ∙ c.if-device_refuses.false) c.answer-answer.ensures
     (puts_value (found.0, found.1) request (sym c.written_by.ensures ∙ c.in-Some.is)
     (c.note_store.ensures.put c.locate.new.accesses.seen c.locate.new.accesses.sets
     (g.M.PhysMem.bytes c.args.mem.now)))
@@ -33,7 +50,8 @@ returns-in_default-clause-accessed g c =
     let nothing : number_written c.answer-answer.result.access ≡ None =
     sym c.written_by.ensures ∙ c.in_default.is in
     nothing_stored (memory_access core c.args.choices.now request) stores
-    (access_made core c.args.choices.now request c.in-Ok.ensures.located c.answer-answer.ensures
+    (access_made core c.args.choices.now request c.in-Ok.ensures.located
+    (sym c.device_refuses.ensures ∙ c.if-device_refuses.false) c.answer-answer.ensures
     (puts_nothing (found.0, found.1) request c.locate.new.accesses.seen c.locate.new.accesses.sets
     (g.M.PhysMem.bytes c.args.mem.now) nothing))
 

@@ -13,10 +13,10 @@ returns-clause-set_in_ram g c =
     let before = c.args.accesses.now.sets in
     let bytes = after_writes before (g.M.PhysMem.bytes c.args.mem.now) in
     let len = c.bytes.result in
-    let load = load_result core.csrs core.map core.choices core.mode request.address len c.args.atomic in
+    let load = load_result core.csrs core.map core.choices core.mode request.address len c.args.atomicity in
     sets_in_ram core.csrs core.map core.choices bytes before (load.run bytes).wrote c.load.ensures.looked.wrote_is
     c.requires.sets_in_ram
-    (load_sets_alone core.csrs core.map core.choices core.mode request.address len c.args.atomic bytes)
+    (load_sets_alone core.csrs core.map core.choices core.mode request.address len c.args.atomicity bytes)
 
 pub returns-clause-in_ram : goal.returns-clause-in_ram
 returns-clause-in_ram g c =

@@ -12,11 +12,11 @@ returns-clause-set_in_ram g c =
     let before = c.args.accesses.now.sets in
     let bytes = after_writes before (g.M.PhysMem.bytes c.args.mem.now) in
     let len = c.bytes.result in
-    let places = store_place_of core.csrs core.map core.choices core.mode request.address len c.args.atomic in
+    let places = store_place_of core.csrs core.map core.choices core.mode request.address len c.args.atomicity in
     sets_in_ram core.csrs core.map core.choices bytes before (places.run bytes).wrote
     c.store_place.ensures.looked.wrote_is
     c.requires.sets_in_ram
-    (store_sets_alone core.csrs core.map core.choices core.mode request.address len c.args.atomic bytes)
+    (store_sets_alone core.csrs core.map core.choices core.mode request.address len c.args.atomicity bytes)
 
 pub returns-clause-one : goal.returns-clause-one
 returns-clause-one g c = λ atomic. c.store_place.ensures.one (inl atomic)
