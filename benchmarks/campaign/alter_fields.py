@@ -26,9 +26,10 @@ from typing import NamedTuple
 sys.path.insert(0, str(Path(__file__).resolve().parents[1] / "interpreter"))
 
 from hart_instructions import LOADS, STORES, decode, expand
-from hart_memory import Memory, read_image
+from hart_memory import Memory, Ranges, read_image
 from hart_registers import ADDRESSES, DECIDED, SATP_MODE_AT, SV39, M
-from judge import PLAIN, WIDTHS, Judge, answer, number, read_row, span
+from judge import PLAIN, WIDTHS, Judge, answer, number, read_row
+from profile_words import read_ranges
 from reference_hart import Hart
 
 EVERY = 32  # rows between two kept states
@@ -288,7 +289,7 @@ def main():
     parser.add_argument("--keep", type=Path, help="where to put the traces with a wrong answer")
     parser.add_argument("--cut", type=number, help="the most rows of a segment, and segments of a window")
     options = parser.parse_args()
-    devices = span(options.io) if options.io else range(0)
+    devices = read_ranges(options.io) if options.io else Ranges()
     trace = Trace(options.trace, Judge(Hart(Memory(read_image(options.image)), devices=devices)))
     print(f"unaltered: {trace.verdict}")
     if trace.verdict.startswith("differs"):

@@ -2,7 +2,7 @@
 """Holds a program to the answers of judge.py on random images and traces.
 
     campaign.py PROGRAM [--first N] [--count M] [--seed S] [--jobs J] [--keep FOLDER] [--part]
-                [--no-choices] [--ports] [--states] [--harts] [--origin]
+                [--no-choices] [--ports] [--states] [--harts] [--origin] [--profiles]
 
 Each case, which its number and the seed decide, is a program that is made up while a hart runs
 through it, a trace of that run with columns drawn by chance, and options. In half of the cases one
@@ -14,10 +14,12 @@ judged again with two, three and four, where the verdict must be the same. With 
 cut in two besides, before a line that is drawn by chance, and its second part judged from the state
 that the first one ends in. With --harts one to eight harts run through one memory, where they
 contend for a few blocks, and with --origin half of the commands ask where the operands of a
-differing row came from. Without PROGRAM judge.py answers in its place, to the same words but those
-that share the work out. What the cases reached is counted and printed. The status is 1 where an
-answer is not the one due, where a trace in which nothing is altered does not agree, where a core
-with bit manipulation does not differ as it must from a hart without, or the other way round, or,
+differing row came from. With --profiles cores have registers, protection, interrupt lines and
+devices of their own, of which the options tell. Without PROGRAM judge.py answers in its place, to
+the same words but those that share the work out. What the cases reached is counted and printed. The
+status is 1 where an answer is not the one due, where a trace in which nothing is altered does not
+agree, where a core with bit manipulation does not differ as it must from a hart without, or the
+other way round, where a row does not differ that shows what its core's profile rules out, or,
 without --part, where one of the things that campaign_reach.py lists was not reached. With --keep
 the files of each wrong answer are put into a folder.
 """
@@ -41,6 +43,7 @@ from campaign_cuts import cut_in_two, cuts_to_reach
 from campaign_harts import count_harts, harts_to_reach
 from campaign_origin import count_held, count_origins, origins_due, origins_to_reach
 from campaign_ports import count_answer, ports_to_reach, rewritten
+from campaign_profile import PLANTED, profiles_to_reach
 from campaign_reach import all_to_reach
 from judge import foretell, number, parse as setting_of
 
@@ -127,7 +130,7 @@ def keep(folder, at, case, said, due):
 def judge_cases(options, first, last):
     """What the cases from first up to last reached, and the wrong answers among them."""
     reached, wrong = Counter(), []
-    kinds = Kinds(options.choices, options.ports, options.harts, options.origin)
+    kinds = Kinds(options.choices, options.ports, options.harts, options.origin, options.profiles)
     with tempfile.TemporaryDirectory(dir=options.folder) as folder:
         for at in range(first, last):
             case = make_case(options.seed, at, reached, kinds)
@@ -148,6 +151,7 @@ def count_case(reached, case, said):
     reached["altered", case.altered or "nothing"] += 1
     if case.foreknown:
         kind = "bits" if case.altered.startswith("bits") else "harts"
+        kind = "profile" if case.altered in PLANTED else kind
         reached[kind, f"{case.altered.removeprefix('bits ')}: known to differ"] += 1
     count_answer(reached, case, said)
     count_harts(reached, said)
@@ -265,6 +269,9 @@ def parse():
     parser.add_argument(
         "--origin", action="store_true", help="half of the commands ask for origins of differences"
     )
+    parser.add_argument(
+        "--profiles", action="store_true", help="cores with registers, protection, lines and devices of their own"
+    )
     parser.add_argument("--folder", help="where the files of the cases are for a while")
     return parser.parse_args()
 
@@ -281,6 +288,7 @@ def main():
         *(cuts_to_reach(options.harts) if options.states else ()),
         *(harts_to_reach() if options.harts else ()),
         *(origins_to_reach() if options.origin else ()),
+        *(profiles_to_reach() if options.profiles else ()),
     ]
     missed = [what for what in needed if not reached[what]]
     for kind, name in missed:

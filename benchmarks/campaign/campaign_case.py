@@ -6,14 +6,17 @@ from campaign_harts import Runs, add_column, alter_hart, pick_count
 from campaign_origin import Record
 from campaign_plan import Chance, Maker
 from campaign_ports import in_ports, pick_ports
+from campaign_profile import alter_profile, plant, profile_words, with_profile
 from campaign_rows import alter_field, alter_image, alter_rows, pick_columns
 from campaign_run import Run
-from campaign_text import Form, alter_lines, break_image, image_text, trace_lines, trace_text
+from campaign_text import (
+    Form, alter_lines, break_image, image_text, option, spelled, trace_lines, trace_text,
+)
 from hart_choices import VALUES, Choices
-from hart_memory import PAGE, RAM
+from hart_memory import PAGE, RAM, Ranges
 from judge import CHOSEN, MOST_HARTS, Setting
+from profile_words import PHYSICAL_END
 
-PHYSICAL_END = 1 << 56
 MEGA, GIGA = 1 << 21, 1 << 30
 
 
@@ -61,7 +64,7 @@ def pick_devices(chance, ram):
     devices = range(base, base + size)
     is_apart = devices.stop <= ram.start or ram.stop <= base
     is_fit = base >= 0 and devices.stop <= PHYSICAL_END and is_apart
-    return devices if is_fit and chance.one_in(2) else range(0)
+    return Ranges([devices] if is_fit and chance.one_in(2) else [])
 
 
 def pick_setting(chance):
@@ -93,21 +96,12 @@ def alter_choices(chance, choices):
     return pick_choices(chance), "other choices"
 
 
-def spelled(chance, value):
-    """A number as a word may have it."""
-    if chance.one_in(2):
-        return str(value)
-    return chance.pick((f"0x{value:x}", f"0X{value:X}", f"0x00{value:x}"))
-
-
-def option(chance, name, text):
-    return [f"--{name}={text}"] if chance.one_in(2) else [f"--{name}", text]
-
-
 def choice_words(chance, choices, reached):
     """The options for a core's choices; the defaults are left out mostly."""
     for name, choice in CHOSEN.items():
         value = getattr(choices, choice)
+        if value not in VALUES[choice]:
+            continue  # a word of the profile says it
         reached["choice", f"{name} {value}"] += 1
         if value != getattr(Choices(), choice) or chance.one_in(4):
             text = spelled(chance, value) if isinstance(value, int) else value
@@ -133,10 +127,10 @@ def pick_words(chance, setting, reached, kinds):
         value = widest if is_wide and widest else 1 + chance.below(most)
         pieces.append(option(chance, name, spelled(chance, value)))
         reached["option", f"{name} {value}"] += 1
-    for name, given, default in (("ram", setting.ram, RAM), ("io", setting.devices, range(0))):
+    for name, given, default in (("ram", (setting.ram,), (RAM,)), ("io", setting.devices, ())):
         if given != default or (name == "ram" and chance.one_in(8)):
-            span = f"{spelled(chance, given.start)}:{spelled(chance, len(given))}"
-            pieces.append(option(chance, name, span))
+            spans = [f"{spelled(chance, one.start)}:{spelled(chance, len(one))}" for one in given]
+            pieces.append(option(chance, name, ",".join(spans)))
             reached["option", name] += 1
     for name, value, default in (
         ("pc", setting.pc, RAM.start), ("max-image", setting.most_image, 1 << 30),
@@ -147,6 +141,9 @@ def pick_words(chance, setting, reached, kinds):
             reached["option", name] += 1
     if kinds.choices:
         pieces += choice_words(chance, setting.choices, reached)
+    if kinds.profiles:
+        pieces += profile_words(chance, setting.choices, reached)
+        reached["devices", f"{len(setting.devices)} ranges"] += 1
     pieces += hart_words(chance, setting, reached, kinds)
     files = pieces[:2]  # which stand in this order
     chance.shuffle(pieces)
@@ -169,6 +166,7 @@ class Kinds(NamedTuple):
     ports: bool = False
     harts: bool = False
     origin: bool = False
+    profiles: bool = False
 
     def chance(self, seed, number):
         """The chance of the case of this number."""
@@ -176,10 +174,14 @@ class Kinds(NamedTuple):
         return Chance(" ".join((str(seed), str(number), *names)))
 
 
-def alter_run(chance, kind, run, columns, harts, record):
+def alter_run(chance, kind, run, columns, setting, kinds, record):
     """Alters what a run shows, in some cases; what was done, and the line that is due, if known."""
-    image = run.hart.memory.image
+    image, harts = run.hart.memory.image, setting.harts if kinds.harts else 0
     if kind < 0.37:
+        if kinds.profiles and chance.one_in(3):
+            planted = plant(chance, setting.choices.profile, run)
+            if planted:
+                return planted
         if harts and run.failed and chance.one_in(2):
             return run.show_store()
         if harts and chance.one_in(4):
@@ -209,6 +211,8 @@ def pick_options(chance, setting, kinds):
         setting = setting._replace(harts=pick_count(chance))
     if kinds.origin:
         setting = setting._replace(origin=chance.one_in(2))
+    if kinds.profiles:
+        setting = with_profile(chance, setting)
     return setting
 
 
@@ -222,6 +226,8 @@ def alter_command(chance, kind, setting, kinds, files, is_known):
         return setting._replace(choices=choices), altered
     if kinds.harts and 0.53 <= kind < 0.56:
         return setting._replace(harts=1 + chance.below(MOST_HARTS)), "other number of harts"
+    if kinds.profiles and 0.56 <= kind < 0.6:
+        return alter_profile(chance, setting), "other profile"
     if chance.one_in(40) and not is_known:
         setting = limited(chance, setting, *files)
     return setting, None
@@ -246,8 +252,7 @@ def make_case(seed, number, reached, kinds):
     run = begin_run(chance, setting, columns, reached, kinds)
     run.make()
     kind, record = chance.random(), Record.of(run) if setting.origin else None
-    harts = setting.harts if kinds.harts else 0
-    altered, foreknown = alter_run(chance, kind, run, columns, harts, record)
+    altered, foreknown = alter_run(chance, kind, run, columns, setting, kinds, record)
     ports = pick_ports(chance, form, reached) if kinds.ports else 1
     shown = in_ports(chance, columns, run.rows, ports) if kinds.ports else (columns, run.rows)
     lines = list(trace_lines(chance, form, *shown))

@@ -162,7 +162,7 @@ class Goals:
         if mode == M and chance.random() < 0.93:
             self.open_protection(target)
         address = self.code_address(target != M)
-        if mode == M and chance.one_in(4):
+        if mode == M and chance.one_in(4) and self.setting.choices.profile.pmp_entries:
             self.guard(address)
         self.plan += self.set_register("mepc" if mode == M else "sepc", address)
         if mode == M and chance.random() < 0.85:
@@ -185,7 +185,8 @@ class Goals:
         allows = ControlRegisters.allows
         if allows(self.hart.csrs, mode, self.hart.pc, 2, FETCH.right):
             return
-        number = self.chance.pick((0, 3, 7, 8, 12, 15, 15))
+        entries = range(self.setting.choices.profile.pmp_entries)
+        number = self.chance.pick([at for at in (0, 3, 7, 8, 12, 15, 15) if at in entries])
         kind = NAPOT if self.chance.one_in(2) else TOR
         name = "pmpcfg0" if number < 8 else "pmpcfg2"
         rights = 7
@@ -237,7 +238,7 @@ class Goals:
     def protect(self):
         """Writes some entries of protection, and looks at them."""
         chance = self.chance
-        if self.hart.mode != M:
+        if self.hart.mode != M or not self.setting.choices.profile.pmp_entries:
             return self.register()
         number = chance.below(15)
         name = "pmpcfg0" if number < 8 else "pmpcfg2"

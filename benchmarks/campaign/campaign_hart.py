@@ -12,9 +12,9 @@ from hart_memory import (
     ENTRY, FETCH, LOAD, PTE_A, PTE_D, PTE_PPN_AT, PTE_R, PTE_RESERVED_AT, PTE_U, PTE_V, PTE_W,
     PTE_X, STORE, VIRTUAL_BITS, VPN_BITS, PAGE, Memory, Trap,
 )
+from hart_profile import LINES, PMP_ENTRIES
 from hart_registers import (
-    KIND_AT, LINES, LOCKED, MPRV, MXR, OFF, PMP_ENTRIES, SATP_MODE_AT, SATP_PPN, SUM, SV39,
-    ControlRegisters, M, S, U,
+    KIND_AT, LOCKED, MPRV, MXR, OFF, SATP_MODE_AT, SATP_PPN, SUM, SV39, ControlRegisters, M, S, U,
 )
 from reference_hart import Core, Hart
 
@@ -79,13 +79,15 @@ class MadeMemory(Memory):
 class CountedRegisters(ControlRegisters):
     """Registers that count what protection and its locks decide."""
 
-    def __init__(self, reached):
-        super().__init__()
+    def __init__(self, reached, profile):
+        super().__init__(profile=profile)
         self.reached = reached
 
     def allows(self, mode, address, length, right):
         allowed = super().allows(mode, address, length, right)
-        if self.entries or mode != M:
+        if not self.profile.pmp_entries:
+            self.reached["protection", f"without entries: {MODES[mode]}"] += 1
+        elif self.entries or mode != M:
             self.reached["protection", self.decision(allowed, mode, address, length)] += 1
         return allowed
 
@@ -127,11 +129,15 @@ class CountedRegisters(ControlRegisters):
 
 
 class MadeCore(Core):
-    """A core that chooses by chance, and only what the columns of its trace can show."""
+    """A core that chooses by chance, and only what the columns of its trace can show; driven has
+    the bits of mip that are lines."""
 
-    def __init__(self, chance, columns):
+    def __init__(self, chance, columns, driven=LINES):
         self.chance = chance
         self.columns = columns
+        self.driven = driven
+        self.refused = False  # whether a device refused the access of the row at hand
+        self.names_rd = True  # whether rd of the instruction at hand is another than x0, for an AMO
         self.shows_lines = "csr_mip_rdata" in columns
         self.asked = False  # whether the row at hand rests on a choice
         self.needs_lines = False  # and whether on lines that csr_mip_rdata alone shows
@@ -140,9 +146,9 @@ class MadeCore(Core):
         self.number = None  # of its hart, among several
 
     def begin(self):
-        self.asked = self.needs_lines = False
+        self.asked = self.needs_lines = self.refused = False
         if self.shows_lines and self.restless and self.chance.one_in(3):
-            self.level = self.chance.getrandbits(12) & LINES
+            self.level = self.chance.getrandbits(12) & self.driven
 
     def stores(self, instruction):
         by_value = instruction.rd and "rd_wdata" in self.columns
@@ -164,7 +170,7 @@ class MadeCore(Core):
         if "rd_wdata" not in self.columns:
             self.needs_lines = self.shows_lines
             return self.level
-        return self.level if self.shows_lines else self.chance.getrandbits(12) & LINES
+        return self.level if self.shows_lines else self.chance.getrandbits(12) & self.driven
 
     def refuses(self, instruction):
         if "trap" not in self.columns:
@@ -172,8 +178,16 @@ class MadeCore(Core):
         self.asked = True
         return self.chance.one_in(3)
 
+    def device_refuses(self, place, length):
+        if "trap" not in self.columns:
+            return False
+        self.asked = True
+        self.refused = self.chance.one_in(4)
+        return self.refused
+
     def device_load(self, address, place, length):
-        if not {"mem_addr", "mem_rdata"} <= self.columns and "rd_wdata" not in self.columns:
+        by_value = self.names_rd and "rd_wdata" in self.columns
+        if not {"mem_addr", "mem_rdata"} <= self.columns and not by_value:
             return 0
         self.asked = True
         return self.chance.getrandbits(8 * length)
@@ -185,7 +199,7 @@ class MadeHart(Hart):
     def __init__(self, maker, core, setting, reached, memory=None):
         memory = memory or MadeMemory(maker, setting.ram)
         super().__init__(memory, core, setting.devices, setting.pc, setting.choices)
-        self.csrs = CountedRegisters(reached)
+        self.csrs = CountedRegisters(reached, setting.choices.profile)
         self.reached = reached
 
     def translates(self, mode):
@@ -208,10 +222,17 @@ class MadeHart(Hart):
             self.count_leaf(walk, self.mode)
         return half
 
-    def parts(self, address, length, kind, atomic=False):
+    def execute_at_device(self, instruction, *access):
+        self.core.names_rd = instruction.rd != 0
+        try:
+            return super().execute_at_device(instruction, *access)
+        finally:
+            self.core.names_rd = True
+
+    def parts(self, address, length, kind, atomic=False, in_ram=False):
         name = KINDS[kind]
         try:
-            parts = super().parts(address, length, kind, atomic)
+            parts = super().parts(address, length, kind, atomic, in_ram)
         except Trap as trap:
             if trap.cause == kind.misaligned:
                 self.reached["misaligned", f"{name}{', atomic' if atomic else ''}"] += 1
@@ -250,6 +271,9 @@ class MadeHart(Hart):
             self.count_leaf(walk, mode)
         if place in self.devices:
             self.reached["devices", f"{KINDS[kind]} of {length}"] += 1
+            if len(self.devices) > 1:
+                at = next(at for at, one in enumerate(self.devices, 1) if place in one)
+                self.reached["devices", f"an access in range {at}"] += 1
         return place
 
     def count_leaf(self, walk, mode):

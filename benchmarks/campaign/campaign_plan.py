@@ -7,6 +7,7 @@ from random import Random
 
 from campaign_code import BITS_FORMS, NOP, SHORT, encode, encode_short
 from campaign_goals import Goals
+from campaign_touch import Touches
 from hart_instructions import ATOMIC, BRANCHES, LOADS, MASK, STORES, signed
 from hart_memory import (
     ENTRY, FETCH, LOAD, PAGE, PTE_A, PTE_D, PTE_PPN_AT, PTE_R, PTE_RESERVED_AT, PTE_U, PTE_V, PTE_W,
@@ -77,7 +78,7 @@ class Chance(Random):
         return self.pick((value, value, MASK - value, value << 32 & MASK))
 
 
-class Maker(Goals):
+class Maker(Touches, Goals):
     """Makes up what a hart reads: instructions, data, and entries of page tables."""
 
     def __init__(self, chance, setting, with_bits):
@@ -98,8 +99,11 @@ class Maker(Goals):
         if with_bits:
             has_them = setting.choices.bits == "on"
             self.bits_share = chance.pick((0.2, 0.6, 0.95)) if has_them else 0.12
+        self.touches = self.pick_touches()
         self.rows = 0  # how many the trace is to have
         self.begin()
+        if self.touches:
+            self.begin_touching()
 
     # Values of bytes that nothing has read yet.
 
@@ -179,11 +183,15 @@ class Maker(Goals):
     def frame(self, size, offset, kind):
         """The begin of a page of this size whose byte at the offset is somewhere, or None."""
         is_device = self.devices and kind != FETCH and self.chance.one_in(6)
-        place = self.devices if is_device else self.ram
+        place = self.one_device() if is_device else self.ram
         first, last = -((offset - place.start) // size), (place.stop - 1 - offset) // size
         if max(first, 0) > last:
             return None
         return (max(first, 0) + self.chance.below(last - max(first, 0) + 1)) * size
+
+    def one_device(self):
+        """One of the ranges of devices."""
+        return self.devices[0] if len(self.devices) == 1 else self.chance.pick(self.devices)
 
     def any_page(self):
         """The address of a page of RAM, or now and then of none."""
@@ -213,6 +221,8 @@ class Maker(Goals):
             self.system, self.goal, self.anything,
         )
         weights = self.weights
+        if self.touches and self.chance.random() < self.touches:
+            return self.touch()
         if self.hart.mode != M:
             weights = [*weights[:5], *(0.3 * weight for weight in weights[5:])]
         elif self.hart.csrs.values["mstatus"] & MPP != MPP and self.chance.one_in(2):
@@ -311,7 +321,8 @@ class Maker(Goals):
         if self.hot and chance.one_in(2):
             address = chance.pick(self.hot) + length * chance.pick((0, 0, 0, 1, -1, 8))
         elif self.devices and chance.one_in(4):
-            address = self.devices.start + chance.below(len(self.devices))
+            devices = self.one_device()
+            address = devices.start + chance.below(len(devices))
         elif chance.one_in(12):
             address = chance.pick((
                 chance.getrandbits(64), self.ram.start - 8, self.ram.stop, 1 << 56, 1 << 38,

@@ -1,7 +1,7 @@
 """What the rows of a made trace show, and what is altered in it; a part of campaign.py."""
 from hart_instructions import MASK
-from hart_registers import LINES
-from judge import CALLS, CSRS, KNOWN, PLAIN, UNTOLD_AFTER, WIDTHS
+from hart_profile import Profile
+from judge import CALLS, CSRS, KNOWN, PLAIN, WIDTHS
 from reference_hart import BREAKPOINT
 from trace_text import NEEDED
 
@@ -40,9 +40,10 @@ class Row:
     """The fields of one row by their columns; None where one is empty, a text where it is no
     number."""
 
-    def __init__(self, chance, columns):
+    def __init__(self, chance, columns, profile=Profile()):
         self.chance = chance
         self.columns = columns  # a dictionary, whose order is the same in every run
+        self.profile = profile
         self.fields = {}
 
     def garbage(self, column):
@@ -69,6 +70,8 @@ class Row:
         }
         if retired.bits is None:
             self.fields["insn"] = self.garbage("insn")
+        elif retired.length == 2 and self.profile.insn == "length":
+            self.masked("insn", retired.bits, 0xFFFF)
 
     def registers(self, retired, registers):
         """From rs1_addr to pc_wdata, with the registers before the instruction."""
@@ -121,20 +124,24 @@ class Row:
             return 0
         mask = MASK
         if mask_column in self.columns and self.chance.one_in(2):
-            mask = self.chance.pick((0, self.chance.getrandbits(64), LINES)) | needed
+            mask = self.chance.pick((0, self.chance.getrandbits(64), self.profile.lines)) | needed
         self.masked(column, value, mask & ~untold)
         self.fields[mask_column] = None if mask == MASK and self.chance.one_in(8) else mask
         return mask
 
     def csrs(self, before, after, needed_lines):
         """The registers before the row and after it."""
-        shown_lines = 0
+        shown_lines, moving = 0, self.profile.untold_after
         if "mip" in before:
-            shown_lines = self.csr("mip", "r", before["mip"], needed_lines, 0) & LINES
+            shown_lines = self.csr("mip", "r", before["mip"], needed_lines, 0) & moving["mip"]
         for name in before:
+            if self.profile.words.get(name) == "row":
+                self.free(*(f"csr_{name}_{part}" for part in PARTS))
+                continue
             if name != "mip":
-                self.csr(name, "r", before[name], 0, 1 << 9 & ~shown_lines if name == "sip" else 0)
-            self.csr(name, "w", after[name], 0, UNTOLD_AFTER.get(name, 0))
+                untold = moving["sip"] & ~shown_lines if name == "sip" else 0
+                self.csr(name, "r", before[name], 0, untold)
+            self.csr(name, "w", after[name], 0, moving.get(name, 0))
 
     def hide(self, share):
         """Leaves fields empty, but for those by which others are to be read."""

@@ -2,9 +2,11 @@
 from collections import Counter
 
 from campaign_hart import MODES, MadeCore, MadeHart, count_row, manipulation_of
+from campaign_profile import count_profile
 from campaign_rows import Row
 from hart_instructions import MASK
-from hart_registers import LINES, M
+from hart_profile import MORE_LINES, Profile
+from hart_registers import M
 from judge import CSR_DATA
 
 
@@ -15,7 +17,10 @@ class Run:
         self.chance, self.reached = chance, reached
         self.columns = dict.fromkeys(columns)
         self.maker, self.count = maker, maker.rows
-        self.core = MadeCore(chance, set(columns))
+        self.profile = setting.choices.profile
+        is_told = isinstance(setting.choices.trap_values, frozenset)
+        self.has_profile = is_told or self.profile != Profile()
+        self.core = MadeCore(chance, set(columns), self.profile.lines)
         memory = beside.hart.memory if beside else None
         self.hart = maker.hart = MadeHart(maker, self.core, setting, reached, memory)
         self.names = [name for name, *data in CSR_DATA if not self.columns.keys().isdisjoint(data)]
@@ -42,7 +47,7 @@ class Run:
     def skip(self):
         """Adds a row that is not valid, now and then."""
         if "valid" in self.columns and self.chance.one_in(16):
-            row = Row(self.chance, self.columns)
+            row = Row(self.chance, self.columns, self.profile)
             row.invalid()
             self.rows.append(row.fields)
             self.history.append(None)
@@ -65,6 +70,8 @@ class Run:
         way = "vectored" if vector & 1 else "direct"
         self.reached["interrupt", f"{code} to {MODES[hart.mode]}, {way}"] += 1
         self.reached["interrupt", f"from {MODES[mode]}"] += 1
+        if lines & MORE_LINES & 1 << code:
+            self.reached["profile", f"interrupt {code} by a line"] += 1
         return True
 
     def step(self):
@@ -82,15 +89,17 @@ class Run:
         if retired.access and retired.instruction.name.startswith("LR"):
             self.reserved = retired.access.place
         self.pcs.append(retired.pc)
-        row = Row(self.chance, self.columns)
+        row = Row(self.chance, self.columns, self.profile)
         row.head(retired, self.order, mode, entered, self.trapped_last)
         row.registers(retired, registers)
         shows_address = "mem_addr" in self.columns and (core.asked or not self.chance.one_in(10))
         row.memory(retired, shows_address)
-        row.csrs(before, after, LINES if entered or core.needs_lines else 0)
+        row.csrs(before, after, self.profile.lines if entered or core.needs_lines else 0)
         if self.share and not core.asked and not entered:
             row.hide(self.share)
             self.reached["form", "empty fields"] += 1
+        if self.has_profile:
+            count_profile(self.reached, hart, mode, retired, row.fields)
         self.order = self.order + 1 & MASK
         self.trapped_last = retired.trap is not None
         self.rows.append(row.fields)

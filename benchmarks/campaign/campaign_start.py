@@ -49,7 +49,7 @@ class Start:
         hart = Hart(Memory(ram=setting.ram), choices=setting.choices, pc=run.hart.pc)
         hart.registers, hart.mode = list(run.hart.registers), run.hart.mode
         hart.reserved = run.hart.reserved
-        hart.csrs = ControlRegisters(dict(run.hart.csrs.values))
+        hart.csrs = ControlRegisters(dict(run.hart.csrs.values), setting.choices.profile)
         judge = Judge(hart)
         judge.next_order = run.order if run.chance.one_in(2) else None
         judge.trapped_last = run.trapped_last

@@ -1,4 +1,4 @@
-"""The texts of made images and traces, in many forms; a part of campaign.py."""
+"""The texts of made images, traces and commands, in many forms; a part of campaign.py."""
 from trace_text import MARK, MOST_LINE, split_name
 
 UNKNOWN = (
@@ -7,6 +7,18 @@ UNKNOWN = (
 )
 UNKNOWN_AT_PORTS = (*UNKNOWN, "cycle_1", "insn_0_1", "rvfi_rvfi_insn_2", "_3", "trap_01", "valid_1_")
 JUNK = ("", "0", "zz", "0x", "-", "note", "1;2", "0xffffffffffffffffff")
+
+
+def spelled(chance, value):
+    """A number as a word of a command may have it."""
+    if chance.one_in(2):
+        return str(value)
+    return chance.pick((f"0x{value:x}", f"0X{value:X}", f"0x00{value:x}"))
+
+
+def option(chance, name, text):
+    """The words of an option with a value."""
+    return [f"--{name}={text}"] if chance.one_in(2) else [f"--{name}", text]
 
 
 class Form:

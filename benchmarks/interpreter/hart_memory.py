@@ -45,6 +45,18 @@ LOAD = Kind(READ, PTE_R, 4, 5, 13)
 STORE = Kind(WRITE, PTE_W, 6, 7, 15)
 
 
+class Ranges(tuple):
+    """Ranges of physical addresses, which answer by `in` whether one of them has an address."""
+
+    def __contains__(self, address):
+        return any(address in one for one in self)
+
+    def meet(self):
+        """Whether two of them have a byte in common."""
+        ordered = sorted(self, key=lambda one: one.start)
+        return any(below.stop > above.start for below, above in zip(ordered, ordered[1:]))
+
+
 class Memory:
     """RAM: the pages that have a byte of the image or were written; all else is 0."""
 

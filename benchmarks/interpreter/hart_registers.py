@@ -2,9 +2,12 @@
 
 After the Privileged Architecture, version 20211203, chapters "Control and Status Registers (CSRs)",
 "Machine-Level ISA" and "Supervisor-Level ISA"; a part of reference_hart.py. Which bits of a register can be
-written is the profile that docs/REFERENCE.md describes.
+written says hart_profile.py.
 """
 from hart_instructions import MASK
+from hart_profile import (
+    CONFIGURATION, CONSTANT, FS, PMP_ENTRIES, SD, SSTATUS_READ, SSTATUS_WRITE, VS, Profile,
+)
 
 # modes
 U, S, M = 0, 1, 3
@@ -12,38 +15,16 @@ U, S, M = 0, 1, 3
 SIE, MIE, SPIE, MPIE, SPP, MPRV = 1 << 1, 1 << 3, 1 << 5, 1 << 7, 1 << 8, 1 << 17
 SUM, MXR, TVM, TW, TSR = 1 << 18, 1 << 19, 1 << 20, 1 << 21, 1 << 22
 MPP, MPP_AT = 3 << 11, 11
-XLENS = 0xA00000000  # UXL and SXL: 64 bits in U and S
 
-LINES = 1 << 3 | 1 << 7 | 1 << 9 | 1 << 11  # MSIP, MTIP, SEIP, MEIP of mip, driven from outside
-HELD = 1 << 1 | 1 << 5 | 1 << 9  # SSIP, STIP, SEIP of mip, which software writes
 INTERRUPT_ORDER = (11, 3, 7, 9, 1, 5)
-SSTATUS_READ, SSTATUS_WRITE = 0x3000C0122, 0xC0122
 
 # physical memory protection: the bits of an entry's configuration, and the kinds of its region
-PMP_ENTRIES = 16
 READ, WRITE, EXECUTE, LOCKED = 1 << 0, 1 << 1, 1 << 2, 1 << 7
 KIND_AT, OFF, TOR, NA4, NAPOT = 3, 0, 1, 2, 3
-CONFIGURATION = 0x9F  # bits 6:5 are 0
-PMP_ADDRESS = (1 << 54) - 1  # bits 55:2 of an address
 
 # satp: its mode, and the number of the page with the table that a walk begins in
 BARE, SV39, SATP_MODE_AT = 0, 8, 60
 SATP_PPN = (1 << 44) - 1
-
-ALL, EVEN = MASK, MASK - 1
-VECTOR = MASK - 2  # a base and, in bit 0, the mode
-
-# the registers that are stored, with the bits that a write reaches; mip stores its held bits
-WRITABLE = {
-    "mstatus": 0x7E19AA, "medeleg": 0xB3FF, "mideleg": 0x222, "mie": 0xAAA, "mtvec": VECTOR, "stvec": VECTOR,
-    "mcounteren": 7, "scounteren": 7, "menvcfg": 1, "senvcfg": 1, "mcountinhibit": 5,
-    "mscratch": ALL, "sscratch": ALL, "mepc": EVEN, "sepc": EVEN, "mcause": ALL, "scause": ALL,
-    "mtval": ALL, "stval": ALL, "mip": HELD, "satp": ALL,
-    "pmpcfg0": int.from_bytes([CONFIGURATION] * 8), "pmpcfg2": int.from_bytes([CONFIGURATION] * 8),
-}
-WRITABLE |= {f"pmpaddr{n}": PMP_ADDRESS for n in range(PMP_ENTRIES)}
-# the registers that always read the same; a write to them changes nothing
-FIXED = {"misa": 0x8000000000141105} | {f"mhpmevent{n}": 0 for n in range(3, 32)}
 
 ADDRESSES = {
     0x100: "sstatus", 0x104: "sie", 0x105: "stvec", 0x106: "scounteren", 0x10A: "senvcfg",
@@ -64,15 +45,25 @@ ADDRESSES |= {0xC00 + n: f"hpmcounter{n}" for n in range(3, 32)}
 DECIDED = {name for at, name in ADDRESSES.items() if at >> 8 in (0xB, 0xC, 0xF)}
 
 
+def with_dirty(status):
+    """A value of mstatus or sstatus with SD, which is not stored: whether FS or VS says that a unit is dirty."""
+    return status | SD if status & FS == FS or status & VS == VS else status
+
+
 class ControlRegisters:
     """The stored registers by name, and the others as views of them."""
 
-    def __init__(self, values=None):
-        self.values = values or dict.fromkeys(WRITABLE, 0) | {"mstatus": XLENS}
+    def __init__(self, values=None, profile=Profile()):
+        self.profile = profile
+        self.values = values or dict(profile.fixed)
         self.entries = None  # of protection, where they were worked out since the last write
 
     def copy(self):
-        return ControlRegisters(dict(self.values))
+        return ControlRegisters(dict(self.values), self.profile)
+
+    def is_decided(self, name):
+        """Whether a register has the core's own values."""
+        return name in DECIDED or self.profile.words.get(name) == "row"
 
     def read(self, name, lines=0):
         """The value that an instruction reads while these lines are up."""
@@ -80,41 +71,46 @@ class ControlRegisters:
         match name:
             case "mip":
                 return values["mip"] | lines
+            case "mstatus":
+                return with_dirty(values["mstatus"])
             case "sstatus":
-                return values["mstatus"] & SSTATUS_READ
+                return with_dirty(values["mstatus"] & SSTATUS_READ)
             case "sie":
                 return values["mie"] & values["mideleg"]
             case "sip":
                 return (values["mip"] | lines) & values["mideleg"]
-        return FIXED[name] if name in FIXED else values[name]
+        return CONSTANT[name] if name in CONSTANT else values[name]
 
     def write(self, name, value):
         """What a lawful write stores; it drops what the register does not hold."""
-        values = self.values
+        values, masks = self.values, self.profile.writable
         match name:
             case "mstatus":
                 if value >> MPP_AT & 3 == 2:  # no such mode
                     value = value & ~MPP | values["mstatus"] & MPP
-                values["mstatus"] = value & WRITABLE["mstatus"] | XLENS
+                self.put("mstatus", value, masks["mstatus"])
             case "sstatus":
-                values["mstatus"] = values["mstatus"] & ~SSTATUS_WRITE | value & SSTATUS_WRITE
+                self.put("mstatus", value, masks["mstatus"] & SSTATUS_WRITE)
             case "sie":
-                values["mie"] = values["mie"] & ~values["mideleg"] | value & values["mideleg"]
+                self.put("mie", value, masks["mie"] & values["mideleg"])
             case "sip":
-                software = values["mideleg"] & 1 << 1
-                values["mip"] = values["mip"] & ~software | value & software
+                self.put("mip", value, masks["mip"] & values["mideleg"] & 1 << 1)
             case "satp":
                 if value >> SATP_MODE_AT in (BARE, SV39):  # else nothing of it is stored
-                    values["satp"] = value
+                    self.put("satp", value, masks["satp"])
             case "pmpcfg0" | "pmpcfg2":
-                values[name] = self.configurations(values[name], value)
+                self.put(name, self.configurations(values[name], value), masks[name])
                 self.entries = None
             case _ if name.startswith("pmpaddr"):
                 if not self.is_address_locked(int(name.removeprefix("pmpaddr"))):
-                    values[name] = value & PMP_ADDRESS
+                    self.put(name, value, masks[name])
                     self.entries = None
-            case _ if name in WRITABLE:
-                values[name] = value & WRITABLE[name]
+            case _ if name in masks:
+                self.put(name, value, masks[name])
+
+    def put(self, name, value, mask):
+        """Stores the bits of the mask in a register."""
+        self.values[name] = self.values[name] & ~mask | value & mask
 
     @staticmethod
     def configurations(old, new):
@@ -149,6 +145,8 @@ class ControlRegisters:
 
     def allows(self, mode, address, length, right):
         """Whether protection lets this mode read, write or execute all of these bytes."""
+        if not self.profile.pmp_entries:
+            return True
         if self.entries is None:
             numbered = ((self.region(entry), self.configuration(entry)) for entry in range(PMP_ENTRIES))
             self.entries = [(region, configuration) for region, configuration in numbered if region]
@@ -164,10 +162,12 @@ class ControlRegisters:
         name = ADDRESSES.get(address)
         if name is None or mode < (address >> 8 & 3) or (writes and address >> 10 == 3):
             return None
+        if self.profile.words.get(name) == "none" or (name.startswith("pmp") and not self.profile.pmp_entries):
+            return None  # it is not there
         if name == "satp" and mode == S and self.values["mstatus"] & TVM:
             return None
         if address >> 8 == 0xC and mode < M:
-            enabled = self.values["mcounteren"] & (self.values["scounteren"] if mode == U else ALL)
+            enabled = self.values["mcounteren"] & (self.values["scounteren"] if mode == U else MASK)
             if not enabled >> (address & 0x1F) & 1:
                 return None
         return name

@@ -1,20 +1,23 @@
 #!/usr/bin/env python3
 """Judges a trace by the hart of reference_hart.py.
 
-    judge.py [judge|state] IMAGE TRACE [--pc A] [--ram B:S] [--io B:S] [--max-image M] [--max-trace M]
-             [--misaligned trap|done] [--mtval value|zero] [--ad fault|set] [--reserve BYTES]
-             [--bits off|on] [--harts N] [--origin]
+    judge.py [judge|state] IMAGE TRACE [--pc A] [--ram B:S] [--io B:S,..] [--max-image M] [--max-trace M]
+             [--misaligned trap|done] [--mtval value|zero|zero:C,..] [--ad fault|set] [--reserve BYTES]
+             [--bits off|on] [--csr LIST] [--pmp N] [--pmp-bits B] [--lines MASK] [--io-faults none|row]
+             [--insn full|length] [--harts N] [--origin]
 
 Prints the line that `rvjudge judge` prints for an image and a trace, and ends with its status; after the
 word state, where they agree, the text of the state that the hart is in at the end. The rules of
 comparison are those that docs/REFERENCE.md describes, written here a second time after riscv-formal's
 description of RVFI; those of the texts stand in trace_text.py, those of images that are no text of bytes
-in elf_file.py and saved_state.py. Of the words it knows what these options say, and no limits of those in
-the first line. An option that stands twice, and a choice that is not listed here, is refused. BYTES is a
+in elf_file.py and saved_state.py. Of the words it knows what these options say, and no limits of --pc and
+those of bytes. An option that stands twice, and a choice that is not listed here, is refused. BYTES is a
 power of two from 8 to 4096.
 
 Five options say what the core chose that made the trace; the first values and 64 are the defaults.
-hart_choices.py says what each means.
+hart_choices.py says what each means. Those from --csr to --insn say what the core has (hart_profile.py);
+profile_words.py reads their lists. LIST has items NAME=MASK, NAME=MASK:FIXED, NAME=row, NAME=none and
+NAME=maybe, C is a cause, N is 0, 8 or 16, B is from 10 to 54, and MASK is 0xA88 with bit 1, bit 5 or both.
 
 N harts, 1 to 8, stand over one memory, each reset alike. A row steps the hart that its column
 `hart` names, 0 where that is not shown; then each other hart loses its reservation where a byte of
@@ -23,20 +26,23 @@ that of a difference say which earlier rows wrote last what the differing row wo
 (row_origin.py).
 """
 import argparse
-import os
 import sys
 from pathlib import Path
 from typing import NamedTuple
 
 import elf_file
+import hart_choices
+import hart_profile
 import saved_state
-from hart_choices import VALUES, Choices
+from hart_choices import Choices
 from hart_instructions import MASK
-from hart_memory import RAM, Memory
-from hart_registers import LINES, M
+from hart_memory import RAM, Memory, Ranges
+from hart_profile import FOR_S, LINES, Profile
+from hart_registers import M
+from profile_words import read_range, read_ranges, read_registers, read_trap_values, word_number
 from reference_hart import BREAKPOINT, CALL_FROM_U, Core, Hart
 from row_origin import Last
-from trace_text import Refused, read_image, read_number, read_rows
+from trace_text import Refused, read_image, read_rows
 
 # the columns with their bits, in the order of comparison; halt is never compared
 PLAIN = {
@@ -57,8 +63,6 @@ KNOWN = WIDTHS | {HART: 64}  # all columns that are known
 MOST_HARTS = 8
 CSR_DATA = [(name, f"csr_{name}_rdata", f"csr_{name}_wdata") for name in CSRS]
 
-# what a row does not tell of a register after the row: bits of lines, which may have moved
-UNTOLD_AFTER = {"mip": LINES, "sip": 1 << 9}
 CALLS = range(CALL_FROM_U, CALL_FROM_U + M + 1)
 
 
@@ -102,11 +106,12 @@ def distance(row, access):
 
 
 class RowCore(Core):
-    """A core that chose what a row shows."""
+    """A core that chose what a row shows; driven has the bits of mip that are lines."""
 
-    def __init__(self, row):
+    def __init__(self, row, driven=LINES):
         self.row = row
-        self.shown_lines = csr_shown(row, "mip", "r") & LINES
+        self.driven = driven
+        self.shown_lines = csr_shown(row, "mip", "r") & driven
         self.up = row.get("csr_mip_rdata", 0) & self.shown_lines
 
     def stores(self, instruction):
@@ -118,9 +123,12 @@ class RowCore(Core):
         return self.row.get("rd_wdata", 0)
 
     def lines(self, instruction):
-        return self.up | self.row.get("rd_wdata", 0) & LINES & ~self.shown_lines
+        return self.up | self.row.get("rd_wdata", 0) & self.driven & ~self.shown_lines
 
     def refuses(self, instruction):
+        return self.row.get("trap", 0) == 1
+
+    def device_refuses(self, place, length):
         return self.row.get("trap", 0) == 1
 
     def device_load(self, address, place, length):
@@ -163,7 +171,8 @@ class Judge:
             yield Expected("order", self.next_order)
         known = self.next_order if self.next_order is not None else row.get("order")
         self.next_order = known if known is None else known + 1 & MASK
-        hart, hart.core = self.hart, RowCore(row)
+        profile = self.hart.choices.profile
+        hart, hart.core = self.hart, RowCore(row, profile.lines)
         if row.get("intr") == 1 and not (self.trapped_last and row["pc_rdata"] == hart.pc):
             code = hart.csrs.pending(hart.mode, hart.core.up)
             if code is None:
@@ -176,17 +185,17 @@ class Judge:
         retired = self.retired = hart.step()
         after = self.csr_values(shown)
         self.trapped_last, self.halted = retired.trap is not None, row.get("halt") == 1
-        yield from expect_head(retired, mode)
+        yield from expect_head(retired, mode, profile)
         if not retired.trap:
             yield from expect_registers(retired, row, registers)
             yield from expect_memory(retired.access, row)
-        yield from expect_csrs(row, before, after)
+        yield from expect_csrs(row, before, after, profile)
 
     def csr_values(self, names):
         return {name: self.hart.csrs.read(name, self.hart.core.up) for name in names}
 
 
-def expect_head(retired, mode):
+def expect_head(retired, mode, profile):
     """From pc_rdata to insn."""
     yield Expected("pc_rdata", retired.pc)
     yield Expected("mode", mode)
@@ -195,7 +204,8 @@ def expect_head(retired, mode):
     if not (trap and (trap.cause == BREAKPOINT or trap.cause in CALLS)):
         yield Expected("trap", 1 if trap else 0)
     if retired.bits is not None:
-        yield Expected("insn", retired.bits)
+        is_half = retired.length == 2 and profile.insn == "length"
+        yield Expected("insn", retired.bits, 0xFFFF if is_half else MASK)
 
 
 def expect_registers(retired, row, registers):
@@ -236,14 +246,17 @@ def expect_memory(access, row):
     yield Expected("mem_paddr", access.place - offset & MASK)
 
 
-def expect_csrs(row, before, after):
+def expect_csrs(row, before, after, profile):
     """The registers before the instruction and after it, under the row's masks."""
     for name in before:
+        if profile.words.get(name) == "row":
+            continue  # its values are the core's own
         told = MASK
-        if name == "sip" and not csr_shown(row, "mip", "r") & 1 << 9:
-            told ^= 1 << 9  # whether the line is up is not known
+        if name == "sip":  # whether a line is up that is not shown in mip is not known
+            told ^= profile.lines & FOR_S & ~csr_shown(row, "mip", "r")
+        moved = profile.untold_after.get(name, 0)
         yield Expected(f"csr_{name}_rdata", before[name], csr_shown(row, name, "r") & told)
-        yield Expected(f"csr_{name}_wdata", after[name], csr_shown(row, name, "w") & ~UNTOLD_AFTER.get(name, 0))
+        yield Expected(f"csr_{name}_wdata", after[name], csr_shown(row, name, "w") & ~moved)
 
 
 class Harts:
@@ -304,7 +317,7 @@ class Setting(NamedTuple):
 
     pc: int | None = None
     ram: range = RAM
-    devices: range = range(0)
+    devices: Ranges | range = Ranges()
     most_image: int = 1 << 30
     most_trace: int = 1 << 40
     choices: Choices = Choices()
@@ -312,11 +325,17 @@ class Setting(NamedTuple):
     origin: bool = False
 
 
-# each option that names a choice, with the choice
+# each option that names a choice, with the choice, and each that names a part of the profile, with that
 CHOSEN = {
     "--misaligned": "misaligned", "--mtval": "trap_values", "--ad": "marks", "--reserve": "block",
     "--bits": "bits",
 }
+PROFILE = {
+    "--csr": "csrs", "--pmp": "pmp_entries", "--pmp-bits": "pmp_bits", "--lines": "lines",
+    "--io-faults": "io_faults", "--insn": "insn",
+}
+# how those are read that have more values than can be listed
+READ_AS = {"trap_values": read_trap_values, "csrs": read_registers}
 
 STATUS = {"agrees": 0, "rvstate": 0, "differs": 1, "refused image:": 3, "refused trace:": 4}
 
@@ -362,16 +381,6 @@ def foretell(image, trace, setting, command="judge"):
     return said, next(status for front, status in STATUS.items() if said.startswith(front))
 
 
-def span(text):
-    base, size = text.split(":")
-    return range(number(base), number(base) + number(size))
-
-
-def trace_number(text):
-    """A number as a trace has them; None where it is none."""
-    return read_number(os.fsencode(text))
-
-
 class Parser(argparse.ArgumentParser):
     """Refuses words with the judge's line and status."""
 
@@ -403,20 +412,36 @@ class Flag(Once):
 
 
 def add_choices(parser):
-    """Gives a parser the options that say what a core chose."""
-    for name, choice in CHOSEN.items():
-        kind = trace_number if choice == "block" else str
-        usual = getattr(Choices(), choice)
-        parser.add_argument(name, type=kind, default=usual, choices=VALUES[choice], action=Once, dest=choice)
+    """Gives a parser the options that say what a core chose, and what it has."""
+    for options, usual, values in (
+        (CHOSEN, Choices(), hart_choices.VALUES), (PROFILE, Profile(), hart_profile.VALUES),
+    ):
+        for name, what in options.items():
+            default, read = getattr(usual, what), READ_AS.get(what)
+            read = read or (word_number if isinstance(default, int) else str)
+            few = None if what in READ_AS else values[what]
+            parser.add_argument(name, type=read, default=default, choices=few, action=Once, dest=what)
 
 
 def choices_of(options):
     """What these options say."""
-    return Choices(**{choice: getattr(options, choice) for choice in CHOSEN.values()})
+    profile = Profile(**{what: getattr(options, what) for what in PROFILE.values()})
+    return Choices(**{choice: getattr(options, choice) for choice in CHOSEN.values()}, profile=profile)
 
 
-def parse(words):
-    """The command of these words, the paths of image and trace, and the setting."""
+def said_before(words):
+    """What these options say of a core's choices, by what they are about; of the others nothing."""
+    parser = Parser(add_help=False, allow_abbrev=False)
+    add_choices(parser)
+    options = parser.parse_args(words)
+    return {what: getattr(options, what) for what in getattr(options, "given", ())}
+
+
+def parse(words, before=()):
+    """The command of these words, the paths of image and trace, and the setting.
+
+    The words before are options of a core's choices, of which these words may say others.
+    """
     default = Setting()
     parser = Parser(
         description=__doc__, formatter_class=argparse.RawDescriptionHelpFormatter, allow_abbrev=False
@@ -427,17 +452,20 @@ def parse(words):
     if words[:1] in (["judge"], ["state"]):
         command, *words = words
     for name, kind, value in (
-        ("--pc", number, default.pc), ("--ram", span, default.ram), ("--io", span, default.devices),
+        ("--pc", number, default.pc), ("--ram", read_range, default.ram), ("--io", read_ranges, default.devices),
         ("--max-image", number, default.most_image), ("--max-trace", number, default.most_trace),
     ):
         parser.add_argument(name, type=kind, default=value, action=Once)
     parser.add_argument(
-        "--harts", type=trace_number, default=1, choices=range(1, MOST_HARTS + 1), action=Once)
+        "--harts", type=word_number, default=1, choices=range(1, MOST_HARTS + 1), action=Once)
     parser.add_argument("--origin", action=Flag)
     add_choices(parser)
+    parser.set_defaults(**said_before(before))
     options = parser.parse_args(words)
     if options.origin and command != "judge":
         parser.error("--origin is for judging alone")
+    if Ranges((options.ram, *options.io)).meet():
+        parser.error("devices have a byte in common with RAM, or with one another")
     return command, (options.image, options.trace), Setting(
         options.pc, options.ram, options.io, options.max_image, options.max_trace,
         choices_of(options), options.harts, options.origin)

@@ -5,9 +5,9 @@ Written after the RISC-V Unprivileged ISA and the Privileged Architecture, versi
 "Control and Status Registers (CSRs)", "Machine-Level ISA" and "Supervisor-Level ISA"), and apart from
 rvjudge, whose second opinion it is. What the standards leave to a core is asked of a Core, or stands in
 Choices, which can add Zba, Zbb and Zbs. Its parts are hart_instructions.py, hart_bits.py, hart_registers.py,
-hart_memory.py and hart_choices.py.
+hart_memory.py, hart_choices.py and hart_profile.py.
 
-Every access is translated where satp says so, and held to the 16 entries of physical memory protection.
+Every access is translated where satp says so, and held to the entries of physical memory protection.
 Nothing is cached, so SFENCE.VMA has nothing to do.
 """
 from typing import NamedTuple
@@ -16,7 +16,7 @@ from hart_bits import BITS, decode_bits
 from hart_choices import Choices
 from hart_instructions import ATOMIC, BRANCHES, INTEGER, LOADS, MASK, STORES, Instruction, decode, expand, signed
 from hart_memory import FETCH, LOAD, PAGE, RAM, STORE, Trap, translate
-from hart_registers import DECIDED, MPP_AT, MPRV, TSR, TVM, TW, ControlRegisters, M, S, U
+from hart_registers import MPP_AT, MPRV, TSR, TVM, TW, ControlRegisters, M, S, U
 
 # what instructions compute of their sources alone
 COMPUTED = INTEGER | BITS
@@ -75,7 +75,11 @@ class Core:
         return 0
 
     def refuses(self, instruction):
-        """Whether a read of time, or a WFI that may trap, is illegal."""
+        """Whether an access to time, or to a register that may be missing, or a WFI that may trap, is illegal."""
+        return False
+
+    def device_refuses(self, place, length):
+        """Whether a device refuses an access at this place, where devices may."""
         return False
 
     def device_load(self, address, place, length):
@@ -87,7 +91,10 @@ class Core:
 
 
 class Hart:
-    """The registers, pc, the mode, memory, and the reservation, which is the number of a block or None."""
+    """The registers, pc, the mode, memory, and the reservation, which is the number of a block or None.
+
+    devices answers by `in` whether a physical address is theirs.
+    """
 
     def __init__(self, memory, core=None, devices=range(0), pc=RAM.start, choices=Choices()):
         self.memory = memory
@@ -97,7 +104,7 @@ class Hart:
         self.registers = [0] * 32
         self.pc = pc
         self.mode = M
-        self.csrs = ControlRegisters()
+        self.csrs = ControlRegisters(profile=choices.profile)
         self.reserved = None
         self.fetched = None  # the bits of the instruction at hand
         self.loaded = []  # the bytes of RAM that its own access read
@@ -140,15 +147,16 @@ class Hart:
         status = self.csrs.values["mstatus"]
         return status >> MPP_AT & 3 if self.mode == M and status & MPRV else self.mode
 
-    def parts(self, address, length, kind, atomic=False):
+    def parts(self, address, length, kind, atomic=False, in_ram=False):
         """The parts of a data access, each a physical address and its bytes; a trap where one is refused.
 
-        An access at a multiple of its length is one part. Any other one, where it is carried out, is split
-        at the end of a page of virtual addresses, and each part goes to RAM alone. The parts are asked for
-        in order, each translated and then checked, and the first refusal is that of the access.
+        An access at a multiple of its length is one part, which must lie in RAM where in_ram is set. Any
+        other one, where it is carried out, is split at the end of a page of virtual addresses, and each part
+        goes to RAM alone. The parts are asked for in order, each translated and then checked, and the first
+        refusal is that of the access.
         """
         if address % length == 0:
-            return [(self.place(address, length, kind, atomic), length)]
+            return [(self.place(address, length, kind, in_ram), length)]
         if atomic or self.choices.misaligned == "trap":
             raise Trap(kind.misaligned, address)
         first = min(length, PAGE - address % PAGE)
@@ -164,7 +172,13 @@ class Hart:
         answered = place in self.memory.ram or (place in self.devices and not in_ram)
         if not answered or not self.csrs.allows(mode, place, length, kind.right):
             raise Trap(kind.access_fault, address)
+        if self.devices_may_refuse() and place in self.devices and self.core.device_refuses(place, length):
+            raise Trap(kind.access_fault, address)
         return place
+
+    def devices_may_refuse(self):
+        """Whether a device may refuse an access; then devices take AMOs too."""
+        return self.choices.profile.io_faults == "row"
 
     def step(self):
         """Carries out one instruction, or enters the trap that it runs into."""
@@ -179,7 +193,7 @@ class Hart:
             source2 = self.registers[instruction.rs2] if instruction.rs2 else 0
             value, next_pc, access = self.execute(instruction, source1, source2, pc + length & MASK)
         except Trap as trap:
-            told = 0 if self.choices.trap_values == "zero" else trap.value
+            told = self.choices.told(trap)
             self.mode, self.pc = self.csrs.enter(self.mode, pc, trap.cause, told, False)
             return Retired(
                 bits, length, instruction, pc, self.pc, source1, source2, 0, None, trap,
@@ -264,7 +278,10 @@ class Hart:
         operation, _, suffix = instruction.name.partition(".")
         length = 4 if suffix == "W" else 8
         source = source2 & ((1 << 8 * length) - 1)
-        ((place, _),) = self.parts(address, length, LOAD if operation == "LR" else STORE, True)
+        in_ram = operation in ("LR", "SC") or not self.devices_may_refuse()
+        ((place, _),) = self.parts(address, length, LOAD if operation == "LR" else STORE, True, in_ram)
+        if place not in self.memory.ram:
+            return self.execute_at_device(instruction, address, place, length, source, after)
         block = place // self.choices.block
         old = self.memory.read(place, length)
         if operation != "SC":
@@ -282,6 +299,14 @@ class Hart:
                 return 0, after, Access(address, place, length, None, source)
         stored = ATOMIC[operation](old, source, 8 * length) & ((1 << 8 * length) - 1)
         self.memory.store(place, length, stored)
+        return signed(old, 8 * length), after, Access(address, place, length, old, stored)
+
+    def execute_at_device(self, instruction, address, place, length, source, after):
+        """The same of an AMO at a device, which gives the old value as it does to a load."""
+        operation = instruction.name.partition(".")[0]
+        old = self.core.device_load(address, place, length)
+        stored = ATOMIC[operation](old, source, 8 * length) & ((1 << 8 * length) - 1)
+        self.core.device_store(place, length, stored)
         return signed(old, 8 * length), after, Access(address, place, length, old, stored)
 
     def illegal(self):
@@ -317,9 +342,10 @@ class Hart:
         names_none = not (instruction.rs1 or instruction.imm)
         writes, reads = form == "W" or not names_none, form != "W" or instruction.rd != 0
         name = self.csrs.named(instruction.csr, self.mode, writes)
-        if name is None or (name == "time" and reads and self.core.refuses(instruction)):
+        may_lack = self.choices.profile.words.get(name) == "maybe"
+        if name is None or (may_lack and self.core.refuses(instruction)):
             raise self.illegal()
-        if name in DECIDED:
+        if self.csrs.is_decided(name):
             return self.core.decided(name, instruction) if reads else 0
         lines = self.core.lines(instruction) if reads and name in ("mip", "sip") else 0
         value = self.csrs.read(name, lines)

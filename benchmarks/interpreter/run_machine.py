@@ -13,8 +13,8 @@ from random import Random
 
 from hart_instructions import MASK
 from hart_memory import Memory, read_image
-from hart_registers import LINES
-from judge import CALLS, CSRS, PLAIN, UNTOLD_AFTER, WIDTHS
+from hart_profile import LINES, Profile
+from judge import CALLS, CSRS, PLAIN, WIDTHS
 from reference_hart import BREAKPOINT, Core, Hart
 
 DEVICES = range(0x10000000, 0x10001000)
@@ -190,7 +190,7 @@ class Show:
             if name != "mip":
                 untold = 1 << 9 & ~shown_lines if name == "sip" else 0
                 self.csr(name, "r", before[name], 0, untold)
-            self.csr(name, "w", after[name], 0, UNTOLD_AFTER.get(name, 0))
+            self.csr(name, "w", after[name], 0, Profile().untold_after.get(name, 0))
 
     def hide(self, *kept):
         """Leaves out some plain fields, never one of those that are kept."""

@@ -5,9 +5,8 @@ The rules are those of docs/REFERENCE.md, written here a second time.
 import re
 
 from hart_memory import Memory
-from hart_registers import (
-    BARE, CONFIGURATION, MPP_AT, PMP_ENTRIES, READ, SATP_MODE_AT, SV39, WRITABLE, WRITE, XLENS, ControlRegisters,
-)
+from hart_profile import PMP_ENTRIES
+from hart_registers import BARE, MPP_AT, READ, SATP_MODE_AT, SV39, WRITE, ControlRegisters
 from trace_text import Refused
 
 FRONT = b"rvstate 1\n"  # by which a saved state is told from other images
@@ -109,17 +108,17 @@ class Lines:
             raise self.refused("bad line")
 
 
-def is_lawful(name, value):
-    """Whether a write or a trap can leave this value in a stored register."""
+def is_lawful(name, value, profile):
+    """Whether a write or a trap can leave this value in a stored register of a hart with this profile."""
+    if value & ~profile.writable[name] != profile.fixed[name]:
+        return False
     if name == "mstatus":
-        return value & ~WRITABLE[name] == XLENS and value >> MPP_AT & 3 != 2
+        return value >> MPP_AT & 3 != 2
     if name == "satp":
         return value >> SATP_MODE_AT in (BARE, SV39)
     if name.startswith("pmpcfg"):
-        return all(
-            byte & ~CONFIGURATION == 0 and byte & (READ | WRITE) != WRITE for byte in value.to_bytes(8)
-        )
-    return value & ~WRITABLE[name] == 0
+        return all(byte & (READ | WRITE) != WRITE for byte in value.to_bytes(8))
+    return True
 
 
 def read_reserved(lines, ram, size):
@@ -138,9 +137,9 @@ def is_within(ram, address, size):
     return ram.start <= address and address + size <= ram.stop
 
 
-def read_csr(lines, name):
+def read_csr(lines, name, profile):
     value = lines.number(f"csr_{name}")
-    if not is_lawful(name, value):
+    if not is_lawful(name, value, profile):
         raise lines.refused("bad value")
     return value
 
@@ -192,4 +191,5 @@ def read_hart(judge, lines, setting):
     judge.trapped_last, judge.halted = (flag == b"1" for flag in lines.match(FLAGS).groups())
     hart.reserved = read_reserved(lines, setting.ram, setting.choices.block)
     hart.registers = [0, *(lines.number(f"x{n}") for n in range(1, 32))]
-    hart.csrs = ControlRegisters({name: read_csr(lines, name) for name in SAVED_CSRS})
+    profile = setting.choices.profile
+    hart.csrs = ControlRegisters({name: read_csr(lines, name, profile) for name in SAVED_CSRS}, profile)
