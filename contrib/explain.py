@@ -9,7 +9,8 @@ operands with the rows that last wrote them; the access to memory, why the hart 
 the rows that last stored there; the registers. TRACE may be packed (.gz, .zst). Functions and lines
 need --elf, or an IMAGE that is an ELF file, and python3-pyelftools, disassembly a riscv objdump
 (binutils-riscv64-unknown-elf). OPTIONs are those of the judge; what traps is told by --misaligned,
---ad and --bits too. With --harts the registers are those of the row's hart.
+--ad, --bits, --io, --io-faults and --profile too. With --harts the registers are those of the row's
+hart.
 
 Which rows wrote the operands of the differing row is what the judge says with --origin. Where it
 does not know this word, or says nothing of a row, they are searched in the trace. What is not
@@ -31,6 +32,7 @@ from pathlib import Path
 from typing import NamedTuple
 
 import elf_image
+from core_registers import PROFILES
 from cover import BIT_MANIPULATION, name_of
 from image_start import bytes_at, registers_at
 from instructions import access_of, registers_of, signed
@@ -41,6 +43,8 @@ ABI = ("zero ra sp gp tp t0 t1 t2 s0 s1 a0 a1 a2 a3 a4 a5 a6 a7 s2 s3 s4 s5 s6 s
        "t3 t4 t5 t6").split()
 DIFFERS = re.compile(r"differs row (\d+): (\w+) expected (\S+) found (\S+)")
 ORIGIN = re.compile(r"origin (?:x(\d+)|byte (0x[0-9a-f]{16})) (?:row (\d+)|reset|image)")
+# the judge's options that say what traps, with their defaults
+CHOICES = {"misaligned": "trap", "ad": "fault", "bits": "off", "io-faults": "none"}
 DEBIAN = "/usr/lib/python3/dist-packages"
 MASK = (1 << 64) - 1
 SATP = 0x180
@@ -530,18 +534,27 @@ class Explanation:
             return None
         if self.words.ram[0] <= physical < sum(self.words.ram):
             return physical
+        device = next((it for it in self.words.io if it[0] <= physical < sum(it)), None)
+        if device and (fault := self.device_fault(access, is_misaligned)):
+            lines.append(f"traps    a device{fault} (cause {cause + 1})")
+            return None
+        if device:
+            more = ", and so is a refusal" if self.words.io_faults == "row" else ""
+            lines.append(f"device   in --io {as_spans([device])}, whose data are the trace's{more}")
+            return None
         io = self.words.io
-        if io and io[0] <= physical < sum(io) and is_misaligned:
-            lines.append(f"traps    a device, and not aligned (cause {cause + 1})")
-            return None
-        if io and io[0] <= physical < sum(io):
-            lines.append(f"device   in --io 0x{io[0]:x}:0x{io[1]:x}, whose data are the trace's")
-            return None
-        given = f"--io 0x{io[0]:x}:0x{io[1]:x}" if io else "--io, which is not given"
+        given = f"--io {as_spans(io)}" if io else "--io, which is not given"
         lines.append(f"traps    outside --ram 0x{self.words.ram[0]:x}:0x{self.words.ram[1]:x} and "
                      f"{given} (cause {cause + 1})")
         lines.append(f"         where a device is there: give --io 0x{physical & ~0xfff:x}:0x1000")
         return None
+
+    def device_fault(self, access, is_misaligned):
+        """Why devices refuse an access, whatever the row shows, or an empty text."""
+        name = {"load-reserved": "LR", "store-conditional": "SC", "atomic": "AMO"}.get(access.kind)
+        if name and (name, self.words.io_faults) != ("AMO", "row"):
+            return f", which takes no {name}"
+        return ", and not aligned" if is_misaligned else ""
 
     def walk(self, row, access, address, lines):
         """The physical address by Sv39, or None, and what the entries are."""
@@ -672,10 +685,16 @@ def value_of(options, name):
     return None
 
 
-def span(options, name, default):
-    """Base and size of an option, or the default."""
+def spans(options, name, default):
+    """Base and size of each range of an option, or the default."""
     text = value_of(options, name)
-    return tuple(number(it) for it in text.split(":")) if text else default
+    if not text:
+        return default
+    return [tuple(number(it) for it in part.split(":")) for part in text.split(",")]
+
+
+def as_spans(ranges):
+    return ",".join(f"0x{base:x}:0x{size:x}" for base, size in ranges)
 
 
 def arguments(given):
@@ -695,10 +714,12 @@ def arguments(given):
     cut = given.index("--") if "--" in given else len(given)
     words = parser.parse_args(given[:cut])
     words.options = given[cut + 1:]
-    words.ram = span(words.options, "ram", (0x80000000, 0x8000000))
-    words.io = span(words.options, "io", None)
-    for name, default in (("misaligned", "trap"), ("ad", "fault"), ("bits", "off")):
-        setattr(words, name, value_of(words.options, name) or default)
+    words.ram = spans(words.options, "ram", [(0x80000000, 0x8000000)])[0]
+    words.io = spans(words.options, "io", [])
+    core = PROFILES.get(value_of(words.options, "profile"), {})
+    for name, default in CHOICES.items():
+        value = value_of(words.options, name) or core.get(name, default)
+        setattr(words, name.replace("-", "_"), value)
     words.harts = number(value_of(words.options, "harts") or "1")
     return words
 

@@ -2,8 +2,8 @@
 """Makes the text of a saved state, from which the judge begins.
 
     make_state.py [IMAGE] [--set NAME=VALUE].. [--blob ADDRESS=FILE].. [--pc A] [--harts N]
-                  [-o FILE]
-    rvjudge judge FILE TRACE [--harts N]
+                  [--profile NAME] [--csr LIST] [--pmp N] [--pmp-bits B] [--lines MASK] [-o FILE]
+    rvjudge judge FILE TRACE [--harts N] [--profile NAME] ..
 
 For a run that does not begin at reset: after a boot ROM, at the checkpoint of an emulator, in the
 middle of a test. IMAGE is an ELF file, Verilog text, or a saved state, whose parts are then replaced.
@@ -18,9 +18,11 @@ csr_mtvec; or one of these:
     reserved (the address of the block that LR reserved, or none).
 
 What is not set is as at reset, or as in the saved state. Bits 35:32 of mstatus, which are always 2 and
-2, are added where they are 0. --blob puts the bytes of a file into memory, over what is there. Of
-these options each may stand several times, and a later one counts. A value that the judge's hart
-cannot have is refused here, as the judge would refuse it.
+2, are added where they are 0; its bit 63, which tells that VS or FS is 3, is left out where one is.
+--blob puts the bytes of a file into memory, over what is there. Of these two each may stand several
+times, and a later one counts. A value that the judge's hart cannot have is refused here, as the judge
+would refuse it. Give --profile, --csr, --pmp, --pmp-bits and --lines as the judge is given them: they
+say which values those are.
 
 Several harts: with --harts N, or where IMAGE is a saved state of N harts. --set sets a part of all of
 them, and --set H:NAME=VALUE of hart H alone; --pc is that of all.
@@ -31,32 +33,18 @@ import struct
 import sys
 
 import elf_image
+from core_registers import ALL, CSRS, SD, WORDS, XLENS, Refused, Registers, add_words
 from image_start import SAVED
 
 PAGE, BLOCK = 4096, 16  # bytes
 RESET_PC = RAM_BASE = 0x80000000
 RAM_SIZE = 0x8000000
-XLENS = 0xA00000000  # of mstatus
-ALL = (1 << 64) - 1
 NAMES = ("zero ra sp gp tp t0 t1 t2 s0 s1 a0 a1 a2 a3 a4 a5 a6 a7 s2 s3 s4 s5 s6 s7 s8 s9 s10 s11 "
          "t3 t4 t5 t6").split()
 REGISTERS = {f"x{it}": it for it in range(32)} | {it: at for at, it in enumerate(NAMES)} | {"fp": 8}
-# The control and status registers in the order of the text, each with the bits that it can hold.
-CSRS = {
-    "mstatus": 0x7E19AA | XLENS, "medeleg": 0xB3FF, "mideleg": 0x222, "mie": 0xAAA,
-    "mtvec": ALL - 2, "stvec": ALL - 2, "mcounteren": 7, "scounteren": 7, "menvcfg": 1, "senvcfg": 1,
-    "mcountinhibit": 5, "mscratch": ALL, "sscratch": ALL, "mepc": ALL - 1, "sepc": ALL - 1,
-    "mcause": ALL, "scause": ALL, "mtval": ALL, "stval": ALL, "mip": 0x222, "satp": ALL,
-    "pmpcfg0": 0x9F9F9F9F9F9F9F9F, "pmpcfg2": 0x9F9F9F9F9F9F9F9F,
-    **{f"pmpaddr{it}": (1 << 54) - 1 for it in range(16)},
-}
 HARTS = re.compile(rb"harts ([2-8])\n")
 MOST_HARTS = 8
 MODES, FLAGS = {"M": 3, "S": 1, "U": 0}, ("00", "01", "10", "11")
-
-
-class Refused(Exception):
-    """The state cannot be made."""
 
 
 def number(text):
@@ -122,12 +110,13 @@ class Memory:
 
 
 class Hart:
-    """The parts of a hart by the names of their lines."""
+    """The parts of a hart by the names of their lines. A core's registers say what they can hold."""
 
-    def __init__(self):
+    def __init__(self, registers):
+        self.registers = registers
         self.parts = {"pc": RESET_PC, "mode": 3, "order": None, "flags": "00", "reserved": None}
         self.parts |= {f"x{it}": 0 for it in range(1, 32)}
-        self.parts |= {f"csr_{it}": 0 for it in CSRS} | {"csr_mstatus": XLENS}
+        self.parts |= {f"csr_{it}": registers.fixed[it] for it in CSRS}
 
     def lines(self):
         for name, value in self.parts.items():
@@ -155,7 +144,9 @@ class Hart:
     def set_csr(self, name, value):
         if name == "mstatus" and value >> 32 & 0xF == 0:
             value |= XLENS
-        if fault := fault_of(name, value):
+        if name == "mstatus" and 3 in (value >> 9 & 3, value >> 13 & 3):
+            value &= ~SD
+        if fault := self.registers.fault_of(name, value):
             raise Refused(f"{name} cannot be 0x{value:x}: {fault}")
         self.parts[f"csr_{name}"] = value
 
@@ -163,9 +154,9 @@ class Hart:
 class State:
     """The harts of a state, and the memory that they share."""
 
-    def __init__(self, memory, count):
+    def __init__(self, memory, count, registers):
         self.memory = memory
-        self.harts = [Hart() for _ in range(count)]
+        self.harts = [Hart(registers) for _ in range(count)]
 
     def lines(self):
         yield SAVED.decode()
@@ -206,21 +197,6 @@ def special_value(name, text):
 def hint(name):
     views = {"sstatus": "mstatus", "sie": "mie and mideleg", "sip": "mip and mideleg"}
     return f"set {views[name]}" if name in views else "see --help"
-
-
-def fault_of(name, value):
-    """Why the judge's hart cannot have a value in a register, or an empty text."""
-    if not 0 <= value <= ALL:
-        return "it has 64 bits"
-    if over := value & ~CSRS[name]:
-        return f"bits 0x{over:x} are always 0"
-    if name == "mstatus" and (value & XLENS != XLENS or value >> 11 & 3 == 2):
-        return "UXL and SXL are 2, and MPP is 0, 1 or 3"
-    if name == "satp" and value >> 60 not in (0, 8):
-        return "its mode is 0 or 8"
-    if name.startswith("pmpcfg") and any(it & 3 == 2 for it in value.to_bytes(8, "little")):
-        return "an entry has W without R"
-    return ""
 
 
 # ---- images
@@ -298,14 +274,16 @@ def take_text(state, path, text):
 # ---- the command
 
 
-def command_lines(values, pc, trace):
+def command_lines(values, pc, trace, core=""):
     """The commands by which a trace is judged whose harts began with these values, a table for
-    each; the image's name is left to the reader, and that of a trace that has none."""
+    each; the image's name is left to the reader, and that of a trace that has none. core has the
+    judge's words for the core."""
     many = f" --harts {len(values)}" if len(values) > 1 else ""
+    more = many + (core and f" {core}")
     words = [f"--set {f'{at}:' if many else ''}{name}=0x{value:x}"
              for at, table in enumerate(values) for name, value in table.items()]
-    yield f"    contrib/make_state.py IMAGE{many} --pc 0x{pc:x} {' '.join(words)} -o start.rvstate"
-    yield f"    bin/rvjudge judge start.rvstate {trace or 'TRACE'}{many}"
+    yield f"    contrib/make_state.py IMAGE{more} --pc 0x{pc:x} {' '.join(words)} -o start.rvstate"
+    yield f"    bin/rvjudge judge start.rvstate {trace or 'TRACE'}{more}"
 
 
 def assignment(text):
@@ -331,6 +309,7 @@ def arguments():
     add("--pc", metavar="A", help="the address of the next instruction")
     add("--ram", default=f"0x{RAM_BASE:x}:0x{RAM_SIZE:x}", metavar="B:S",
         help="base and size of RAM, as the judge's --ram (default 0x80000000:0x8000000)")
+    add_words(parser)
     return parser.parse_args()
 
 
@@ -340,7 +319,8 @@ def make(words):
     given = harts_in(words.image) if words.image else None
     if None not in (given, words.harts) and given != words.harts:
         raise Refused(f"{words.image}: it is a state of {given} harts, and not of {words.harts}")
-    state = State(Memory(number(base), number(size)), given or words.harts or 1)
+    registers = Registers({it: getattr(words, it.replace("-", "_")) for it in WORDS})
+    state = State(Memory(number(base), number(size)), given or words.harts or 1, registers)
     if words.image:
         take_image(state, words.image)
     for address, path in words.blob:

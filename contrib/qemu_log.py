@@ -22,11 +22,11 @@ stored. trap is shown from the log's first trap or interrupt on.
 
 qemu carries out loads and stores at any address. One over the end of a page is shown as all others,
 from its first byte on, as if its bytes lay side by side. qemu sets A and D of page tables. Where a run
-has such accesses, or translates, the last lines on standard error name the option of the judge that
-fits; --choices names both in any case. --bits on is named where instructions of Zba, Zbb or Zbs
-were carried out, as qemu does with zba=on, zbb=on, zbs=on. Where registers are not as at reset
-before the first row, as a boot ROM leaves them, the commands are named by which the judge begins
-with these: make_state.py makes the state.
+has such accesses, or translates, the last lines on standard error name --profile qemu, by which the
+judge does as qemu; --choices names it in any case. --bits on is named where instructions of Zba,
+Zbb or Zbs were carried out, as qemu does with zba=on, zbb=on, zbs=on. Where registers are not as at
+reset before the first row, as a boot ROM leaves them, the commands are named by which the judge
+begins with these: make_state.py makes the state.
 
 Several harts: --harts N reads the log of -smp N with -accel tcg,thread=single, under which qemu
 runs one hart at a time, and with exec in -d. The column hart names the hart of each row. Rows stand
@@ -41,6 +41,7 @@ from typing import NamedTuple
 
 import elf_image
 import make_state
+from core_registers import XLENS
 from operands import NO_ACCESS, decoded, memory_fields
 
 CSRS = (
@@ -49,8 +50,8 @@ CSRS = (
 )
 KNOWN = {"pc", "mhartid", *CSRS, *(f"x{number}" for number in range(32))}
 # The judge's options that fit qemu.
-MISALIGNED, MARKS, BITS = "--misaligned done", "--ad set", "--bits on"
-AT_RESET = {"mstatus": make_state.XLENS, "mode": 3}
+CORE, BITS = "--profile qemu", "--bits on"
+AT_RESET = {"mstatus": XLENS, "mode": 3}
 SATP = [it for it in CSRS if it != "mip"].index("satp")
 MEMORY = ("mem_addr", "mem_rmask", "mem_rdata", "mem_wmask", "mem_wdata")
 COLUMNS = (
@@ -386,9 +387,9 @@ class Converter:
         if self.lines:
             yield "the log ends in the middle of a state, which is left out"
         if misaligned := self.total("misaligned"):
-            yield f"{misaligned} accesses at misaligned addresses: judge with {MISALIGNED}"
+            yield f"{misaligned} accesses at misaligned addresses: judge with {CORE}"
         if self.total("translates"):
-            yield f"pages whose A and D qemu sets: judge with {MARKS}"
+            yield f"pages whose A and D qemu sets: judge with {CORE}"
         if bits := self.total("bits"):
             yield f"{bits} instructions of bit manipulation: judge with {BITS}"
         if len(self.harts) > 1:
@@ -397,7 +398,7 @@ class Converter:
 
     def choices(self):
         """The judge's options that fit qemu, and what it carried out."""
-        return f"{MISALIGNED} {MARKS} {BITS}" if self.total("bits") else f"{MISALIGNED} {MARKS}"
+        return f"{CORE} {BITS}" if self.total("bits") else CORE
 
 
 class Hart:
@@ -669,7 +670,7 @@ def tell(converter, words):
     found = [it.set_at_start() for it in converter.harts]
     if any(found):
         print("qemu_log.py: registers are set before the first row; to begin with them:",
-              *make_state.command_lines(found, words.pc, words.o), sep="\n", file=sys.stderr)
+              *make_state.command_lines(found, words.pc, words.o, CORE), sep="\n", file=sys.stderr)
     if words.choices:
         print(f"qemu_log.py: the judge's options that fit qemu: {converter.choices()}",
               file=sys.stderr)

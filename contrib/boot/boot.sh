@@ -9,9 +9,10 @@
 # options (boot.options) and what the firmware wrote to its serial port (boot.serial): for
 # contrib/explain.py, with ROWS not much above the row that differs. Each run is the same.
 #
+# It is judged as what qemu chose where the standards leave a choice: --profile qemu.
+#
 # Where KERNEL names a file qemu loads it in U-Boot's place. The run then ends where the machine is
 # turned off, after a line of the serial port that begins with LAST; linux.sh makes such a kernel.
-# It is judged as qemu does where the standards leave a choice.
 #
 # The status is the judge's; 69 where a package is missing; 68 where the run did not begin, or ended
 # too early.
@@ -28,8 +29,9 @@ last=${LAST:-=> }
 cpu=rv64,f=off,d=off,h=off,v=off,sstc=off,zba=off,zbb=off,zbc=off,zbs=off,pmu-num=29
 memory=0x80000000:0x4000000
 start=0x80000000
+core='--profile qemu'
 # Below RAM are the devices, from the first that is used on.
-options="--ram $memory --io 0x100000:0x7ff00000${KERNEL:+ --misaligned done --ad set}"
+options="--ram $memory --io 0x100000:0x7ff00000 $core"
 
 case $rows in
 -h | --help)
@@ -125,8 +127,8 @@ python3 "$boot/memory_image.py" "$folder/control" --ram $memory -o "$folder/boot
 exec 4<&-
 python3 "$boot/first_state.py" "$folder/words" --pc $start <&3 >"$folder/head" 2>>"$folder/said" ||
     fail 'the firmware did not begin'
-# shellcheck disable=SC2046  # words
-python3 "$contrib/make_state.py" "$folder/boot.hex" --ram $memory --pc $start \
+# shellcheck disable=SC2046,SC2086  # words
+python3 "$contrib/make_state.py" "$folder/boot.hex" $core --ram $memory --pc $start \
     $(cat "$folder/words") -o "$folder/boot.rvstate" 2>>"$folder/said" || fail 'there is no start'
 [ "$rows" -gt 0 ] || end_at_prompt &
 judge >"$folder/verdict" &

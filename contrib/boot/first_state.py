@@ -17,7 +17,7 @@ import sys
 from pathlib import Path
 
 sys.path.insert(0, str(Path(__file__).resolve().parents[1]))
-from make_state import CSRS  # noqa: E402  # found by the line before
+from core_registers import CSRS  # noqa: E402  # found by the line before
 from qemu_log import AT_RESET, number  # noqa: E402
 
 MOST_OF_A_ROM = 1 << 20  # bytes of a log

@@ -12,7 +12,8 @@ OPTION = re.compile(r"  (--[\w-]+)(?: (\S+))? +(.*)")  # a flag has no value
 COMMANDS = ("judge", "state", "make")
 OF_MAKE = ("--workers", "--segment", "--window")
 OF_JUDGE = ("--origin",)
-WORDS = re.compile(r": (\w+) or (\w+) \(")  # where an option's value is one of two words
+# where an option's value is one of a few words; the last may have more behind it
+WORDS = re.compile(r": ((?:\w+, )*\w+) or ([\w:,.]+) \(")
 
 
 def parts(text):
@@ -50,7 +51,8 @@ def man(version):
 def words_of(text):
     """The words that an option's value may be, where they are words."""
     found = WORDS.search(text)
-    return " ".join(found.groups()) if found else ""
+    words = found[1].split(", ") + [found[2]] if found else []
+    return " ".join(it for it in words if it.isalnum())
 
 
 def bash(_):

@@ -96,9 +96,18 @@ def try_choices(program, folder):
     image = "@80000000 03 25 10 00"  # lw a0,1(zero)
     trace = "insn,pc_rdata,mode,trap,rd_wdata\n0x102503,0x80000000,3,0,1\n"
     for options, wanted in (([], "not aligned to 4 bytes (cause 4)"),
-                            (["--misaligned=done"], "outside --ram 0x80000000:0x8000000")):
+                            (["--misaligned=done"], "outside --ram 0x80000000:0x8000000"),
+                            (["--profile", "qemu"], "outside --ram 0x80000000:0x8000000"),
+                            (["--misaligned=done", "--io", "0x8000:0x1000,0:0x1000"],
+                             "a device, and not aligned (cause 5)")):
         said, _ = explained(program, folder, image, trace, options)
         assert f"traps    {wanted}" in said, said
+    image = "@80000000 2f 25 b0 00"  # amoadd.w a0,a1,(zero)
+    trace = "insn,pc_rdata,mode,trap,rd_wdata,pc_wdata\n0xb0252f,0x80000000,3,0,1,0\n"
+    for options, wanted in (([], "traps    a device, which takes no AMO (cause 7)"),
+                            (["--io-faults", "row"], "device   in --io 0x0:0x1000, whose data are")):
+        said, _ = explained(program, folder, image, trace, ["--io", "0:0x1000", *options])
+        assert wanted in said, said
     image, trace, options = entry_without_mark()
     assert explained(program, folder, image, trace, [*options, "--ad", "set"]) == ("agrees 46\n", 0)
 

@@ -107,9 +107,10 @@ def rows_that_wait(log):
 def values_at_start(log):
     """What the boot ROM left is told of each hart, by the command that makes the state."""
     ran = run(CONTRIB / "qemu_log.py", "--harts", 2, "--pc", "0x80000034", text=log)
-    check("what is set at the start", "/make_state.py IMAGE --harts 2 --pc 0x80000034 --set 0:x5="
+    core = "--harts 2 --profile qemu"
+    check("what is set at the start", f"/make_state.py IMAGE {core} --pc 0x80000034 --set 0:x5="
           in ran.stderr and "--set 1:x5=" in ran.stderr
-          and " judge start.rvstate TRACE --harts 2\n" in ran.stderr, ran.stderr)
+          and f" judge start.rvstate TRACE {core}\n" in ran.stderr, ran.stderr)
 
 
 def merged_again(folder, out):
@@ -307,7 +308,7 @@ def judged_starts(judge, log):
     ran = run(CONTRIB / "make_state.py", IMAGE, *words[2:-1], start)
     check("make_state.py --harts 2", ran.returncode == 0, ran.stderr)
     count = trace.read_text().count("\n") - 1
-    found = judge.of_file(start, trace, "--harts", "2", *IO)
+    found = judge.of_file(start, trace, "--harts", "2", "--profile", "qemu", *IO)
     check("the judge, from a state of two harts", found == f"agrees {count}", found)
     header = judge.folder / "header.csv"
     header.write_text("insn,pc_rdata\n")

@@ -156,6 +156,30 @@ def test_the_first_pc_is_for_the_first_piece(it):
     it.wants_verdict(*words)
 
 
+def test_words_of_a_core(it):
+    """Each piece has the words for a core's registers and its devices."""
+    it.image = it.path / "image.hex"
+    # li t0,-1; csrw mcounteren,t0; csrr a0,mcounteren; lui t1,0x20000; lw a1,(t1)
+    it.image.write_text("@80000000 93 02 f0 ff 73 90 62 30 73 25 60 30 37 03 00 20 83 25 03 00\n")
+    it.write("insn,pc_rdata,trap,rd_wdata", [
+        "0xfff00293,0x80000000,0,0xffffffffffffffff", "0x30629073,0x80000004,0,0",
+        "0x30602573,0x80000008,0,0xffffffff", "0x20000337,0x8000000c,0,0x20000000",
+        "0x32583,0x80000010,0,7"])
+    words = ("--io=0x10000000:0x1000,0x20000000:0x1000", "--profile", "qemu")
+    lines, marks = it.trace.read_text().splitlines(keepends=True), []
+    for at in (2, 3, 4):
+        front, state = it.path / "front.csv", it.path / f"{at}.rvstate"
+        front.write_text("".join(lines[: at + 1]))
+        ran = subprocess.run([it.program, "state", it.image, front, *words], capture_output=True)
+        state.write_bytes(ran.stdout)
+        marks += ["--at", f"{at}={state}"]
+    it.run(*marks, options=words).wants(0, "agrees 5")
+    it.run(*marks, options=words[1:])
+    it.wants(1, "differs row 5: trap expected 0x0000000000000001 found 0x0000000000000000")
+    it.run(*marks, options=words[:1]).wants(1)
+    assert "another state after row 2: " in it.said and "given is 'csr_mcounteren 0" in it.said, it.said
+
+
 def test_wrong_marks(it):
     it.write()
     marks = it.states(10)

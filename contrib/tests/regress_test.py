@@ -202,6 +202,22 @@ def test_options(it):
     it.run().wants(2, "a: a.options: 'workers' where an option is awaited")
 
 
+def test_words_of_a_core(it):
+    """Words for a core for all traces, and for one in their place."""
+    for name in "ab":
+        (it.path / f"{name}.csv").write_text("insn,pc_rdata,trap,rd_wdata\n"
+                                             "0x30a02573,0x80000000,1,\n")  # csrr a0,menvcfg
+    (it.path / "image.hex").write_text("@80000000 73 25 a0 30\n")
+    words = ("--explain", "0", "--", "--profile", "qemu", "--csr=menvcfg=none,time=none",
+             "--io", "0x1000:0x1000,0x10000000:0x1000", "--mtval=zero:2,3")
+    it.run(*words).wants(0, counts(2))
+    (it.path / "b.options").write_text("--csr menvcfg=0xF1:0x2,mie=0xAAA\n")
+    difference = "differs row 1: trap expected 0x0000000000000000 found 0x0000000000000001"
+    it.run(*words).wants(1, "a: agrees 1", f"b: {difference}", counts(1, 1))
+    (it.path / "b.options").write_text("--csr menvcfg\n")
+    it.run(*words).wants(2, counts(1, refused=1))
+
+
 def test_origin(it):
     """An option without a value; the lines that it adds are for the explanation."""
     it.odd_judge()

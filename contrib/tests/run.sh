@@ -225,11 +225,12 @@ test_qemu_choices() {
     python3 "$contrib/qemu_log.py" --choices "$folder/run.log" -o "$out" 2>"$folder/said" ||
         fail "qemu_log.py --choices"
     options=$(sed -n "s/^qemu_log.py: the judge's options that fit qemu: //p" "$folder/said")
-    [ "$options" = '--misaligned done --ad set' ] || fail "qemu_log.py --choices: $(cat "$folder/said")"
+    [ "$options" = '--profile qemu' ] || fail "qemu_log.py --choices: $(cat "$folder/said")"
     python3 "$contrib/qemu_log.py" "$folder/run.log" 2>"$folder/said" | cmp -s - "$out" ||
         fail 'qemu_log.py --choices: another trace'
-    for option in '--misaligned done' '--ad set'; do
-        grep -q -e ": judge with $option\$" "$folder/said" || fail "qemu_log.py does not name $option"
+    for reason in ' accesses at misaligned addresses' 'pages whose A and D qemu sets'; do
+        grep -q "$reason: judge with --profile qemu\$" "$folder/said" ||
+            fail "qemu_log.py does not name --profile qemu: $(cat "$folder/said")"
     done
     grep -q options "$folder/said" && fail 'qemu_log.py names all options without --choices'
     python3 "$tests/memory_columns.py" "$out" || fail 'qemu_log.py: the columns of odd accesses'
@@ -238,6 +239,23 @@ test_qemu_choices() {
     expect "qemu's choices" "agrees $rows" "$folder/image.hex" "$out" --io $io $options
     "$program" judge "$folder/image.hex" "$out" --io $io >"$folder/said"
     [ $? -eq 1 ] || fail "qemu's choices without options: $(cat "$folder/said")"
+}
+
+# What qemu's registers hold, and the trap value of EBREAK, under the profile.
+test_qemu_registers() {
+    sh "$tests/qemu/make.sh" "$folder" registers.s || fail "registers.s did not run in qemu"
+    out=$folder/run.csv io=0x100000:0xff01000
+    python3 "$contrib/qemu_log.py" "$folder/run.log" -o "$out" 2>/dev/null ||
+        fail 'qemu_log.py: registers.s'
+    rows=$(($(wc -l <"$out") - 1))
+    [ "$rows" -gt 80 ] || fail "registers.s: $rows rows"
+    expect "qemu's registers" "agrees $rows" "$folder/image.hex" "$out" --io $io --profile qemu
+    "$program" judge "$folder/image.hex" "$out" --io $io --profile qemu --mtval value >"$folder/said"
+    grep -q "^differs row $((rows - 5)): csr_mtval_rdata " "$folder/said" ||
+        fail "qemu's registers, but for EBREAK: $(cat "$folder/said")"
+    expect "qemu's registers without the profile" \
+        'differs row 6: rd_wdata expected 0x000000000000b3ff found 0x0000000000f0bfff' \
+        "$folder/image.hex" "$out" --io $io
 }
 
 # A run that begins with what the boot ROM left, in registers and in memory.
@@ -262,7 +280,7 @@ test_qemu_bits() {
         fail "qemu_log.py: bits.s"
     grep -q ': 20 instructions of bit manipulation: judge with --bits on$' "$folder/said" ||
         fail "qemu_log.py does not name --bits on: $(cat "$folder/said")"
-    grep -q 'fit qemu: --misaligned done --ad set --bits on$' "$folder/said" ||
+    grep -q 'fit qemu: --profile qemu --bits on$' "$folder/said" ||
         fail "qemu_log.py --choices: $(cat "$folder/said")"
     rows=$(($(wc -l <"$out") - 1))
     expect 'bits.s' "agrees $rows" "$folder/image.hex" "$out" --io $io --bits on
@@ -684,7 +702,7 @@ can_run 'logs of Spike' python3 && test_spike
 can_run 'the stored log of qemu' python3 gzip && test_qemu_log
 can_run 'a run in qemu' python3 riscv64-unknown-elf-gcc riscv64-unknown-elf-objcopy \
     qemu-system-riscv64 && has_version 'a run in qemu' qemu-system-riscv64 'version 7\.' &&
-    test_qemu && test_qemu_choices && test_qemu_bits && test_qemu_rom
+    test_qemu && test_qemu_choices && test_qemu_registers && test_qemu_bits && test_qemu_rom
 if can_run 'rows of several harts' python3; then
     if [ -n "$knows_harts" ]; then
         python3 "$tests/harts_test.py" "$program" || fail "rows of several harts"
@@ -705,6 +723,9 @@ can_run 'rvfi_csv.sv in Icarus Verilog' iverilog vvp python3 && test_iverilog
 can_run 'a trace that is judged live' iverilog vvp mkfifo && test_live
 test_state
 can_run 'make_state.py' python3 && test_make_state
+if can_run 'registers of cores' python3; then
+    python3 "$tests/registers_test.py" "$program" || fail "registers of cores"
+fi
 if can_run 'pieces.py' python3; then
     python3 "$tests/pieces_test.py" "$program" || fail "pieces.py"
 fi

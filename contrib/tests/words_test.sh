@@ -116,6 +116,97 @@ judge i t --bits on
 judge i t --bits off
 judge i t --bits yes
 judge i t --misaligned done --mtval zero --ad set --reserve 8 --bits on
+judge i t --insn full
+judge i t --insn=length
+judge i t --insn half
+judge i t --io-faults none
+judge i t --io-faults row
+judge i t --io-faults=
+judge i t --io 0x1000:0x1000,0x3000:0x1000
+judge i t --io 0x1000:0x1000,0x1000:0x1000
+judge i t --io 0x1000:0x1000,0x7ffff000:0x2000
+judge i t --io 0x1000:0x1000,
+judge i t --io ,0x1000:0x1000
+judge i t --io 0:4096,4096:4096,8192:4096,12288:4096,16384:4096,20480:4096,24576:4096,28672:4096
+judge i t --io 0:4096,4096:4096,8192:4096,12288:4096,16384:4096,20480:4096,24576:4096,28672:4096,32768:4096
+judge i t --mtval zero:3
+judge i t --mtval zero:1,2,3,4,5,6,7,12,13,15
+judge i t --mtval zero:0x2,3
+judge i t --mtval zero:
+judge i t --mtval zero:3,
+judge i t --mtval zero:3,0x3
+judge i t --mtval zero:8
+judge i t --mtval zero:14
+judge i t --mtval value:3
+judge i t --pmp 0
+judge i t --pmp 8
+judge i t --pmp 0x10
+judge i t --pmp 9
+judge i t --pmp x
+judge i t --pmp=
+judge i t --pmp-bits 10
+judge i t --pmp-bits 54
+judge i t --pmp-bits 9
+judge i t --pmp-bits 55
+judge i t --lines 0xA88
+judge i t --lines 2730
+judge i t --lines 0xA80
+judge i t --lines 0xE88
+judge i t --lines 0x100000A88
+judge i t --lines=
+judge i t --profile qemu
+judge i t --profile spike
+judge i t --profile rocket
+judge i t --profile=cva6
+judge i t --profile QEMU
+judge i t --profile=
+judge i t --profile qemu --csr mstatus=0x7E1FAA --ad fault
+judge i t --csr=
+judge i t --csr ,
+judge i t --csr mie
+judge i t --csr mie=
+judge i t --csr mie=0
+judge i t --csr mie=0,
+judge i t --csr mie=0,mie=0
+judge i t --csr mie=0=0
+judge i t --csr mie=0xAAA:0
+judge i t --csr mie=0xAA8:2
+judge i t --csr mie=0xFFFFFFFFFFFFFAAA
+judge i t --csr mie=0xFFFFFFFFFFFFFAAB
+judge i t --csr MIE=0
+judge i t --csr mepc=0
+judge i t --csr mstatus=0x7E7FAA
+judge i t --csr mstatus=6570:0x6600
+judge i t --csr mstatus=0x79AA:0x6600
+judge i t --csr mstatus=0x19AA:
+judge i t --csr mstatus=0x11AA
+judge i t --csr medeleg=0:18446744073709551615
+judge i t --csr medeleg=18446744073709551616
+judge i t --csr mideleg=0x222:0xFFFFFFFFFFFFF000
+judge i t --csr mideleg=4
+judge i t --csr mtvec=0xFFFFFFFFFFFFFFFD,stvec=18446744073709547520
+judge i t --csr mtvec=0xFFFFFFFFFFFFFFFF
+judge i t --csr stvec=0xFFFFFFFFFFFFE000
+judge i t --csr mcounteren=0xFFFFFFFF,scounteren=0:7
+judge i t --csr mcounteren=0x100000000
+judge i t --csr mcountinhibit=0xFFFFFFFD
+judge i t --csr mcountinhibit=2
+judge i t --csr menvcfg=0xC0000000000000F1,senvcfg=0:1
+judge i t --csr satp=0xF000000000000000
+judge i t --csr satp=0x7FFFFFFFFFFFFFFF
+judge i t --csr satp=0xF000000000000000:1
+judge i t --csr misa=row,mhpmevent=row,mcountinhibit=row,menvcfg=row,senvcfg=row
+judge i t --csr misa=none
+judge i t --csr time=row
+judge i t --csr mcounteren=none,mcountinhibit=maybe,mhpmevent=none,mhpmcounter=maybe,hpmcounter=none
+judge i t --csr mconfigptr=none,cycle=maybe,time=none,instret=none
+judge i t --csr mcounteren=7,mcounteren=none
+judge i t --csr mie=row
+judge i t --csr mhpmevent3=row
+judge i t --csr time=kept
+state i t --profile qemu --csr time=none
+make 1 1 --profile qemu
+make 1 1 --pmp 16
 judge i t --harts 1
 judge i t --harts 8
 judge i t --harts=2 --bits on
