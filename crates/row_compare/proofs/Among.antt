@@ -4,7 +4,7 @@ use Rattle.std.proofs.Common.{Bool, true, false, ◌&&◌, bit_and, List, [], �
 use Rattle.std.proofs.Common.{slice_get, Option, Some, None, add-one}
 use Rattle.std.specs.Prelude.{if◌then◌else◌, ◌||◌, option_map}
 use Rattle.std.specs.List.{list_all, list_any}
-use Rattle.std.specs.Option.{is_some, option_or}
+use Rattle.std.specs.Option.{is_none, is_some, option_or}
 use Rattle.std.proofs.lemmas.Bool.Decides.{eqb_tells}
 use Rattle.std.proofs.Math.Seq.{drop-cons}
 use Rattle.std.proofs.Math.ListN.{drop_of_length-le}
@@ -40,27 +40,42 @@ among-end retired shown entries i all le so_far = rw (drop_of_length-le entries 
 
 -- ---- signals that are written out
 
-nothing_more : (x : Option Difference) → x ≡ option_or x None
-nothing_more None = refl
-nothing_more (Some d) = refl
-
 regroup : (x y z : Option Difference) → option_or x (option_or y z) ≡ option_or (option_or x y) z
 regroup None y z = refl
 regroup (Some d) y z = refl
 
--- the first that was found before, or else among the entries
-abbrev pub found_then : Retired → Shown → Option Difference → List SignalEntry → Option Difference
-found_then retired shown found [] = found
-found_then retired shown found (entry ∷ entries) =
-    found_then retired shown (option_or found (signal_difference retired shown entry.signal)) entries
+nothing_more : (x : Option Difference) → x ≡ option_or x None
+nothing_more None = refl
+nothing_more (Some d) = refl
 
-pub written_out : (retired : Retired) (shown : Shown) (found : Option Difference) (entries : List SignalEntry)
-    → found_then retired shown found entries ≡ option_or found (first_among retired shown entries)
+none_of_both : (one other : Option Difference) → is_none (option_or one other) ≡ (is_none one && is_none other)
+none_of_both None other = refl
+none_of_both (Some d) other = refl
+
+and_true : (x : Bool) → x ≡ (x && true)
+and_true true = refl
+and_true false = refl
+
+and_regroup : (x y z : Bool) → ((x && y) && z) ≡ (x && (y && z))
+and_regroup true y z = refl
+and_regroup false y z = refl
+
+-- those before agree, and so do the entries, one after the other
+abbrev pub agree_then : Retired → Shown → Bool → List SignalEntry → Bool
+agree_then retired shown before [] = before
+agree_then retired shown before (entry ∷ entries) =
+    agree_then retired shown (before && is_none (signal_difference retired shown entry.signal)) entries
+
+pub written_out : (retired : Retired) (shown : Shown) (before : Bool) (entries : List SignalEntry)
+    → agree_then retired shown before entries ≡ (before && is_none (first_among retired shown entries))
 unfolding first_among
-written_out retired shown found [] = nothing_more found
-written_out retired shown found (entry ∷ entries) =
-    written_out retired shown (option_or found (signal_difference retired shown entry.signal)) entries
-    ∙ sym (regroup found (signal_difference retired shown entry.signal) (first_among retired shown entries))
+written_out retired shown before [] = and_true before
+written_out retired shown before (entry ∷ entries) =
+    let here = signal_difference retired shown entry.signal in
+    let rest = first_among retired shown entries in
+    written_out retired shown (before && is_none here) entries
+    ∙ and_regroup before (is_none here) (is_none rest)
+    ∙ ap (λ none. before && none) (sym (none_of_both here rest))
 
 -- ---- signals of which nothing is wanted
 
@@ -86,11 +101,11 @@ none_of_hart : (retired : Retired) (shown : Shown) → signal_difference retired
 unfolding expected_signal
 none_of_hart retired shown = free retired shown Hart refl
 
-pub none_at_end : (retired : Retired) (shown : Shown) (found : Option Difference)
-    → found ≡ option_or (option_or found (signal_difference retired shown Halt)) (signal_difference retired shown Hart)
-none_at_end retired shown found =
-    rw (none_of_halt retired shown, none_of_hart retired shown)
-    (nothing_more found ∙ nothing_more (option_or found None))
+pub agree_at_end : (retired : Retired) (shown : Shown) (before : Bool)
+    → before
+    ≡ ((before && is_none (signal_difference retired shown Halt)) && is_none (signal_difference retired shown Hart))
+agree_at_end retired shown before =
+    rw (none_of_halt retired shown, none_of_hart retired shown) (and_true before ∙ and_true (before && true))
 
 -- ---- entries that no row shows
 
@@ -133,20 +148,22 @@ none_shown retired shown (entry ∷ entries) none all =
     rw (not_shown retired shown entry.signal (shown entry.signal) refl here.0)
     (none_shown retired shown entries here.1 here.2)
 
-pub without_csrs : (retired : Retired) (shown : Shown) → shows_csr shown ≡ false
-    → first_among retired shown (take 23 SIGNALS) ≡ first_among retired shown SIGNALS
-unfolding shows_csr
-without_csrs retired shown none =
-    let rest : first_among retired shown (drop 23 SIGNALS) ≡ None =
-    none_shown retired shown (drop 23 SIGNALS) none refl in
-    nothing_more (first_among retired shown (take 23 SIGNALS))
-    ∙ ap (option_or (first_among retired shown (take 23 SIGNALS))) (sym rest)
+none_is : (found : Option Difference) → is_none found ≡ true → found ≡ None
+none_is None is = refl
+none_is (Some d) is = absurd cc
+
+pub with_csrs : (retired : Retired) (shown : Shown) → is_none (first_among retired shown (take 23 SIGNALS)) ≡ true
+    → first_among retired shown (drop 23 SIGNALS) ≡ first_among retired shown SIGNALS
+with_csrs retired shown none =
+    ap (λ front. option_or front (first_among retired shown (drop 23 SIGNALS)))
+    (sym (none_is (first_among retired shown (take 23 SIGNALS)) none))
     ∙ sym (in_parts retired shown (take 23 SIGNALS) (drop 23 SIGNALS))
 
-pub with_csrs : (retired : Retired) (shown : Shown)
-    → option_or (first_among retired shown (take 23 SIGNALS)) (first_among retired shown (drop 23 SIGNALS))
-    ≡ first_among retired shown SIGNALS
-with_csrs retired shown = sym (in_parts retired shown (take 23 SIGNALS) (drop 23 SIGNALS))
+pub without_csrs : (retired : Retired) (shown : Shown) → is_none (first_among retired shown (take 23 SIGNALS)) ≡ true
+    → shows_csr shown ≡ false → None ≡ first_among retired shown SIGNALS
+unfolding shows_csr
+without_csrs retired shown none hidden =
+    sym (none_shown retired shown (drop 23 SIGNALS) hidden refl) ∙ with_csrs retired shown none
 
 -- ---- what a difference is of
 

@@ -1,6 +1,7 @@
 //! The first signal in which a row differs from what the hart did.
 
 ghost use Rattle.std.specs.Prelude.{◌≡◌, Some, take};
+ghost use Rattle.std.specs.Option.{is_none};
 ghost use Rattle.rvfi_rows.specs.Cells.{shown_in};
 ghost use Rattle.hart_words.specs.declared.signal.TheConstants.{SIGNALS};
 ghost use Rattle.rvfi_rows.specs.declared.row.TheConstants.{FIRST_CSR};
@@ -28,43 +29,55 @@ pub fn first_difference(expected: &Expected, row: &Row) -> Option<Difference>
     }
 }
 
-/// Most rows show no control and status register, so that those are passed over at once.
+/// Most rows agree, so whether the plain signals do is asked at once, before it is told which does
+/// not; and most show no control and status register.
 fn retired_difference(retired: &Retired, row: &Row) -> Option<Difference>
     ensures { result ≡ first_among retired.now (shown_in row.now) SIGNALS }
 {
-    let plain = plain_difference(retired, row);
+    if !plain_agree(retired, row) {
+        return first_among(retired, row, &SIGNALS);
+    }
     if row.shows_csr() {
-        plain.or(first_among(retired, row, &SIGNALS[FIRST_CSR..]))
+        first_among(retired, row, &SIGNALS[FIRST_CSR..])
     } else {
-        plain
+        None
     }
 }
 
-/// The signals before those of registers, in the table's order, but for `valid`, `halt` and `hart`,
-/// of which nothing is ever wanted. Each is written out, so that the compiler sees which one it is.
-fn plain_difference(retired: &Retired, row: &Row) -> Option<Difference>
-    ensures { result ≡ first_among retired.now (shown_in row.now) (take FIRST_CSR SIGNALS) }
+/// Whether no signal before those of registers differs. Of `valid`, `halt` and `hart` nothing is
+/// ever wanted. Each other is written out, so that the compiler sees which one it is.
+fn plain_agree(retired: &Retired, row: &Row) -> bool
+    ensures { result
+        ≡ is_none (first_among retired.now (shown_in row.now) (take FIRST_CSR SIGNALS)) }
 {
-    signal_difference(retired, row, Signal::Order)
-        .or(signal_difference(retired, row, Signal::Intr))
-        .or(signal_difference(retired, row, Signal::PcRdata))
-        .or(signal_difference(retired, row, Signal::Mode))
-        .or(signal_difference(retired, row, Signal::Ixl))
-        .or(signal_difference(retired, row, Signal::Trap))
-        .or(signal_difference(retired, row, Signal::Insn))
-        .or(signal_difference(retired, row, Signal::Rs1Addr))
-        .or(signal_difference(retired, row, Signal::Rs1Rdata))
-        .or(signal_difference(retired, row, Signal::Rs2Addr))
-        .or(signal_difference(retired, row, Signal::Rs2Rdata))
-        .or(signal_difference(retired, row, Signal::RdAddr))
-        .or(signal_difference(retired, row, Signal::RdWdata))
-        .or(signal_difference(retired, row, Signal::PcWdata))
-        .or(signal_difference(retired, row, Signal::MemAddr))
-        .or(signal_difference(retired, row, Signal::MemRmask))
-        .or(signal_difference(retired, row, Signal::MemRdata))
-        .or(signal_difference(retired, row, Signal::MemWmask))
-        .or(signal_difference(retired, row, Signal::MemWdata))
-        .or(signal_difference(retired, row, Signal::MemPaddr))
+    agrees(retired, row, Signal::Order)
+        & agrees(retired, row, Signal::Intr)
+        & agrees(retired, row, Signal::PcRdata)
+        & agrees(retired, row, Signal::Mode)
+        & agrees(retired, row, Signal::Ixl)
+        & agrees(retired, row, Signal::Trap)
+        & agrees(retired, row, Signal::Insn)
+        & agrees(retired, row, Signal::Rs1Addr)
+        & agrees(retired, row, Signal::Rs1Rdata)
+        & agrees(retired, row, Signal::Rs2Addr)
+        & agrees(retired, row, Signal::Rs2Rdata)
+        & agrees(retired, row, Signal::RdAddr)
+        & agrees(retired, row, Signal::RdWdata)
+        & agrees(retired, row, Signal::PcWdata)
+        & agrees(retired, row, Signal::MemAddr)
+        & agrees(retired, row, Signal::MemRmask)
+        & agrees(retired, row, Signal::MemRdata)
+        & agrees(retired, row, Signal::MemWmask)
+        & agrees(retired, row, Signal::MemWdata)
+        & agrees(retired, row, Signal::MemPaddr)
+}
+
+/// Whether a signal does not differ.
+#[inline(always)]
+fn agrees(retired: &Retired, row: &Row, signal: Signal) -> bool
+    ensures { result ≡ is_none (signal_difference retired.now (shown_in row.now) signal) }
+{
+    signal_difference(retired, row, signal).is_none()
 }
 
 /// The first of the entries whose signal differs.
