@@ -29,6 +29,10 @@ machine_state_after state (byte ∷ bytes) = machine_state_after (step default_c
 abbrev pub IsPlain : ℕ → Type 0
 IsPlain byte = (byte ≢ 34) × EndsNoRecord byte
 
+-- the byte is neither a quote nor a carriage return: a text of such bytes is simple
+abbrev pub IsSimple : ℕ → Type 0
+IsSimple byte = (byte ≢ 34) × (byte ≢ 13)
+
 -- the line has a first byte, and no byte order mark begins with it
 pub record IsUnmarked (line : List ℕ) : Type 0 where
   pub nonempty : 0 < length line

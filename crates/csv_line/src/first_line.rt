@@ -2,12 +2,13 @@
 
 ghost use Rattle.std.specs.Prelude.{◌≡◌, ◌≢◌, ◌<◌, ◌≤◌, ◌∷◌, ℕ, length, IsTrue, take, slice_index, false};
 ghost use Rattle.std.specs.List.{All};
+ghost use Rattle.memchr.specs.Find.{IsFirstByte, is_byte3};
 ghost use Rattle.line_text.specs.Lines.{text_lines, IsLine, line_feed};
 ghost use Rattle.csv.specs.Machine.{step};
 ghost use Rattle.csv.specs.Reading.{default_config};
 ghost use Rattle.csv.specs.declared.parser.State.TheVariants.{StartField, InQuoted};
 ghost use Rattle.csv_line.specs.Fields.{has_return_in};
-ghost use Rattle.csv_line.specs.SharedLines.{EndsAt, IsPlain, IsUnmarked, IsShareable, IsShared, machine_state_after, machine_state_of, EndsNoRecord};
+ghost use Rattle.csv_line.specs.SharedLines.{EndsAt, IsPlain, IsSimple, IsUnmarked, IsShareable, IsShared, machine_state_after, machine_state_of, EndsNoRecord};
 
 use memchr::{memchr, memchr3};
 
@@ -25,15 +26,43 @@ pub struct FirstLine<'t> {
     pub is_shared: bool,
 }
 
+/// Whether neither a quote nor a carriage return stands in a text, as in most.
+pub fn is_simple(text: &[u8]) -> bool
+    ensures { IsTrue result → All IsSimple text.now }
+{
+    memchr(b'"', text).is_none() && memchr(b'\r', text).is_none()
+}
+
+/// The first line of a text. In a simple text a search for one byte finds its end, which is much
+/// quicker than a search for three.
+pub fn next_line(text: &[u8], is_simple: bool) -> FirstLine<'_>
+    requires nonempty { 0 < length text.now }
+    requires simple { IsTrue is_simple → All IsSimple text.now }
+    ensures lines { text_lines text.now ≡ result.line.now ∷ text_lines result.rest.now }
+    ensures returns { result.has_return ≡ has_return_in result.line.now }
+    ensures shared { IsTrue result.is_shared
+        → IsShared text.now result.line.now result.rest.now }
+    ensures simple { All IsSimple text.now → All IsSimple result.rest.now }
+{
+    if !is_simple {
+        return first_line(text);
+    }
+    match memchr(b'\n', text) {
+        None => last_line(text),
+        Some(end) => plain_line(text, end),
+    }
+}
+
 /// The first line of a text that has one.
-pub fn first_line(text: &[u8]) -> FirstLine<'_>
+fn first_line(text: &[u8]) -> FirstLine<'_>
     requires { 0 < length text.now }
     ensures lines { text_lines text.now ≡ result.line.now ∷ text_lines result.rest.now }
     ensures returns { result.has_return ≡ has_return_in result.line.now }
     ensures shared { IsTrue result.is_shared
         → IsShared text.now result.line.now result.rest.now }
+    ensures simple { All IsSimple text.now → All IsSimple result.rest.now }
 {
-    match memchr3(b'"', b'\r', b'\n', text) {
+    match first_mark(text) {
         None => last_line(text),
         Some(place) => {
             if text[place] == b'\n' {
@@ -45,6 +74,21 @@ pub fn first_line(text: &[u8]) -> FirstLine<'_>
     }
 }
 
+/// How many bytes are searched for marks first. Most lines end in fewer, and a search of so few is
+/// quicker than one of a long text.
+const SHORT: usize = 128;
+
+/// The place of the first quote, carriage return or line feed.
+fn first_mark(text: &[u8]) -> Option<usize>
+    ensures { IsFirstByte (is_byte3 34 13 10) text.now result }
+{
+    let found = memchr3(b'"', b'\r', b'\n', &text[..SHORT.min(text.len())]);
+    if found.is_some() {
+        return found;
+    }
+    memchr3(b'"', b'\r', b'\n', text)
+}
+
 /// The line that ends at a line feed, with no quote and no carriage return in it.
 fn plain_line(text: &[u8], end: usize) -> FirstLine<'_>
     requires within { end < length text.now }
@@ -54,6 +98,7 @@ fn plain_line(text: &[u8], end: usize) -> FirstLine<'_>
     ensures returns { result.has_return ≡ has_return_in result.line.now }
     ensures shared { IsTrue result.is_shared
         → IsShared text.now result.line.now result.rest.now }
+    ensures simple { All IsSimple text.now → All IsSimple result.rest.now }
 {
     let is_shared = is_unmarked(&text[..end]);
     ended_line(text, end, false, is_shared)
@@ -66,6 +111,7 @@ fn other_line(text: &[u8]) -> FirstLine<'_>
     ensures returns { result.has_return ≡ has_return_in result.line.now }
     ensures shared { IsTrue result.is_shared
         → IsShared text.now result.line.now result.rest.now }
+    ensures simple { All IsSimple text.now → All IsSimple result.rest.now }
 {
     match memchr(b'\n', text) {
         None => last_line(text),
@@ -85,6 +131,7 @@ fn last_line(text: &[u8]) -> FirstLine<'_>
     ensures lines { text_lines text.now ≡ result.line.now ∷ text_lines result.rest.now }
     ensures returns { result.has_return ≡ has_return_in result.line.now }
     ensures shared { result.is_shared ≡ false }
+    ensures simple { All IsSimple text.now → All IsSimple result.rest.now }
 {
     FirstLine {
         line: text,
@@ -103,6 +150,7 @@ fn ended_line(text: &[u8], end: usize, has_return: bool, is_shared: bool) -> Fir
     ensures returns { result.has_return ≡ has_return_in result.line.now }
     ensures shared { IsTrue result.is_shared
         → IsShared text.now result.line.now result.rest.now }
+    ensures simple { All IsSimple text.now → All IsSimple result.rest.now }
 {
     FirstLine {
         line: &text[..end],

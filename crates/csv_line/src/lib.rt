@@ -92,7 +92,22 @@ impl Fields {
 fn trim(text: &[u8]) -> &[u8]
     ensures { result.now ≡ trimmed_of text.now }
 {
-    trim_end(trim_start(text))
+    if is_plain(text) {
+        text
+    } else {
+        trim_end(trim_start(text))
+    }
+}
+
+/// Whether neither end is a space, a tab or another byte below them, as of most fields.
+fn is_plain(text: &[u8]) -> bool
+    ensures { IsTrue result → trimmed_of text.now ≡ text.now }
+{
+    match text {
+        [] => true,
+        [only] => b' ' < *only,
+        [first, .., last] => b' ' < *first && b' ' < *last,
+    }
 }
 
 /// A text less the spaces and tabs at its front.

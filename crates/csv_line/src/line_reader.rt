@@ -1,15 +1,15 @@
 //! The fields of lines, one after the other.
 
-ghost use Rattle.std.specs.Prelude.{◌≡◌, List, ℕ, true, IfOk, IfSome, OnErr, map};
+ghost use Rattle.std.specs.Prelude.{◌≡◌, List, ℕ, true, IfOk, IfSome, OnOk, OnErr, map};
 ghost use Rattle.line_text.specs.Lines.{text_lines};
 ghost use Rattle.csv.specs.Records.{fields_of};
 ghost use Rattle.csv.specs.Reading.{strip_bom};
-ghost use Rattle.csv_line.specs.Fields.{trimmed_of};
+ghost use Rattle.csv_line.specs.Fields.{fields_of_line, trimmed_of};
 ghost use Rattle.csv_line.specs.Readers.{StandsAt, StandsIfSome, ReadsLineFields};
 ghost use Rattle.csv_line.specs.SharedLines.{IsShared};
 ghost use Rattle.csv_line.specs.Next.{ReadsNext};
 
-use crate::first_line::first_line;
+use crate::first_line::{is_simple, next_line};
 use crate::{Fields, line_fields};
 use csv::{ByteRecord, Error, Reader, ReaderBuilder};
 use std::alloc::{AllocError, Global};
@@ -29,20 +29,25 @@ pub struct LineReader<'t> {
     alloc: Global,
     /// The lines that are left.
     rest: &'t [u8],
+    /// No quote and no carriage return stands in them.
+    is_simple: bool,
     /// Stands at them, where it is there.
     reader: Option<Box<Reader<&'t [u8]>>>,
 }
 
 impl<'t> Model for LineReader<'t> {
-    ghost use Rattle.std.specs.Prelude.{List, ℕ};
+    ghost use Rattle.std.specs.Prelude.{List, ℕ, IsTrue};
+    ghost use Rattle.std.specs.List.{All};
     ghost use Rattle.line_text.specs.Lines.{text_lines};
     ghost use Rattle.csv_line.specs.Readers.{StandsIfSome};
+    ghost use Rattle.csv_line.specs.SharedLines.{IsSimple};
 
     ghost Value = { List (List ℕ) };
 
     ghost view = { λ lines. text_lines lines.rest.now };
 
-    ghost invariant = { λ lines. StandsIfSome lines.rest.now lines.reader };
+    ghost invariant = { λ lines. StandsIfSome lines.rest.now lines.reader
+        × (IsTrue lines.is_simple → All IsSimple lines.rest.now) };
 }
 
 impl<'t> LineReader<'t> {
@@ -54,6 +59,7 @@ impl<'t> LineReader<'t> {
         LineReader {
             alloc,
             rest: text,
+            is_simple: is_simple(text),
             reader: None,
         }
     }
@@ -69,7 +75,7 @@ impl<'t> LineReader<'t> {
         if self.rest.is_empty() {
             return Ok(None);
         }
-        let first = first_line(self.rest);
+        let first = next_line(self.rest, self.is_simple);
         let read = LineRead {
             has_return: first.has_return,
         };
@@ -81,10 +87,21 @@ impl<'t> LineReader<'t> {
                 return Ok(Some(read));
             }
         }
-        *fields = line_fields(self.alloc, first.line)?;
+        read_alone(self.alloc, first.line, fields)?;
         self.rest = first.rest;
         Ok(Some(read))
     }
+}
+
+/// Reads a line alone, as few want it. It stands apart since its large results would else be
+/// zeroed for every line.
+#[cold]
+#[inline(never)]
+fn read_alone(alloc: Global, line: &[u8], fields: &mut Fields) -> Result<(), AllocError>
+    ensures { OnOk result (fields.new ≡ fields_of_line line.now) }
+{
+    *fields = line_fields(alloc, line)?;
+    Ok(())
 }
 
 /// Reads the line at the front of `text` by a reader that stands there, or by a new one, and gives
@@ -119,8 +136,18 @@ fn standing<'t>(
 {
     match reader {
         Some(reader) => Ok(reader),
-        None => Ok(Box::new(alloc, reader_at(alloc, text))?),
+        None => new_reader(alloc, text),
     }
+}
+
+/// A new reader at the front of a text: one for many lines.
+#[cold]
+#[inline(never)]
+fn new_reader<'t>(alloc: Global, text: &'t [u8]) -> Result<Box<Reader<&'t [u8]>>, AllocError>
+    ensures { IfOk result (λ reader. strip_bom text.now ≡ text.now
+        → StandsAt text.now reader.value) }
+{
+    Ok(Box::new(alloc, reader_at(alloc, text))?)
 }
 
 /// A reader that stands at the front of a text.

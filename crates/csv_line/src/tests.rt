@@ -104,6 +104,25 @@ fn reads_lines_among_others(rt: HostRuntime) -> Result<(), Fail> {
     check_all(&rt, alloc, &lines, false)
 }
 
+#[test]
+fn reads_lines_of_a_text_with_no_quote(rt: HostRuntime) -> Result<(), Fail> {
+    let alloc = rt.alloc();
+    let mut lines = Vec::new(alloc);
+    let texts: [&[u8]; 6] = [
+        b"insn,pc_rdata",
+        b" 1 ,\t2",
+        b"",
+        b"\xef\xbb\xbf3,4",
+        b",",
+        b"5,6",
+    ];
+    for text in &texts {
+        lines.push(Vec::from_slice(alloc, *text)?)?;
+    }
+    check_all(&rt, alloc, &lines, true)?;
+    check_all(&rt, alloc, &lines, false)
+}
+
 /// Numbers that follow no order, the same in every run.
 #[derive(Clone, Copy)]
 struct Numbers {

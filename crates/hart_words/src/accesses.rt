@@ -65,6 +65,31 @@ impl Seen {
         self.reads.push(Read { pa, len });
     }
 
+    /// Becomes the same as another.
+    pub fn copy_from(&mut self, other: &Seen)
+        ensures { self.new ≡ other.now }
+    {
+        self.clear();
+        self.put_all(other.reads.as_slice());
+    }
+
+    /// Notes reads after those that are noted, where there is room for them.
+    pub fn put_all(&mut self, reads: &[Read])
+        requires { length self.old + length reads.now ≤ MOST_READS }
+        ensures { self.new ≡ self.old ++ reads.now }
+    {
+        for read in reads {
+            self.put(read.pa, read.len);
+        }
+    }
+
+    /// Has no read any more.
+    pub fn clear(&mut self)
+        ensures { self.new ≡ [] }
+    {
+        self.reads.clear();
+    }
+
     /// The reads in their order.
     pub fn as_slice(&self) -> &[Read]
         ensures { result.now ≡ self.now }
@@ -107,6 +132,31 @@ impl Wrote {
         ensures { self.new ≡ self.old ++ record { pa = pa; len = len; value = value } ∷ [] }
     {
         self.writes.push(Write { pa, len, value });
+    }
+
+    /// Becomes the same as another.
+    pub fn copy_from(&mut self, other: &Wrote)
+        ensures { self.new ≡ other.now }
+    {
+        self.clear();
+        self.put_all(other.writes.as_slice());
+    }
+
+    /// Notes writes after those that are noted, where there is room for them.
+    pub fn put_all(&mut self, writes: &[Write])
+        requires { length self.old + length writes.now ≤ MOST_WRITES }
+        ensures { self.new ≡ self.old ++ writes.now }
+    {
+        for write in writes {
+            self.put(write.pa, write.len, write.value);
+        }
+    }
+
+    /// Has no write any more.
+    pub fn clear(&mut self)
+        ensures { self.new ≡ [] }
+    {
+        self.writes.clear();
     }
 
     /// The writes in their order.

@@ -28,7 +28,7 @@ pub use choices::Choices;
 pub use fault::NoMemory;
 pub use map::{MOST_DEVICES, Map};
 pub use memory::{PhysMem, WalkMem};
-pub use numbers::{NumberFault, read_number};
+pub use numbers::{NumberFault, quick_number, read_number};
 pub use options::{CauseSet, DeviceFaults, InsnBits, Marks, Misaligned, TrapValues};
 pub use privilege::{Access, Cause, Mode, PmpEntry, WalkFlags};
 pub use registers::Registers;

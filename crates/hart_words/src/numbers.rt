@@ -1,8 +1,8 @@
 //! Numbers as command lines and traces write them.
 
-ghost use Rattle.std.specs.Prelude.{length, ◌≡◌, ◌^◌, ◌≤◌, min, option_map, ℕ, ◌+◌, ◌*◌, ◌<◌, Some, None, if◌then◌else◌};
+ghost use Rattle.std.specs.Prelude.{IfSome, length, ◌≡◌, ◌^◌, ◌≤◌, min, option_map, ℕ, ◌+◌, ◌*◌, ◌<◌, ◌∷◌, [], nat_lt, Some, None, if◌then◌else◌};
 ghost use Rattle.std.specs.Char.{digit_value, is_digit};
-ghost use Rattle.hart_words.specs.Numbers.{number_within, digits_number, result_within};
+ghost use Rattle.hart_words.specs.Numbers.{number_of, number_within, digits_number, result_within};
 
 /// The value of each byte as a digit of base 36, and 36 where it is none.
 const DIGITS: [u8; 256] = [
@@ -35,8 +35,104 @@ pub enum NumberFault {
 
 /// The number that `text` writes: decimal digits, or `0x` or `0X` and hexadecimal digits, at least
 /// one digit in either form, leading zeros allowed; its value is below 2^`width`.
-#[tactic(auto, unfolding(crate::specs::Numbers::number_of, crate::specs::Numbers::number_within))]
+#[tactic(auto, unfolding(crate::specs::Numbers::number_within))]
 pub fn read_number(text: &[u8], width: u32) -> Result<u64, NumberFault>
+    requires { width ≤ 64 }
+    ensures { result ≡ number_within width text.now }
+{
+    match quick_number(text) {
+        Some(value) => word_fitted_to(value, width),
+        None => read_any_number(text, width),
+    }
+}
+
+/// The number that a text of up to 18 bytes writes, as most traces write them; `None` says nothing
+/// of a longer text.
+#[inline(always)]
+pub fn quick_number(text: &[u8]) -> Option<u64>
+    ensures written { IfSome result (λ value. number_of text.now ≡ Some value) }
+    ensures short { length text.now ≤ 18 → result ≡ number_of text.now }
+{
+    match text {
+        [digit] => one_digit_number(*digit),
+        _ => {
+            if text.len() > 18 {
+                None
+            } else {
+                short_number(text)
+            }
+        }
+    }
+}
+
+/// The number that a text of one byte writes.
+#[inline(always)]
+#[tactic(auto, unfolding(crate::specs::Numbers::digits_number, crate::specs::Numbers::number_of))]
+fn one_digit_number(byte: u8) -> Option<u64>
+    ensures { result ≡ number_of (byte ∷ []) }
+{
+    let value = value_of_byte(byte);
+    if value < 10 {
+        Some(u64::from(value))
+    } else {
+        None
+    }
+}
+
+/// The number that a text of up to 18 bytes writes.
+#[inline(always)]
+#[tactic(auto, unfolding(crate::specs::Numbers::number_of))]
+fn short_number(text: &[u8]) -> Option<u64>
+    requires { length text.now ≤ 18 }
+    ensures { result ≡ number_of text.now }
+{
+    match text {
+        [b'0', b'x' | b'X', digits @ ..] => short_hexadecimal(digits),
+        _ => short_value_of(text, 10),
+    }
+}
+
+/// The value of up to 16 hexadecimal digits, which are taken by twos.
+#[inline(always)]
+fn short_hexadecimal(digits: &[u8]) -> Option<u64>
+    requires { length digits.now ≤ 16 }
+    ensures { result ≡ digits_number 16 digits.now }
+{
+    if digits.is_empty() {
+        return None;
+    }
+    let mut value: u64 = 0;
+    let mut rest = digits;
+    while let [high, low, more @ ..] = rest {
+        let (high, low) = (value_of_byte(*high), value_of_byte(*low));
+        if high >= 16 || low >= 16 {
+            return None;
+        }
+        value = value * 256 + u64::from(high * 16 + low);
+        rest = more;
+    }
+    match rest {
+        [last] => with_digit(value, value_of_byte(*last)),
+        _ => Some(value),
+    }
+}
+
+/// A value with one more hexadecimal digit after it.
+#[inline(always)]
+fn with_digit(value: u64, digit: u8) -> Option<u64>
+    requires { value < 2 ^ 60 }
+    ensures { result ≡ if nat_lt digit 16 then Some (value * 16 + digit) else None }
+{
+    if digit < 16 {
+        Some(value * 16 + u64::from(digit))
+    } else {
+        None
+    }
+}
+
+/// The number that any text writes, in a width.
+#[tactic(auto, unfolding(crate::specs::Numbers::number_of, crate::specs::Numbers::number_within))]
+fn read_any_number(text: &[u8], width: u32) -> Result<u64, NumberFault>
     requires { width ≤ 64 }
     ensures { result ≡ number_within width text.now }
 {
@@ -93,6 +189,7 @@ fn fitted_to(value: u128, width: u32) -> Result<u64, NumberFault>
 }
 
 /// The value of digits that are so few that it fits in 64 bits.
+#[inline(always)]
 #[tactic(auto, unfolding(crate::specs::Numbers::digits_number))]
 fn short_value_of(digits: &[u8], radix: u32) -> Option<u64>
     requires at_least_1 { 1 ≤ radix }

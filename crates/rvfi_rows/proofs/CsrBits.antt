@@ -10,12 +10,13 @@ use Rattle.std.proofs.lemmas.Bool.{eqb-true}
 use Rattle.std.proofs.lemmas.Bool.Decides.{eqb_tells}
 use Rattle.std.proofs.lemmas.Nat.{or_lt, shr-shr}
 use Rattle.std.proofs.Math.Pow.{pow-lt}
+use Rattle.hart_words.specs.declared.signal.Signal.TheVariants.{Csr}
 use Rattle.hart_words.specs.declared.signal.SignalEntry.{SignalEntry}
 use Rattle.hart_words.specs.declared.signal.TheConstants.{SIGNALS}
-use Rattle.hart_words.specs.Signals.{index_of}
+use Rattle.hart_words.specs.Signals.{csr_index_of, index_of, side_index_of}
 use Rattle.rvfi_rows.specs.declared.row.Row.{Row}
 use Rattle.rvfi_rows.specs.Cells.{shown_in}
-use Rattle.rvfi_rows.specs.Rows.{is_csr, shows_csr}
+use Rattle.rvfi_rows.specs.Rows.{HasCsrBits, is_csr, shows_csr}
 use Rattle.rvfi_rows.proofs.ShownBits.{cell_in}
 
 -- one of so many bits from a place on is set
@@ -84,6 +85,19 @@ by_bits row (entry ∷ entries) from all =
 pub shows_some : (row : Row) → not (row.shown / 2 ^ 23 == 0) ≡ shows_csr (shown_in row)
 unfolding shows_csr
 shows_some row = bits_above row.shown 23 88 row.within ∙ sym (by_bits row (drop 23 SIGNALS) 23 refl)
+
+-- a column's bit among those of all columns of registers is the one at the index of its signal
+pub has_csr_bits : (row : Row) → HasCsrBits (shown_in row) (row.shown / 2 ^ 23)
+unfolding shown_in
+has_csr_bits row csr side =
+    let at = 4 * csr_index_of csr + side_index_of side in
+    let index = index_of (Csr csr side) in
+    let place : 23 + at ≡ index = omega arith in
+    let same : bit_at (row.shown / 2 ^ 23) at ≡ bit_at row.shown index =
+    ap (λ q. q % 2) (shr-shr row.shown 23 at) ∙ ap (bit_at row.shown) place in
+    ap (λ bit. bit == 1) same
+    ∙ sym (is_shown_at (bit_at row.shown index) (slice_index row.values index)
+    (bit_at row.shown index == 1) refl)
 
 -- no bit above those of the signals is ever set
 pub stays_within : (shown index : ℕ) → shown < 2 ^ 111 → index < 111 → bit_or shown (1 * 2 ^ index % 2 ^ 128) < 2 ^ 111

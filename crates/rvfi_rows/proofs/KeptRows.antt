@@ -2,7 +2,7 @@
 use Rattle.std.proofs.Common.{◌≡◌, ◌∙◌, sym, ap, refl, subst, ℕ, zero, suc, ◌+◌, ◌*◌, ◌≤◌, List, [], ◌∷◌, ◌++◌, length}
 use Rattle.std.proofs.Common.{take, drop, slice_get, Some, None, option_map, arith, length-append, length-drop}
 use Rattle.std.proofs.lemmas.List.{drop-drop, take-append-le, drop-append-le, take_all}
-use Rattle.std.proofs.lemmas.List.Elements.{All-push}
+use Rattle.std.proofs.lemmas.List.Elements.{All-head, All-push, All-tail}
 use Rattle.std.specs.List.{All}
 use Rattle.hart_words.specs.declared.signal.Signal.{Signal}
 use Rattle.rvfi_rows.specs.declared.reading.Kept.{Kept}
@@ -106,3 +106,13 @@ pub none_kept : (signals : List Signal) (rows : List Kept) (values : List ℕ) �
     → kept_readings signals rows values ≡ []
 unfolding kept_readings
 none_kept signals rows values none = rw none refl
+
+-- what is kept at a place shows none but these signals
+pub kept_are : (signals : List Signal) (rows : List Kept) (place : ℕ) (row : Kept) → All (ShowsOnly signals) rows
+    → Some row ≡ slice_get rows place → ShowsOnly signals row
+kept_are signals [] place row all is = absurd cc
+kept_are signals (first ∷ rows) zero row all is =
+    let same : row ≡ first = cc in
+    subst (ShowsOnly signals) (sym same) (All-head (ShowsOnly signals) first rows all)
+kept_are signals (first ∷ rows) (suc place) row all is =
+    kept_are signals rows place row (All-tail (ShowsOnly signals) first rows all) is

@@ -1,6 +1,6 @@
 -- Values that are kept for signals, one after the other.
 use Rattle.std.proofs.Common.{◌≡◌, ◌∙◌, sym, ap, refl, subst, ℕ, ◌+◌, ◌<◌, ◌≤◌, ◌==◌, ◌||◌, Bool, true, false, List, []}
-use Rattle.std.proofs.Common.{◌∷◌, length, drop, get_or, inl, inr, Option, Some, None, add-one, arith, lit<, length-set}
+use Rattle.std.proofs.Common.{map, zero, suc, ◌∷◌, length, drop, get_or, inl, inr, Option, Some, None, add-one, arith, lit<, length-set}
 use Rattle.std.specs.Prelude.{if◌then◌else◌, slice_index, slice_set}
 use Rattle.std.specs.Option.{option_or}
 use Rattle.std.specs.Int.{bit_at}
@@ -96,14 +96,52 @@ placed (signal ∷ signals) (value ∷ values) list = placed signals values (sli
 drop_at : {A : Type 0} (xs : List A) (i : ℕ) (d : A) → i < length xs → drop i xs ≡ get_or xs i d ∷ drop (i + 1) xs
 drop_at xs i d within = rw add-one (drop-cons xs i d within)
 
-pub placed-next : (signals : List Signal) (values list : List ℕ) (i : ℕ) (d : Signal) {index : ℕ} → i < length signals
-    → i < length values → index ≡ index_of (get_or signals i d)
-    → placed (drop (i + 1) signals) (drop (i + 1) values) (slice_set list index (get_or values i 0))
-    ≡ placed (drop i signals) (drop i values) list
-unfolding placed
-placed-next signals values list i d some many is =
-    rw (drop_at signals i d some, drop_at values i 0 many)
-    (ap (λ n. placed (drop (i + 1) signals) (drop (i + 1) values) (slice_set list n (get_or values i 0))) is)
+-- the same with a value put at each of these indices
+pub put_at : List ℕ → List ℕ → List ℕ → List ℕ
+put_at [] values list = list
+put_at (place ∷ places) [] list = list
+put_at (place ∷ places) (value ∷ values) list = put_at places values (slice_set list place value)
+
+pub put-next : (places values list : List ℕ) (i : ℕ) {index : ℕ} → i < length places → i < length values
+    → index ≡ get_or places i 0
+    → put_at (drop (i + 1) places) (drop (i + 1) values) (slice_set list index (get_or values i 0))
+    ≡ put_at (drop i places) (drop i values) list
+unfolding put_at
+put-next places values list i some many is =
+    rw (drop_at places i 0 some, drop_at values i 0 many)
+    (ap (λ n. put_at (drop (i + 1) places) (drop (i + 1) values) (slice_set list n (get_or values i 0))) is)
+
+pub put-end : (places values list whole : List ℕ) (i : ℕ) → length places ≤ i
+    → put_at (drop i places) (drop i values) list ≡ whole → list ≡ whole
+unfolding put_at
+put-end places values list whole i past so_far = rw (drop_of_length-le places past) at so_far
+
+pub put_placed : (signals : List Signal) (values list : List ℕ)
+    → put_at (map index_of signals) values list ≡ placed signals values list
+unfolding put_at placed
+put_placed [] values list = refl
+put_placed (signal ∷ signals) [] list = refl
+put_placed (signal ∷ signals) (value ∷ values) list =
+    put_placed signals values (slice_set list (index_of signal) value)
+
+-- signals' indices are below 111
+pub places_below : (places : List ℕ) (signals : List Signal) → places ≡ map index_of signals → (i : ℕ)
+    → slice_index places i < 111
+places_below places signals is i = subst (λ (list : List ℕ). slice_index list i < 111) (sym is) (all signals i)
+  where
+    all : (signals : List Signal) (i : ℕ) → slice_index (map index_of signals) i < 111
+    all [] i = lit< tt
+    all (signal ∷ signals) zero = index_below signal
+    all (signal ∷ signals) (suc i) = all signals i
+
+-- and the values at them are the signals'
+pub values_there : (places values : List ℕ) (signals : List Signal) → places ≡ map index_of signals
+    → map (λ place. slice_index values place) places ≡ values_at values signals
+values_there places values signals is = ap (map (λ place. slice_index values place)) is ∙ all signals
+  where
+    all : (signals : List Signal) → map (λ place. slice_index values place) (map index_of signals) ≡ values_at values signals
+    all [] = refl
+    all (signal ∷ signals) = ap (λ rest. slice_index values (index_of signal) ∷ rest) (all signals)
 
 -- ---- what they show
 
@@ -174,11 +212,6 @@ shows_taken row now {signals} values {bits} are as_many shown taken =
         ∙ among_has signals values signal (slice_index row.values (index_of signal)) as_many
         (are.theirs signal (eqb-true _ _ is))
     by signal false is = refl
-
-pub placed-end : (signals : List Signal) (values list whole : List ℕ) (i : ℕ) → length signals ≤ i
-    → placed (drop i signals) (drop i values) list ≡ whole → list ≡ whole
-unfolding placed
-placed-end signals values list whole i past so_far = rw (drop_of_length-le signals past) at so_far
 
 -- ---- values that are kept
 

@@ -1,12 +1,15 @@
 -- The rows of a trace, as its lines show them.
 use Rattle.std.specs.Prelude.{◌≡◌, ℕ, Bool, true, false, ◌==◌, ◌&&◌, not, List, [], ◌∷◌, ◌++◌, length, map, Option, Some}
-use Rattle.std.specs.Prelude.{None, Result, Ok, Err, if◌then◌else◌, nat_lt, unwrap_or}
+use Rattle.std.specs.Prelude.{None, Result, Ok, Err, if◌then◌else◌, nat_lt, unwrap_or, ◌+◌, ◌*◌}
+use Rattle.std.specs.Int.{bit_at}
 use Rattle.std.specs.List.{list_any}
 use Rattle.std.specs.Option.{is_some, option_or}
 use Rattle.hart_words.specs.Numbers.{number_within}
-use Rattle.hart_words.specs.Signals.{Shown, index_of, width_of}
+use Rattle.hart_words.specs.Signals.{Shown, csr_index_of, index_of, side_index_of, width_of}
 use Rattle.hart_words.specs.declared.numbers.NumberFault.{NumberFault}
 use Rattle.hart_words.specs.declared.numbers.NumberFault.TheVariants as number
+use Rattle.hart_words.specs.declared.signal.CsrName.{CsrName}
+use Rattle.hart_words.specs.declared.signal.CsrSide.{CsrSide}
 use Rattle.hart_words.specs.declared.signal.Signal.{Signal}
 use Rattle.hart_words.specs.declared.signal.Signal.TheVariants.{Valid, Insn, PcRdata, Hart, Csr}
 use Rattle.hart_words.specs.declared.signal.TheConstants.{SIGNALS}
@@ -60,6 +63,12 @@ is_csr _ = false
 -- some such column is shown
 unfoldable pub shows_csr : Shown → Bool
 shows_csr shown = list_any (λ entry. is_csr entry.signal && is_some (shown entry.signal)) SIGNALS
+
+-- a bit for each such column, in the order of the signals: whether it is shown
+abbrev pub HasCsrBits : Shown → ℕ → Type 0
+HasCsrBits shown bits = (csr : CsrName) (side : CsrSide)
+    → (bit_at bits (4 * csr_index_of csr + side_index_of side) == 1)
+    ≡ is_some (shown (Csr csr side))
 
 -- what a field shows: nothing under an unknown name, else its column's signal, where it has a value
 unfoldable pub field_shown : Option Column → List ℕ → Result Shown RowFault

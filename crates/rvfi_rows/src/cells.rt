@@ -124,7 +124,7 @@ fn fill_valid(known: &PortColumns, fields: &Fields, row: &mut Row) -> Result<boo
     if valid_shown(known, fields)? == Some(0) {
         return Ok(false);
     }
-    fill_cells(&known.placed, fields, row)?;
+    fill_cells(known, fields, row)?;
     Ok(true)
 }
 
@@ -132,24 +132,25 @@ fn fill_valid(known: &PortColumns, fields: &Fields, row: &mut Row) -> Result<boo
 fn valid_shown(known: &PortColumns, fields: &Fields) -> Result<Option<u64>, RowFault>
     ensures { result ≡ valid_at (valid_among known.now.placed.items) fields.now }
 {
-    match known.valid {
+    match &known.valid {
         None => Ok(None),
-        Some(one) => match fields.get(one.place) {
+        Some(one) => match fields.get(one.placed.place) {
             None => Ok(None),
-            Some(field) => cell(one.column, field),
+            Some(field) => one.shown(field),
         },
     }
 }
 
 /// Has `row` show the cells of all these columns.
-fn fill_cells(placed: &[PlacedColumn], fields: &Fields, row: &mut Row) -> Result<(), RowFault>
-    ensures { result_view (λ done. shown_in row.new) result ≡ cells_at placed.now fields.now }
+fn fill_cells(known: &PortColumns, fields: &Fields, row: &mut Row) -> Result<(), RowFault>
+    ensures { result_view (λ done. shown_in row.new) result
+        ≡ cells_at known.now.placed.items fields.now }
 {
     row.clear();
-    for index in 0..placed.len() {
-        let one = placed[index];
-        if let Some(field) = fields.get(one.place) {
-            row.add(one.column, field)?;
+    for index in 0..known.cells.len() {
+        let one = &known.cells[index];
+        if let Some(field) = fields.get(one.placed.place) {
+            row.add(one, field)?;
         }
     }
     Ok(())

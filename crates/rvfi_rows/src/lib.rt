@@ -7,6 +7,7 @@
 //! verdict on them (`Verdict`).
 #![tactic(auto)]
 
+mod cell;
 mod cells;
 mod column;
 mod columns;

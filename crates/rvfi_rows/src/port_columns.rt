@@ -1,10 +1,11 @@
 //! The known columns of a port.
 
-ghost use Rattle.std.specs.Prelude.{◌≡◌, IfOk};
+ghost use Rattle.std.specs.Prelude.{◌≡◌, IfOk, map, option_map};
 ghost use Rattle.rvfi_rows.specs.Columns.{column_if_of, port_columns};
 ghost use Rattle.rvfi_rows.specs.Placed.{placed_from, valid_among};
 ghost use Rattle.rvfi_rows.specs.Rows.{is_valid_column};
 
+use crate::cell::Cell;
 use crate::column::{Column, PlacedColumn};
 use hart_words::Signal;
 use std::alloc::{AllocError, Global};
@@ -14,9 +15,12 @@ use std::alloc::{AllocError, Global};
 pub(crate) struct PortColumns {
     /// All of them, from the left.
     pub placed: Vec<PlacedColumn>,
-    /// The first of `valid`.
-    pub valid: Option<PlacedColumn>,
-    ghost first: { valid ≡ valid_among placed.items },
+    /// The same as their cells are read.
+    pub cells: Vec<Cell>,
+    /// The first of `valid`, as its cells are read.
+    pub valid: Option<Cell>,
+    ghost first: { option_map (λ cell. cell.placed) valid ≡ valid_among placed.items },
+    ghost same: { map (λ cell. cell.placed) cells.items ≡ placed.items },
 }
 
 impl PortColumns {
@@ -35,8 +39,34 @@ impl PortColumns {
                 placed.push(PlacedColumn { place, column })?;
             }
         }
-        let valid = valid_among(&placed);
-        Ok(PortColumns { placed, valid })
+        let cells = cells_of(alloc, &placed)?;
+        let valid = cell_if_of(valid_among(&placed));
+        Ok(PortColumns {
+            placed,
+            cells,
+            valid,
+        })
+    }
+}
+
+/// The columns as their cells are read.
+fn cells_of(alloc: Global, placed: &[PlacedColumn]) -> Result<Vec<Cell>, AllocError>
+    ensures { IfOk result (λ cells. map (λ cell. cell.placed) cells.items ≡ placed.now) }
+{
+    let mut cells = Vec::new(alloc);
+    for index in 0..placed.len() {
+        cells.push(Cell::of(placed[index]))?;
+    }
+    Ok(cells)
+}
+
+/// A column as its cells are read, where there is one.
+fn cell_if_of(placed: Option<PlacedColumn>) -> Option<Cell>
+    ensures { option_map (λ cell. cell.placed) result ≡ placed }
+{
+    match placed {
+        None => None,
+        Some(placed) => Some(Cell::of(placed)),
     }
 }
 

@@ -1,9 +1,10 @@
 //! What a row of a trace shows.
 
-ghost use Rattle.std.specs.Prelude.{◌≡◌, ◌≤◌, ◌<◌, ◌+◌, ◌++◌, ◌^◌, Some, length, map, nat_lt, slice_index, vec_capacity, vec_len};
+ghost use Rattle.std.specs.Prelude.{◌≡◌, ◌≤◌, ◌<◌, ◌+◌, ◌++◌, ◌^◌, List, Some, length, map, nat_lt, slice_index, vec_capacity, vec_len, ℕ};
+ghost use Rattle.hart_words.specs.declared.signal.Signal.{Signal};
+ghost use Rattle.hart_words.specs.Signals.{index_of};
 
-use crate::cells::cell;
-use crate::column::Column;
+use crate::cell::Cell;
 use crate::fault::RowFault;
 use hart_words::Signal;
 
@@ -22,8 +23,8 @@ pub struct Row {
 }
 
 impl Row {
-    ghost use Rattle.rvfi_rows.specs.Cells.{AreOf, shown_in, values_at, values_of, with_bits};
-    ghost use Rattle.rvfi_rows.specs.Rows.{Adds, field_shown, hart_of, nothing, shows_csr, with_shown};
+    ghost use Rattle.rvfi_rows.specs.Cells.{AreOf, shown_in, values_of, with_bits};
+    ghost use Rattle.rvfi_rows.specs.Rows.{Adds, HasCsrBits, field_shown, hart_of, nothing, shows_csr, with_shown};
 
     /// A row that shows nothing.
     pub fn empty() -> Row
@@ -69,6 +70,15 @@ impl Row {
         self.shown >> FIRST_CSR != 0
     }
 
+    /// A bit for each column of a control and status register, in the order of the signals, from
+    /// bit 0 on: whether the row shows it.
+    pub fn csr_bits(&self) -> u128
+        ensures bits { HasCsrBits (shown_in self.now) result }
+        ensures no_others { result < 2 ^ 88 }
+    {
+        self.shown >> FIRST_CSR
+    }
+
     /// Shows nothing.
     pub(crate) fn clear(&mut self)
         ensures { shown_in self.new ≡ nothing }
@@ -76,23 +86,24 @@ impl Row {
         self.shown = 0;
     }
 
-    /// Shows a value of the signal, in place of the one shown before, if any.
-    fn show(&mut self, signal: Signal, value: u64)
-        ensures { shown_in self.new ≡ with_shown (shown_in self.old) signal value }
+    /// Shows a value of a column's signal, in place of the one shown before, if any.
+    fn show(&mut self, cell: &Cell, value: u64)
+        ensures { shown_in self.new
+            ≡ with_shown (shown_in self.old) cell.now.placed.column.signal value }
     {
-        let index = signal.index();
-        self.shown |= 1 << index;
-        self.values[usize::from(index)] = value;
+        self.shown |= cell.bit;
+        self.values[usize::from(cell.index)] = value;
     }
 
     /// Adds what a field shows under its column.
+    #[inline(always)]
     #[tactic(auto, unfolding(crate::specs::Rows::field_shown))]
-    pub(crate) fn add(&mut self, column: Column, field: &[u8]) -> Result<(), RowFault>
+    pub(crate) fn add(&mut self, cell: &Cell, field: &[u8]) -> Result<(), RowFault>
         ensures { Adds (shown_in self.old) (shown_in self.new) result
-            (field_shown (Some column) field.now) }
+            (field_shown (Some cell.now.placed.column) field.now) }
     {
-        if let Some(value) = cell(column, field)? {
-            self.show(column.signal, value);
+        if let Some(value) = cell.shown(field)? {
+            self.show(cell, value);
         }
         Ok(())
     }
@@ -104,25 +115,29 @@ impl Row {
         self.shown
     }
 
-    /// Puts the values at these signals after others; they mean nothing where no value is shown.
-    pub(crate) fn put_values(&self, signals: &[Signal], values: &mut Vec<u64>)
-        requires { vec_len values.old + length signals.now ≤ vec_capacity values.old }
-        ensures { values.new.items ≡ values.old.items ++ values_at self.now.values signals.now }
+    /// Puts the values at these indices after others; they mean nothing where no value is shown.
+    pub(crate) fn put_values(&self, places: &[u8], values: &mut Vec<u64>)
+        requires room { vec_len values.old + length places.now ≤ vec_capacity values.old }
+        requires below { (i : ℕ) → slice_index places.now i < 111 }
+        ensures { values.new.items
+            ≡ values.old.items ++ map (λ place. slice_index self.now.values place) places.now }
     {
-        for signal in signals {
-            values.push_reserved(self.values[usize::from(signal.index())]);
+        for place in places {
+            values.push_reserved(self.values[usize::from(*place)]);
         }
     }
 
-    /// Shows these values of signals, where their bits are set, and nothing else.
-    pub(crate) fn take_values(&mut self, bits: u128, signals: &[Signal], values: &[u64])
-        requires as_many { length values.now ≡ length signals.now }
-        requires theirs { AreOf signals.now bits }
-        ensures { shown_in self.new ≡ with_bits bits (values_of signals.now values.now) }
+    /// Shows these values at the indices of signals, where their bits are set, and nothing else.
+    pub(crate) fn take_values(&mut self, bits: u128, places: &[u8], values: &[u64])
+        requires as_many { length values.now ≡ length places.now }
+        requires below { (i : ℕ) → slice_index places.now i < 111 }
+        requires few { bits < 2 ^ 111 }
+        ensures { (signals : List Signal) → places.now ≡ map index_of signals → AreOf signals bits
+            → shown_in self.new ≡ with_bits bits (values_of signals values.now) }
     {
         self.shown = bits;
-        for index in 0..signals.len() {
-            self.values[usize::from(signals[index].index())] = values[index];
+        for index in 0..places.len() {
+            self.values[usize::from(places[index])] = values[index];
         }
     }
 }

@@ -1,8 +1,9 @@
 //! Rows that were read once, to be looked at many times.
 
-ghost use Rattle.std.specs.Prelude.{◌≡◌, ◌≤◌, ◌<◌, ◌+◌, ◌*◌, ◌^◌, ◌++◌, ◌∷◌, [], List, IfOk, OnOk, OnErr, drop, length, option_map, slice_get, take, true};
+ghost use Rattle.std.specs.Prelude.{◌≡◌, ◌≤◌, ◌<◌, ◌+◌, ◌*◌, ◌^◌, ◌++◌, ◌∷◌, [], List, IfOk, OnOk, OnErr, drop, length, map, option_map, slice_get, take, true};
 ghost use Rattle.std.specs.List.{All};
 ghost use Rattle.hart_words.specs.declared.signal.Signal.{Signal};
+ghost use Rattle.hart_words.specs.Signals.{index_of};
 ghost use Rattle.rvfi_rows.specs.Cells.{is_among, shown_in, values_at};
 ghost use Rattle.rvfi_rows.specs.Columns.{ports_of};
 ghost use Rattle.rvfi_rows.specs.Rows.{row_of_fields, rows_of_fields};
@@ -23,11 +24,14 @@ use std::alloc::Global;
 pub struct Rows {
     /// The signals of the known columns, each once: a row of any port has its values under them.
     signals: Vec<Signal>,
+    /// The index of each of them.
+    places: Vec<u8>,
     rows: Vec<Kept>,
     /// For each row as many values as there are signals; those that are not shown mean nothing.
     values: Vec<u64>,
     ghost full: { length values.items ≡ length rows.items * length signals.items },
     ghost theirs: { All (ShowsOnly signals.items) rows.items },
+    ghost placed: { places.items ≡ map index_of signals.items },
 }
 
 impl Rows {
@@ -37,6 +41,7 @@ impl Rows {
     pub(crate) fn none(alloc: Global) -> Rows {
         Rows {
             signals: Vec::new(alloc),
+            places: Vec::new(alloc),
             rows: Vec::new(alloc),
             values: Vec::new(alloc),
         }
@@ -57,6 +62,7 @@ impl Rows {
         let mut rows = rows;
         let mut values = values;
         let signals = known_signals(alloc, columns.as_slice())?;
+        let places = places_of(alloc, &signals)?;
         // A product past 64 bits is more than the allocator gives.
         let count = lines.saturating_mul(columns.ports() as usize);
         rows.clear();
@@ -65,6 +71,7 @@ impl Rows {
         values.reserve(count.saturating_mul(signals.len()))?;
         Ok(Rows {
             signals,
+            places,
             rows,
             values,
         })
@@ -99,9 +106,9 @@ impl Rows {
             (values_at row.now.values self.old.signals.items) ∷ []) }
         ensures signals { self.new.signals.items ≡ self.old.signals.items }
     {
-        self.values.reserve(self.signals.len())?;
+        self.values.reserve(self.places.len())?;
         self.rows.reserve(1)?;
-        row.put_values(&self.signals, &mut self.values);
+        row.put_values(&self.places, &mut self.values);
         self.rows.push_reserved(kept);
         Ok(())
     }
@@ -125,7 +132,7 @@ impl Rows {
             Some(Kept::Invalid) => Some(Reading::Invalid),
             Some(Kept::Refused(fault)) => Some(Reading::Refused(fault)),
             Some(Kept::Shown(bits)) => {
-                row.take_values(bits, &self.signals, self.values_at(place));
+                row.take_values(bits, &self.places, self.values_at(place));
                 Some(Reading::Valid)
             }
         }
@@ -178,6 +185,17 @@ fn kept_of(columns: &Columns, has_return: bool, fields: &Fields, port: u32, row:
         Ok(false) => Kept::Invalid,
         Err(fault) => Kept::Refused(fault),
     }
+}
+
+/// The index of each of these signals.
+fn places_of(alloc: Global, signals: &[Signal]) -> Result<Vec<u8>, NoMemory>
+    ensures { IfOk result (λ places. places.items ≡ map index_of signals.now) }
+{
+    let mut places = Vec::with_capacity(alloc, signals.len())?;
+    for index in 0..signals.len() {
+        places.push(signals[index].index())?;
+    }
+    Ok(places)
 }
 
 /// The signals of the known columns, each once.

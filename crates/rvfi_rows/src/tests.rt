@@ -373,6 +373,8 @@ fn reads_registers_of_control(rt: HostRuntime) -> Result<(), Fail> {
     assert_eq!(rt; row.shown(mepc), Some(u64::MAX));
     assert_eq!(rt; row.shown(satp), Some(1));
     assert!(rt; row.shows_csr());
+    // The columns of a register follow one another: its masks, what it was and what it became.
+    assert_eq!(rt; row.csr_bits(), (1 << (4 * 7 + 2)) | (1 << (4 * 11 + 3)));
     assert_eq!(rt; row.shown(Signal::Csr(CsrName::Sip, CsrSide::Wmask)), None);
     let row = read_row(alloc, &columns, b"1,,,2,0,x", 0, 1)?.ok_or("it is valid")?;
     assert_eq!(rt;
@@ -381,6 +383,7 @@ fn reads_registers_of_control(rt: HostRuntime) -> Result<(), Fail> {
     );
     let row = read_row(alloc, &columns, b"1,,,2,,0", 0, 1)?.ok_or("it is valid")?;
     assert!(rt; !row.shows_csr());
+    assert_eq!(rt; row.csr_bits(), 0);
     assert_eq!(rt; row.shown(satp), None);
     assert_eq!(rt;
         row_fault(alloc, &columns, b"1,,x,2,,"),

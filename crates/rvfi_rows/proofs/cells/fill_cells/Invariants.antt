@@ -6,4 +6,5 @@ use Rattle.rvfi_rows.proofs.cells.fill_cells.Given as goal
 
 abbrev pub invariant-loop-index : goal.invariant-loop-index
 invariant-loop-index l =
-    with_front (shown_in l.row) (cells_at (drop l.index l.placed) l.fields) ≡ cells_at l.placed l.fields
+    with_front (shown_in l.row) (cells_at (drop l.index l.known.placed.items) l.fields)
+    ≡ cells_at l.known.placed.items l.fields

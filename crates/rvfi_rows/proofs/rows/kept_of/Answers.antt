@@ -1,4 +1,4 @@
-use Rattle.std.proofs.Common.{◌≡◌, ◌∙◌, Bool, false, sym, true}
+use Rattle.std.proofs.Common.{◌≡◌, ◌∙◌, false, sym, true}
 use Rattle.std.specs.Prelude.{nat_lt}
 use Rattle.rvfi_rows.specs.Cells.{shown_in}
 use Rattle.rvfi_rows.specs.Rows.{hart_of}

@@ -1,19 +1,25 @@
-use Rattle.std.proofs.Common.{◌∙◌, ◌<◌, arith, length}
-use Rattle.rvfi_rows.proofs.Values.{placed-next, placed-end, shows_taken}
+use Rattle.std.proofs.Common.{◌≡◌, ◌∙◌, ◌<◌, List, ap, arith, length, ℕ}
+use Rattle.std.proofs.lemmas.List.{length-map}
+use Rattle.hart_words.specs.Signals.{index_of}
+use Rattle.rvfi_rows.proofs.Values.{placed, put-end, put-next, put_at, put_placed, shows_taken}
 use Rattle.rvfi_rows.proofs.row.Row.take_values.Goals as goal
 
 pub loop-index-preserved : goal.loop-index-preserved
 loop-index-preserved c =
     let within : c.loop-index.index < length c.args.values.now = omega (arith, c.requires.as_many) in (
       c.loop-index.invariant.0,
-      placed-next c.args.signals.now c.args.values.now _ c.loop-index.index _ c.loop-index-test.true within
-          (c.from.ensures ∙ c.index.ensures.value) ∙ c.loop-index.invariant.1,
+      put-next c.args.places.now c.args.values.now _ c.loop-index.index c.loop-index-test.true within c.from.ensures
+          ∙ c.loop-index.invariant.1,
     )
 
 pub returns : goal.returns
-returns c =
-    let taken =
-    placed-end c.args.signals.now c.args.values.now c.loop-index.self.values _ c.loop-index.index
-    c.loop-index-test.false c.loop-index.invariant.1 in
-    shows_taken c.args.self.now c.loop-index.self c.args.values.now c.requires.theirs c.requires.as_many
-    c.loop-index.invariant.0 taken
+returns c = λ signals is are.
+    let row = c.args.self.now in
+    let values = c.args.values.now in
+    let put =
+    put-end c.args.places.now values c.loop-index.self.values _ c.loop-index.index c.loop-index-test.false
+    c.loop-index.invariant.1 in
+    let taken : c.loop-index.self.values ≡ placed signals values row.values =
+    put ∙ ap (λ (places : List ℕ). put_at places values row.values) is ∙ put_placed signals values row.values in
+    shows_taken row c.loop-index.self values are
+    (c.requires.as_many ∙ ap length is ∙ length-map signals index_of) c.loop-index.invariant.0 taken
