@@ -7,5 +7,6 @@ pub mod Mapped
 pub mod Marks
 pub mod Orders
 pub mod Physical
+pub mod Plain
 pub mod Sets
 pub mod Unconfigured

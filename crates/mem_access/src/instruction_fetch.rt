@@ -1,12 +1,18 @@
 //! Fetches of instructions.
 
-ghost use Rattle.std.specs.Prelude.{◌≡◌, ◌≤◌, ◌<◌, ◌+◌, ◌%◌, ◌*◌, ◌^◌, ◌⊎◌, length, IfOk};
+ghost use Rattle.std.specs.Prelude.{◌≡◌, ◌≤◌, ◌<◌, ◌+◌, ◌-◌, ◌%◌, ◌*◌, ◌^◌, ◌⊎◌, ◌==◌, ◌&&◌, ◌||◌, not, nat_le, length, IfOk, Some, None, if◌then◌else◌};
+ghost use Rattle.std.specs.List.{list_all};
 ghost use Rattle.hart_words.specs.declared.options.Marks.TheVariants.{Fault};
 ghost use Rattle.hart_words.specs.Actions.{Notes};
+ghost use Rattle.hart_words.specs.Memory.{number_at};
+ghost use Rattle.hart_words.specs.Spans.{holds_all};
+ghost use Rattle.csr_file.specs.Registers.{pmp_entries_of};
+ghost use Rattle.pmp_check.specs.Protection.{is_machine};
 ghost use Rattle.mem_access.specs.Accesses.{parcel_at, fetch_result};
+ghost use Rattle.mem_access.specs.Translation.{is_translated};
 
-use crate::address_space::{AddressSpace, WALK_READS, WALK_SETS};
-use crate::place::AccessRequest;
+use crate::address_space::{AddressSpace, WALK_READS, WALK_SETS, is_translated};
+use crate::place::{AccessRequest, is_open};
 use csr_file::Csrs;
 use hart_words::{Access, Cause, Choices, MOST_READS, MOST_SETS, Map, Mode, PhysMem, Seen, Sets};
 
@@ -18,11 +24,15 @@ const PARCEL_READS: usize = WALK_READS + 1;
 /// The most entries of page tables that a fetch sets: one for each parcel.
 pub const FETCH_SETS: usize = 2 * WALK_SETS;
 
+/// So many bytes, from a multiple of them on, are mostly looked up at once.
+const LOOKED_UP: u64 = 64;
+
 /// The instruction at `pc` and its length in bytes, 2 or 4: a word of 4 where the low two bits of
-/// the first parcel are 3. Each parcel is fetched by itself, with its own check. An exception gives
-/// the cause and the address of the parcel that is refused. What is read is noted in `seen`, which
-/// has room for `FETCH_READS` more, and what is set in page tables in `sets`, which has room for
-/// `FETCH_SETS` more. What the step has set before is read as it was set.
+/// the first parcel are 3. Each parcel is fetched by itself, with its own check, but where nothing
+/// can refuse either. An exception gives the cause and the address of the parcel that is refused.
+/// What is read is noted in `seen`, which has room for `FETCH_READS` more, and what is set in page
+/// tables in `sets`, which has room for `FETCH_SETS` more. What the step has set before is read as
+/// it was set.
 ///
 /// From the Unprivileged ISA's chapter "Introduction" (instruction length encoding) and the
 /// Privileged Architecture's chapter "Machine-Level ISA".
@@ -55,6 +65,14 @@ pub fn fetch<M: PhysMem>(
         map,
         choices,
     };
+    if let Some(word) = plain_word(&space, mode, pc, sets) {
+        seen.put(pc, 2);
+        if word % 4 != 3 {
+            return Ok((word % 0x1_0000, 2));
+        }
+        seen.put(pc + 2, 2);
+        return Ok((word, 4));
+    }
     let first = match parcel(&space, mode, pc, seen, sets) {
         Ok(first) => first,
         Err(exception) => return Err(exception),
@@ -66,6 +84,26 @@ pub fn fetch<M: PhysMem>(
         Ok(second) => Ok((u32::from(first) + 0x1_0000 * u32::from(second), 4)),
         Err(exception) => Err(exception),
     }
+}
+
+/// The four bytes at `pc`, where they are looked up at once and nothing is to be asked of
+/// translation and of the entries of protection.
+fn plain_word<M: PhysMem>(space: &AddressSpace<M>, mode: Mode, pc: u64, sets: &Sets) -> Option<u32>
+    ensures { let csrs = space.now.csrs.now in
+        let is_open = list_all (λ entry. entry.cfg == 0) csrs.entries
+        && (is_machine mode || (length (pmp_entries_of csrs) == 0)) in
+        let is_plain = nat_le (pc % LOOKED_UP) (LOOKED_UP - 4) && (length sets.now == 0)
+        && not (is_translated csrs mode) && is_open && holds_all space.now.map.now.ram pc 4 in
+        result ≡ (if is_plain then Some (number_at (M.bytes space.now.mem.now) pc 4) else None) }
+{
+    let is_near = pc % LOOKED_UP <= LOOKED_UP - 4;
+    if !is_near || !sets.is_empty() || is_translated(space.csrs, mode) {
+        return None;
+    }
+    if !is_open(space.csrs, mode) || !space.map.ram.holds(pc, 4) {
+        return None;
+    }
+    Some(space.mem.read(pc, 4) as u32)
 }
 
 /// Two bytes of an instruction.

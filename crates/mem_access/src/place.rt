@@ -1,6 +1,6 @@
 //! Where an access to a physical address goes.
 
-ghost use Rattle.std.specs.Prelude.{◌≡◌, ◌==◌, ◌≤◌, ◌+◌, ◌%◌, IfOk, false};
+ghost use Rattle.std.specs.Prelude.{◌≡◌, ◌==◌, ◌≤◌, ◌+◌, ◌%◌, ◌&&◌, ◌||◌, IfOk, length, false};
 ghost use Rattle.std.specs.List.{list_all};
 ghost use Rattle.hart_words.specs.declared.span.TheConstants.{PAGE_SIZE};
 ghost use Rattle.hart_words.specs.Spans.{IsPlace};
@@ -118,6 +118,15 @@ pub fn is_allowed(csrs: &Csrs, mode: Mode, pa: u64, len: u8, access: Access) -> 
         return is_machine(mode) || csrs.pmp_entries().is_empty();
     }
     allows(csrs.pmp_entries(), mode, pa, len, access)
+}
+
+/// Whether protection allows a mode every access, since no entry is configured: to M alone, or to
+/// everyone where the core has none.
+pub fn is_open(csrs: &Csrs, mode: Mode) -> bool
+    ensures { result ≡ (list_all (λ entry. entry.cfg == 0) csrs.now.entries
+        && (is_machine mode || (length (pmp_entries_of csrs.now) == 0))) }
+{
+    is_unset(&csrs.entries) && (is_machine(mode) || csrs.pmp_entries().is_empty())
 }
 
 /// Whether no entry is configured.

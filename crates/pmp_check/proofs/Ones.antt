@@ -1,6 +1,6 @@
 -- The ones at the low end of a number.
 use Rattle.std.proofs.Common.{◌≡◌, ℕ, zero, suc, ◌+◌, ◌-◌, ◌*◌, ◌/◌, ◌%◌, ◌^◌, ◌<◌, ◌≤◌, ◌⊎◌, refl, sym, ◌∙◌, ap, inl}
-use Rattle.std.proofs.Common.{inr, subst, arith}
+use Rattle.std.proofs.Common.{inr, pow-add, subst, arith}
 use Rattle.std.proofs.Math.Nat.{pow-suc}
 use Rattle.std.proofs.Math.Pow.{pow_mono}
 use Rattle.std.proofs.lemmas.Nat.{trailing_le, pow_pos, mod-pow-add}
@@ -111,3 +111,16 @@ ones_fit n h =
 
 pub ones_few : (n : ℕ) → 2 ^ (trailing_ones w64 n + 3) ≤ 2 ^ 67
 ones_few n = pow_mono {i = trailing_ones w64 n + 3} {j = 67} (omega (arith, trailing_le 64 (2 ^ 64 - 1 - n)))
+
+-- powers of two by shifts of 128 bits
+pub one_shifted : (n : ℕ) → n ≤ 64 → 1 * 2 ^ n % 2 ^ 128 ≡ 2 ^ n
+one_shifted n few = let most : 2 ^ n ≤ 2 ^ 64 = pow_mono {i = n} {j = 64} few in omega (arith, most)
+
+pub eight_shifted : (n : ℕ) → n ≤ 64 → 8 * 2 ^ n % 2 ^ 128 ≡ 2 ^ (n + 3)
+eight_shifted n few =
+    let most : 2 ^ n ≤ 2 ^ 64 = pow_mono {i = n} {j = 64} few in
+    let whole : 2 ^ (n + 3) ≡ 2 ^ n * 8 = pow-add 2 n 3 in
+    omega (arith, most, whole)
+
+pub few_ones : (n : ℕ) → trailing_ones w64 n ≤ 64
+few_ones n = trailing_le 64 (2 ^ 64 - 1 - n)

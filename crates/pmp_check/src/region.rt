@@ -86,9 +86,9 @@ fn power_region(addr: u64) -> Region
     ensures { result ≡ power_region addr (trailing_ones w64 addr) }
 {
     let ones = addr.trailing_ones();
-    let first = 4 * (u128::from(addr) - (2u128.pow(ones) - 1));
+    let first = 4 * (u128::from(addr) - ((1u128 << ones) - 1));
     Region {
         first,
-        past: first + 2u128.pow(ones + 3),
+        past: first + (8u128 << ones),
     }
 }

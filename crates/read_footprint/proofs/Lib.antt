@@ -1,5 +1,6 @@
 pub mod Bits
 pub mod Noting
+pub mod NotedBytes
 pub mod Rows
 pub mod Places
 pub mod Entries

@@ -35,6 +35,14 @@ impl Block {
             wrote: self.wrote | later.wrote,
         }
     }
+
+    /// The bytes that were read or written.
+    pub fn noted(self) -> u64
+        ensures { (place : ℕ) → has_bit result place
+            ≡ (has_bit self.read place || has_bit self.wrote place) }
+    {
+        self.read | self.wrote
+    }
 }
 
 /// The bits from one place up to another.

@@ -1,7 +1,13 @@
 //! The two sets of addresses that rows leave.
 
+ghost use Rattle.std.specs.Prelude.{◌≡◌, ◌≤◌, ◌+◌, ◌%◌, ◌^◌, nat_eq};
+ghost use Rattle.std.specs.Bool.{Decides};
+ghost use Rattle.std.specs.HashMap.{get};
+ghost use Rattle.read_footprint.specs.NotedBytes.{AreNoted};
+
 use crate::block::{BLOCK_SIZE, Block, bits_of};
 use crate::bytes::{move_bytes, same_bytes};
+use crate::noted_bytes::NotedBytes;
 use hart_words::{NoMemory, PhysMem, Read, Seen, Write, Wrote};
 use std::alloc::Global;
 use std::collections::HashMap;
@@ -9,14 +15,26 @@ use std::collections::HashMap;
 /// An access has at most 255 bytes, which lie in at most 5 blocks.
 const MOST_BLOCKS: usize = 5;
 
+/// Whether a read goes on where another ends, and both are short.
+fn goes_on(one: &Read, next: &Read) -> bool
+    ensures { Decides result ((one.now.len ≤ 8) × (next.now.len ≤ 8)
+        × (next.now.pa ≡ (one.now.pa + one.now.len) % 2 ^ 64)) }
+{
+    one.len <= 8 && next.len <= 8 && next.pa == one.pa.wrapping_add(u64::from(one.len))
+}
+
 /// Which bytes rows read that none of them had written before, and which they wrote.
 #[derive(Drop)]
 pub struct Footprint {
     blocks: HashMap<u64, Block>,
+    /// What is noted of the block of the last read that was not among them: most reads are, and
+    /// need no search.
+    last_read: NotedBytes,
+    ghost noted: { AreNoted (get nat_eq blocks) last_read },
 }
 
 impl Footprint {
-    ghost use Rattle.std.specs.Prelude.{◌≡◌, ◌≤◌, ◌<◌, ◌+◌, ◌*◌, ◌/◌, ◌%◌, ℕ, Bool, true, false, ◌==◌, ◌&&◌, ◌||◌, not, List, [], ◌∷◌, ◌++◌, All, length, nat_le, nat_lt, nat_eq, is_some, OnOk, OnErr, ◌⊎◌, if◌then◌else◌};
+    ghost use Rattle.std.specs.Prelude.{◌≡◌, ◌≤◌, ◌<◌, ◌+◌, ◌*◌, ◌/◌, ◌%◌, ℕ, Bool, true, false, ◌==◌, ◌&&◌, ◌||◌, not, List, [], ◌∷◌, ◌++◌, All, length, nat_le, nat_lt, nat_eq, is_some, None, IfSome, OnOk, OnErr, ◌⊎◌, if◌then◌else◌};
     ghost use Rattle.std.specs.Bool.{Decides};
     ghost use Rattle.std.specs.HashMap.{get, spare};
     ghost use Rattle.hart_words.specs.Memory.{is_within};
@@ -24,7 +42,7 @@ impl Footprint {
     ghost use Rattle.hart_words.specs.declared.accesses.Write.{Write};
     ghost use Rattle.read_footprint.specs.Bits.{has_bit};
     ghost use Rattle.read_footprint.specs.Footprints.{Accesses, agree, footprint_of, is_written, moved, writes_of};
-    ghost use Rattle.read_footprint.specs.Sets.{ArePartlyMoved, IsAsBefore, IsNarrow, IsFootprintOf, LiesInRam, has_read, has_written, is_read, NotesBlock};
+    ghost use Rattle.read_footprint.specs.Sets.{ArePartlyMoved, IsAsBefore, IsNarrow, IsFootprintOf, LiesInRam, footprint_block_at, has_read, has_written, is_read, NotesBlock};
 
     /// Nothing read or written. It takes no memory.
     pub fn empty(alloc: Global) -> Footprint
@@ -34,6 +52,7 @@ impl Footprint {
     {
         Footprint {
             blocks: HashMap::new(alloc),
+            last_read: NotedBytes::empty(),
         }
     }
 
@@ -109,9 +128,17 @@ impl Footprint {
             ≡ has_written self.old address }
         ensures room { spare self.old.blocks ≤ spare self.new.blocks + 5 * length reads.now }
     {
-        if let Some((read, rest)) = reads.split_first() {
-            self.note_read(read.pa, read.len);
-            self.note_reads(rest);
+        match reads {
+            [] => {}
+            // The parcels of an instruction mostly follow one another.
+            [one, next, rest @ ..] if goes_on(one, next) => {
+                self.note_read(one.pa, one.len + next.len);
+                self.note_reads(rest);
+            }
+            [read, rest @ ..] => {
+                self.note_read(read.pa, read.len);
+                self.note_reads(rest);
+            }
         }
     }
 
@@ -141,10 +168,30 @@ impl Footprint {
             ≡ has_written self.old address }
         ensures room { spare self.old.blocks ≤ spare self.new.blocks + 5 }
     {
+        if !self.last_read.has_all(pa, len) {
+            self.note_read_blocks(pa, len);
+        }
+    }
+
+    /// Notes that so many bytes were read from an address on, in their blocks.
+    fn note_read_blocks(&mut self, pa: u64, len: u8)
+        requires narrow { IsNarrow pa len }
+        requires room { 5 ≤ spare self.old.blocks }
+        ensures read { (address : ℕ) → has_read self.new address
+            ≡ (has_read self.old address
+            || (is_within pa len address && not (has_written self.old address))) }
+        ensures wrote { (address : ℕ) → has_written self.new address
+            ≡ has_written self.old address }
+        ensures room { spare self.old.blocks ≤ spare self.new.blocks + 5 }
+    {
         let end = pa + u64::from(len);
         for number in pa / BLOCK_SIZE..(end + (BLOCK_SIZE - 1)) / BLOCK_SIZE {
             let read = bits_of(number, pa, end);
-            self.note(number, Block { read, wrote: 0 });
+            let block = self.note(number, Block { read, wrote: 0 });
+            self.last_read = NotedBytes {
+                number,
+                bytes: block.noted(),
+            };
         }
     }
 
@@ -164,34 +211,32 @@ impl Footprint {
         }
     }
 
-    /// Notes what came later of a block.
-    fn note(&mut self, number: u64, later: Block)
+    /// Notes what came later of a block, and gives what is then noted of it.
+    fn note(&mut self, number: u64, later: Block) -> Block
         requires room { 1 ≤ spare self.old.blocks }
         ensures noted { NotesBlock number later self.old self.new }
+        ensures block { footprint_block_at self.new number ≡ result }
         ensures room { spare self.old.blocks ≤ spare self.new.blocks + 1 }
     {
-        if self.note_known(number, later) {
-            return;
+        if let Some(block) = self.note_known(number, later) {
+            return block;
         }
         match self.blocks.insert(number, later) {
-            Ok(_) => (),
+            Ok(_) => later,
             Err(_) => unreachable!(),
         }
     }
 
     /// Notes what came later of a block, if the block is there.
-    fn note_known(&mut self, number: u64, later: Block) -> bool
-        ensures noted { result ≡ true → NotesBlock number later self.old self.new }
-        ensures same { result ≡ false → IsAsBefore self.old self.new }
-        ensures absent { result ≡ false → is_some (get nat_eq self.new.blocks number) ≡ false }
+    fn note_known(&mut self, number: u64, later: Block) -> Option<Block>
+        ensures noted { IfSome result (λ _. NotesBlock number later self.old self.new) }
+        ensures block { IfSome result (λ block. footprint_block_at self.new number ≡ block) }
+        ensures same { result ≡ None → IsAsBefore self.old self.new }
+        ensures absent { result ≡ None → is_some (get nat_eq self.new.blocks number) ≡ false }
         ensures room { spare self.new.blocks ≡ spare self.old.blocks }
     {
-        match self.blocks.get_mut(&number) {
-            Some(block) => {
-                *block = block.then(later);
-                true
-            }
-            None => false,
-        }
+        let block = self.blocks.get_mut(&number)?;
+        *block = block.then(later);
+        Some(*block)
     }
 }

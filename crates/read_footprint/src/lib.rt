@@ -12,6 +12,7 @@ mod block;
 mod bytes;
 mod footprint;
 pub mod laws;
+mod noted_bytes;
 
 pub use footprint::Footprint;
 

@@ -1,6 +1,29 @@
 use Rattle.std.proofs.Common.{arith}
+use Rattle.hart_words.specs.Memory.{number_at}
 use Rattle.mem_access.proofs.Looks.{fetch_refused, fetch_short, fetch_long}
+use Rattle.mem_access.proofs.Plain.{plain_long, plain_short, plain_word}
 use Rattle.mem_access.proofs.instruction_fetch.fetch.Goals as goal
+
+pub returns-then-word-ne3-clause-looked : goal.returns-then-word-ne3-clause-looked
+returns-then-word-ne3-clause-looked g c =
+    let bytes = g.M.PhysMem.bytes c.args.mem.now in
+    let plain =
+    plain_word c.args.csrs.now c.args.map.now c.args.mode c.args.pc c.args.sets.now c.in-Some.word
+    (number_at bytes c.args.pc 4) c.in-Some.ensures in
+    rw c.put.ensures
+    (plain_short c.args.csrs.now c.args.map.now c.args.choices.now c.args.mode c.args.pc c.in-Some.word
+    c.args.seen.now c.args.sets.now bytes (λ at. g.met.M.PhysMem.bytes_are_bytes c.args.mem.now at) plain.0 plain.1
+    c.if-word-ne3.true)
+
+pub returns-in-Some-clause-looked : goal.returns-in-Some-clause-looked
+returns-in-Some-clause-looked g c =
+    let bytes = g.M.PhysMem.bytes c.args.mem.now in
+    let plain =
+    plain_word c.args.csrs.now c.args.map.now c.args.mode c.args.pc c.args.sets.now c.in-Some.word
+    (number_at bytes c.args.pc 4) c.in-Some.ensures in
+    rw (c.put-in-Some.ensures, c.put.ensures)
+    (plain_long c.args.csrs.now c.args.map.now c.args.choices.now c.args.mode c.args.pc c.in-Some.word
+    c.args.seen.now c.args.sets.now bytes plain.0 plain.1 c.if-word-ne3.false)
 
 pub returns-in-Err-clause-looked : goal.returns-in-Err-clause-looked
 returns-in-Err-clause-looked g c =

@@ -3,7 +3,7 @@ use Rattle.std.specs.Prelude.{not, nat_lt}
 use Rattle.std.specs.HashMap.{spare}
 use Rattle.hart_words.specs.Memory.{is_within}
 use Rattle.read_footprint.specs.Sets.{has_read, has_written}
-use Rattle.read_footprint.proofs.footprint.Footprint.note_read.Given as goal
+use Rattle.read_footprint.proofs.footprint.Footprint.note_read_blocks.Given as goal
 
 -- the blocks up to this one were noted
 abbrev pub invariant-loop-number : goal.invariant-loop-number
