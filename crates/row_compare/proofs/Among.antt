@@ -48,7 +48,7 @@ nothing_more : (x : Option Difference) → x ≡ option_or x None
 nothing_more None = refl
 nothing_more (Some d) = refl
 
-none_of_both : (one other : Option Difference) → is_none (option_or one other) ≡ (is_none one && is_none other)
+pub none_of_both : (one other : Option Difference) → is_none (option_or one other) ≡ (is_none one && is_none other)
 none_of_both None other = refl
 none_of_both (Some d) other = refl
 
@@ -83,7 +83,7 @@ none_wanted : (signal : Signal) (found : Option ℕ) → difference_between sign
 none_wanted signal None = refl
 none_wanted signal (Some found) = refl
 
-free : (retired : Retired) (shown : Shown) (signal : Signal) → expected_signal retired shown signal ≡ None
+pub free : (retired : Retired) (shown : Shown) (signal : Signal) → expected_signal retired shown signal ≡ None
     → signal_difference retired shown signal ≡ None
 unfolding signal_difference
 free retired shown signal is = rw is (none_wanted signal (shown signal))
@@ -122,8 +122,8 @@ in_parts retired shown (entry ∷ front) back =
 abbrev is_shown_csr : Shown → SignalEntry → Bool
 is_shown_csr shown entry = is_csr entry.signal && is_some (shown entry.signal)
 
-not_shown : (retired : Retired) (shown : Shown) (signal : Signal) (here : Option ℕ) → here ≡ shown signal
-    → is_some here ≡ false → signal_difference retired shown signal ≡ None
+pub not_shown : (retired : Retired) (shown : Shown) (signal : Signal) (here : Option ℕ)
+    → here ≡ shown signal → is_some here ≡ false → signal_difference retired shown signal ≡ None
 unfolding signal_difference
 not_shown retired shown signal None is hidden = rw (← is) refl
 not_shown retired shown signal (Some value) is hidden = absurd cc
@@ -164,6 +164,11 @@ pub without_csrs : (retired : Retired) (shown : Shown) → is_none (first_among 
 unfolding shows_csr
 without_csrs retired shown none hidden =
     sym (none_shown retired shown (drop 23 SIGNALS) hidden refl) ∙ with_csrs retired shown none
+
+pub agree_too : (retired : Retired) (shown : Shown) → is_none (first_among retired shown (take 23 SIGNALS)) ≡ true
+    → is_none (first_among retired shown (drop 23 SIGNALS)) ≡ true → None ≡ first_among retired shown SIGNALS
+agree_too retired shown none others =
+    sym (none_is (first_among retired shown (drop 23 SIGNALS)) others) ∙ with_csrs retired shown none
 
 -- ---- what a difference is of
 

@@ -1,7 +1,9 @@
 //! The first signal in which a row differs from what the hart did.
 
-ghost use Rattle.std.specs.Prelude.{◌≡◌, Some, take};
+ghost use Rattle.std.specs.Prelude.{◌≡◌, ◌&&◌, Some, drop, take};
 ghost use Rattle.std.specs.Option.{is_none};
+ghost use Rattle.hart_words.specs.declared.signal.CsrSide.TheVariants.{Rdata, Wdata};
+ghost use Rattle.hart_words.specs.declared.signal.Signal.TheVariants.{Csr};
 ghost use Rattle.rvfi_rows.specs.Cells.{shown_in};
 ghost use Rattle.hart_words.specs.declared.signal.TheConstants.{SIGNALS};
 ghost use Rattle.rvfi_rows.specs.declared.row.TheConstants.{FIRST_CSR};
@@ -9,8 +11,34 @@ ghost use Rattle.row_compare.specs.Difference.{difference_between, difference_of
 
 use crate::expected_signal::ExpectedSignal;
 use crate::signals::expected_signal;
-use hart_words::{Difference, SIGNALS, Signal, SignalEntry};
-use rvfi_rows::{Expected, FIRST_CSR, Retired, Row};
+use hart_words::{CsrName, CsrSide, Difference, SIGNALS, Signal, SignalEntry};
+use rvfi_rows::{Expected, Retired, Row};
+
+/// The registers that a trace may show, in the order of the signals.
+const REGISTERS: [CsrName; 22] = [
+    CsrName::Mstatus,
+    CsrName::Misa,
+    CsrName::Medeleg,
+    CsrName::Mideleg,
+    CsrName::Mie,
+    CsrName::Mtvec,
+    CsrName::Mscratch,
+    CsrName::Mepc,
+    CsrName::Mcause,
+    CsrName::Mtval,
+    CsrName::Mip,
+    CsrName::Satp,
+    CsrName::Sstatus,
+    CsrName::Sie,
+    CsrName::Sip,
+    CsrName::Stvec,
+    CsrName::Sscratch,
+    CsrName::Sepc,
+    CsrName::Scause,
+    CsrName::Stval,
+    CsrName::Pmpcfg0,
+    CsrName::Pmpcfg2,
+];
 
 /// The first difference, in the order of the table of signals, if there is one. Only signals that
 /// the row shows are compared, and only those that are not free, under their masks. Of a row that
@@ -29,19 +57,45 @@ pub fn first_difference(expected: &Expected, row: &Row) -> Option<Difference>
     }
 }
 
-/// Most rows agree, so whether the plain signals do is asked at once, before it is told which does
+/// Most rows agree, so whether they do is asked at once, before it is told in which signal one does
 /// not; and most show no control and status register.
 fn retired_difference(retired: &Retired, row: &Row) -> Option<Difference>
     ensures { result ≡ first_among retired.now (shown_in row.now) SIGNALS }
 {
-    if !plain_agree(retired, row) {
-        return first_among(retired, row, &SIGNALS);
-    }
-    if row.shows_csr() {
-        first_among(retired, row, &SIGNALS[FIRST_CSR..])
-    } else {
+    if plain_agree(retired, row) && (!row.shows_csr() || csrs_agree(retired, row)) {
         None
+    } else {
+        first_among(retired, row, &SIGNALS)
     }
+}
+
+/// Whether no signal of a register differs. Few rows show many of them, so that one of which
+/// nothing is shown is passed over at once.
+fn csrs_agree(retired: &Retired, row: &Row) -> bool
+    ensures { result
+        ≡ is_none (first_among retired.now (shown_in row.now) (drop FIRST_CSR SIGNALS)) }
+{
+    let mut bits = row.csr_bits();
+    for index in 0..REGISTERS.len() {
+        if bits == 0 {
+            return true;
+        }
+        if bits % 16 != 0 && !register_agrees(retired, row, REGISTERS[index]) {
+            return false;
+        }
+        bits >>= 4;
+    }
+    true
+}
+
+/// Whether no signal of this register differs. Of its masks nothing is ever wanted.
+fn register_agrees(retired: &Retired, row: &Row, name: CsrName) -> bool
+    ensures { let shown = shown_in row.now in
+        result ≡ (is_none (signal_difference retired.now shown (Csr name Rdata))
+        && is_none (signal_difference retired.now shown (Csr name Wdata))) }
+{
+    agrees(retired, row, Signal::Csr(name, CsrSide::Rdata))
+        && agrees(retired, row, Signal::Csr(name, CsrSide::Wdata))
 }
 
 /// Whether no signal before those of registers differs. Of `valid`, `halt` and `hart` nothing is

@@ -9,7 +9,7 @@ pub fn ones(from: u64, count: u8) -> u64
     ensures { result ≡ ones from count }
 {
     let past = from as u32 + u32::from(count);
-    2u64.pow(past) - 2u64.pow(from as u32)
+    (1 << past) - (1 << from as u32)
 }
 
 /// The bits of `count` bytes from byte `from` on.
@@ -18,5 +18,5 @@ pub fn byte_ones(from: u64, count: u8) -> u64
     ensures { result ≡ byte_ones from count }
 {
     let past = from as u32 + u32::from(count);
-    (256u128.pow(past) - 256u128.pow(from as u32)) as u64
+    ((1u128 << (8 * past)) - (1u128 << (8 * from as u32))) as u64
 }

@@ -1,26 +1,18 @@
-use Rattle.std.proofs.Common.{◌+◌, ◌≤◌, arith, lit<}
-use Rattle.hart_words.proofs.Powers.{eight_bytes, more_places, some_bytes}
+use Rattle.std.proofs.Common.{◌≡◌, ℕ, ◌+◌, ◌-◌, ◌*◌, ◌<◌, ◌%◌, ◌^◌, ap, sym, ◌∙◌, arith, lit<}
+use Rattle.std.proofs.lemmas.Nat.{one_shl}
+use Rattle.hart_words.proofs.Powers.{bits_of_bytes, more_places}
 use Rattle.row_compare.proofs.masks.byte_ones.Goals as goal
 
-pub pow-requires : goal.pow-requires
-pow-requires c =
-    let few : c.args.from + c.from.result ≤ 8 = omega arith in
-    let most = eight_bytes (c.args.from + c.from.result) few in
-    omega arith
-
-pub pow-requires-2 : goal.pow-requires-2
-pow-requires-2 c =
-    let most = eight_bytes c.args.from (omega arith) in
-    omega arith
+-- so many bytes' bits, of up to eight bytes
+shifted : (bytes : ℕ) → 8 * bytes < 128 → 1 * 2 ^ (8 * bytes) % 2 ^ 128 ≡ 256 ^ bytes
+shifted bytes few = one_shl (8 * bytes) 128 few ∙ sym (bits_of_bytes bytes)
 
 pub overflow_sub-result : goal.overflow_sub-result
-overflow_sub-result c = rw (c.pow.ensures, c.pow-2.ensures) (more_places 256 c.args.from c.from.result (lit< tt))
+overflow_sub-result c =
+    rw (shifted c.args.from (omega arith), shifted (c.args.from + c.from.result) (omega arith))
+    (more_places 256 c.args.from c.from.result (lit< tt))
 
-pub overflow_cast-result : goal.overflow_cast-result
-overflow_cast-result c =
-    let few : c.args.from + c.from.result ≤ 8 = omega arith in
-    let most = eight_bytes (c.args.from + c.from.result) few in
-    let least = some_bytes c.args.from in
-    let past = c.pow.ensures in
-    let first = c.pow-2.ensures in
-    record { fits = omega arith }
+pub returns : goal.returns
+returns c =
+    rw (shifted c.args.from (omega arith), shifted (c.args.from + c.from.result) (omega arith))
+    (ap (λ (n : ℕ). 256 ^ (c.args.from + n) - 256 ^ c.args.from) c.from.ensures)
