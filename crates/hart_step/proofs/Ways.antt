@@ -19,14 +19,12 @@ use Rattle.rv_integer.specs.declared.int_result.IntResult.{IntResult}
 use Rattle.rv_integer.specs.declared.int_result.MemoryRequest.{MemoryRequest}
 use Rattle.rv_integer.specs.declared.int_result.MemoryOp.{MemoryOp}
 use Rattle.rv_integer.specs.Results.{result_of}
+use Rattle.rvfi_rows.specs.declared.expected.Expected.{Expected}
 use Rattle.rvfi_rows.specs.declared.expected.Expected.TheVariants.{Halted, Retired}
-use Rattle.rvfi_rows.specs.declared.expected.Effects.{Effects}
-use Rattle.hart_words.specs.declared.privilege.Cause.{Cause}
 use Rattle.mem_access.specs.declared.place.Place.{Place}
 use Rattle.mem_access.specs.Accesses.{Exception, LocatedValue, Places, fetch_result, first_len}
 use Rattle.hart_step.specs.declared.state.Core.{Core}
 use Rattle.hart_step.specs.declared.choices.RowChoices.{RowChoices}
-use Rattle.hart_step.specs.declared.choices.Lines.{Lines}
 use Rattle.hart_step.specs.declared.instruction.Instruction.{Instruction}
 use Rattle.hart_step.specs.declared.memory.AccessResult.{AccessResult}
 use Rattle.hart_step.specs.Choices.{row_choices_of, pending_lines_of, asks_interrupt}
@@ -41,7 +39,7 @@ use Rattle.hart_step.specs.declared.changes.Retirement.{Retirement}
 use Rattle.hart_step.specs.declared.changes.Change.TheVariants.{Nothing, Registers, Access}
 use Rattle.hart_step.specs.declared.changes.InstructionNotes.{InstructionNotes}
 use Rattle.hart_step.specs.declared.instruction.InstructionOutcome.TheVariants.{Trapped}
-use Rattle.hart_step.specs.Changes.{retirement_of, completion_by, run_by}
+use Rattle.hart_step.specs.Changes.{retirement_of, completion_by, retired_by, run_by}
 use Rattle.hart_step.specs.Instructions.{Completion, completion_of, next_address, core_after_retirement}
 use Rattle.hart_step.specs.Instructions.{after_access, execution_of, execution_by}
 use Rattle.hart_step.specs.Instructions.{first_value, second_value, InstructionRun, run_of_exception, run_of_result}
@@ -269,6 +267,16 @@ executed_as core choices i {a} {b} {done} {s0} {s1} {w0} {w1} {bytes} from first
     let R : IntResult → Type 0 = λ r. Notes (execution_by core choices i r) done s0 s1 w0 w1 bytes in
     subst P two (subst Q one (subst R is did))
 
+-- with what the row tells of the destination
+pub chosen_as : (core : Core) (shown : Shown) (i : Instruction) {operands : Operands} {choices : RowChoices}
+    {done : Result Completion Exception} {s0 s1 : List Read} {w0 w1 : List Write} {bytes : Bytes}
+    → operands ≡ operands_of i.op → choices ≡ row_choices_of shown operands.rd
+    → Notes (execution_of core choices i) done s0 s1 w0 w1 bytes
+    → Notes (execution_of core (row_choices_of shown (operands_of i.op).rd) i) done s0 s1 w0 w1 bytes
+chosen_as core shown i {done} {s0} {s1} {w0} {w1} {bytes} from is did =
+    let P : RowChoices → Type 0 = λ c. Notes (execution_of core c i) done s0 s1 w0 w1 bytes in
+    subst P (is ∙ ap (λ o. row_choices_of shown o.rd) from) did
+
 -- one that does not access memory
 pub executed_pure : {A : Type 0} (meant done : A) (seen : List Read) (wrote : List Write) (bytes : Bytes)
     → done ≡ meant → Notes (pure meant) done seen seen wrote wrote bytes
@@ -277,9 +285,9 @@ executed_pure meant done seen wrote bytes is = rw is (Notes-pure meant seen wrot
 -- the destination's value, as it is noted
 pub retired_as : (core : Core) (i : Instruction) (value next_pc : ℕ) {done : Retirement}
     → done ≡ retirement_of i value next_pc
-    → completion_by core (Ok (Registers done, None)) ≡ completion_of (core_after_retirement core i value next_pc)
+    → completion_by core (Registers done) (Ok None) ≡ completion_of (core_after_retirement core i value next_pc)
 unfolding core_after_retirement
-retired_as core i value next_pc is = ap (λ d. completion_by core (Ok (Registers d, None))) is
+retired_as core i value next_pc is = ap (λ d. completion_by core (Registers d) (Ok None)) is
 
 -- one that does
 pub executed_access : (core : Core) (choices : RowChoices) (i : Instruction) (request : MemoryRequest)
@@ -295,10 +303,10 @@ executed_access core choices i request {s0} {s1} {w0} {w1} {bytes} is did =
 
 pub accessed_as : (core : Core) (i : Instruction) (answer : AccessResult) {done : Retirement}
     → done ≡ retirement_of i answer.value (next_address core i)
-    → completion_by core (Ok (Access done answer.reservation, answer.access)) ≡ after_access core i (Ok answer)
+    → completion_by core (Access done answer.reservation) (Ok answer.access) ≡ after_access core i (Ok answer)
 unfolding after_access core_after_retirement
 accessed_as core i answer is =
-    ap (λ d. completion_by core (Ok (Access d answer.reservation, answer.access))) is
+    ap (λ d. completion_by core (Access d answer.reservation) (Ok answer.access)) is
 
 -- what stands at pc
 pub ran_refused : (core : Core) (shown : Shown) (exception : Exception) {s0 s1 : List Read} {w0 w1 : List Write}
@@ -431,73 +439,27 @@ enters_interrupt core shown {entered} asks is lacks =
       lacks_is = lacks;
     }
 
--- what each phase of a step gives
-pub record StepParts (core : Core) (shown : Shown) (done : InstructionRun) : Type 0 where
-  pub before : Core
-  pub next : Core
-  pub lacks : Bool
-  pub insn : Option ℕ
-  pub effects : Result Effects Cause
-  pub lines : Lines
-  pub before_is : before ≡ before_instruction core shown
-  pub lacks_is : lacks ≡ lacks_interrupt (core_after_count core shown) shown
-  pub insn_is : insn ≡ insn_of done.executed
-  pub effects_are : effects ≡ effects_of before done.core done.executed
-  pub next_is : next ≡ core_after_run done shown
-  pub lines_are : lines ≡ pending_lines_of shown
-
-pub gave_parts : (core : Core) (shown : Shown) (done : InstructionRun) (parts : StepParts core shown done)
-    → record {
-      next =
-          parts.next;
-      expected =
-          Retired
-          (record {
-            order =
-                core.next_order;
-            lacks_interrupt =
-                parts.lacks;
-            pc =
-                parts.before.pc;
-            mode =
-                parts.before.mode;
-            insn =
-                parts.insn;
-            insn_bits = core.choices.insn_bits;
-            effects = parts.effects;
-            csrs_before = parts.before.csrs;
-            csrs_after = parts.next.csrs;
-            lines = parts.lines.up;
-          });
-    }
-    ≡ step_result_of core shown done
+-- what a step gives, by what each phase of it gives
+pub gave_parts : (core : Core) (shown : Shown) (done : InstructionRun) {before next : Core} {lacks : Bool}
+    {expected : Expected}
+    → before ≡ before_instruction core shown → before.choices ≡ core.choices
+    → lacks ≡ lacks_interrupt (core_after_count core shown) shown → next ≡ core_after_run done shown
+    → expected ≡ Retired (retired_by core.next_order lacks before shown done)
+    → record { next = next; expected = expected } ≡ step_result_of core shown done
 unfolding step_result_of expected_of
-gave_parts core shown done parts =
-    let p = parts.before_is in
-    let l = parts.lacks_is in
-    let e = parts.effects_are ∙ ap (λ b. effects_of b done.core done.executed) p in
-    let bits = parts.insn_is in
-    let after = parts.next_is in
-    let up = parts.lines_are in
-    λ i. record {
-      next = after i;
-      expected =
-          Retired
-          (record {
-            order =
-                core.next_order;
-            lacks_interrupt =
-                l i;
-            pc =
-                (p i).pc;
-            mode =
-                (p i).mode;
-            insn =
-                bits i;
-            insn_bits = core.choices.insn_bits;
-            effects = e i;
-            csrs_before = (p i).csrs;
-            csrs_after = (after i).csrs;
-            lines = (up i).up;
-          });
-    }
+gave_parts core shown done {before} {next} {lacks} {expected} begins kept lacks_is ends is =
+    let tells : Retired (retired_by core.next_order lacks before shown done) ≡ expected_of core shown done =
+    λ i. Retired (record {
+      order = core.next_order;
+      lacks_interrupt = lacks_is i;
+      pc = (begins i).pc;
+      mode = (begins i).mode;
+      insn = insn_of done.executed;
+      insn_bits = (kept i).insn_bits;
+      effects = effects_of (begins i) done.core done.executed;
+      csrs_before = (begins i).csrs;
+      csrs_after = (core_after_run done shown).csrs;
+      lines = (pending_lines_of shown).up;
+    }) in
+    let said : expected ≡ expected_of core shown done = is ∙ tells in
+    λ i. record { next = ends i; expected = said i }

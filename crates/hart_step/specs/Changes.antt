@@ -1,15 +1,17 @@
 -- What an instruction changes in the hart, as a step notes it before it puts it in place.
-use Rattle.std.specs.Prelude.{◌≡◌, ℕ, ◌/◌, ◌%◌, ◌≤◌, Option, Some, None, Result, Ok, Err, List, All, length}
+use Rattle.std.specs.Prelude.{◌≡◌, ℕ, Bool, ◌/◌, ◌%◌, ◌≤◌, Option, Some, None, Result, Ok, Err, List, All, length}
 use Rattle.hart_words.specs.declared.span.Span.{Span}
 use Rattle.hart_words.specs.declared.span.TheConstants.{PAGE_SIZE}
 use Rattle.hart_words.specs.declared.accesses.Write.{Write}
 use Rattle.hart_words.specs.Spans.{IsPlace}
+use Rattle.hart_words.specs.Signals.{Shown}
 use Rattle.hart_words.specs.Registers.{with_register}
 use Rattle.rv_decode.specs.Operands.{operands_of}
 use Rattle.csr_file.specs.declared.csrs.Csrs.{Csrs}
 use Rattle.csr_file.specs.declared.access.Illegal.{Illegal}
 use Rattle.csr_file.specs.Access.{csr_write_at}
 use Rattle.rvfi_rows.specs.declared.expected.Accessed.{Accessed}
+use Rattle.rvfi_rows.specs.declared.expected.Retired.{Retired}
 use Rattle.mem_access.specs.Accesses.{Exception}
 use Rattle.hart_step.specs.declared.state.Core.{Core}
 use Rattle.hart_step.specs.declared.instruction.Instruction.{Instruction}
@@ -20,7 +22,9 @@ use Rattle.hart_step.specs.declared.changes.Change.TheVariants as changes
 use Rattle.hart_step.specs.declared.changes.InstructionNotes.{InstructionNotes}
 use Rattle.hart_step.specs.Cores.{IsSoundReservation}
 use Rattle.hart_step.specs.Returns.{core_after_mret, core_after_sret}
+use Rattle.hart_step.specs.Choices.{pending_lines_of}
 use Rattle.hart_step.specs.Instructions.{Completion, completion_of, InstructionRun}
+use Rattle.hart_step.specs.Steps.{core_after_run, effects_of, insn_of}
 
 -- the destination gets its value, and the hart goes on
 abbrev pub retirement_of : Instruction → ℕ → ℕ → Retirement
@@ -72,9 +76,9 @@ csrs_by core (Err refused) = Err refused
 csrs_by core (Ok write) = Ok (csrs_after_write core write)
 
 -- what an instruction does, by what it changes and the access that it makes
-abbrev pub completion_by : Core → Result (Change × Option Accessed) Exception → Result Completion Exception
-completion_by core (Err exception) = Err exception
-completion_by core (Ok noted) = Ok (record { core = core_after_change core noted.0; access = noted.1 })
+abbrev pub completion_by : Core → Change → Result (Option Accessed) Exception → Result Completion Exception
+completion_by core change (Err exception) = Err exception
+completion_by core change (Ok access) = Ok (record { core = core_after_change core change; access = access })
 
 abbrev pub completion_by_change : Core → Result Change Exception → Result Completion Exception
 completion_by_change core (Err exception) = Err exception
@@ -83,6 +87,21 @@ completion_by_change core (Ok change) = completion_of (core_after_change core ch
 -- what stands at pc, by what was noted of it
 abbrev pub run_by : Core → InstructionNotes → InstructionRun
 run_by core notes = record { core = core_after_change core notes.change; executed = notes.executed }
+
+-- what the hart did at a row, by the hart before the instruction, and what became of what stands at pc
+abbrev pub retired_by : Option ℕ → Bool → Core → Shown → InstructionRun → Retired
+retired_by order lacks before shown done = record {
+  order = order;
+  lacks_interrupt = lacks;
+  pc = before.pc;
+  mode = before.mode;
+  insn = insn_of done.executed;
+  insn_bits = before.choices.insn_bits;
+  effects = effects_of before done.core done.executed;
+  csrs_before = before.csrs;
+  csrs_after = (core_after_run done shown).csrs;
+  lines = (pending_lines_of shown).up;
+}
 
 -- each write is of a number in a page of RAM
 abbrev pub AreInRam : Span → List Write → Type 0

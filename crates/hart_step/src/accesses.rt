@@ -3,7 +3,7 @@
 ghost use Rattle.std.specs.Prelude.{◌≡◌, ◌≤◌, ◌+◌, ◌++◌, [], length};
 ghost use Rattle.hart_words.specs.declared.accesses.TheConstants.{MOST_WRITES};
 
-use hart_words::{Seen, Sets, Write, Wrote};
+use hart_words::{Seen, Sets, Wrote};
 
 /// What a step read from memory, the entries of page tables that it sets, and what it stores, each
 /// in their order. Memory gets what is set, and then what is stored, at the end of the step.
@@ -38,18 +38,8 @@ impl Accesses {
             return;
         }
         let mut writes = Wrote::empty();
-        put_all(&mut writes, self.sets.as_slice());
-        put_all(&mut writes, self.stores.as_slice());
+        writes.put_all(self.sets.as_slice());
+        writes.put_all(self.stores.as_slice());
         self.stores = writes;
-    }
-}
-
-/// Notes writes after those that are noted.
-fn put_all(wrote: &mut Wrote, writes: &[Write])
-    requires { length wrote.old + length writes.now ≤ MOST_WRITES }
-    ensures { wrote.new ≡ wrote.old ++ writes.now }
-{
-    for write in writes {
-        wrote.put(write.pa, write.len, write.value);
     }
 }

@@ -1,12 +1,15 @@
 //! What an instruction changes in the hart. A step notes it, and puts it in place once memory has
 //! what the instruction writes: until then nothing has changed.
 
-ghost use Rattle.std.specs.Prelude.{◌≡◌, ◌%◌};
+ghost use Rattle.std.specs.Prelude.{◌≡◌, ◌%◌, None};
 ghost use Rattle.hart_step.specs.Cores.{IsSound};
+ghost use Rattle.hart_step.specs.declared.changes.Change.{Change};
+ghost use Rattle.hart_step.specs.declared.instruction.InstructionOutcome.TheVariants.{Trapped};
 ghost use Rattle.hart_step.specs.Changes.{core_after_noted_retirement, csrs_after_write, core_after_change, KeepsSound, retirement_of};
 
-use crate::instruction::{Instruction, InstructionOutcome};
+use crate::instruction::{Exception, Instruction, InstructionOutcome};
 use crate::state::Core;
+use hart_words::Cause;
 use rv_atomic::Reservation;
 
 /// The destination's value, and where the hart goes on.
@@ -60,6 +63,30 @@ pub enum Change {
 pub struct InstructionNotes {
     pub executed: InstructionOutcome,
     pub change: Change,
+}
+
+impl InstructionNotes {
+    /// Nothing yet: a place for what is noted.
+    pub fn nothing() -> InstructionNotes
+        ensures { result
+            ≡ record { executed = Trapped None (Cause.IllegalInstruction, 0); change = Change.Nothing } }
+    {
+        InstructionNotes {
+            executed: InstructionOutcome::Trapped {
+                insn: None,
+                exception: (Cause::IllegalInstruction, 0),
+            },
+            change: Change::Nothing,
+        }
+    }
+
+    /// Notes an exception, which changes nothing before its entry.
+    pub fn trap(&mut self, insn: Option<u64>, exception: Exception)
+        ensures { self.new ≡ record { executed = Trapped insn exception; change = Change.Nothing } }
+    {
+        self.executed = InstructionOutcome::Trapped { insn, exception };
+        self.change = Change::Nothing;
+    }
 }
 
 impl Core {

@@ -1,9 +1,10 @@
 //! The instruction at pc: fetched, decoded and executed.
 
-ghost use Rattle.std.specs.Prelude.{◌≡◌, ◌≤◌, ◌<◌, ◌+◌, ◌^◌, ◌%◌, ◌⊎◌, ◌++◌, [], length, IfOk, IfSome};
+ghost use Rattle.std.specs.Prelude.{◌≡◌, ◌≤◌, ◌<◌, ◌+◌, ◌^◌, ◌%◌, ◌⊎◌, ◌++◌, [], length, OnOk, IfOk, IfSome};
 ghost use Rattle.hart_words.specs.Actions.{Notes};
 ghost use Rattle.rvfi_rows.specs.Cells.{shown_in};
-ghost use Rattle.rv_decode.specs.Operands.{HasEvenOffset};
+ghost use Rattle.rv_decode.specs.Operands.{HasEvenOffset, operands_of};
+ghost use Rattle.hart_step.specs.Choices.{row_choices_of};
 ghost use Rattle.hart_step.specs.Cores.{IsSound};
 ghost use Rattle.hart_step.specs.CsrAccess.{csr_access_result};
 ghost use Rattle.hart_step.specs.Instructions.{next_address, call_from, after_csr, system_execution, execution_of, op_for, op_of, instruction_run};
@@ -32,16 +33,17 @@ impl Core {
         mem: &M,
         row: &Row,
         accesses: &mut Accesses,
-    ) -> InstructionNotes
+        notes: &mut InstructionNotes,
+    )
         requires sound { IsSound self.now }
         requires ram { M.ram mem.now ≡ self.now.map.ram }
         requires room { length accesses.old.seen ≤ 0 }
         requires unset { length accesses.old.sets ≤ 0 }
         requires blank { accesses.old.stores ≡ [] }
-        ensures ran { Notes (instruction_run self.now (shown_in row.now)) (run_by self.now result)
+        ensures ran { Notes (instruction_run self.now (shown_in row.now)) (run_by self.now notes.new)
             accesses.old.seen accesses.new.seen accesses.old.sets
             (accesses.new.sets ++ accesses.new.stores) (M.bytes mem.now) }
-        ensures keeps { KeepsSound self.now result.change }
+        ensures keeps { KeepsSound self.now notes.new.change }
         ensures set { length accesses.new.sets ≤ MOST_SETS }
         ensures set_in_ram { AreInRam self.now.map.ram accesses.new.sets }
         ensures stored { AreStores self.now.map.ram accesses.new.stores }
@@ -58,28 +60,24 @@ impl Core {
         );
         let (word, len) = match fetched {
             Ok(word) => word,
-            Err(exception) => return trap_notes(None, exception),
+            Err(exception) => return notes.trap(None, exception),
         };
         let bits = u64::from(word);
         let op = match self.op_for(word, len) {
             Some(op) => op,
-            None => return trap_notes(Some(bits), (Cause::IllegalInstruction, bits)),
+            None => return notes.trap(Some(bits), (Cause::IllegalInstruction, bits)),
         };
         let instruction = Instruction {
             op,
             bits,
             len: u64::from(len),
         };
-        let choices = row_choices_of(row, op.operands().rd);
-        match self.execute(&instruction, &choices, mem, accesses) {
-            Ok((change, access)) => InstructionNotes {
-                executed: InstructionOutcome::Retired {
-                    instruction,
-                    access,
-                },
-                change,
+        match self.execute(&instruction, row, mem, accesses, &mut notes.change) {
+            Ok(access) => notes.executed = InstructionOutcome::Retired {
+                instruction,
+                access,
             },
-            Err(exception) => trap_notes(Some(bits), exception),
+            Err(exception) => notes.trap(Some(bits), exception),
         }
     }
 
@@ -102,10 +100,11 @@ impl Core {
     fn execute<M: PhysMem>(
         &self,
         instruction: &Instruction,
-        choices: &RowChoices,
+        row: &Row,
         mem: &M,
         accesses: &mut Accesses,
-    ) -> Result<(Change, Option<Accessed>), Exception>
+        change: &mut Change,
+    ) -> Result<Option<Accessed>, Exception>
         requires sound { IsSound self.now }
         requires ram { M.ram mem.now ≡ self.now.map.ram }
         requires room { length accesses.old.seen ≤ FETCH_READS }
@@ -114,11 +113,12 @@ impl Core {
         requires blank { accesses.old.stores ≡ [] }
         requires even { instruction.now.len % 2 ≡ 0 }
         requires offset { HasEvenOffset instruction.now.op }
-        ensures executed { Notes (execution_of self.now choices.now instruction.now)
-            (completion_by self.now result)
+        ensures executed { Notes (execution_of self.now
+            (row_choices_of (shown_in row.now) (operands_of instruction.now.op).rd) instruction.now)
+            (completion_by self.now change.new result)
             accesses.old.seen accesses.new.seen accesses.old.sets
             (accesses.new.sets ++ accesses.new.stores) (M.bytes mem.now) }
-        ensures keeps { IfOk result (λ noted. KeepsSound self.now noted.0) }
+        ensures keeps { OnOk result (KeepsSound self.now change.new) }
         ensures set { length accesses.new.sets ≤ FETCH_SETS + ACCESS_SETS }
         ensures set_in_ram { AreInRam self.now.map.ram accesses.new.sets }
         ensures stored { AreStores self.now.map.ram accesses.new.stores }
@@ -128,28 +128,38 @@ impl Core {
         let b = self.registers.get(operands.rs2);
         match compute(instruction.op, a, b, self.pc, instruction.len) {
             IntResult::Value(value) => {
-                let done = self.to_next(instruction, value);
-                Ok((Change::Registers(done), None))
+                *change = Change::Registers(self.to_next(instruction, value));
+                Ok(None)
             }
             IntResult::Jump { link, target } => {
-                let done = Retirement::of(instruction, link, target);
-                Ok((Change::Registers(done), None))
+                *change = Change::Registers(Retirement::of(instruction, link, target));
+                Ok(None)
             }
             IntResult::Continue { next_pc } => {
-                let done = Retirement::of(instruction, 0, next_pc);
-                Ok((Change::Registers(done), None))
+                *change = Change::Registers(Retirement::of(instruction, 0, next_pc));
+                Ok(None)
             }
-            IntResult::Access(request) => match self.access(&request, choices, mem, accesses) {
-                Ok(answer) => {
-                    let done = self.to_next(instruction, answer.value);
-                    Ok((Change::Access(done, answer.reservation), answer.access))
+            IntResult::Access(request) => {
+                let choices = row_choices_of(row, operands.rd);
+                match self.access(&request, &choices, mem, accesses) {
+                    Ok(answer) => {
+                        let done = self.to_next(instruction, answer.value);
+                        *change = Change::Access(done, answer.reservation);
+                        Ok(answer.access)
+                    }
+                    Err(exception) => Err(exception),
                 }
-                Err(exception) => Err(exception),
-            },
-            IntResult::System(request) => match self.execute_system(instruction, request, choices) {
-                Ok(change) => Ok((change, None)),
-                Err(exception) => Err(exception),
-            },
+            }
+            IntResult::System(request) => {
+                let choices = row_choices_of(row, operands.rd);
+                match self.execute_system(instruction, request, &choices) {
+                    Ok(done) => {
+                        *change = done;
+                        Ok(None)
+                    }
+                    Err(exception) => Err(exception),
+                }
+            }
         }
     }
 
@@ -226,16 +236,6 @@ impl Core {
         ensures even { self.now.pc % 2 ≡ 0 → instruction.now.len % 2 ≡ 0 → result.next_pc % 2 ≡ 0 }
     {
         Retirement::of(instruction, value, self.pc.wrapping_add(instruction.len))
-    }
-}
-
-/// An exception, which changes nothing before its entry.
-fn trap_notes(insn: Option<u64>, exception: Exception) -> InstructionNotes
-    ensures { result ≡ record { executed = Trapped insn exception; change = Change.Nothing } }
-{
-    InstructionNotes {
-        executed: InstructionOutcome::Trapped { insn, exception },
-        change: Change::Nothing,
     }
 }
 

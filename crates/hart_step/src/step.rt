@@ -1,16 +1,16 @@
 //! The step by one row, in its phases.
 
-ghost use Rattle.std.specs.Prelude.{◌≡◌, true, [], IfOk, IsOk, OnOk, OnErr};
+ghost use Rattle.std.specs.Prelude.{◌≡◌, true, Err, [], IfOk, IsOk, IsOkAnd, OnOk, OnErr};
 ghost use Rattle.hart_words.specs.Memory.{after_writes};
 ghost use Rattle.hart_words.specs.Actions.{Performs};
 ghost use Rattle.rvfi_rows.specs.Cells.{shown_in};
-ghost use Rattle.rvfi_rows.specs.declared.expected.Expected.TheVariants.{Halted};
+ghost use Rattle.rvfi_rows.specs.declared.expected.Expected.TheVariants as expectation;
 ghost use Rattle.hart_step.specs.declared.state.Core.{Core};
 ghost use Rattle.hart_step.specs.Cores.{IsSound};
 ghost use Rattle.hart_step.specs.Choices.{asks_interrupt};
 ghost use Rattle.hart_step.specs.Steps.{before_instruction, core_after_count, core_after_entry, core_after_interrupt, lacks_interrupt, core_after_run, effects_of, step_of};
 ghost use Rattle.hart_step.specs.Instructions.{instruction_run};
-ghost use Rattle.hart_step.specs.Changes.{run_by, KeepsSound, AreInRam, AreReady};
+ghost use Rattle.hart_step.specs.Changes.{run_by, retired_by, KeepsSound, AreInRam, AreReady};
 
 use crate::accesses::Accesses;
 use crate::changes::InstructionNotes;
@@ -68,33 +68,101 @@ impl Core {
             return Ok(());
         }
         let mut accesses = Accesses::nothing();
+        let mut notes = InstructionNotes::nothing();
         let order = self.next_order;
-        let insn_bits = self.choices.insn_bits;
-        let (notes, lacks_interrupt) = match self.begin(mem, row, &mut accesses) {
-            Ok(begun) => begun,
+        let lacks_interrupt = match self.begin(mem, row, &mut accesses, &mut notes) {
+            Ok(lacks_interrupt) => lacks_interrupt,
             Err(NoMemory) => return Err(NoMemory),
         };
-        let (pc, mode) = (self.pc, self.mode);
-        let registers = self.registers;
-        let csrs_before = self.csrs;
-        self.apply(&notes.change);
-        let effects = effects_of(&registers, self, &notes.executed);
-        self.finish(&notes.executed, row);
-        stepped.expected = Expected::Retired(Retired {
+        stepped.seen.copy_from(&accesses.seen);
+        stepped.wrote.copy_from(&accesses.stores);
+        self.end(&notes, row, order, lacks_interrupt, &mut stepped.expected);
+        Ok(())
+    }
+
+    /// Puts in place what is noted of the row's instruction, and says what it did in place of what
+    /// an earlier one did.
+    fn end(
+        &mut self,
+        notes: &InstructionNotes,
+        row: &Row,
+        order: Option<u64>,
+        lacks_interrupt: bool,
+        expected: &mut Expected,
+    )
+        ensures state { self.new ≡ core_after_run (run_by self.old notes.now) (shown_in row.now) }
+        ensures expected { expected.new ≡ expectation.Retired (retired_by order lacks_interrupt
+            self.old (shown_in row.now) (run_by self.old notes.now)) }
+        ensures sound { IsSound self.old → KeepsSound self.old notes.now.change
+            → IsSound self.new }
+        ensures map { self.new.map ≡ self.old.map }
+    {
+        match expected {
+            Expected::Retired(retired) => {
+                retired.order = order;
+                retired.lacks_interrupt = lacks_interrupt;
+                self.retire_by(notes, row, retired);
+            }
+            Expected::Halted => self.end_first(notes, row, order, lacks_interrupt, expected),
+        }
+    }
+
+    /// The same where nothing was done before. It is done once, and pays for large locals, so it is
+    /// kept apart.
+    #[cold]
+    #[inline(never)]
+    fn end_first(
+        &mut self,
+        notes: &InstructionNotes,
+        row: &Row,
+        order: Option<u64>,
+        lacks_interrupt: bool,
+        expected: &mut Expected,
+    )
+        ensures state { self.new ≡ core_after_run (run_by self.old notes.now) (shown_in row.now) }
+        ensures expected { expected.new ≡ expectation.Retired (retired_by order lacks_interrupt
+            self.old (shown_in row.now) (run_by self.old notes.now)) }
+        ensures sound { IsSound self.old → KeepsSound self.old notes.now.change
+            → IsSound self.new }
+        ensures map { self.new.map ≡ self.old.map }
+    {
+        let mut retired = Retired {
             order,
             lacks_interrupt,
-            pc,
-            mode,
-            insn: notes.executed.insn(),
-            insn_bits,
-            effects,
-            csrs_before,
+            pc: self.pc,
+            mode: self.mode,
+            insn: None,
+            insn_bits: self.choices.insn_bits,
+            effects: Err(Cause::IllegalInstruction),
+            csrs_before: self.csrs,
             csrs_after: self.csrs,
-            lines: lines_of(row).up,
-        });
-        stepped.seen = accesses.seen;
-        stepped.wrote = accesses.stores;
-        Ok(())
+            lines: 0,
+        };
+        self.retire_by(notes, row, &mut retired);
+        *expected = Expected::Retired(retired);
+    }
+
+    /// Puts in place what is noted of the row's instruction, and says what it did in place of what
+    /// an earlier one did, but for the order index and the lack of an interrupt.
+    fn retire_by(&mut self, notes: &InstructionNotes, row: &Row, retired: &mut Retired)
+        ensures state { self.new ≡ core_after_run (run_by self.old notes.now) (shown_in row.now) }
+        ensures retired { retired.new ≡ retired_by retired.old.order retired.old.lacks_interrupt
+            self.old (shown_in row.now) (run_by self.old notes.now) }
+        ensures sound { IsSound self.old → KeepsSound self.old notes.now.change
+            → IsSound self.new }
+        ensures map { self.new.map ≡ self.old.map }
+    {
+        retired.pc = self.pc;
+        retired.mode = self.mode;
+        retired.insn = notes.executed.insn();
+        retired.insn_bits = self.choices.insn_bits;
+        retired.lines = lines_of(row).up;
+        retired.csrs_before = self.csrs;
+        put_registers(&mut retired.effects, &self.registers);
+        self.apply(&notes.change);
+        put_effects(&mut retired.effects, self, &notes.executed);
+        self.finish(&notes.executed, row);
+        retired.csrs_after = self.csrs;
     }
 
     /// Brings the hart to where the row's instruction finds it, and memory to after that: what is
@@ -104,28 +172,29 @@ impl Core {
         mem: &mut M,
         row: &Row,
         accesses: &mut Accesses,
-    ) -> Result<(InstructionNotes, bool), NoMemory>
+        notes: &mut InstructionNotes,
+    ) -> Result<bool, NoMemory>
         requires sound { IsSound self.old }
         requires ram { M.ram mem.old ≡ self.old.map.ram }
         requires nothing { (accesses.old.seen ≡ []) × (accesses.old.sets ≡ [])
             × (accesses.old.stores ≡ []) }
-        ensures ran { IfOk result (λ begun. Performs (instruction_run self.new (shown_in row.now))
-            (run_by self.new begun.0) [] accesses.new.seen [] accesses.new.stores (M.bytes mem.old)
+        ensures ran { OnOk result (Performs (instruction_run self.new (shown_in row.now))
+            (run_by self.new notes.new) [] accesses.new.seen [] accesses.new.stores (M.bytes mem.old)
             (M.bytes mem.new)) }
         ensures state { OnOk result (self.new ≡ before_instruction self.old (shown_in row.now)) }
-        ensures lacks { IfOk result (λ begun. begun.1
+        ensures lacks { IfOk result (λ lacks. lacks
             ≡ lacks_interrupt (core_after_count self.old (shown_in row.now)) (shown_in row.now)) }
-        ensures keeps { IfOk result (λ begun. KeepsSound self.new begun.0.change) }
+        ensures keeps { OnOk result (KeepsSound self.new notes.new.change) }
         ensures err { OnErr result ((self.new ≡ self.old) × (M.bytes mem.new ≡ M.bytes mem.old)) }
         ensures sound { IsSound self.new }
         ensures map { self.new.map ≡ self.old.map }
         ensures ram { M.ram mem.new ≡ M.ram mem.old }
     {
         if self.asks_interrupt(row) {
-            return self.begin_by_interrupt(mem, row, accesses);
+            return self.begin_by_interrupt(mem, row, accesses, notes);
         }
-        match self.run_and_write(mem, row, accesses) {
-            Ok(notes) => Ok((notes, false)),
+        match self.run_and_write(mem, row, accesses, notes) {
+            Ok(()) => Ok(false),
             Err(NoMemory) => Err(NoMemory),
         }
     }
@@ -139,19 +208,20 @@ impl Core {
         mem: &mut M,
         row: &Row,
         accesses: &mut Accesses,
-    ) -> Result<(InstructionNotes, bool), NoMemory>
+        notes: &mut InstructionNotes,
+    ) -> Result<bool, NoMemory>
         requires sound { IsSound self.old }
         requires ram { M.ram mem.old ≡ self.old.map.ram }
         requires nothing { (accesses.old.seen ≡ []) × (accesses.old.sets ≡ [])
             × (accesses.old.stores ≡ []) }
         requires asks { asks_interrupt self.old (shown_in row.now) ≡ true }
-        ensures ran { IfOk result (λ begun. Performs (instruction_run self.new (shown_in row.now))
-            (run_by self.new begun.0) [] accesses.new.seen [] accesses.new.stores (M.bytes mem.old)
+        ensures ran { OnOk result (Performs (instruction_run self.new (shown_in row.now))
+            (run_by self.new notes.new) [] accesses.new.seen [] accesses.new.stores (M.bytes mem.old)
             (M.bytes mem.new)) }
         ensures state { OnOk result (self.new ≡ before_instruction self.old (shown_in row.now)) }
-        ensures lacks { IfOk result (λ begun. begun.1
+        ensures lacks { IfOk result (λ lacks. lacks
             ≡ lacks_interrupt (core_after_count self.old (shown_in row.now)) (shown_in row.now)) }
-        ensures keeps { IfOk result (λ begun. KeepsSound self.new begun.0.change) }
+        ensures keeps { OnOk result (KeepsSound self.new notes.new.change) }
         ensures err { OnErr result ((self.new ≡ self.old) × (M.bytes mem.new ≡ M.bytes mem.old)) }
         ensures sound { IsSound self.new }
         ensures map { self.new.map ≡ self.old.map }
@@ -159,10 +229,10 @@ impl Core {
     {
         let mut next = *self;
         let lacks_interrupt = next.take_interrupt(row);
-        match next.run_and_write(mem, row, accesses) {
-            Ok(notes) => {
+        match next.run_and_write(mem, row, accesses, notes) {
+            Ok(()) => {
                 *self = next;
-                Ok((notes, lacks_interrupt))
+                Ok(lacks_interrupt)
             }
             Err(NoMemory) => Err(NoMemory),
         }
@@ -176,16 +246,17 @@ impl Core {
         mem: &mut M,
         row: &Row,
         accesses: &mut Accesses,
-    ) -> Result<InstructionNotes, NoMemory>
+        notes: &mut InstructionNotes,
+    ) -> Result<(), NoMemory>
         requires sound { IsSound self.old }
         requires ram { M.ram mem.old ≡ self.old.map.ram }
         requires nothing { (accesses.old.seen ≡ []) × (accesses.old.sets ≡ [])
             × (accesses.old.stores ≡ []) }
-        ensures ran { IfOk result (λ notes. Performs (instruction_run self.new (shown_in row.now))
-            (run_by self.new notes) [] accesses.new.seen [] accesses.new.stores (M.bytes mem.old)
+        ensures ran { OnOk result (Performs (instruction_run self.new (shown_in row.now))
+            (run_by self.new notes.new) [] accesses.new.seen [] accesses.new.stores (M.bytes mem.old)
             (M.bytes mem.new)) }
         ensures state { OnOk result (self.new ≡ core_after_count self.old (shown_in row.now)) }
-        ensures keeps { IfOk result (λ notes. KeepsSound self.new notes.change) }
+        ensures keeps { OnOk result (KeepsSound self.new notes.new.change) }
         ensures err { OnErr result ((self.new ≡ self.old) × (M.bytes mem.new ≡ M.bytes mem.old)) }
         ensures sound { IsSound self.new }
         ensures map { self.new.map ≡ self.old.map }
@@ -193,10 +264,10 @@ impl Core {
     {
         let order = self.next_order;
         self.count(row);
-        let notes = self.run(mem, row, accesses);
+        self.run(mem, row, accesses, notes);
         accesses.put_sets_first();
         match write_all(mem, accesses.stores.as_slice()) {
-            Ok(()) => Ok(notes),
+            Ok(()) => Ok(()),
             Err(NoMemory) => {
                 self.next_order = order;
                 Err(NoMemory)
@@ -288,7 +359,7 @@ impl Core {
 #[cold]
 #[inline(never)]
 fn set_halted(stepped: &mut Stepped)
-    ensures expected { stepped.new.expected ≡ Halted }
+    ensures expected { stepped.new.expected ≡ expectation.Halted }
     ensures seen { stepped.new.seen ≡ [] }
     ensures wrote { stepped.new.wrote ≡ [] }
 {
@@ -341,32 +412,64 @@ fn write_ready<M: PhysMem>(mem: &mut M, writes: &[Write]) -> Result<(), NoMemory
     Ok(())
 }
 
-/// What the instruction did, from the registers before it to the hart after it, or the cause of its
+/// Puts the registers before an instruction into what it did, where all else is put then.
+fn put_registers(effects: &mut Result<Effects, Cause>, registers: &Registers)
+    ensures { IsOkAnd effects.new (λ effects. effects.registers ≡ registers.now) }
+{
+    if let Ok(effects) = effects {
+        effects.registers = *registers;
+    } else {
+        put_effects_on(effects, registers);
+    }
+}
+
+/// The same where the row before trapped. Few did, so this is kept apart.
+#[cold]
+#[inline(never)]
+fn put_effects_on(effects: &mut Result<Effects, Cause>, registers: &Registers)
+    ensures { IsOkAnd effects.new (λ effects. effects.registers ≡ registers.now) }
+{
+    *effects = Ok(Effects {
+        registers: *registers,
+        rs1: 0,
+        rs2: 0,
+        rd: 0,
+        rd_value: 0,
+        next_pc: 0,
+        access: None,
+    });
+}
+
+/// Puts what the instruction did, of which the registers before it are there, or the cause of its
 /// trap.
-fn effects_of(
-    before: &Registers,
-    after: &Core,
-    executed: &InstructionOutcome,
-) -> Result<Effects, Cause>
-    ensures { (core : Core) → core.registers ≡ before.now
-        → result ≡ effects_of core after.now executed.now }
+fn put_effects(effects: &mut Result<Effects, Cause>, after: &Core, executed: &InstructionOutcome)
+    ensures { (core : Core) → IsOkAnd effects.old (λ effects. effects.registers ≡ core.registers)
+        → effects.new ≡ effects_of core after.now executed.now }
 {
     match executed {
-        InstructionOutcome::Trapped { exception, .. } => Err(exception.0),
+        InstructionOutcome::Trapped { exception, .. } => put_cause(effects, exception.0),
         InstructionOutcome::Retired {
             instruction,
             access,
         } => {
-            let operands = instruction.op.operands();
-            Ok(Effects {
-                registers: *before,
-                rs1: operands.rs1,
-                rs2: operands.rs2,
-                rd: operands.rd,
-                rd_value: after.registers.get(operands.rd),
-                next_pc: after.pc,
-                access: *access,
-            })
+            if let Ok(effects) = effects {
+                let operands = instruction.op.operands();
+                effects.rs1 = operands.rs1;
+                effects.rs2 = operands.rs2;
+                effects.rd = operands.rd;
+                effects.rd_value = after.registers.get(operands.rd);
+                effects.next_pc = after.pc;
+                effects.access = *access;
+            }
         }
     }
+}
+
+/// Puts the cause of a trap, which is kept apart as it is rare.
+#[cold]
+#[inline(never)]
+fn put_cause(effects: &mut Result<Effects, Cause>, cause: Cause)
+    ensures { effects.new ≡ Err cause }
+{
+    *effects = Err(cause);
 }

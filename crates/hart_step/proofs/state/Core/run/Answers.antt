@@ -1,4 +1,4 @@
-use Rattle.std.proofs.Common.{ap, Some, None}
+use Rattle.std.proofs.Common.{ap, refl, Some, None}
 use Rattle.rvfi_rows.specs.Cells.{shown_in}
 use Rattle.hart_words.specs.declared.privilege.Cause.TheVariants.{IllegalInstruction}
 use Rattle.hart_step.specs.Instructions.{instruction_run, run_of_exception}
@@ -26,7 +26,7 @@ returns-in-Err-clause-ran g c =
     let core = c.args.self.now in
     let shown = shown_in c.args.row.now in
     nothing_stored (instruction_run core shown) c.requires.blank
-    (ran_raised core shown None c.in-Err.exception c.trap_notes.ensures
+    (ran_raised core shown None c.in-Err.exception c.trap.ensures
     (ran_refused core shown c.in-Err.exception c.in-Err.ensures.looked))
 
 pub returns-in-None-clause-ran : goal.returns-in-None-clause-ran
@@ -36,7 +36,7 @@ returns-in-None-clause-ran g c =
     let word = c.in-Ok.word in
     let bits = c.from-bits.result in
     nothing_stored (instruction_run core shown) c.requires.blank
-    (ran_raised core shown (Some bits) (IllegalInstruction, bits) c.trap_notes-in-None.ensures
+    (ran_raised core shown (Some bits) (IllegalInstruction, bits) c.trap-in-None.ensures
     (ran_decoded core shown word.0 word.1 c.in-Ok.ensures.looked c.in-None.ensures.meaning
     (executed_pure (run_of_exception core (Some word.0) (IllegalInstruction, word.0))
     (run_of_exception core (Some bits) (IllegalInstruction, bits)) c.fetch-fetched.new.seen
@@ -47,21 +47,19 @@ pub returns-in-Ok-execute-clause-ran : goal.returns-in-Ok-execute-clause-ran
 returns-in-Ok-execute-clause-ran g c =
     let core = c.args.self.now in
     let shown = shown_in c.args.row.now in
-    let chosen = rw c.operands.ensures at c.row_choices_of-choices.ensures in
     ran_decoded core shown c.in-Ok.word.0 c.in-Ok.word.1
     c.in-Ok.ensures.looked c.in-Some.ensures.meaning
     (rw (← c.from-bits.ensures, ← c.from.ensures)
-    (ran_executed core shown c.from-bits.result c.from.result c.in-Some.op chosen
+    (ran_executed core shown c.from-bits.result c.from.result c.in-Some.op refl
     c.in-Ok-execute.ensures.executed))
 
 pub returns-in-Err-execute-clause-ran : goal.returns-in-Err-execute-clause-ran
 returns-in-Err-execute-clause-ran g c =
     let core = c.args.self.now in
     let shown = shown_in c.args.row.now in
-    let chosen = rw c.operands.ensures at c.row_choices_of-choices.ensures in
-    ran_raised core shown (Some c.from-bits.result) c.in-Err-execute.exception c.trap_notes-in-Err-execute.ensures
+    ran_raised core shown (Some c.from-bits.result) c.in-Err-execute.exception c.trap-in-Err-execute.ensures
     (ran_decoded core shown c.in-Ok.word.0 c.in-Ok.word.1
     c.in-Ok.ensures.looked c.in-Some.ensures.meaning
     (rw (← c.from-bits.ensures, ← c.from.ensures)
-    (ran_executed core shown c.from-bits.result c.from.result c.in-Some.op chosen
+    (ran_executed core shown c.from-bits.result c.from.result c.in-Some.op refl
     c.in-Err-execute.ensures.executed)))

@@ -6,13 +6,13 @@ use Rattle.hart_step.proofs.state.Core.run_and_write.Goals as goal
 
 pub write_all-requires : goal.write_all-requires
 write_all-requires g c =
-    let accesses = c.run-notes.new.accesses in
+    let accesses = c.run.new.accesses in
     record {
       in_ram =
           writes_in_ram accesses.sets accesses.stores
           (c.requires.ram ∙ ap (λ map. map.ram) (sym c.count.ensures.map))
-          (c.as_slice.ensures ∙ c.put_sets_first.ensures.writes) c.run-notes.ensures.set_in_ram
-          c.run-notes.ensures.stored;
+          (c.as_slice.ensures ∙ c.put_sets_first.ensures.writes) c.run.ensures.set_in_ram
+          c.run.ensures.stored;
     }
 
 pub returns-in-Ok-clause-ran : goal.returns-in-Ok-clause-ran
@@ -23,5 +23,5 @@ returns-in-Ok-clause-ran g c =
       c.requires.nothing.1,
       ← c.put_sets_first.ensures.writes,
       ← c.put_sets_first.ensures.seen,
-    ) at c.run-notes.ensures.ran)
+    ) at c.run.ensures.ran)
     (rw c.as_slice.ensures at c.in-Ok.ensures.ok)
