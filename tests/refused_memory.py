@@ -1,15 +1,18 @@
 #!/usr/bin/env python3
-"""Refuses memory to the program, one call after the other: refused_memory.py [PROGRAM].
+"""Refuses memory, files, reads and writes to the program, one call after the other:
+refused_memory.py [PROGRAM].
 
 Each run below is made again and again, with the first of its calls for memory refused, the second,
 and so on until it makes no such call; then so again with the call and all later ones refused. Every
 answer must be the usual text and status, or status 6 with nothing written; but for one call for the
-name of each file, which is refused as the file would be: status 5, with nothing written. Calls are
-those of malloc and its kin (tests/refuse_memory.c, loaded by LD_PRELOAD) from main on; the
-program's allocator has no other way, which its dynamic symbols tell. What the loader and the C
-library take before main is let through: it is theirs, and the program has not begun. At last each
-run is made under valgrind, which must find neither an error nor a byte that is still held at the
-end.
+name of each file, which is refused as the file would be: status 5, with nothing written. So it goes
+then with calls that open or read a file, where each refusal has to give status 5 with nothing
+written, and with writes, where it has to give status 5 and a front of the usual text. Calls are
+those of malloc and its kin, of open, read and write (tests/refuse_memory.c, loaded by LD_PRELOAD)
+from main on; the program has no other way to memory and files, which its dynamic symbols tell. What
+the loader and the C library take before main is let through: it is theirs, and the program has not
+begun. At last each run is made under valgrind, which must find neither an error nor a byte that is
+still held at the end.
 
 PROGRAM is the built one where it is left out. Without gcc nothing is tried, and that is said;
 without valgrind what it would show is left out, and that is said."""
@@ -26,7 +29,10 @@ HERE = Path(__file__).resolve().parent
 TOP = HERE.parent
 NOT_READ, OUT_OF_MEMORY = (5, ""), (6, "")
 ALLOCATORS = {"malloc", "calloc", "realloc", "memalign", "aligned_alloc", "posix_memalign"}
+FILE_CALLS = {"open", "read", "write"}
 NOT_COUNTED = {"mmap", "mmap64", "mremap", "brk", "sbrk", "valloc", "pvalloc"}
+NOT_COUNTED |= {"open64", "openat", "openat64", "fopen", "fopen64", "creat", "readv", "pread", "pread64", "writev"}
+NOT_COUNTED |= {"pwrite", "pwrite64", "sendfile", "fread", "fwrite", "printf", "puts", "io_uring_setup"}
 PAGED = [str(HERE / "refused_memory" / name) for name in ("paged.hex", "paged.csv")]
 PAGED += ["--pc=2907778182", "--ram=2907750400:65536"]
 
@@ -92,6 +98,31 @@ FILES = {
 0x00300193,0x80000008,
 0x00400213,0x8000000c,
 """,
+    # lines of two rows, and the rows of two harts
+    "ports.csv": """insn,pc_rdata,rd_wdata,insn_1,pc_rdata_1,rd_wdata_1
+0x00500093,0x80000000,5,0x00108113,0x80000004,6
+0x00300193,0x80000008,3,0x00400213,0x8000000c,4
+""",
+    "harts.csv": """hart,insn,pc_rdata,rd_wdata
+0,0x00500093,0x80000000,5
+1,0x00500093,0x80000000,5
+1,0x00108113,0x80000004,6
+0,0x00108113,0x80000004,6
+""",
+    # AUIPC x5, 0; LW x6, 1(x5), of the four bytes from the second on; ANDN x7, x5, x6
+    "chosen.hex": "@80000000 97 02 00 00 03 a3 12 00 b3 f3 62 40",
+    "chosen.csv": """insn,pc_rdata,rd_wdata
+0x00000297,0x80000000,0x80000000
+0x0012a303,0x80000004,0x3000002
+0x4062f3b3,0x80000008,0x80000000
+""",
+    # ADDI x1, x0, 5; CSRRW x2, medeleg, x1; CSRRS x3, medeleg, x0, of which bit 0 alone is kept
+    "profile.hex": "@80000000 93 00 50 00 73 91 20 30 f3 21 20 30",
+    "profile.csv": """insn,pc_rdata,rd_wdata
+0x00500093,0x80000000,5
+0x30209173,0x80000004,0
+0x302021f3,0x80000008,1
+""",
     # the registers are not shown, so that each guess after the first segment is wrong
     "hidden.csv": """insn,pc_rdata
 0xfff00093,0x80000000
@@ -107,6 +138,9 @@ FILES = {
 
 WORKERS = ("--workers=1", "--workers=2", "--workers=4")
 REGISTERS = ["judge", "registers.hex", "registers.csv"]
+CHOICES = ["--misaligned=done", "--ad=set", "--mtval=zero", "--reserve=8", "--bits=on"]
+PROFILE = ["--csr=medeleg=1,time=none,menvcfg=row", "--pmp=8", "--pmp-bits=40", "--lines=0xAAA"]
+PROFILE += ["--io=0x1000:0x1000,0x10000:0x1000", "--io-faults=row", "--insn=length"]
 # each: the words, the status and the text that are usual, or None: what it is without refusals
 RUNS = [
     (["judge", "one.hex", "one.csv"], 0, "agrees 1"),
@@ -132,6 +166,18 @@ RUNS = [
     (["judge", *PAGED, "--segment=1", "--window=1"], 0, "agrees 39"),
     (["judge", *PAGED, "--segment=5", "--window=3"], 0, "agrees 39"),
     (["state", *PAGED, "--segment=5", "--window=3"], 0, None),
+    (["judge", "sums.hex", "ports.csv"], 0, "agrees 4"),
+    (["judge", "sums.hex", "ports.csv", "--segment=1", "--window=2"], 0, "agrees 4"),
+    (["judge", "sums.hex", "harts.csv", "--harts=2"], 0, "agrees 4"),
+    (["judge", "sums.hex", "harts.csv", "--harts=2", "--segment=1", "--window=2"], 0, "agrees 4"),
+    (["state", "sums.hex", "harts.csv", "--harts=2", "--segment=3"], 0, None),
+    (["judge", "chosen.hex", "chosen.csv", *CHOICES], 0, "agrees 3"),
+    (["judge", "chosen.hex", "chosen.csv", *CHOICES, "--segment=1"], 0, "agrees 3"),
+    (["judge", "one.hex", "other.csv", "--origin"], 1, None),
+    (["judge", *PAGED, "--origin", "--segment=5", "--window=3"], 0, "agrees 39"),
+    (["judge", "profile.hex", "profile.csv", *PROFILE], 0, "agrees 3"),
+    (["judge", "profile.hex", "profile.csv", *PROFILE, "--segment=1", "--window=2"], 0, "agrees 3"),
+    (["judge", "one.hex", "one.csv", "--profile=qemu"], 0, "agrees 1"),
 ]
 
 
@@ -141,10 +187,11 @@ def answer(command, **how):
     return ran.returncode, ran.stdout.decode("latin-1")
 
 
-def refused(command, library, call, later):
-    """The answer with this call refused, and whether there was such a call."""
+def refused(command, library, kind, call, later):
+    """The answer with this call of a kind refused, and whether there was such a call."""
     reads, writes = os.pipe()
     environment = {"LD_PRELOAD": library, "REFUSE_CALL": str(call), "REFUSE_TO": str(writes)}
+    environment["REFUSE_KIND"] = kind
     if later:
         environment["REFUSE_LATER"] = "1"
     try:
@@ -166,15 +213,15 @@ class Count:
         print(f"rvjudge {' '.join(words)}: {text}", file=sys.stderr)
 
 
-def refuse_each(program, library, words, usual, count):
-    """Refuses each call of a run in turn, alone and with all later ones."""
+def refuse_memory(program, library, words, usual, count):
+    """Refuses each call for memory of a run in turn, alone and with all later ones."""
     # an image that is refused is the only file that is opened
     files = 0 if words[0] == "make" else 1 if usual[0] == 3 else 2
     for later in (False, True):
         call, was_made, not_read = 0, True, 0
         while was_made:
             call += 1
-            found, was_made = refused([program, *words], library, call, later)
+            found, was_made = refused([program, *words], library, "memory", call, later)
             count.refused += was_made
             count.out_of_memory += found == OUT_OF_MEMORY
             not_read += found == NOT_READ
@@ -185,6 +232,26 @@ def refuse_each(program, library, words, usual, count):
             count.fail(words, "no call was refused")
         if not_read != files:
             count.fail(words, f"status 5 came for {not_read} calls, and it has {files} files")
+
+
+def refuse_files(program, library, words, usual, count):
+    """Refuses each opening, reading and writing of a run in turn, alone and with all later ones."""
+    for kind in ("open", "read", "write"):
+        for later in (False, True):
+            call, was_made = 0, True
+            while was_made:
+                call += 1
+                found, was_made = refused([program, *words], library, kind, call, later)
+                count.refused += was_made
+                status, text = found
+                if was_made and kind == "write":
+                    is_lawful = status == 5 and usual[1].startswith(text)
+                else:
+                    is_lawful = found == (NOT_READ if was_made else usual)
+                if not is_lawful:
+                    count.fail(words, f"{kind} {call}{' and later' if later else ''} refused: {found}")
+            if call == 1 and (kind == "write" or words[0] != "make"):
+                count.fail(words, f"no {kind} was refused")
 
 
 def look_for_leaks(program, words, usual, count):
@@ -199,11 +266,12 @@ def look_for_leaks(program, words, usual, count):
 
 
 def check_symbols(program, count):
-    """Holds the program to the allocators that the library counts."""
+    """Holds the program to the calls that the library counts."""
     _, text = answer(["nm", "-D", "--undefined-only", program])
     names = {line.split()[-1].partition("@")[0] for line in text.splitlines() if line}
-    if not names & ALLOCATORS or names & NOT_COUNTED:
-        count.fail(["(symbols)"], f"takes memory by {sorted(names & (ALLOCATORS | NOT_COUNTED))}")
+    if not names & ALLOCATORS or not FILE_CALLS <= names or names & NOT_COUNTED:
+        known = ALLOCATORS | FILE_CALLS | NOT_COUNTED
+        count.fail(["(symbols)"], f"takes memory and files by {sorted(names & known)}")
 
 
 def built():
@@ -215,7 +283,8 @@ def built():
 def try_run(program, library, words, usual, count):
     status, text = usual
     usual = status, answer([program, *words])[1] if text is None else f"{text}\n"
-    refuse_each(program, library, words, usual, count)
+    refuse_memory(program, library, words, usual, count)
+    refuse_files(program, library, words, usual, count)
     if shutil.which("valgrind"):
         look_for_leaks(program, words, usual, count)
 
