@@ -1,15 +1,28 @@
 #!/usr/bin/env python3
-"""Writes the image of a loop and the trace of its run: make_rows.py IMAGE TRACE ROWS [--quoted].
+"""Writes the image of a loop and the trace of its run: make_rows.py IMAGE TRACE ROWS [--quoted] [--all].
 
 The loop counts in x1, builds addresses in x2 and x3, shifts and adds, and jumps back.
 The rows are those of a hart that runs it from 0x80000000, worked out here.
-With --quoted each field stands in quotes.
+With --quoted each field stands in quotes. With --all there are all 111 columns that the judge knows, and each field
+has a value: registers of control and status keep those of reset.
 """
 import argparse
 
 BASE = 0x80000000
 COLUMNS = "order", "insn", "pc_rdata", "rd_addr", "rd_wdata", "pc_wdata"
 MASK = (1 << 64) - 1
+
+# all columns that the judge knows: those of the instruction, and four for each of these registers
+ALL_COLUMNS = (
+    "valid", "order", "intr", "pc_rdata", "mode", "ixl", "trap", "insn", "rs1_addr", "rs1_rdata", "rs2_addr",
+    "rs2_rdata", "rd_addr", "rd_wdata", "pc_wdata", "mem_addr", "mem_rmask", "mem_rdata", "mem_wmask", "mem_wdata",
+    "mem_paddr", "halt", "hart",
+)
+REGISTERS = (
+    "mstatus", "misa", "medeleg", "mideleg", "mie", "mtvec", "mscratch", "mepc", "mcause", "mtval", "mip", "satp",
+    "sstatus", "sie", "sip", "stvec", "sscratch", "sepc", "scause", "stval", "pmpcfg0", "pmpcfg2",
+)
+RESET = {"mstatus": 0xA00000000, "misa": 0x8000000000141105, "sstatus": 0x200000000}
 
 
 def signed(value, bits):
@@ -65,6 +78,34 @@ def line_of(fields, quoted):
     return ",".join(f'"{field}"' if quoted else field for field in fields) + "\n"
 
 
+def registers_of_control():
+    """The names and values of their columns: masks of nothing, and the value of reset before and after."""
+    names = [f"csr_{name}_{side}" for name in REGISTERS for side in ("rmask", "wmask", "rdata", "wdata")]
+    values = [value for name in REGISTERS for value in (0, 0, RESET.get(name, 0), RESET.get(name, 0))]
+    return names, values
+
+
+def write_all(path, count):
+    """Writes the trace with all columns."""
+    names, values = registers_of_control()
+    control = ",".join(f"0x{value:x}" for value in values)
+    registers = [0] * 32
+    place = 0
+    with open(path, "w", encoding="ascii") as trace:
+        trace.write(",".join([*ALL_COLUMNS, *names]) + "\n")
+        for order in range(count):
+            word, rd, value_of = LOOP[place]
+            pc = BASE + 4 * place
+            rs1 = word >> 15 & 31 if word & 0x7F == 0x13 else 0
+            before = registers[rs1]
+            registers[rd] = value_of(pc, registers) & MASK
+            place = (place + 1) % len(LOOP)
+            trace.write(
+                f"1,{order},0,0x{pc:x},3,2,0,0x{word:08x},{rs1},0x{before:x},0,0x0,{rd},0x{registers[rd]:x},"
+                f"0x{BASE + 4 * place:x},0x0,0x0,0x0,0x0,0x0,0x0,0,0,{control}\n"
+            )
+
+
 def write_trace(path, count, quoted):
     registers = [0] * 32
     place = 0
@@ -85,10 +126,15 @@ def main():
     parser.add_argument("image")
     parser.add_argument("trace")
     parser.add_argument("rows", type=int)
-    parser.add_argument("--quoted", action="store_true", help="put each field in quotes")
+    form = parser.add_mutually_exclusive_group()
+    form.add_argument("--quoted", action="store_true", help="put each field in quotes")
+    form.add_argument("--all", action="store_true", help="write all 111 columns")
     options = parser.parse_args()
     write_image(options.image)
-    write_trace(options.trace, options.rows, options.quoted)
+    if options.all:
+        write_all(options.trace, options.rows)
+    else:
+        write_trace(options.trace, options.rows, options.quoted)
 
 
 if __name__ == "__main__":
