@@ -56,7 +56,7 @@ both true true rest first second is = ap (λ v. if rest then Some v else None) i
 both true false rest first second is = absurd cc
 both false u rest first second is = absurd cc
 
-two_more : (a b value : ℕ) (more : List ℕ) → digit_value a < 16 → digit_value b < 16
+pub two_more : (a b value : ℕ) (more : List ℕ) → digit_value a < 16 → digit_value b < 16
     → value_with value (a ∷ b ∷ more) ≡ value_with (value * 256 + (digit_value a * 16 + digit_value b)) more
 two_more a b value more first second =
     let same : (value * 16 + digit_value a) * 16 + digit_value b ≡ value * 256 + (digit_value a * 16 + digit_value b) =

@@ -2,7 +2,7 @@
 use Rattle.std.specs.Prelude.{ℕ, ◌^◌, Bool, ◌&&◌, ◌||◌, not, List, length, drop, slice_index, Option, Some, None}
 use Rattle.std.specs.Prelude.{Result, Ok, Err, nat_lt, ◌==◌, if◌then◌else◌}
 use Rattle.std.specs.List.{list_all}
-use Rattle.std.specs.Char.{is_digit}
+use Rattle.std.specs.Char.{digit_value, is_digit}
 use Rattle.std.specs.Str.Parse.{digits_value}
 use Rattle.hart_words.specs.declared.numbers.NumberFault.{NumberFault}
 use Rattle.hart_words.specs.declared.numbers.NumberFault.TheVariants.{NotNumber, TooWide}
@@ -11,6 +11,10 @@ use Rattle.hart_words.specs.declared.numbers.NumberFault.TheVariants.{NotNumber,
 unfoldable pub digits_number : ℕ → List ℕ → Option ℕ
 digits_number radix text =
     if not (length text == 0) && list_all (λ c. is_digit c radix) text then Some (digits_value radix text) else None
+
+-- the value of a hexadecimal digit, and for any other byte more than four of them have
+abbrev pub nibble : ℕ → ℕ
+nibble byte = if nat_lt (digit_value byte) 16 then digit_value byte else 65536
 
 -- the text begins with 0x or 0X
 abbrev pub is_hexadecimal : List ℕ → Bool

@@ -2,7 +2,8 @@
 
 ghost use Rattle.std.specs.Prelude.{IfSome, length, ◌≡◌, ◌^◌, ◌≤◌, min, option_map, ℕ, ◌+◌, ◌*◌, ◌<◌, ◌∷◌, [], nat_lt, Some, None, if◌then◌else◌};
 ghost use Rattle.std.specs.Char.{digit_value, is_digit};
-ghost use Rattle.hart_words.specs.Numbers.{number_of, number_within, digits_number, result_within};
+ghost use Rattle.hart_words.specs.declared.numbers.TheConstants.{NO_NIBBLE};
+ghost use Rattle.hart_words.specs.Numbers.{number_of, number_within, digits_number, nibble, result_within};
 
 /// The value of each byte as a digit of base 36, and 36 where it is none.
 const DIGITS: [u8; 256] = [
@@ -22,6 +23,42 @@ const DIGITS: [u8; 256] = [
     36, 36, 36, 36, 36, 36, 36, 36, 36, 36, 36, 36, 36, 36, 36, 36, // 0xd0
     36, 36, 36, 36, 36, 36, 36, 36, 36, 36, 36, 36, 36, 36, 36, 36, // 0xe0
     36, 36, 36, 36, 36, 36, 36, 36, 36, 36, 36, 36, 36, 36, 36, 36, // 0xf0
+];
+
+/// More than four hexadecimal digits can have as their value.
+const NO_NIBBLE: u32 = 0x1_0000;
+
+/// The value of each byte as a hexadecimal digit, and `NO_NIBBLE` where it is none.
+const NIBBLES: [u32; 256] = [
+    65536, 65536, 65536, 65536, 65536, 65536, 65536, 65536, 65536, 65536, 65536, 65536, 65536,
+    65536, 65536, 65536, // 0x00
+    65536, 65536, 65536, 65536, 65536, 65536, 65536, 65536, 65536, 65536, 65536, 65536, 65536,
+    65536, 65536, 65536, // 0x10
+    65536, 65536, 65536, 65536, 65536, 65536, 65536, 65536, 65536, 65536, 65536, 65536, 65536,
+    65536, 65536, 65536, // 0x20
+    0, 1, 2, 3, 4, 5, 6, 7, 8, 9, 65536, 65536, 65536, 65536, 65536, 65536, // 0x30
+    65536, 10, 11, 12, 13, 14, 15, 65536, 65536, 65536, 65536, 65536, 65536, 65536, 65536, 65536, // 0x40
+    65536, 65536, 65536, 65536, 65536, 65536, 65536, 65536, 65536, 65536, 65536, 65536, 65536,
+    65536, 65536, 65536, // 0x50
+    65536, 10, 11, 12, 13, 14, 15, 65536, 65536, 65536, 65536, 65536, 65536, 65536, 65536, 65536, // 0x60
+    65536, 65536, 65536, 65536, 65536, 65536, 65536, 65536, 65536, 65536, 65536, 65536, 65536,
+    65536, 65536, 65536, // 0x70
+    65536, 65536, 65536, 65536, 65536, 65536, 65536, 65536, 65536, 65536, 65536, 65536, 65536,
+    65536, 65536, 65536, // 0x80
+    65536, 65536, 65536, 65536, 65536, 65536, 65536, 65536, 65536, 65536, 65536, 65536, 65536,
+    65536, 65536, 65536, // 0x90
+    65536, 65536, 65536, 65536, 65536, 65536, 65536, 65536, 65536, 65536, 65536, 65536, 65536,
+    65536, 65536, 65536, // 0xa0
+    65536, 65536, 65536, 65536, 65536, 65536, 65536, 65536, 65536, 65536, 65536, 65536, 65536,
+    65536, 65536, 65536, // 0xb0
+    65536, 65536, 65536, 65536, 65536, 65536, 65536, 65536, 65536, 65536, 65536, 65536, 65536,
+    65536, 65536, 65536, // 0xc0
+    65536, 65536, 65536, 65536, 65536, 65536, 65536, 65536, 65536, 65536, 65536, 65536, 65536,
+    65536, 65536, 65536, // 0xd0
+    65536, 65536, 65536, 65536, 65536, 65536, 65536, 65536, 65536, 65536, 65536, 65536, 65536,
+    65536, 65536, 65536, // 0xe0
+    65536, 65536, 65536, 65536, 65536, 65536, 65536, 65536, 65536, 65536, 65536, 65536, 65536,
+    65536, 65536, 65536, // 0xf0
 ];
 
 /// Why a text is no number of a given width.
@@ -92,7 +129,7 @@ fn short_number(text: &[u8]) -> Option<u64>
     }
 }
 
-/// The value of up to 16 hexadecimal digits, which are taken by twos.
+/// The value of up to 16 hexadecimal digits, which are taken by fours, and the last of them by twos.
 #[inline(always)]
 fn short_hexadecimal(digits: &[u8]) -> Option<u64>
     requires { length digits.now ≤ 16 }
@@ -102,7 +139,16 @@ fn short_hexadecimal(digits: &[u8]) -> Option<u64>
         return None;
     }
     let mut value: u64 = 0;
-    let mut rest = digits;
+    let mut fours = digits;
+    while let [first, second, third, fourth, more @ ..] = fours {
+        let four = four_digits(*first, *second, *third, *fourth);
+        if four >= NO_NIBBLE {
+            return None;
+        }
+        value = value * 65536 + u64::from(four);
+        fours = more;
+    }
+    let mut rest = fours;
     while let [high, low, more @ ..] = rest {
         let (high, low) = (value_of_byte(*high), value_of_byte(*low));
         if high >= 16 || low >= 16 {
@@ -115,6 +161,24 @@ fn short_hexadecimal(digits: &[u8]) -> Option<u64>
         [last] => with_digit(value, value_of_byte(*last)),
         _ => Some(value),
     }
+}
+
+/// The value of four hexadecimal digits; where one of them is none, it is too large for that.
+#[inline(always)]
+fn four_digits(first: u8, second: u8, third: u8, fourth: u8) -> u32
+    ensures { result ≡ ((nibble first * 16 + nibble second) * 16 + nibble third) * 16
+        + nibble fourth }
+{
+    ((nibble_of(first) * 16 + nibble_of(second)) * 16 + nibble_of(third)) * 16 + nibble_of(fourth)
+}
+
+/// The value of a byte as a hexadecimal digit, and `NO_NIBBLE` where it is none.
+#[inline(always)]
+fn nibble_of(byte: u8) -> u32
+    ensures value { result ≡ nibble byte }
+    ensures small { result ≤ NO_NIBBLE }
+{
+    NIBBLES[usize::from(byte)]
 }
 
 /// A value with one more hexadecimal digit after it.

@@ -7,3 +7,9 @@ invariant-loop-rest l = AreLeft l.digits l.rest l.value
 
 abbrev pub decreases-loop-rest : goal.decreases-loop-rest
 decreases-loop-rest l = length l.rest
+
+abbrev pub invariant-loop-fours : goal.invariant-loop-fours
+invariant-loop-fours l = AreLeft l.digits l.fours l.value
+
+abbrev pub decreases-loop-fours : goal.decreases-loop-fours
+decreases-loop-fours l = length l.fours
