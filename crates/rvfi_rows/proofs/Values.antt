@@ -160,7 +160,7 @@ set_then list index value other within = elim (eqb_tells other index) [
   | inr differs ↦ rw differs.0 (ap Some (get_or-set_other list index other value 0 differs.1))
 ]
 
-pub placed_at : (signals : List Signal) (values list : List ℕ) (signal : Signal) → length list ≡ 111
+pub placed_at : (signals : List Signal) (values list : List ℕ) (signal : Signal) → length list ≡ 256
     → Some (slice_index (placed signals values list) (index_of signal))
     ≡ option_or (values_of signals values signal) (Some (slice_index list (index_of signal)))
 unfolding placed values_of

@@ -16,9 +16,10 @@ pub const FIRST_CSR: usize = 23;
 pub struct Row {
     /// A bit for each signal, at its index: whether the row shows it.
     shown: u128,
-    /// The values of the signals that are shown, each at its index.
-    values: [u64; 111],
-    ghost full: { length values ≡ 111 },
+    /// The values of the signals that are shown, each at its index. There is a place for each
+    /// index of 8 bits, so that none has to be tested.
+    values: [u64; 256],
+    ghost full: { length values ≡ 256 },
     ghost within: { shown < 2 ^ 111 },
 }
 
@@ -32,7 +33,7 @@ impl Row {
     {
         Row {
             shown: 0,
-            values: [0; 111],
+            values: [0; 256],
         }
     }
 
@@ -136,6 +137,8 @@ impl Row {
             → shown_in self.new ≡ with_bits bits (values_of signals values.now) }
     {
         self.shown = bits;
+        // The compiler sees that they are as many, and tests it once.
+        let values = &values[..places.len()];
         for index in 0..places.len() {
             self.values[usize::from(places[index])] = values[index];
         }
