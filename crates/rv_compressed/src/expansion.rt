@@ -11,7 +11,7 @@ use crate::fields::{
     swsp_offset, upper_immediate, word_offset,
 };
 use crate::formats::{b_format, i_format, j_format, r_format, s_format, u_format};
-use crate::patterns::{PATTERNS, Pattern};
+use crate::patterns::{Pattern, rows_from};
 use rv_decode::opcodes::{BRANCH, JAL, JALR, LOAD, LUI, OP, OP_32, OP_IMM, OP_IMM_32, STORE};
 use rv_decode::{Op, decode};
 
@@ -35,7 +35,7 @@ pub fn expand(parcel: u16) -> Option<Op>
 pub fn expansion(parcel: u16) -> Option<u32>
     ensures { result ≡ expansion_of parcel }
 {
-    expansion_by(&PATTERNS, parcel)
+    expansion_by(rows_from(parcel), parcel)
 }
 
 /// The word of the row that the parcel meets.

@@ -1,8 +1,10 @@
 //! The rows of the table of compressed instructions, as masks: the bits that each fixes, and which
 //! of its parcels are reserved. `expansion` holds each row to its columns in `specs/Table.antt`.
 
-ghost use Rattle.std.specs.Prelude.{◌≡◌};
+ghost use Rattle.std.specs.Prelude.{◌≡◌, ◌≤◌, drop};
 ghost use Rattle.rv_compressed.specs.Patterns.{holds, meets};
+ghost use Rattle.rv_compressed.specs.Table.{expansion_by};
+ghost use Rattle.rv_compressed.specs.declared.patterns.TheConstants.{PATTERNS};
 
 use crate::compressed_op::CompressedOp;
 
@@ -94,3 +96,36 @@ pub const PATTERNS: [Pattern; 32] = rows![
     0xe003 0xc002 Condition::Always => Swsp,
     0xe003 0xe002 Condition::Always => Sdsp,
 ];
+
+/// The bits of funct3 and of the quadrant, which each row fixes.
+const GROUP: u16 = 0xe003;
+
+/// The first row of each funct3 and quadrant, at 4 times the one and the other; 32 where there is
+/// none.
+const FIRST_ROWS: [u8; 32] = [
+    0, 5, 22, 32, // 0
+    32, 6, 32, 32, // 1
+    1, 7, 23, 32, // 2
+    2, 8, 24, 32, // 3
+    32, 10, 25, 32, // 4
+    32, 19, 32, 32, // 5
+    3, 20, 30, 32, // 6
+    4, 21, 31, 32, // 7
+];
+
+/// The rows from the first of the parcel's funct3 and quadrant on: none before them is met.
+#[tactic(auto, unfolding(crate::specs::Table::expansion_by))]
+pub fn rows_from(parcel: u16) -> &'static [Pattern]
+    ensures { expansion_by result.now parcel ≡ expansion_by PATTERNS parcel }
+{
+    &PATTERNS[first_row(parcel)..]
+}
+
+/// The place of the first row of the parcel's funct3 and quadrant.
+fn first_row(parcel: u16) -> usize
+    ensures small { result ≤ 32 }
+    ensures passed { expansion_by (drop result PATTERNS) parcel ≡ expansion_by PATTERNS parcel }
+{
+    let group = parcel & GROUP;
+    usize::from(FIRST_ROWS[usize::from(group / 2048 + group % 4)])
+}
