@@ -10,3 +10,4 @@ pub mod Physical
 pub mod Plain
 pub mod Sets
 pub mod Unconfigured
+pub mod Unset

@@ -129,11 +129,16 @@ pub fn is_open(csrs: &Csrs, mode: Mode) -> bool
     is_unset(&csrs.entries) && (is_machine(mode) || csrs.pmp_entries().is_empty())
 }
 
-/// Whether no entry is configured.
+/// Whether no entry is configured. All are looked at, with one question at the end: as a rule none
+/// is configured, and a question at each would cost more.
 fn is_unset(entries: &[PmpEntry]) -> bool
     ensures { result ≡ list_all (λ entry. entry.cfg == 0) entries.now }
 {
-    entries.iter().all(|entry| entry.cfg == 0)
+    let mut configured = 0;
+    for entry in entries {
+        configured |= entry.cfg;
+    }
+    configured == 0
 }
 
 /// Whether a mode is M.
