@@ -30,17 +30,16 @@ pub far : (blocks : Blocks) (number : ℕ) → 2 ^ 64 ≤ number → block_at bl
 unfolding block_at
 far blocks number large = rw (le-ltb number (2 ^ 64) large) refl
 
--- the same entries are the same blocks
-pub same_entries : (before after : Blocks) → after.blocks.entries ≡ before.blocks.entries
-    → block_at after ≡ block_at before
-unfolding block_at
-same_entries before after e = rw e refl
-
 -- where the same is found of each number, the blocks are the same
 pub same_found : (before after : Blocks) → ((q : ℕ) → get nat_eq after.blocks q ≡ get nat_eq before.blocks q)
     → block_at after ≡ block_at before
 unfolding block_at
 same_found before after gets = λ i q. ap (λ found. guarded found q) (gets q) i
+
+-- the same entries are the same blocks
+pub same_entries : (before after : Blocks) → after.blocks.entries ≡ before.blocks.entries
+    → block_at after ≡ block_at before
+same_entries before after e = same_found before after (λ q. ap (lookup (nat_eq q)) e)
 
 -- a block is set
 pub block_set : (before after : Blocks) (key : ℕ) (block : Block) → key < 2 ^ 64
@@ -206,6 +205,16 @@ merged_still blocks others before after {key} set here q was = elim (cases_eq q 
   | inl same ↦ subst (IsMerged blocks others after) (sym same) here
   | inr apart ↦ set.sets q ∙ rw (eq_other q key apart) was
 ]
+
+none_found : (found : Option Block) → is_some found ≡ false → found ≡ None
+none_found None none = refl
+none_found (Some block) none = cc
+
+-- a number outside of those that blocks were set at has none
+pub none_outside : (blocks : Blocks) (number : ℕ) → (number < blocks.lowest) ⊎ (blocks.highest < number)
+    → block_at blocks number ≡ None
+none_outside blocks number (inl low) = no_block blocks number (none_found _ (blocks.low number low))
+none_outside blocks number (inr high) = no_block blocks number (none_found _ (blocks.high number high))
 
 -- what holds anyway holds of a refusal
 pub on_refusal : {T E P : Type 0} (result : Result T E) → P → OnErr result P

@@ -1,6 +1,7 @@
 //! Blocks by their number.
 
-ghost use Rattle.std.specs.Prelude.{◌≡◌};
+ghost use Rattle.std.specs.Prelude.{◌≡◌, ◌<◌, ℕ, false, is_some, nat_eq};
+ghost use Rattle.std.specs.HashMap.{get};
 
 use crate::block::{BLOCK_SIZE, Block};
 use hart_words::NoMemory;
@@ -11,6 +12,12 @@ use std::collections::HashMap;
 #[derive(Drop)]
 pub struct Blocks {
     blocks: HashMap<u64, Block>,
+    /// The lowest and the highest number that a block was set at: most numbers that are looked up
+    /// lie outside of these, and need no search.
+    lowest: u64,
+    highest: u64,
+    ghost low: { (number : ℕ) → number < lowest → is_some (get nat_eq blocks number) ≡ false },
+    ghost high: { (number : ℕ) → highest < number → is_some (get nat_eq blocks number) ≡ false },
 }
 
 impl Clone for Blocks {
@@ -22,12 +29,14 @@ impl Clone for Blocks {
     fn clone(&self) -> Result<Blocks, AllocError> {
         Ok(Blocks {
             blocks: self.blocks.clone()?,
+            lowest: self.lowest,
+            highest: self.highest,
         })
     }
 }
 
 impl Blocks {
-    ghost use Rattle.std.specs.Prelude.{◌≡◌, ◌≤◌, ◌+◌, ◌/◌, ◌%◌, ◌^◌, ◌==◌, ℕ, None, Some, OnOk, OnErr, IfOk, is_some, option_copied, if◌then◌else◌};
+    ghost use Rattle.std.specs.Prelude.{◌≡◌, ◌≤◌, ◌+◌, ◌/◌, ◌%◌, ◌^◌, ◌==◌, ℕ, None, Some, OnOk, OnErr, IfOk, false, is_some, option_copied, if◌then◌else◌};
     ghost use Rattle.std.specs.HashMap.{hash_map_len};
     ghost use Rattle.std.specs.Option.{option_or};
     ghost use Rattle.hart_words.specs.Memory.{bytes_after_store};
@@ -41,6 +50,8 @@ impl Blocks {
     {
         Blocks {
             blocks: HashMap::new(alloc),
+            lowest: u64::MAX,
+            highest: 0,
         }
     }
 
@@ -58,10 +69,20 @@ impl Blocks {
         self.blocks.len()
     }
 
+    /// Whether a number lies within those that blocks were set at.
+    fn is_within(&self, number: u64) -> bool
+        ensures { result ≡ false → block_at self.now number ≡ None }
+    {
+        self.lowest <= number && number <= self.highest
+    }
+
     /// The block of a number, if it is there.
     pub fn block(&self, number: u64) -> Option<&Block>
         ensures { option_copied result ≡ block_at self.now number }
     {
+        if !self.is_within(number) {
+            return None;
+        }
         self.blocks.get(&number)
     }
 
@@ -80,6 +101,8 @@ impl Blocks {
         ensures err { OnErr result (block_at self.new ≡ block_at self.old) }
     {
         self.blocks.insert(number, block)?;
+        self.lowest = self.lowest.min(number);
+        self.highest = self.highest.max(number);
         Ok(())
     }
 
@@ -95,7 +118,11 @@ impl Blocks {
             then bytes_after_store pa len value (over (bytes_in (block_at self.old)) base)
             else over (bytes_in (block_at self.old)) base) }
     {
-        match self.blocks.get_mut(&(pa / BLOCK_SIZE)) {
+        let number = pa / BLOCK_SIZE;
+        if !self.is_within(number) {
+            return false;
+        }
+        match self.blocks.get_mut(&number) {
             Some(block) => {
                 block.put(pa, len, value);
                 true
