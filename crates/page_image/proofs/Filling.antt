@@ -14,7 +14,7 @@ use Rattle.std.proofs.Common.{Global}
 use Rattle.image_text.specs.declared.pieces.PiecePage.{PiecePage}
 use Rattle.image_text.specs.declared.pieces.Pieces.{Pieces}
 use Rattle.image_text.specs.Bytes.{byte_at}
-use Rattle.page_image.specs.declared.page.Page.{Page}
+use Rattle.page_image.specs.declared.shared_page.SharedPage.{SharedPage}
 use Rattle.page_image.specs.Pages.{byte_among, byte_or_zero}
 use Rattle.page_image.specs.Pages as pages
 use Rattle.page_image.specs.Bytes.{with_zeros}
@@ -58,12 +58,12 @@ given f h None k = refl
 given f h (Some p) k = refl
 
 -- a byte of a page by its offset
-abbrev pub page_byte : Box Page Global → ℕ → ℕ
-page_byte page k = slice_index page.value.bytes k
+abbrev pub page_byte : SharedPage → ℕ → ℕ
+page_byte page k = slice_index page.page.value.bytes k
 
 -- a page that is made has its byte at an address, and where there is none it is 0
-shown : (held : Option (Box Page Global)) (pa : ℕ)
-    → byte_or_zero (option_map (λ page. page.value) held) pa
+shown : (held : Option SharedPage) (pa : ℕ)
+    → byte_or_zero (option_map (λ page. page.page.value) held) pa
     ≡ unwrap_or (option_map (λ page. page_byte page (pa % 4096)) held) 0
 unfolding pages.page_byte
 shown None pa = refl
@@ -73,7 +73,7 @@ shown (Some page) pa = refl
 abbrev pub piece_byte : Box PiecePage Global → ℕ → ℕ
 piece_byte page k = unwrap_or (slice_index_or page.value.bytes k None) 0
 
-pub all_made : {S : Type 0} (pages : HashMap ℕ (Box Page Global) S) (pieces : Pieces)
+pub all_made : {S : Type 0} (pages : HashMap ℕ SharedPage S) (pieces : Pieces)
     → ((q k : ℕ) → k < 4096
     → over page_byte piece_byte (get nat_eq pages q) None k
     ≡ over page_byte piece_byte None (tree.get nat_cmp pieces.pages q) k)

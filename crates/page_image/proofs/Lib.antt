@@ -4,3 +4,4 @@ pub mod PageBytes
 pub mod Entries
 pub mod Numbers
 pub mod NextPages
+pub mod NearPages

@@ -2,8 +2,7 @@
 use Rattle.std.proofs.Common.{◌≡◌, ℕ, ◌*◌, ◌/◌, ◌%◌, ◌<◌, ◌≤◌, Bool, true, false, Option, Some, None, sym, ap, ◌∙◌, inl, inr}
 use Rattle.std.proofs.Common.{arith, subst, refl, option_map, ◌+◌}
 use Rattle.std.specs.Option.{IfSome}
-use Rattle.std.specs.Prelude.{◌==◌, if◌then◌else◌, Box}
-use Rattle.std.proofs.Common.{Global}
+use Rattle.std.specs.Prelude.{◌==◌, if◌then◌else◌}
 use Rattle.std.specs.HashMap.{HashMap}
 use Rattle.std.specs.Bool.{Decides}
 use Rattle.image_text.proofs.Pages.{eq_same, eq_other}
@@ -11,6 +10,7 @@ use Rattle.std.proofs.lemmas.Bool.{cases_eq}
 use Rattle.hart_words.specs.Memory.{Bytes}
 use Rattle.page_image.specs.declared.page.Page.{Page}
 use Rattle.page_image.specs.declared.image.PageImage.{PageImage}
+use Rattle.page_image.specs.declared.shared_page.SharedPage.{SharedPage}
 use Rattle.page_image.specs.declared.page_numbers.PageNumbers.{PageNumbers}
 use Rattle.page_image.specs.PageNumbers.{Skips, has_number}
 use Rattle.page_image.specs.Pages.{IsNonzero, byte_or_zero, page_at, page_byte}
@@ -95,16 +95,16 @@ added_sound P {before} {after} {key} put here sound q has = elim (cases_eq q key
 ]
 
 -- a page that is kept at a number, tested for zeros
-pub record IsTested {S : Type 0} (pages : HashMap ℕ (Box Page Global) S) (key : ℕ) (page : Page) (zero : Bool)
+pub record IsTested {S : Type 0} (pages : HashMap ℕ SharedPage S) (key : ℕ) (page : Page) (zero : Bool)
     : Type 0 where
   pub kept : page_at pages key ≡ Some page
   pub decides : Decides zero ((pa : ℕ) → page_byte page pa ≡ 0)
 
-pub tested_nonzero : {S : Type 0} {pages : HashMap ℕ (Box Page Global) S} {key : ℕ} {page : Page} {zero : Bool}
+pub tested_nonzero : {S : Type 0} {pages : HashMap ℕ SharedPage S} {key : ℕ} {page : Page} {zero : Bool}
     → IsTested pages key page zero → zero ≡ false → IsNonzero (page_at pages key)
 tested_nonzero test isnt all =
     differs _ isnt (test.decides.1 (λ pa. ap (λ page. byte_or_zero page pa) (sym test.kept) ∙ all pa))
 
-pub tested_zero : {S : Type 0} {pages : HashMap ℕ (Box Page Global) S} {key : ℕ} {page : Page} {zero : Bool}
+pub tested_zero : {S : Type 0} {pages : HashMap ℕ SharedPage S} {key : ℕ} {page : Page} {zero : Bool}
     → IsTested pages key page zero → zero ≡ true → IsNonzero (page_at pages key) → ⊥
 tested_zero test is nonzero = nonzero (λ pa. ap (λ page. byte_or_zero page pa) test.kept ∙ test.decides.0 is pa)

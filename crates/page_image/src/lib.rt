@@ -6,12 +6,15 @@
 #![tactic(auto)]
 
 mod image;
+mod near_pages;
 mod page;
 mod page_numbers;
+mod shared_page;
 
 pub use image::PageImage;
 pub use page::Page;
 pub use page_numbers::{PAGES, PageNumbers};
+pub use shared_page::SharedPage;
 
 #[cfg(test)]
 mod tests;

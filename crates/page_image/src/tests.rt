@@ -30,6 +30,28 @@ fn bytes_of_ram(rt: HostRuntime) -> Result<(), Fail> {
 }
 
 #[test]
+fn bytes_near_and_far(rt: HostRuntime) -> Result<(), Fail> {
+    let ram = Span::new(0x8000_0000, 0x2000_0000).ok_or("no range")?;
+    let text = b"@80000ffe 12 @8100f000 34 @81010000 56 @9ffffffe 78";
+    let pieces = read_image(rt.alloc(), text, ram)?;
+    let image = PageImage::build(rt.alloc(), &pieces, ram)?;
+    for (address, byte) in [
+        (0x7fff_fffe, 0),
+        (0x8000_0ffe, 0x12),
+        (0x8000_1ffe, 0),
+        (0x8100_f000, 0x34),
+        (0x8100_f001, 0),
+        (0x8101_0000, 0x56),
+        (0x8101_1000, 0),
+        (0x9fff_fffe, 0x78),
+        (u64::MAX, 0),
+    ] {
+        assert_eq!(rt; image.byte(address), byte);
+    }
+    Ok(())
+}
+
+#[test]
 fn pages_of_an_image(rt: HostRuntime) -> Result<(), Fail> {
     let ram = Span::new(0x8000_0000, 0x1_0000).ok_or("no range")?;
     let text = b"@80001ffe 12 34 56 @80003ffe 12 34 @80004000 00 @80005ffe 12 35";

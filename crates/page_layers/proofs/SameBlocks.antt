@@ -13,7 +13,7 @@ use Rattle.image_text.proofs.Pages.{eq_other}
 use Rattle.hart_words.specs.Memory.{Bytes}
 use Rattle.page_image.specs.declared.page.Page.{Page}
 use Rattle.page_image.specs.declared.image.PageImage.{PageImage}
-use Rattle.page_image.specs.Pages.{byte_or_zero}
+use Rattle.page_image.specs.Pages.{byte_or_zero, page_of}
 use Rattle.page_image.specs.Bytes.{byte_of}
 use Rattle.page_image.proofs.PageBytes.{same_offset}
 use Rattle.page_layers.specs.declared.block.Block.{Block}
@@ -148,7 +148,7 @@ zero_block written layers image number none no_page pa here =
     let page : get nat_eq image.pages (pa / 4096) ≡ None = ap (get nat_eq image.pages) place ∙ no_page in
     let block : newest_block written layers (pa / 64) ≡ None = ap (newest_block written layers) here ∙ none in
     ap (λ found. unwrap_or (option_map (λ b. block_byte b pa) found) (byte_of image pa)) block
-    ∙ ap (λ page. byte_or_zero (option_map (λ p. p.value) page) pa) page
+    ∙ ap (λ page. byte_or_zero (page_of page) pa) page
 
 -- what is the same in each block and in each page of the image is the same wherever it is not zero
 pub same_or_zero : (P : ℕ → Type 0) (written : Blocks) (layers : List Layer) (image : PageImage)

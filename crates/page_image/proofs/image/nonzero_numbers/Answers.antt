@@ -1,10 +1,10 @@
-use Rattle.std.proofs.Common.{Some, ◌≡◌, ◌∙◌, true, ap, inl, inr, option_map, sym}
+use Rattle.std.proofs.Common.{Some, ◌≡◌, ◌∙◌, true, ap, inl, inr, sym}
 use Rattle.std.specs.Prelude.{nat_eq}
 use Rattle.std.specs.HashMap.{get}
 use Rattle.std.specs.Map.Iter.{deref_pair}
 use Rattle.std.proofs.lemmas.Map.Iter.{rest_more}
 use Rattle.page_image.specs.PageNumbers.{has_number}
-use Rattle.page_image.specs.Pages.{IsNonzero, page_at}
+use Rattle.page_image.specs.Pages.{IsNonzero, page_at, page_of}
 use Rattle.page_image.proofs.Entries.{entry_done, first_entry, later_entries}
 use Rattle.page_image.proofs.NextPages.{Adds, IsTested, added_here, added_sound, added_still, tested_nonzero, tested_zero}
 use Rattle.page_image.proofs.image.nonzero_numbers.Goals as goal
@@ -14,8 +14,8 @@ loop-number-preserved-in-Continue-1 c =
     let pages = c.args.pages.now in
     let first = rest_more deref_pair _ _ _ _ c.in-Some.is c.next.ensures.steps in
     let kept = first_entry (get nat_eq pages) first c.loop-number.invariant.found in
-    let test : IsTested pages c.in-Some.number.now c.deref.result.now c.is_zero.result =
-    record { kept = ap (option_map (λ page. page.value)) kept ∙ ap Some (sym c.deref.ensures); decides = c.is_zero.ensures } in
+    let test : IsTested pages c.in-Some.number.now c.page.result.now c.is_zero.result =
+    record { kept = ap page_of kept ∙ ap Some (sym c.page.ensures); decides = c.is_zero.ensures } in
     let put : Adds c.loop-number.nonzero c.add.new.self c.in-Some.number.now = record { adds = c.in_ok-add.ensures.ok } in
     record {
       can_go = tt;
@@ -36,8 +36,8 @@ loop-number-preserved c =
     let pages = c.args.pages.now in
     let first = rest_more deref_pair _ _ _ _ c.in-Some.is c.next.ensures.steps in
     let kept = first_entry (get nat_eq pages) first c.loop-number.invariant.found in
-    let test : IsTested pages c.in-Some.number.now c.deref.result.now c.is_zero.result =
-    record { kept = ap (option_map (λ page. page.value)) kept ∙ ap Some (sym c.deref.ensures); decides = c.is_zero.ensures } in
+    let test : IsTested pages c.in-Some.number.now c.page.result.now c.is_zero.result =
+    record { kept = ap page_of kept ∙ ap Some (sym c.page.ensures); decides = c.is_zero.ensures } in
     record {
       can_go = tt;
       ends = tt;

@@ -25,10 +25,10 @@ loop-number-preserved-in_ok-insert c =
     let made : IsMade (get nat_eq c.loop-number.pages) (get nat_eq c.insert.new.self)
     (λ q. lookup (tree.is_at (nat_cmp q)) c.loop-number.number-iterator)
     (λ q. lookup (tree.is_at (nat_cmp q)) c.next.new.self) (tree.get nat_cmp c.args.pieces.now.pages)
-    c.in-Some.number.now c.in_ok-new.field-0 c.in-Some.page.now =
+    c.in-Some.number.now c.in_ok-of.field-0 c.in-Some.page.now =
     record { put = c.in_ok-insert.ensures.updates.0; taken = λ q. rw first refl; found = found } in
     λ q k below. one_more page_byte piece_byte k made
-    (rw (c.in_ok-new.ensures.ok, c.of-page.ensures) (rw c.deref.ensures at (c.plain.ensures.value k below)))
+    (rw (c.in_ok-of.ensures, c.of-page.ensures) (rw c.deref.ensures at (c.plain.ensures.value k below)))
     (λ q. c.loop-number.invariant q k below) q
 
 pub returns : goal.returns
