@@ -1,14 +1,17 @@
 -- Bytes that are noted: a read of them changes no set.
 use Rattle.std.proofs.Common.{◌≡◌, inl, inr, ℕ, ◌+◌, ◌-◌, ◌/◌, ◌%◌, ◌<◌, ◌≤◌, ◌^◌, Bool}
 use Rattle.std.proofs.Common.{true, false, ◌==◌, ◌&&◌, ◌||◌, refl, ap, ◌∙◌, sym, arith}
-use Rattle.std.specs.Prelude.{not}
+use Rattle.std.specs.Prelude.{not, nat_eq}
 use Rattle.std.specs.Int.{w64, trailing_ones}
 use lib.Count.{count_trailing_zeros}
 use Rattle.std.proofs.lemmas.Nat.{shr-shr, shr_le}
 use Rattle.std.proofs.lemmas.Nat.Bits.{bit_at_above, bit_at_ones, bit_at-trailing_ones}
 use Rattle.std.proofs.lemmas.Bool.{cases_lt, leb-true, ltb-true}
 use Rattle.hart_words.specs.Memory.{is_within}
+use Rattle.std.specs.HashMap.{get}
 use Rattle.read_footprint.specs.declared.footprint.Footprint.{Footprint}
+use Rattle.read_footprint.specs.declared.noted_bytes.NotedBytes.{NotedBytes}
+use Rattle.read_footprint.specs.NotedBytes.{AreNoted}
 use Rattle.read_footprint.specs.Bits.{has_bit}
 use Rattle.read_footprint.specs.Sets.{has_read, has_written}
 use Rattle.read_footprint.proofs.Places.{both_hold}
@@ -62,12 +65,13 @@ already false true true noted = refl
 already false true false noted = let never : false ≡ true = noted refl in cc
 
 -- to read them again changes nothing
-pub noted_read : (footprint : Footprint) (pa len : ℕ)
-    → ((address : ℕ) → is_within pa len address ≡ true → (address / 64 ≡ footprint.last_read.number)
-    × (has_bit footprint.last_read.bytes (address % 64) ≡ true))
+pub noted_read : (footprint : Footprint) (last : NotedBytes) (pa len : ℕ)
+    → AreNoted (get nat_eq footprint.blocks) last
+    → ((address : ℕ) → is_within pa len address ≡ true → (address / 64 ≡ last.number)
+    × (has_bit last.bytes (address % 64) ≡ true))
     → (address : ℕ) → has_read footprint address
     ≡ (has_read footprint address || (is_within pa len address && not (has_written footprint address)))
 unfolding has_read has_written
-noted_read footprint pa len all address =
+noted_read footprint last pa len noted all address =
     already (has_read footprint address) (is_within pa len address) (has_written footprint address)
-    (λ within. let here = all address within in footprint.noted.each address here.0 here.1)
+    (λ within. let here = all address within in noted.each address here.0 here.1)

@@ -27,10 +27,12 @@ fn goes_on(one: &Read, next: &Read) -> bool
 #[derive(Drop)]
 pub struct Footprint {
     blocks: HashMap<u64, Block>,
-    /// What is noted of the block of the last read that was not among them: most reads are, and
-    /// need no search.
-    last_read: NotedBytes,
-    ghost noted: { AreNoted (get nat_eq blocks) last_read },
+    /// What is noted of the block of the last read that was not among them, of those with an even
+    /// number and of the others: most reads are, and need no search. Fetches and loads take turns.
+    last_even: NotedBytes,
+    last_odd: NotedBytes,
+    ghost noted_even: { AreNoted (get nat_eq blocks) last_even },
+    ghost noted_odd: { AreNoted (get nat_eq blocks) last_odd },
 }
 
 impl Footprint {
@@ -52,7 +54,8 @@ impl Footprint {
     {
         Footprint {
             blocks: HashMap::new(alloc),
-            last_read: NotedBytes::empty(),
+            last_even: NotedBytes::empty(),
+            last_odd: NotedBytes::empty(),
         }
     }
 
@@ -168,8 +171,36 @@ impl Footprint {
             ≡ has_written self.old address }
         ensures room { spare self.old.blocks ≤ spare self.new.blocks + 5 }
     {
-        if !self.last_read.has_all(pa, len) {
+        if !self.last_read(pa / BLOCK_SIZE).has_all(pa, len) {
             self.note_read_blocks(pa, len);
+        }
+    }
+
+    /// What is remembered of a block, or of another one.
+    fn last_read(&self, number: u64) -> NotedBytes
+        ensures { AreNoted (get nat_eq self.now.blocks) result }
+    {
+        if number % 2 == 0 {
+            self.last_even
+        } else {
+            self.last_odd
+        }
+    }
+
+    /// Remembers what is noted of a block.
+    fn remember(&mut self, number: u64, block: Block)
+        requires { footprint_block_at self.old number ≡ block }
+        ensures same { IsAsBefore self.old self.new }
+        ensures room { spare self.new.blocks ≡ spare self.old.blocks }
+    {
+        let noted = NotedBytes {
+            number,
+            bytes: block.noted(),
+        };
+        if number % 2 == 0 {
+            self.last_even = noted;
+        } else {
+            self.last_odd = noted;
         }
     }
 
@@ -188,10 +219,7 @@ impl Footprint {
         for number in pa / BLOCK_SIZE..(end + (BLOCK_SIZE - 1)) / BLOCK_SIZE {
             let read = bits_of(number, pa, end);
             let block = self.note(number, Block { read, wrote: 0 });
-            self.last_read = NotedBytes {
-                number,
-                bytes: block.noted(),
-            };
+            self.remember(number, block);
         }
     }
 
