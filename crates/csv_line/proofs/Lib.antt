@@ -1,3 +1,4 @@
 pub mod Machine
 pub mod FirstLines
 pub mod Readers
+pub mod Trimmed

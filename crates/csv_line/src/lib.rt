@@ -85,29 +85,23 @@ impl Fields {
             Some(field) => Some(trim(field)),
         }
     }
+
+    /// The same with the spaces and tabs at its ends, for who can tell most fields without a look
+    /// for them: `trim` takes them off.
+    #[inline(always)]
+    pub fn untrimmed(&self, index: usize) -> Option<&[u8]>
+        ensures { option_map (λ field. trimmed_of field.now) result ≡ slice_get self.now index }
+    {
+        self.record.get(index)
+    }
 }
 
-/// A field less the spaces and tabs at both ends.
+/// A text less the spaces and tabs at both ends.
 #[tactic(auto, unfolding(crate::specs::Fields::trimmed_of))]
-fn trim(text: &[u8]) -> &[u8]
+pub fn trim(text: &[u8]) -> &[u8]
     ensures { result.now ≡ trimmed_of text.now }
 {
-    if is_plain(text) {
-        text
-    } else {
-        trim_end(trim_start(text))
-    }
-}
-
-/// Whether neither end is a space, a tab or another byte below them, as of most fields.
-fn is_plain(text: &[u8]) -> bool
-    ensures { IsTrue result → trimmed_of text.now ≡ text.now }
-{
-    match text {
-        [] => true,
-        [only] => b' ' < *only,
-        [first, .., last] => b' ' < *first && b' ' < *last,
-    }
+    trim_end(trim_start(text))
 }
 
 /// A text less the spaces and tabs at its front.

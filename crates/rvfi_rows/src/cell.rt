@@ -1,12 +1,14 @@
 //! A known column, as its cells are read.
 
 ghost use Rattle.std.specs.Prelude.{◌≡◌, ◌≤◌, ◌<◌, ◌+◌, ◌*◌, ◌^◌, ◌%◌};
+ghost use Rattle.csv_line.specs.Fields.{trimmed_of};
 ghost use Rattle.hart_words.specs.Signals.{index_of, width_of};
 ghost use Rattle.rvfi_rows.specs.Rows.{cell_of, is_needed};
 
 use crate::cells::cell;
 use crate::column::PlacedColumn;
 use crate::fault::RowFault;
+use csv_line::trim;
 use hart_words::{Signal, quick_number};
 
 /// A known column, with what would have to be worked out of it for each row.
@@ -44,17 +46,18 @@ impl Cell {
         }
     }
 
-    /// What a field shows of its signal, which is soon told of most fields.
+    /// What a field shows of its signal, the blanks at its ends apart. This is soon told of most
+    /// fields: a number has no blanks.
     #[inline(always)]
     pub fn shown(&self, field: &[u8]) -> Result<Option<u64>, RowFault>
-        ensures { result ≡ cell_of self.now.placed.column field.now }
+        ensures { result ≡ cell_of self.now.placed.column (trimmed_of field.now) }
     {
         if field.is_empty() && !self.needed {
             return Ok(None);
         }
         match quick_number(field) {
             Some(value) if value <= self.most => Ok(Some(value)),
-            _ => cell(self.placed.column, field),
+            _ => cell(self.placed.column, trim(field)),
         }
     }
 }

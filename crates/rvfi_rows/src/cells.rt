@@ -134,7 +134,7 @@ fn valid_shown(known: &PortColumns, fields: &Fields) -> Result<Option<u64>, RowF
 {
     match &known.valid {
         None => Ok(None),
-        Some(one) => match fields.get(one.placed.place) {
+        Some(one) => match fields.untrimmed(one.placed.place) {
             None => Ok(None),
             Some(field) => one.shown(field),
         },
@@ -149,7 +149,7 @@ fn fill_cells(known: &PortColumns, fields: &Fields, row: &mut Row) -> Result<(),
     row.clear();
     for index in 0..known.cells.len() {
         let one = &known.cells[index];
-        if let Some(field) = fields.get(one.placed.place) {
+        if let Some(field) = fields.untrimmed(one.placed.place) {
             row.add(one, field)?;
         }
     }

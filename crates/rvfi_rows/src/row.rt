@@ -25,6 +25,7 @@ pub struct Row {
 
 impl Row {
     ghost use Rattle.rvfi_rows.specs.Cells.{AreOf, shown_in, values_of, with_bits};
+    ghost use Rattle.csv_line.specs.Fields.{trimmed_of};
     ghost use Rattle.rvfi_rows.specs.Rows.{Adds, HasCsrBits, field_shown, hart_of, nothing, shows_csr, with_shown};
 
     /// A row that shows nothing.
@@ -96,12 +97,12 @@ impl Row {
         self.values[usize::from(cell.index)] = value;
     }
 
-    /// Adds what a field shows under its column.
+    /// Adds what a field shows under its column, the blanks at its ends apart.
     #[inline(always)]
     #[tactic(auto, unfolding(crate::specs::Rows::field_shown))]
     pub(crate) fn add(&mut self, cell: &Cell, field: &[u8]) -> Result<(), RowFault>
         ensures { Adds (shown_in self.old) (shown_in self.new) result
-            (field_shown (Some cell.now.placed.column) field.now) }
+            (field_shown (Some cell.now.placed.column) (trimmed_of field.now)) }
     {
         if let Some(value) = cell.shown(field)? {
             self.show(cell, value);

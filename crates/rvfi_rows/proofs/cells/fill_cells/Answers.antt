@@ -13,7 +13,7 @@ pub loop-index-preserved : goal.loop-index-preserved
 loop-index-preserved c =
     let known = c.args.known.now in
     let within : c.loop-index.index < length known.cells.items = omega arith in
-    elim c.match-get.branch [
+    elim c.match-untrimmed.branch [
       | in-Some+in_ok-add w ↦
           rw w.row-is
           (cell-next known c.args.fields.now c.loop-index.index c.index-one.result.now (shown_in c.loop-index.row) within

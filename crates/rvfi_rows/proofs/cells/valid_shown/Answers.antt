@@ -15,12 +15,12 @@ of_valid found fields is first =
 pub returns-in-None : goal.returns-in-None
 returns-in-None c = of_valid None c.args.fields.now c.in-None.is c.args.known.now.first
 
-pub returns-in-None-get : goal.returns-in-None-get
-returns-in-None-get c =
-    ap (cell_at c.in-Some.one.placed) c.in-None-get.ensures
+pub returns-in-None-untrimmed : goal.returns-in-None-untrimmed
+returns-in-None-untrimmed c =
+    ap (cell_at c.in-Some.one.placed) c.in-None-untrimmed.ensures
     ∙ of_valid (Some c.in-Some.one) c.args.fields.now c.in-Some.is c.args.known.now.first
 
-pub returns-in-Some-get : goal.returns-in-Some-get
-returns-in-Some-get c =
-    c.shown.ensures ∙ ap (cell_at c.in-Some.one.placed) c.in-Some-get.ensures
+pub returns-in-Some-untrimmed : goal.returns-in-Some-untrimmed
+returns-in-Some-untrimmed c =
+    c.shown.ensures ∙ ap (cell_at c.in-Some.one.placed) c.in-Some-untrimmed.ensures
     ∙ of_valid (Some c.in-Some.one) c.args.fields.now c.in-Some.is c.args.known.now.first
