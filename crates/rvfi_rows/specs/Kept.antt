@@ -1,6 +1,7 @@
 -- How rows are kept that were read.
-use Rattle.std.specs.Prelude.{◌≡◌, ℕ, true, List, [], ◌∷◌, length, take, drop, Some, None, Ok, Err}
+use Rattle.std.specs.Prelude.{◌≡◌, ◌<◌, ℕ, true, List, [], ◌∷◌, length, slice_index, take, drop, Some, None, Ok, Err}
 use Rattle.hart_words.specs.declared.signal.Signal.{Signal}
+use Rattle.hart_words.specs.Signals.{index_of}
 use Rattle.rvfi_rows.specs.declared.reading.Kept.{Kept}
 use Rattle.rvfi_rows.specs.declared.reading.Kept.TheVariants as kept
 use Rattle.rvfi_rows.specs.Cells.{AreOf, is_among, values_of, with_bits}
@@ -33,3 +34,16 @@ shown_bits (kept.Refused fault) = 0
 -- a row shows none but these signals
 abbrev pub ShowsOnly : List Signal → Kept → Type 0
 ShowsOnly signals row = AreOf signals (shown_bits row)
+
+-- the value of one of the signals stands at this place among as many values
+pub record StandsAt (signals : List Signal) (signal : Signal) (position : ℕ) : Type 0 where
+  pub within : position < length signals
+  pub value : (values : List ℕ) → length values ≡ length signals
+      → values_of signals values signal ≡ Some (slice_index values position)
+  deriving IsProp as StandsAt-prop
+
+-- for each of the signals, at its index, where its value stands
+abbrev pub AreFoundAt : List Signal → List ℕ → Type 0
+AreFoundAt signals positions =
+    (signal : Signal) → is_among signals signal ≡ true
+    → StandsAt signals signal (slice_index positions (index_of signal))

@@ -1,9 +1,10 @@
 -- What a hart is to those who step it, of which memory is no part.
-use Rattle.std.specs.Prelude.{ℕ, Bool, List, [], ◌∷◌}
+use Rattle.std.specs.Prelude.{◌≡◌, ℕ, Bool, true, List, [], ◌∷◌}
 use Rattle.hart_words.specs.declared.accesses.Write.{Write}
 use Rattle.hart_words.specs.declared.choices.Choices.{Choices}
 use Rattle.hart_words.specs.declared.map.Map.{Map}
-use Rattle.hart_words.specs.Actions.{Action}
+use Rattle.hart_words.specs.Actions.{Action, Performs}
+use Rattle.hart_words.specs.Memory.{Bytes}
 use Rattle.hart_words.specs.Signals.{Shown}
 use Rattle.rvfi_rows.specs.declared.expected.Expected.{Expected}
 
@@ -26,3 +27,9 @@ pub record Meaning (C : Type 0) : Type 0 where
 unfoldable pub lost_by : {C : Type 0} → Meaning C → List Write → C → C
 lost_by meaning [] core = core
 lost_by meaning (write ∷ writes) core = lost_by meaning writes (meaning.lost core write.pa write.len)
+
+-- a row that shows this is plain for the state before it; the state after it is what is taken from it, and nothing is
+-- written
+pub record TakesQuiet {C : Type 0} (meaning : Meaning C) (before : C) (shown : Shown) (now : C) : Type 0 where
+  pub plain : meaning.is_plain before shown ≡ true
+  pub taken : (bytes : Bytes) → Performs (meaning.taken before shown) now [] [] [] [] bytes bytes

@@ -1,11 +1,13 @@
 //! What steps by rows: a hart without its memory.
 
-ghost use Rattle.std.specs.Prelude.{◌≡◌, ℕ, [], Decides, IfOk, OnErr, OnOk};
+ghost use Rattle.std.specs.Prelude.{◌≡◌, ℕ, [], Decides, IfOk, OnErr, OnOk, true, false};
 ghost use Rattle.hart_words.specs.Actions.{Performs};
 ghost use Rattle.rvfi_rows.specs.Cells.{shown_in};
-ghost use Rattle.rvfi_rows.specs.Meanings.{Meaning};
+ghost use Rattle.rvfi_rows.specs.Meanings.{Meaning, TakesQuiet};
+ghost use Rattle.rvfi_rows.specs.Readings.{kept_shown};
 
 use crate::expected::Stepped;
+use crate::kept_row::KeptRow;
 use crate::row::Row;
 use hart_words::{NoMemory, PhysMem, Wrote};
 
@@ -67,6 +69,17 @@ pub trait CoreStep<M: PhysMem>: Sized {
         ensures map { meaning.map_of self.new ≡ meaning.map_of self.old }
         ensures choices { meaning.choices_of self.new ≡ meaning.choices_of self.old }
         ensures ram { M.ram mem.new ≡ M.ram mem.old };
+
+    /// Where a row is plain and writes nothing, takes the state after it from what it shows; else
+    /// nothing changes. Says whether it is so. It may say no of any row: those that it says yes of
+    /// are passed with few looks.
+    fn take_quiet(&mut self, row: &KeptRow<'_>) -> bool
+        ensures taken { result ≡ true
+            → TakesQuiet meaning self.old (kept_shown row.now) self.new }
+        ensures kept { result ≡ false → self.new ≡ self.old }
+        ensures sound { is_sound self.old → is_sound self.new }
+        ensures map { meaning.map_of self.new ≡ meaning.map_of self.old }
+        ensures choices { meaning.choices_of self.new ≡ meaning.choices_of self.old };
 
     /// Whether the other hart is the same.
     fn same(&self, other: &Self) -> bool

@@ -7,12 +7,14 @@ ghost use Rattle.hart_words.specs.Signals.{index_of};
 ghost use Rattle.rvfi_rows.specs.Cells.{is_among, shown_in, values_at};
 ghost use Rattle.rvfi_rows.specs.Columns.{ports_of};
 ghost use Rattle.rvfi_rows.specs.Rows.{row_of_fields, rows_of_fields};
-ghost use Rattle.rvfi_rows.specs.Kept.{HasSignalsOf, ShowsOnly, kept_reading};
+ghost use Rattle.rvfi_rows.specs.Kept.{AreFoundAt, HasSignalsOf, ShowsOnly, kept_reading};
 
 use crate::cells::fill_row;
 use crate::column::Column;
 use crate::columns::Columns;
 use crate::fault::RowFault;
+use crate::kept_row::KeptRow;
+use crate::positions::positions_of;
 use crate::reading::{Kept, Reading};
 use crate::row::Row;
 use csv_line::Fields;
@@ -26,22 +28,26 @@ pub struct Rows {
     signals: Vec<Signal>,
     /// The index of each of them.
     places: Vec<u8>,
+    /// For each of them, at its index, where its value stands among those of a row.
+    positions: [usize; 111],
     rows: Vec<Kept>,
     /// For each row as many values as there are signals; those that are not shown mean nothing.
     values: Vec<u64>,
     ghost full: { length values.items ≡ length rows.items * length signals.items },
     ghost theirs: { All (ShowsOnly signals.items) rows.items },
     ghost placed: { places.items ≡ map index_of signals.items },
+    ghost found: { AreFoundAt signals.items positions },
 }
 
 impl Rows {
-    ghost use Rattle.rvfi_rows.specs.Readings.{reading_of, readings_in};
+    ghost use Rattle.rvfi_rows.specs.Readings.{kept_shown, reading_of, readings_in, valid_shown};
 
     /// No rows, under no columns.
     pub(crate) fn none(alloc: Global) -> Rows {
         Rows {
             signals: Vec::new(alloc),
             places: Vec::new(alloc),
+            positions: [0; 111],
             rows: Vec::new(alloc),
             values: Vec::new(alloc),
         }
@@ -63,6 +69,7 @@ impl Rows {
         let mut values = values;
         let signals = known_signals(alloc, columns.as_slice())?;
         let places = places_of(alloc, &signals)?;
+        let positions = positions_of(&signals);
         // A product past 64 bits is more than the allocator gives.
         let count = lines.saturating_mul(columns.ports() as usize);
         rows.clear();
@@ -72,6 +79,7 @@ impl Rows {
         Ok(Rows {
             signals,
             places,
+            positions,
             rows,
             values,
         })
@@ -135,6 +143,24 @@ impl Rows {
                 row.take_values(bits, &self.places, self.values_at(place));
                 Some(Reading::Valid)
             }
+        }
+    }
+
+    /// The row at a place as it is kept, where it is valid.
+    #[inline]
+    pub fn kept_row(&self, place: usize) -> Option<KeptRow<'_>>
+        ensures { option_map kept_shown result ≡ valid_shown (slice_get (readings_in self.now) place) }
+    {
+        match kept_at(&self.rows, place) {
+            None => None,
+            Some(Kept::Invalid) => None,
+            Some(Kept::Refused(_fault)) => None,
+            Some(Kept::Shown(bits)) => Some(KeptRow {
+                signals: &self.signals,
+                positions: &self.positions,
+                bits,
+                values: self.values_at(place),
+            }),
         }
     }
 

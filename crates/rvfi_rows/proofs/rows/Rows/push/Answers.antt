@@ -24,6 +24,7 @@ invariant_of-self-2 c =
       full = full_more pushed before.full;
       theirs = theirs_more pushed before.theirs c.requires;
       placed = before.placed;
+      found = before.found;
     }
 
 pub returns-clause-pushed : goal.returns-clause-pushed
