@@ -1,6 +1,6 @@
 -- The step of a set, by the step of a hart and what the others lose.
 use Rattle.std.proofs.Common.{◌≡◌, ℕ, List, [], ◌∷◌, map, length, refl, sym, ap, ◌∙◌, subst, arith, Option, Some}
-use Rattle.std.proofs.Common.{◌<◌, None, get_or}
+use Rattle.std.proofs.Common.{◌<◌, None, get_or, zero, suc}
 use Rattle.std.proofs.Math.ListN.{set}
 use Rattle.std.proofs.lemmas.Option.{get_or_from_slice_get, slice_get-get_or}
 use Rattle.std.specs.List.{All, slice_get}
@@ -12,12 +12,13 @@ use Rattle.hart_words.specs.Memory.{Bytes, after_writes}
 use Rattle.hart_words.specs.Actions.{Action, Performs, Run, pure}
 use Rattle.hart_words.specs.Signals.{Shown}
 use Rattle.hart_words.proofs.Runs.{Performs-pure}
+use Rattle.rvfi_rows.specs.Rows.{hart_of}
 use Rattle.rvfi_rows.specs.declared.expected.Expected.{Expected}
 use Rattle.rvfi_rows.specs.declared.expected.Expected.TheVariants.{Halted}
-use Rattle.rvfi_rows.specs.Meanings.{Gave, Meaning, lost_by}
-use Rattle.hart_set.specs.Sets.{after_step, after_taking, concluded, gone_on, step_of_hart, stepped_by, taken_by}
-use Rattle.hart_set.specs.Sets.{taken_of_hart}
-use Rattle.hart_set.specs.Calls.{CanStep, IsDone}
+use Rattle.rvfi_rows.specs.Meanings.{Gave, Meaning, TakesQuiet, lost_by}
+use Rattle.hart_set.specs.Sets.{after_step, after_taking, concluded, gone_on, is_plain_by, step_of_hart, stepped_by}
+use Rattle.hart_set.specs.Sets.{taken_by, taken_of_hart}
+use Rattle.hart_set.specs.Calls.{CanStep, IsDone, TakesQuietRow}
 use Rattle.hart_set.proofs.Places.{all_kept, as_many, get_set, gone_from_set, kept}
 
 -- the others' losses, one write after another, keep what one write's loss keeps
@@ -200,3 +201,34 @@ pub taken_there : {C : Type 0} (meaning : Meaning C) (cores after : List C) (sho
 taken_there {C} meaning cores after shown number core next {wrote} {before} {now} {last} there ran gone same =
     let P : Bytes → Type 0 = λ bytes. IsDone (taken_of_hart meaning cores shown number) after before bytes in
     subst P (sym same) (was_taken meaning cores after shown number core next there ran gone)
+
+-- ---- a row that writes nothing
+
+all_stay : {C : Type 0} (meaning : Meaning C) (cores : List C) → cores ≡ map (lost_by meaning []) cores
+unfolding lost_by
+all_stay meaning [] = refl
+all_stay meaning (core ∷ cores) = ap (λ rest. core ∷ rest) (all_stay meaning cores)
+
+-- where nothing is written the others lose nothing
+pub gone_alone : {C : Type 0} (meaning : Meaning C) (number : ℕ) (core next : C) (cores : List C)
+    → slice_get cores number ≡ Some core → set cores number next ≡ gone_on (lost_by meaning []) number next cores
+unfolding gone_on lost_by
+gone_alone meaning number core next [] there = absurd cc
+gone_alone meaning zero core next (first ∷ cores) there = ap (λ rest. next ∷ rest) (all_stay meaning cores)
+gone_alone meaning (suc number) core next (first ∷ cores) there =
+    ap (λ rest. first ∷ rest) (gone_alone meaning number core next cores there)
+
+-- the call took the state of the row's hart from a row that writes nothing
+pub quiet_there : {C : Type 0} (meaning : Meaning C) (cores after : List C) (shown : Shown) (number : ℕ)
+    (core next : C) → slice_get cores number ≡ Some core → number ≡ hart_of shown
+    → TakesQuiet meaning core shown next → after ≡ gone_on (lost_by meaning []) number next cores
+    → TakesQuietRow meaning cores shown after
+quiet_there meaning cores after shown number core next there is quiet gone =
+    let own : slice_get cores (hart_of shown) ≡ Some core =
+    subst (λ (n : ℕ). slice_get cores n ≡ Some core) is there in
+    record {
+      plain = ap (λ found. is_plain_by meaning shown found) own ∙ quiet.plain;
+      taken = λ bytes.
+          subst (λ (n : ℕ). IsDone (taken_of_hart meaning cores shown n) after bytes bytes) is
+          (taken_there meaning cores after shown number core next there (quiet.taken bytes) gone refl);
+    }

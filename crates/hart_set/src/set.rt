@@ -1,14 +1,16 @@
 //! Harts that share a memory.
 
-ghost use Rattle.std.specs.Prelude.{◌≡◌, ◌≤◌, ◌<◌, ◌++◌, [], Decides, IfOk, OnErr, OnOk, Some, length, map, replicate, slice_get};
+ghost use Rattle.std.specs.Prelude.{◌≡◌, ◌≤◌, ◌<◌, ◌++◌, [], Decides, IfOk, OnErr, OnOk, Some, false, length, map, replicate, slice_get, true};
 ghost use Rattle.hart_words.specs.Actions.{Performs};
 ghost use Rattle.rvfi_rows.specs.Cells.{shown_in};
 ghost use Rattle.rvfi_rows.specs.Meanings.{lost_by};
+ghost use Rattle.rvfi_rows.specs.Readings.{kept_shown};
+ghost use Rattle.rvfi_rows.specs.Rows.{hart_of};
 ghost use Rattle.hart_set.specs.Sets.{gone_on, is_plain_for_set, step_of_hart, step_of_set, taken_of_hart, taken_of_set};
-ghost use Rattle.hart_set.specs.Calls.{CanStep, IsDone};
+ghost use Rattle.hart_set.specs.Calls.{CanStep, IsDone, TakesQuietRow};
 
-use hart_words::{NoMemory, PhysMem, Write, Wrote};
-use rvfi_rows::{CoreStep, Row, Stepped};
+use hart_words::{NoMemory, PhysMem, Signal, Write, Wrote};
+use rvfi_rows::{CoreStep, KeptRow, Row, Stepped};
 use std::alloc::Global;
 
 /// Harts by their numbers from 0 on, and the memory that they share: the RAM of each hart's map is
@@ -161,6 +163,45 @@ impl<C: CoreStep<M> + Drop, M: PhysMem + Drop> HartSet<C, M> {
         let wrote = self.cores[number].take_shown(&mut self.mem, row)?;
         self.lose_beside(number, wrote.as_slice());
         Ok(())
+    }
+
+    /// Where a row is plain for its hart and writes nothing, takes the state after it from what it
+    /// shows; else nothing changes. Says whether it is so. It may say no of any row: those that it
+    /// says yes of are passed with few looks.
+    pub fn take_quiet(&mut self, row: &KeptRow<'_>) -> bool
+        requires can { CanStep C.meaning C.is_sound (M.ram self.old.mem) self.old.cores.items }
+        ensures taken { result ≡ true → TakesQuietRow C.meaning self.old.cores.items
+            (kept_shown row.now) self.new.cores.items }
+        ensures kept { result ≡ false → self.new.cores.items ≡ self.old.cores.items }
+        ensures mem { self.new.mem ≡ self.old.mem }
+        ensures can { CanStep C.meaning C.is_sound (M.ram self.new.mem) self.new.cores.items }
+        ensures maps { map C.meaning.map_of self.new.cores.items
+            ≡ map C.meaning.map_of self.old.cores.items }
+        ensures choices { map C.meaning.choices_of self.new.cores.items
+            ≡ map C.meaning.choices_of self.old.cores.items }
+    {
+        let number = row.shown(Signal::Hart).unwrap_or(0) as usize;
+        self.take_hart_quiet(number, row)
+    }
+
+    /// The same of the hart of a number.
+    fn take_hart_quiet(&mut self, number: usize, row: &KeptRow<'_>) -> bool
+        requires can { CanStep C.meaning C.is_sound (M.ram self.old.mem) self.old.cores.items }
+        requires number { number ≡ hart_of (kept_shown row.now) }
+        ensures taken { result ≡ true → TakesQuietRow C.meaning self.old.cores.items
+            (kept_shown row.now) self.new.cores.items }
+        ensures kept { result ≡ false → self.new.cores.items ≡ self.old.cores.items }
+        ensures mem { self.new.mem ≡ self.old.mem }
+        ensures can { CanStep C.meaning C.is_sound (M.ram self.new.mem) self.new.cores.items }
+        ensures maps { map C.meaning.map_of self.new.cores.items
+            ≡ map C.meaning.map_of self.old.cores.items }
+        ensures choices { map C.meaning.choices_of self.new.cores.items
+            ≡ map C.meaning.choices_of self.old.cores.items }
+    {
+        if self.is_absent(number) {
+            return false;
+        }
+        self.cores[number].take_quiet(row)
     }
 
     /// Whether all but the memories is the same: as many harts, and those of each number are equal.
