@@ -6,7 +6,7 @@ ghost use Rattle.hart_step.specs.Meanings.{core_meaning, stays_sound};
 
 use crate::state::Core;
 use hart_words::{NoMemory, PhysMem, Wrote};
-use rvfi_rows::{CoreStep, Row, Stepped};
+use rvfi_rows::{CoreStep, KeptRow, Row, Stepped};
 
 impl<M: PhysMem> CoreStep<M> for Core {
     ghost meaning = { core_meaning };
@@ -31,6 +31,10 @@ impl<M: PhysMem> CoreStep<M> for Core {
 
     fn take_shown(&mut self, mem: &mut M, row: &Row) -> Result<Wrote, NoMemory> {
         self.take_row(mem, row)
+    }
+
+    fn take_quiet(&mut self, row: &KeptRow<'_>) -> bool {
+        self.take_quiet_row(row)
     }
 
     fn same(&self, other: &Core) -> bool {

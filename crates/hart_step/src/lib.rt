@@ -26,6 +26,7 @@ mod parts;
 pub mod plain_laws;
 mod plain_rows;
 pub mod protection_laws;
+mod quiet_rows;
 mod returns;
 mod same_cores;
 mod shown_store;

@@ -117,7 +117,7 @@ fn bits_of(word: u64) -> u32
 }
 
 /// Whether it is a SYSTEM or AMO instruction, LR and SC among these, or C.EBREAK.
-fn is_system_or_atomic(word: u64) -> bool
+pub(crate) fn is_system_or_atomic(word: u64) -> bool
     ensures { result ≡ is_system_or_atomic word }
 {
     if length_of(word) == 2 {
@@ -140,7 +140,7 @@ pub(crate) fn shows_store(row: &Row) -> bool
 /// Whether a word may begin with a store: by its opcode, or by its quadrant and the upper two bits
 /// of its funct3. So few words are decoded.
 #[tactic(auto, using(crate::proofs::StoreWords::store_opcode, crate::proofs::StoreWords::store_parcel))]
-fn may_store(word: u64) -> bool
+pub(crate) fn may_store(word: u64) -> bool
     ensures { is_store (op_of (insn_bits_of word) (insn_length_of word)) ≡ true → result ≡ true }
 {
     if word % 4 == 3 {

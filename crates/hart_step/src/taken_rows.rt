@@ -87,7 +87,7 @@ impl Core {
 }
 
 /// A value goes to the register that is shown.
-fn take_register(registers: &mut Registers, rd: Option<u64>, value: Option<u64>)
+pub(crate) fn take_register(registers: &mut Registers, rd: Option<u64>, value: Option<u64>)
     ensures { registers.new ≡ registers_shown registers.old rd value }
 {
     if let Some(rd) = rd {
