@@ -1,7 +1,7 @@
 -- What is wanted of each signal of a row, from what the reference hart did. A signal of which nothing is
 -- wanted is free.
 use Rattle.std.specs.Prelude.{ℕ, ◌-◌, ◌%◌, ◌^◌, Bool, true, false, not, ◌&&◌, ◌==◌, if◌then◌else◌, Option, Some, None}
-use Rattle.std.specs.Prelude.{Result, Ok, Err}
+use Rattle.std.specs.Prelude.{Result, Ok, Err, option_map}
 use Rattle.std.specs.Option.{option_and_then}
 use Rattle.hart_words.specs.Options.{are_cut}
 use Rattle.hart_words.specs.Privilege.{mode_number}
@@ -15,8 +15,10 @@ use Rattle.hart_words.specs.declared.signal.Signal.TheVariants.{Valid, Order, In
 use Rattle.hart_words.specs.declared.signal.Signal.TheVariants.{Rs1Addr, Rs1Rdata, Rs2Addr, Rs2Rdata, RdAddr, RdWdata}
 use Rattle.hart_words.specs.declared.signal.Signal.TheVariants.{PcWdata, MemAddr, MemRmask, MemRdata, MemWmask}
 use Rattle.hart_words.specs.declared.signal.Signal.TheVariants.{MemWdata, MemPaddr, Halt, Hart, Csr}
+use Rattle.hart_words.specs.declared.signal.CsrName.{CsrName}
 use Rattle.hart_words.specs.declared.signal.CsrSide.TheVariants.{Rmask, Wmask, Rdata, Wdata}
 use Rattle.hart_words.specs.Signals.{Shown}
+use Rattle.csr_file.specs.declared.csrs.Csrs.{Csrs}
 use Rattle.csr_file.specs.Fields.{all_bits}
 use Rattle.csr_file.specs.Values.{shown_csr}
 use Rattle.rvfi_rows.specs.declared.expected.Retired.{Retired}
@@ -64,6 +66,16 @@ unless_trap retired of_effects = option_and_then of_effects (effects_in retired.
 abbrev pub with_access : Retired → (Accessed → Option ExpectedSignal) → Option ExpectedSignal
 with_access retired of_access = option_and_then of_access (access_in retired.effects)
 
+-- of a register its value before the instruction and after the row, in the bits that are compared, with the interrupt
+-- lines
+abbrev pub csr_before : Csrs → CsrName → ℕ → Shown → ExpectedSignal
+csr_before csrs name lines shown =
+    record { value = shown_csr csrs name lines; mask = bits_before csrs.profile name shown }
+
+abbrev pub csr_after : Csrs → CsrName → ℕ → Shown → ExpectedSignal
+csr_after csrs name lines shown =
+    record { value = shown_csr csrs name lines; mask = bits_after csrs.profile name shown }
+
 -- the table; 2 says that registers have 64 bits
 unfoldable pub expected_signal : Retired → Shown → Signal → Option ExpectedSignal
 expected_signal retired shown Valid = None
@@ -95,8 +107,6 @@ expected_signal retired shown Hart = None
 expected_signal retired shown (Csr name Rmask) = None
 expected_signal retired shown (Csr name Wmask) = None
 expected_signal retired shown (Csr name Rdata) =
-    let csrs = retired.csrs_before in
-    Some (record { value = shown_csr csrs name retired.lines; mask = bits_before csrs.profile name shown })
+    option_map (λ csrs. csr_before csrs.before name retired.lines shown) retired.csrs
 expected_signal retired shown (Csr name Wdata) =
-    let csrs = retired.csrs_after in
-    Some (record { value = shown_csr csrs name retired.lines; mask = bits_after csrs.profile name shown })
+    option_map (λ csrs. csr_after csrs.after name retired.lines shown) retired.csrs

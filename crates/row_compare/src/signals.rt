@@ -58,7 +58,8 @@ pub fn expected_signal(retired: &Retired, row: &Row, signal: Signal) -> Option<E
     }
 }
 
-/// Of a register the value before the instruction and the one after the row, as traces show it.
+/// Of a register the value before the instruction and the one after the row, as traces show it;
+/// nothing where the registers are not carried.
 #[tactic(auto, unfolding(crate::specs::Signals::expected_signal))]
 fn expected_csr(
     retired: &Retired,
@@ -70,14 +71,20 @@ fn expected_csr(
 {
     match side {
         CsrSide::Rmask | CsrSide::Wmask => None,
-        CsrSide::Rdata => Some(ExpectedSignal {
-            value: retired.csrs_before.shown(name, retired.lines),
-            mask: bits_before(&retired.csrs_before.profile, name, row),
-        }),
-        CsrSide::Wdata => Some(ExpectedSignal {
-            value: retired.csrs_after.shown(name, retired.lines),
-            mask: bits_after(&retired.csrs_after.profile, name, row),
-        }),
+        CsrSide::Rdata => {
+            let csrs = &retired.csrs.as_ref()?.before;
+            Some(ExpectedSignal {
+                value: csrs.shown(name, retired.lines),
+                mask: bits_before(&csrs.profile, name, row),
+            })
+        }
+        CsrSide::Wdata => {
+            let csrs = &retired.csrs.as_ref()?.after;
+            Some(ExpectedSignal {
+                value: csrs.shown(name, retired.lines),
+                mask: bits_after(&csrs.profile, name, row),
+            })
+        }
     }
 }
 

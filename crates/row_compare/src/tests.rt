@@ -2,7 +2,7 @@ use super::*;
 use csr_file::profile::OptionalCsr;
 use csr_file::{CsrProfile, Csrs, EntryCount, Presence, StoredCsr};
 use hart_words::{Cause, CsrName, CsrSide, Difference, InsnBits, Mode, Registers, Signal};
-use rvfi_rows::{Accessed, Effects, Expected, Retired, read_header, read_row};
+use rvfi_rows::{Accessed, CsrsAround, Effects, Expected, Retired, read_header, read_row};
 use std::alloc::Global;
 use std::process::Abort;
 use std::test::Fail;
@@ -53,10 +53,13 @@ fn retirement_with(effects: Result<Effects, Cause>) -> Retired {
         insn: Some(0x13),
         insn_bits: InsnBits::Full,
         effects,
-        csrs_before: Csrs::reset(),
-        csrs_after: Csrs::reset(),
+        csrs: around(Csrs::reset(), Csrs::reset()),
         lines: 0,
     }
+}
+
+fn around(before: Csrs, after: Csrs) -> Option<CsrsAround> {
+    Some(CsrsAround { before, after })
 }
 
 fn effects(access: Option<Accessed>) -> Effects {
@@ -353,15 +356,14 @@ const fn after(name: CsrName) -> Signal {
 /// Registers before and after the row, under the masks that are shown, on a trap's row too.
 #[test]
 fn registers_under_masks(rt: HostRuntime) -> Result<(), Fail> {
-    let mut csrs_before = Csrs::reset();
-    csrs_before.set(StoredCsr::Mepc, 0x1234);
-    let mut csrs_after = csrs_before;
-    csrs_after.set(StoredCsr::Mepc, 0x8000_0000);
-    csrs_after.set(StoredCsr::Mcause, 2);
-    csrs_after.set(StoredCsr::Satp, 0x8000_0000_0008_0001);
+    let mut before_row = Csrs::reset();
+    before_row.set(StoredCsr::Mepc, 0x1234);
+    let mut after_row = before_row;
+    after_row.set(StoredCsr::Mepc, 0x8000_0000);
+    after_row.set(StoredCsr::Mcause, 2);
+    after_row.set(StoredCsr::Satp, 0x8000_0000_0008_0001);
     let row = Retired {
-        csrs_before,
-        csrs_after,
+        csrs: around(before_row, after_row),
         ..retirement_with(Err(Cause::IllegalInstruction))
     };
     let cases: [Case; 14] = [
@@ -438,8 +440,7 @@ fn interrupt_lines(rt: HostRuntime) -> Result<(), Fail> {
     csrs.set(StoredCsr::Mideleg, 0x222);
     csrs.set(StoredCsr::Mip, 0x2);
     let row = Expected::Retired(Retired {
-        csrs_before: csrs,
-        csrs_after: csrs,
+        csrs: around(csrs, csrs),
         lines: 0x200,
         ..retirement_with(Ok(effects(None)))
     });
@@ -546,8 +547,7 @@ fn row_of(profile: &CsrProfile) -> Expected {
     let mut csrs = Csrs::reset_of(profile);
     csrs.set(StoredCsr::Mideleg, 0x222);
     Expected::Retired(Retired {
-        csrs_before: csrs,
-        csrs_after: csrs,
+        csrs: around(csrs, csrs),
         lines: 0x22,
         ..retirement_with(Ok(effects(None)))
     })
@@ -662,10 +662,10 @@ fn order_of_signals(rt: HostRuntime) -> Result<(), Fail> {
         read: Some(1),
         written: Some(2),
     };
-    let mut csrs_after = Csrs::reset();
-    csrs_after.set(StoredCsr::Mtvec, 8);
+    let mut after_row = Csrs::reset();
+    after_row.set(StoredCsr::Mtvec, 8);
     let expected = Expected::Retired(Retired {
-        csrs_after,
+        csrs: around(Csrs::reset(), after_row),
         ..retirement_with(Ok(Effects {
             rs2: 2,
             ..effects(Some(access))

@@ -5,7 +5,6 @@ ghost use Rattle.hart_words.specs.declared.accesses.Write.{Write};
 ghost use Rattle.row_origin.specs.Last.{CountsFrom, IsNarrow};
 
 use super::*;
-use csr_file::Csrs;
 use hart_words::{Cause, InsnBits, Mode, NoMemory, Read, Registers, Seen, Write, Wrote};
 use rvfi_rows::{Accessed, Effects, Expected, Retired, Stepped};
 use std::alloc::Global;
@@ -24,8 +23,7 @@ fn retired(effects: Result<Effects, Cause>) -> Expected {
         insn: Some(0x13),
         insn_bits: InsnBits::Full,
         effects,
-        csrs_before: Csrs::reset(),
-        csrs_after: Csrs::reset(),
+        csrs: None,
         lines: 0,
     })
 }

@@ -56,12 +56,20 @@ pub struct Retired {
     pub insn_bits: InsnBits,
     /// What the instruction did, or the cause of its trap.
     pub effects: Result<Effects, Cause>,
-    /// The control and status registers before the instruction, after an interrupt's entry.
-    pub csrs_before: Csrs,
-    /// The same after the row, a trap's entry included.
-    pub csrs_after: Csrs,
+    /// The control and status registers around the instruction, where the row shows a column of
+    /// one. They are large, and few rows show such a column.
+    pub csrs: Option<CsrsAround>,
     /// The interrupt lines at the row, by their bits in mip.
     pub lines: u64,
+}
+
+/// The control and status registers around an instruction.
+#[derive(Clone, Copy, Debug)]
+pub struct CsrsAround {
+    /// Before the instruction, after an interrupt's entry.
+    pub before: Csrs,
+    /// After the row, a trap's entry included.
+    pub after: Csrs,
 }
 
 /// What an instruction that does not trap did.

@@ -34,7 +34,7 @@ pub use cells::read_row;
 pub use column::{Column, Port};
 pub use columns::Columns;
 pub use core_step::CoreStep;
-pub use expected::{Accessed, Effects, Expected, Retired, Stepped};
+pub use expected::{Accessed, CsrsAround, Effects, Expected, Retired, Stepped};
 pub use fault::{HeaderError, HeaderFault, RowError, RowFault};
 pub use header::read_header;
 pub use kept_row::KeptRow;
