@@ -38,6 +38,8 @@ use Rattle.csr_file.specs.Profiles.{kind_in, may_trap, presence_of}
 use Rattle.csr_file.specs.Values.{adoptable_bits_of, adopted_bits_of}
 use Rattle.csr_file.specs.Access.{csr_read_at}
 use Rattle.interrupt_pick.specs.Interrupts.{pick_of}
+use Rattle.rvfi_rows.specs.Rows.{shows_csr}
+use Rattle.rvfi_rows.specs.declared.expected.CsrsAround.{CsrsAround}
 use Rattle.rvfi_rows.specs.declared.expected.Expected.TheVariants.{Retired}
 use Rattle.mem_access.specs.declared.place.Place.{Place}
 use Rattle.mem_access.specs.Accesses.{Exception, LocatedValue}
@@ -64,11 +66,11 @@ use Rattle.hart_step.specs.Instructions.{InstructionRun, run_of_result, op_for, 
 use Rattle.hart_step.specs.Instructions.{fetch_at_pc, instruction_run}
 use Rattle.hart_step.specs.Steps.{core_after_count, interrupt_of, core_after_interrupt_by, core_after_interrupt}
 use Rattle.hart_step.specs.Steps.{lacks_interrupt, before_instruction, insn_of, effects_of, core_after_outcome}
-use Rattle.hart_step.specs.Steps.{core_after_run, expected_of, step_result_of}
+use Rattle.hart_step.specs.Steps.{StepResult, core_after_run, csrs_around, expected_of, step_result_of}
 use Rattle.hart_step.specs.Laws.{AgreeOnAccess, AgreeOnDevice, AgreeOnInstruction, AgreeOnRead, AgreeOnRow, AgreeOnSystem}
 use Rattle.hart_step.specs.Laws.{AgreeOnFault, AgreeOnTrap, AgreeOnValue}
 use Rattle.hart_step.specs.Laws.{RowsDecideAlike, SameAt, bytes_after_fetch, is_row_dependent, request_by, request_from}
-use Rattle.hart_step.specs.Laws.{request_at_pc}
+use Rattle.hart_step.specs.Laws.{gave_without_csrs, request_at_pc, run_without_csrs}
 use Rattle.hart_step.proofs.Phases.{running, halting}
 
 -- the phases before the fetch
@@ -124,10 +126,27 @@ unfolding core_after_run
 finished_same done one other agree =
     ap (λ halt. record (core_after_outcome done.core done.executed) { halted = shows halt 1 }) agree.halt
 
-gave_same : (core : Core) (done : InstructionRun) (one other : Shown) → AgreeOnRow one other
-    → step_result_of core other done ≡ step_result_of core one done
-unfolding step_result_of expected_of
-gave_same core done one other agree =
+-- but for the control and status registers that are carried, which are told apart
+gave_with : (core : Core) (done : InstructionRun) (shown : Shown) → Option CsrsAround → StepResult
+gave_with core done shown csrs = record {
+  next = core_after_run done shown;
+  expected = Retired (record {
+    order = core.next_order;
+    lacks_interrupt = lacks_interrupt (core_after_count core shown) shown;
+    pc = (before_instruction core shown).pc;
+    mode = (before_instruction core shown).mode;
+    insn = insn_of done.executed;
+    insn_bits = core.choices.insn_bits;
+    effects = effects_of (before_instruction core shown) done.core done.executed;
+    csrs = csrs;
+    lines = (pending_lines_of shown).up;
+  });
+}
+
+gave_same : (core : Core) (done : InstructionRun) (one other : Shown) (csrs : Option CsrsAround)
+    → AgreeOnRow one other → gave_with core done other csrs ≡ gave_with core done one csrs
+unfolding gave_with
+gave_same core done one other csrs agree =
     let p = begun_same core one other agree in
     let l =
     ap (λ k. lacks_interrupt k other) (counted_same core one other agree)
@@ -153,11 +172,36 @@ gave_same core done one other agree =
             insn_bits = core.choices.insn_bits;
             effects =
                 e i;
-            csrs_before = (p i).csrs;
-            csrs_after = (after i).csrs;
+            csrs = csrs;
             lines = (up i).up;
           });
     }
+
+csrs_carried : Core → InstructionRun → Shown → Option CsrsAround
+csrs_carried core done shown =
+    csrs_around (shows_csr shown) (before_instruction core shown).csrs (core_after_run done shown).csrs
+
+gave_is : (core : Core) (done : InstructionRun) (shown : Shown)
+    → step_result_of core shown done ≡ gave_with core done shown (csrs_carried core done shown)
+unfolding step_result_of expected_of gave_with csrs_carried
+gave_is core done shown = refl
+
+gave_but_for_csrs : (core : Core) (done : InstructionRun) (one other : Shown) → AgreeOnRow one other
+    → gave_without_csrs (step_result_of core other done) ≡ gave_without_csrs (step_result_of core one done)
+unfolding step_result_of expected_of gave_with
+gave_but_for_csrs core done one other agree = gave_same core done one other None agree
+
+gave_in_all : (core : Core) (done : InstructionRun) (one other : Shown) → AgreeOnRow one other
+    → shows_csr other ≡ shows_csr one → step_result_of core other done ≡ step_result_of core one done
+unfolding csrs_carried
+gave_in_all core done one other agree shows =
+    let before = (before_instruction core one).csrs in
+    let carried : csrs_carried core done other ≡ csrs_carried core done one =
+    ap (λ k. csrs_around (shows_csr other) k.csrs (core_after_run done other).csrs) (begun_same core one other agree)
+    ∙ ap (λ k. csrs_around (shows_csr other) before k.csrs) (finished_same done one other agree)
+    ∙ ap (λ carries. csrs_around carries before (core_after_run done one).csrs) shows in
+    gave_is core done other ∙ ap (gave_with core done other) carried
+    ∙ gave_same core done one other (csrs_carried core done one) agree ∙ sym (gave_is core done one)
 
 -- what an access takes from its row
 device_same : (one other : RowChoices) (va len : ℕ) → other.rd_wdata ≡ one.rd_wdata → other.mem_addr ≡ one.mem_addr
@@ -484,14 +528,26 @@ ran_same core one other bytes lines agree =
 pub decide_alike : (core : Core) (bytes : Bytes) (one other : Shown) → RowsDecideAlike core bytes one other
 unfolding mapped
 decide_alike core bytes one other agree on = elim (cases_Bool core.halted) [
-  | inl halted ↦ halting core other bytes halted ∙ sym (halting core one bytes halted)
+  | inl halted ↦
+      let same = halting core other bytes halted ∙ sym (halting core one bytes halted) in
+      record { but_for_csrs = ap run_without_csrs same; in_all = λ shows. same }
   | inr runs ↦
       let before = ran_same (before_instruction core one) one other bytes agree.lines on in
       let did = ap (λ k. (instruction_run k other).run bytes) (begun_same core one other agree) ∙ before in
       let one_run = (instruction_run (before_instruction core one) one).run bytes in
+      let other_ran =
       running core other bytes runs
-      ∙ ap (λ r. record { value = step_result_of core other r.value; reads = r.reads; wrote = r.wrote }) did
-      ∙ ap (λ g. record { value = g; reads = one_run.reads; wrote = one_run.wrote })
-      (gave_same core one_run.value one other agree)
-      ∙ sym (running core one bytes runs)
+      ∙ ap (λ r. record { value = step_result_of core other r.value; reads = r.reads; wrote = r.wrote }) did in
+      record {
+        but_for_csrs =
+            ap run_without_csrs other_ran
+            ∙ ap (λ g. record { value = g; reads = one_run.reads; wrote = one_run.wrote })
+            (gave_but_for_csrs core one_run.value one other agree)
+            ∙ sym (ap run_without_csrs (running core one bytes runs));
+        in_all = λ shows.
+            other_ran
+            ∙ ap (λ g. record { value = g; reads = one_run.reads; wrote = one_run.wrote })
+            (gave_in_all core one_run.value one other agree shows)
+            ∙ sym (running core one bytes runs);
+      }
 ]

@@ -1,6 +1,7 @@
 -- What a step is, by its phases, and what an interrupt's entry leaves.
 use Rattle.std.proofs.Common.{◌≡◌, ◌≢◌, ◌≤◌, ℕ, Bool, true, false, not, ◌&&◌, [], refl, sym, ap, ◌∙◌, subst, arith}
 use Rattle.std.proofs.Common.{Option, Some, None, if◌then◌else◌}
+use Rattle.std.specs.Prelude.{IfSome}
 use Rattle.std.specs.Option.{is_some, is_none}
 use Rattle.std.proofs.lemmas.Bool.Decides.{nat_tests}
 use Rattle.hart_words.specs.declared.privilege.Mode.{Mode}
@@ -16,16 +17,18 @@ use Rattle.interrupt_pick.proofs.Taken.{picks_taken}
 use Rattle.interrupt_pick.proofs.Entered.{picks_where_entered}
 use Rattle.interrupt_pick.proofs.Firsts.{picks_first, picks_none_rightly}
 use Rattle.interrupt_pick.specs.Laws.{TakesNone}
+use Rattle.csr_file.specs.declared.csrs.Csrs.{Csrs}
+use Rattle.rvfi_rows.specs.Rows.{shows_csr}
 use Rattle.rvfi_rows.specs.declared.expected.Expected.{Expected}
 use Rattle.rvfi_rows.specs.declared.expected.Expected.TheVariants.{Halted}
 use Rattle.hart_step.specs.declared.state.Core.{Core}
 use Rattle.hart_step.specs.Choices.{shows, asks_interrupt, pending_lines_of}
 use Rattle.hart_step.specs.Instructions.{instruction_run}
 use Rattle.hart_step.specs.Steps.{StepResult, core_after_count, core_after_entry, interrupt_of, core_after_interrupt_by}
-use Rattle.hart_step.specs.Steps.{core_after_interrupt, lacks_interrupt, before_instruction, core_after_run}
+use Rattle.hart_step.specs.Steps.{core_after_interrupt, lacks_interrupt, before_instruction, core_after_run, csrs_around}
 use Rattle.hart_step.specs.Steps.{expected_of, step_result_of, step_of, written_trap_value}
 use Rattle.hart_step.specs.Laws.{next_of, enters_interrupt, AsksInterrupt, IsFetched, EntersInterrupt, LacksInterrupt}
-use Rattle.hart_step.specs.Laws.{LacksRightly}
+use Rattle.hart_step.specs.Laws.{CarriesCsrs, LacksRightly}
 
 -- a running hart runs what it finds after the entry of an interrupt
 pub running : (core : Core) (shown : Shown) (bytes : Bytes) → core.halted ≡ false
@@ -178,6 +181,12 @@ asks_asked core shown asks =
     let both = asked_by (shown Intr) core.trapped_last (shown PcRdata) core.pc asks in
     record { intr = both.0; entry = both.1 }
 
+-- the registers that are carried are those before the instruction
+carried_before : (carries : Bool) (before after : Csrs) {csrs : Csrs} → before ≡ csrs
+    → IfSome (csrs_around carries before after) (λ around. around.before ≡ csrs)
+carried_before true before after is = is
+carried_before false before after is = tt
+
 -- what the facts about a step say of it
 pub fetched_at : (core : Core) (shown : Shown) (bytes : Bytes) (begun : Core) → core.halted ≡ false
     → before_instruction core shown ≡ begun
@@ -185,8 +194,24 @@ pub fetched_at : (core : Core) (shown : Shown) (bytes : Bytes) (begun : Core) �
 unfolding expected_of
 fetched_at core shown bytes begun runs is =
     let P : Expected → Type 0 = λ e. IsFetched e begun.pc begun.mode begun.csrs in
+    subst P (sym (expected_running core shown bytes runs)) (
+      ap (λ k. k.pc) is,
+      (
+        ap (λ k. k.mode) is,
+        carried_before (shows_csr shown) (before_instruction core shown).csrs _ (ap (λ k. k.csrs) is),
+      ),
+    )
+
+pub carried_where_shown : (core : Core) (shown : Shown) (bytes : Bytes) → core.halted ≡ false
+    → CarriesCsrs ((step_of core shown).run bytes).value.expected
+    (csrs_around (shows_csr shown) (before_instruction core shown).csrs (next_of core shown bytes).csrs)
+unfolding expected_of
+carried_where_shown core shown bytes runs =
+    let before = (before_instruction core shown).csrs in
+    let P : Expected → Type 0 =
+    λ e. CarriesCsrs e (csrs_around (shows_csr shown) before (next_of core shown bytes).csrs) in
     subst P (sym (expected_running core shown bytes runs))
-    (ap (λ k. k.pc) is, (ap (λ k. k.mode) is, ap (λ k. k.csrs) is))
+    (ap (λ k. csrs_around (shows_csr shown) before k.csrs) (sym (next_running core shown bytes runs)))
 
 -- the trap value of an interrupt is 0 in every core
 of_interrupts : (core : Core) (code : ℕ) → written_trap_value core code 0 ≡ 0

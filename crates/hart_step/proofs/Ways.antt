@@ -19,6 +19,7 @@ use Rattle.rv_integer.specs.declared.int_result.IntResult.{IntResult}
 use Rattle.rv_integer.specs.declared.int_result.MemoryRequest.{MemoryRequest}
 use Rattle.rv_integer.specs.declared.int_result.MemoryOp.{MemoryOp}
 use Rattle.rv_integer.specs.Results.{result_of}
+use Rattle.rvfi_rows.specs.Rows.{shows_csr}
 use Rattle.rvfi_rows.specs.declared.expected.Expected.{Expected}
 use Rattle.rvfi_rows.specs.declared.expected.Expected.TheVariants.{Halted, Retired}
 use Rattle.mem_access.specs.declared.place.Place.{Place}
@@ -44,7 +45,7 @@ use Rattle.hart_step.specs.Instructions.{Completion, completion_of, next_address
 use Rattle.hart_step.specs.Instructions.{after_access, execution_of, execution_by}
 use Rattle.hart_step.specs.Instructions.{first_value, second_value, InstructionRun, run_of_exception, run_of_result}
 use Rattle.hart_step.specs.Instructions.{op_for, run_of_decoded, run_of_fetched, instruction_run}
-use Rattle.hart_step.specs.Steps.{StepResult, core_after_count, core_after_interrupt, lacks_interrupt}
+use Rattle.hart_step.specs.Steps.{StepResult, core_after_count, core_after_interrupt, csrs_around, lacks_interrupt}
 use Rattle.hart_step.specs.Steps.{before_instruction, core_after_run, insn_of, effects_of, expected_of, step_result_of}
 use Rattle.hart_step.specs.Steps.{step_of, core_after_entry, interrupt_of, core_after_interrupt_by}
 use Rattle.std.specs.Option.{is_none}
@@ -457,8 +458,7 @@ gave_parts core shown done {before} {next} {lacks} {expected} begins kept lacks_
       insn = insn_of done.executed;
       insn_bits = (kept i).insn_bits;
       effects = effects_of (begins i) done.core done.executed;
-      csrs_before = (begins i).csrs;
-      csrs_after = (core_after_run done shown).csrs;
+      csrs = csrs_around (shows_csr shown) (begins i).csrs (core_after_run done shown).csrs;
       lines = (pending_lines_of shown).up;
     }) in
     let said : expected ≡ expected_of core shown done = is ∙ tells in

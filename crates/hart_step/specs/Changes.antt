@@ -1,5 +1,6 @@
 -- What an instruction changes in the hart, as a step notes it before it puts it in place.
-use Rattle.std.specs.Prelude.{◌≡◌, ℕ, Bool, ◌/◌, ◌%◌, ◌≤◌, Option, Some, None, Result, Ok, Err, List, All, length}
+use Rattle.std.specs.Prelude.{◌≡◌, ℕ, Bool, true, false, ◌/◌, ◌%◌, ◌≤◌, Option, Some, None, Result, Ok, Err, List, All}
+use Rattle.std.specs.Prelude.{length, IsSomeAnd}
 use Rattle.hart_words.specs.declared.span.Span.{Span}
 use Rattle.hart_words.specs.declared.span.TheConstants.{PAGE_SIZE}
 use Rattle.hart_words.specs.declared.accesses.Write.{Write}
@@ -10,7 +11,9 @@ use Rattle.rv_decode.specs.Operands.{operands_of}
 use Rattle.csr_file.specs.declared.csrs.Csrs.{Csrs}
 use Rattle.csr_file.specs.declared.access.Illegal.{Illegal}
 use Rattle.csr_file.specs.Access.{csr_write_at}
+use Rattle.rvfi_rows.specs.Rows.{shows_csr}
 use Rattle.rvfi_rows.specs.declared.expected.Accessed.{Accessed}
+use Rattle.rvfi_rows.specs.declared.expected.CsrsAround.{CsrsAround}
 use Rattle.rvfi_rows.specs.declared.expected.Retired.{Retired}
 use Rattle.mem_access.specs.Accesses.{Exception}
 use Rattle.hart_step.specs.declared.state.Core.{Core}
@@ -24,7 +27,7 @@ use Rattle.hart_step.specs.Cores.{IsSoundReservation}
 use Rattle.hart_step.specs.Returns.{core_after_mret, core_after_sret}
 use Rattle.hart_step.specs.Choices.{pending_lines_of}
 use Rattle.hart_step.specs.Instructions.{Completion, completion_of, InstructionRun}
-use Rattle.hart_step.specs.Steps.{core_after_run, effects_of, insn_of}
+use Rattle.hart_step.specs.Steps.{core_after_run, csrs_around, effects_of, insn_of}
 
 -- the destination gets its value, and the hart goes on
 abbrev pub retirement_of : Instruction → ℕ → ℕ → Retirement
@@ -98,10 +101,14 @@ retired_by order lacks before shown done = record {
   insn = insn_of done.executed;
   insn_bits = before.choices.insn_bits;
   effects = effects_of before done.core done.executed;
-  csrs_before = before.csrs;
-  csrs_after = (core_after_run done shown).csrs;
+  csrs = csrs_around (shows_csr shown) before.csrs (core_after_run done shown).csrs;
   lines = (pending_lines_of shown).up;
 }
+
+-- the control and status registers before the instruction are in place where they are carried, and elsewhere none are
+abbrev pub CarriesBefore : Bool → Csrs → Option CsrsAround → Type 0
+CarriesBefore true before csrs = IsSomeAnd csrs (λ around. around.before ≡ before)
+CarriesBefore false before csrs = csrs ≡ None
 
 -- each write is of a number in a page of RAM
 abbrev pub AreInRam : Span → List Write → Type 0

@@ -1,6 +1,6 @@
 -- What holds of every step, in the words of a designer of cores.
 use Rattle.std.specs.Prelude.{◌≡◌, ◌≢◌, ◌≤◌, ℕ, List, ◌++◌, Bool, true, false, ◌&&◌, Option, Some, None, Result, Ok}
-use Rattle.std.specs.Prelude.{Err, All}
+use Rattle.std.specs.Prelude.{Err, All, IfSome}
 use Rattle.std.specs.Option.{is_some}
 use Rattle.hart_words.specs.declared.privilege.Mode.{Mode}
 use Rattle.hart_words.specs.Privilege.{mode_number}
@@ -9,6 +9,7 @@ use Rattle.hart_words.specs.declared.signal.Signal.{Signal}
 use Rattle.hart_words.specs.declared.signal.Signal.TheVariants.{Order, Intr, PcRdata, RdWdata, Trap, MemAddr, MemRdata}
 use Rattle.hart_words.specs.declared.signal.Signal.TheVariants.{MemWmask, Halt}
 use Rattle.hart_words.specs.Signals.{Shown}
+use Rattle.hart_words.specs.Actions.{Run}
 use Rattle.hart_words.specs.Memory.{Bytes, after_writes}
 use Rattle.rv_decode.specs.declared.operation.Op.{Op}
 use Rattle.rv_integer.specs.declared.int_result.IntResult.{IntResult}
@@ -33,6 +34,8 @@ use Rattle.csr_file.specs.Profiles.{kind_in, may_trap, presence_of}
 use Rattle.trap_entry.specs.Entries.{enter_of, mode_by_enter, pc_by_enter}
 use Rattle.trap_entry.specs.Returns.{mode_by_mret, mode_by_sret}
 use Rattle.interrupt_pick.specs.Laws.{IsTaken, IsPicked, TakesNone}
+use Rattle.rvfi_rows.specs.Rows.{shows_csr}
+use Rattle.rvfi_rows.specs.declared.expected.CsrsAround.{CsrsAround}
 use Rattle.rvfi_rows.specs.declared.expected.Expected.{Expected}
 use Rattle.rvfi_rows.specs.declared.expected.Expected.TheVariants as expected
 use Rattle.mem_access.specs.Accesses.{Exception, LocatedValue}
@@ -41,7 +44,7 @@ use Rattle.hart_step.specs.declared.state.Core.{Core}
 use Rattle.hart_step.specs.Choices.{asks_interrupt, pending_lines_of, shows}
 use Rattle.hart_step.specs.MemoryAccess.{located_access}
 use Rattle.hart_step.specs.Instructions.{fetch_at_pc, first_value, second_value, op_for}
-use Rattle.hart_step.specs.Steps.{before_instruction, interrupt_of, step_of}
+use Rattle.hart_step.specs.Steps.{StepResult, before_instruction, interrupt_of, step_of}
 
 -- what the instruction at pc asks for, where it can be fetched and is in the table
 abbrev pub request_by : Core → ℕ → Option Op → Option IntResult
@@ -140,13 +143,31 @@ AgreeOnInstruction core bytes (Some (Access request)) one other =
 AgreeOnInstruction core bytes (Some (System request)) one other = AgreeOnSystem core.csrs.profile request one other
 AgreeOnInstruction core bytes _ one other = Unit {0}
 
+-- a step, but for the control and status registers that what was done carries
+abbrev pub without_csrs : Expected → Expected
+without_csrs expected.Halted = expected.Halted
+without_csrs (expected.Retired retired) = expected.Retired (record retired { csrs = None })
+
+abbrev pub gave_without_csrs : StepResult → StepResult
+gave_without_csrs gave = record { next = gave.next; expected = without_csrs gave.expected }
+
+abbrev pub run_without_csrs : Run StepResult → Run StepResult
+run_without_csrs run = record { value = gave_without_csrs run.value; reads = run.reads; wrote = run.wrote }
+
+-- two rows give the same step, but that what was done carries control and status registers only where its own row shows
+-- a column of one
+pub record StepAlike (core : Core) (bytes : Bytes) (one other : Shown) : Type 0 where
+  pub but_for_csrs :
+      run_without_csrs ((step_of core other).run bytes) ≡ run_without_csrs ((step_of core one).run bytes)
+  pub in_all : shows_csr other ≡ shows_csr one → (step_of core other).run bytes ≡ (step_of core one).run bytes
+
 -- rows that agree on this give the same step: `rd_wdata` of an ADD never decides what it is held against
 abbrev pub RowsDecideAlike : Core → Bytes → Shown → Shown → Type 0
 RowsDecideAlike core bytes one other =
     AgreeOnRow one other
     → AgreeOnInstruction (before_instruction core one) (bytes_after_fetch (before_instruction core one) bytes)
     (request_at_pc (before_instruction core one) bytes) one other
-    → (step_of core other).run bytes ≡ (step_of core one).run bytes
+    → StepAlike core bytes one other
 
 -- what is written is entries of page tables that are set, by the hart as its instruction finds it
 abbrev pub SetsEntriesAlone : Core → Bytes → List Write → Type 0
@@ -188,11 +209,16 @@ pub record AsksInterrupt (core : Core) (shown : Shown) : Type 0 where
   pub intr : shown Intr ≡ Some 1
   pub entry : core.trapped_last ≡ true → shown PcRdata ≢ Some core.pc
 
--- where the instruction of a step was fetched, in which mode, and with which registers
+-- where the instruction of a step was fetched, in which mode, and with which registers, where they are carried
 abbrev pub IsFetched : Expected → ℕ → Mode → Csrs → Type 0
 IsFetched expected.Halted pc mode csrs = ⊥
 IsFetched (expected.Retired retired) pc mode csrs =
-    (retired.pc ≡ pc) × ((retired.mode ≡ mode) × (retired.csrs_before ≡ csrs))
+    (retired.pc ≡ pc) × ((retired.mode ≡ mode) × IfSome retired.csrs (λ around. around.before ≡ csrs))
+
+-- what was done carries these control and status registers
+abbrev pub CarriesCsrs : Expected → Option CsrsAround → Type 0
+CarriesCsrs expected.Halted csrs = ⊥
+CarriesCsrs (expected.Retired retired) csrs = retired.csrs ≡ csrs
 
 -- the interrupt that is entered: pending, enabled, and entered at its vector in the mode that takes it
 pub record EntersInterrupt (core : Core) (shown : Shown) (expected : Expected) (code : ℕ) (taker : Mode) : Type 0 where

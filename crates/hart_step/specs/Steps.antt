@@ -14,12 +14,15 @@ use Rattle.hart_words.specs.Signals.{Shown}
 use Rattle.hart_words.specs.Registers.{register_of}
 use Rattle.hart_words.specs.Actions.{Action, pure, mapped}
 use Rattle.rv_decode.specs.Operands.{operands_of}
+use Rattle.csr_file.specs.declared.csrs.Csrs.{Csrs}
 use Rattle.trap_entry.specs.Entries.{enter_of, mode_by_enter, pc_by_enter, trap_value_of}
 use Rattle.interrupt_pick.specs.Interrupts.{pick_of}
 use Rattle.rvfi_rows.specs.declared.expected.Expected.{Expected}
 use Rattle.rvfi_rows.specs.declared.expected.Expected.TheVariants as expected
+use Rattle.rvfi_rows.specs.declared.expected.CsrsAround.{CsrsAround}
 use Rattle.rvfi_rows.specs.declared.expected.Effects.{Effects}
 use Rattle.rvfi_rows.specs.Meanings.{Gave}
+use Rattle.rvfi_rows.specs.Rows.{shows_csr}
 use Rattle.hart_step.specs.declared.state.Core.{Core}
 use Rattle.hart_step.specs.declared.instruction.InstructionOutcome.{InstructionOutcome}
 use Rattle.hart_step.specs.declared.instruction.InstructionOutcome.TheVariants.{Trapped, Retired}
@@ -96,7 +99,12 @@ effects_of before after (Retired instruction access) = Ok (record {
   access = access;
 })
 
--- what the reference hart did at the row
+-- the control and status registers around an instruction, where they are carried
+abbrev pub csrs_around : Bool → Csrs → Csrs → Option CsrsAround
+csrs_around carries before after = if carries then Some (record { before = before; after = after }) else None
+
+-- what the reference hart did at the row. It carries the control and status registers where the row shows a column of
+-- one
 unfoldable pub expected_of : Core → Shown → InstructionRun → Expected
 expected_of core shown done =
     let before = before_instruction core shown in
@@ -108,8 +116,7 @@ expected_of core shown done =
       insn = insn_of done.executed;
       insn_bits = core.choices.insn_bits;
       effects = effects_of before done.core done.executed;
-      csrs_before = before.csrs;
-      csrs_after = (core_after_run done shown).csrs;
+      csrs = csrs_around (shows_csr shown) before.csrs (core_after_run done shown).csrs;
       lines = (pending_lines_of shown).up;
     })
 

@@ -11,11 +11,12 @@ ghost use Rattle.rv_integer.specs.declared.int_result.IntResult.TheVariants.{Acc
 ghost use Rattle.rv_integer.specs.declared.int_result.MemoryRequest.{MemoryRequest};
 ghost use Rattle.rv_integer.specs.declared.int_result.MemoryOp.TheVariants.{StoreConditional};
 ghost use Rattle.interrupt_pick.specs.Laws.{TakesNone};
+ghost use Rattle.rvfi_rows.specs.Rows.{shows_csr};
 ghost use Rattle.hart_step.specs.declared.state.Core.{Core};
 ghost use Rattle.hart_step.specs.Cores.{IsSound};
 ghost use Rattle.hart_step.specs.Choices.{asks_interrupt, pending_lines_of};
-ghost use Rattle.hart_step.specs.Steps.{before_instruction, interrupt_of, step_of};
-ghost use Rattle.hart_step.specs.Laws.{request_at_pc, next_of, RowsDecideAlike, TrapsStoreNothing, enters_interrupt, RisesByTrapsOnly, FallsByReturnsOnly, ReturnsTo, AsksInterrupt, IsFetched, EntersInterrupt, LacksRightly, StoresInReservedBlock};
+ghost use Rattle.hart_step.specs.Steps.{before_instruction, csrs_around, interrupt_of, step_of};
+ghost use Rattle.hart_step.specs.Laws.{request_at_pc, next_of, RowsDecideAlike, TrapsStoreNothing, enters_interrupt, RisesByTrapsOnly, FallsByReturnsOnly, ReturnsTo, AsksInterrupt, IsFetched, CarriesCsrs, EntersInterrupt, LacksRightly, StoresInReservedBlock};
 ghost use Rattle.hart_step.specs.Meanings.{LosesAlike, LosesByBytes};
 ghost use Rattle.hart_step.specs.TrapLaws.{executed_at, Raises, IsRaisedIn, LeadsToHandler, HasCause};
 
@@ -27,7 +28,9 @@ pub fn steps_are_framed()
         → (step_of core shown).run other ≡ (step_of core shown).run one }
 {}
 
-/// A row decides nothing but its choices: rows that agree on them give the same step.
+/// A row decides nothing but its choices: rows that agree on them give the same step. What was done
+/// carries control and status registers only where its row shows a column of one: it is the same
+/// but for them, and with them where both rows show one or neither does.
 pub fn rows_decide_choices_alone()
     ensures { (core : Core) (bytes : Bytes) (one other : Shown)
         → RowsDecideAlike core bytes one other }
@@ -83,6 +86,15 @@ pub fn interrupts_are_entered_where_asked()
         → TakesNone core.csrs core.mode (pending_lines_of shown).up }
     ensures lacks { (core : Core) (shown : Shown) (bytes : Bytes) → core.halted ≡ false
         → LacksRightly core shown ((step_of core shown).run bytes).value.expected }
+{}
+
+/// What a hart did carries the control and status registers exactly where its row shows a column of
+/// one: as its instruction finds them, after an interrupt's entry, and as the row leaves them.
+pub fn registers_are_carried_where_shown()
+    ensures { (core : Core) (shown : Shown) (bytes : Bytes) → core.halted ≡ false
+        → CarriesCsrs ((step_of core shown).run bytes).value.expected
+        (csrs_around (shows_csr shown) (before_instruction core shown).csrs
+        (next_of core shown bytes).csrs) }
 {}
 
 /// A step whose instruction raises an exception leads to the handler of S, where the instruction

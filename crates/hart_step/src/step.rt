@@ -1,25 +1,27 @@
 //! The step by one row, in its phases.
 
-ghost use Rattle.std.specs.Prelude.{◌≡◌, true, Err, [], IfOk, IsOk, IsOkAnd, OnOk, OnErr};
+ghost use Rattle.std.specs.Prelude.{◌≡◌, true, Err, None, [], IfOk, IsOk, IsOkAnd, IsSomeAnd, OnOk, OnErr};
 ghost use Rattle.hart_words.specs.Memory.{after_writes};
 ghost use Rattle.hart_words.specs.Actions.{Performs};
 ghost use Rattle.rvfi_rows.specs.Cells.{shown_in};
 ghost use Rattle.rvfi_rows.specs.declared.expected.Expected.TheVariants as expectation;
+ghost use Rattle.csr_file.specs.declared.csrs.Csrs.{Csrs};
 ghost use Rattle.hart_step.specs.declared.state.Core.{Core};
 ghost use Rattle.hart_step.specs.Cores.{IsSound};
 ghost use Rattle.hart_step.specs.Choices.{asks_interrupt};
-ghost use Rattle.hart_step.specs.Steps.{before_instruction, core_after_count, core_after_entry, core_after_interrupt, lacks_interrupt, core_after_run, effects_of, step_of};
+ghost use Rattle.hart_step.specs.Steps.{before_instruction, core_after_count, core_after_entry, core_after_interrupt, lacks_interrupt, core_after_run, csrs_around, effects_of, step_of};
 ghost use Rattle.hart_step.specs.Instructions.{instruction_run};
-ghost use Rattle.hart_step.specs.Changes.{run_by, retired_by, KeepsSound, AreInRam, AreReady};
+ghost use Rattle.hart_step.specs.Changes.{run_by, retired_by, CarriesBefore, KeepsSound, AreInRam, AreReady};
 
 use crate::accesses::Accesses;
 use crate::changes::InstructionNotes;
 use crate::choices::{lines_of, order_after, row_shows};
 use crate::instruction::InstructionOutcome;
 use crate::state::Core;
+use csr_file::Csrs;
 use hart_words::{Cause, NoMemory, PhysMem, Registers, Signal, Write};
 use interrupt_pick::pick;
-use rvfi_rows::{Effects, Expected, Retired, Row, Stepped};
+use rvfi_rows::{CsrsAround, Effects, Expected, Retired, Row, Stepped};
 use trap_entry::enter;
 
 impl Core {
@@ -134,8 +136,7 @@ impl Core {
             insn: None,
             insn_bits: self.choices.insn_bits,
             effects: Err(Cause::IllegalInstruction),
-            csrs_before: self.csrs,
-            csrs_after: self.csrs,
+            csrs: None,
             lines: 0,
         };
         self.retire_by(notes, row, &mut retired);
@@ -157,12 +158,13 @@ impl Core {
         retired.insn = notes.executed.insn();
         retired.insn_bits = self.choices.insn_bits;
         retired.lines = lines_of(row).up;
-        retired.csrs_before = self.csrs;
+        let carries = row.shows_csr();
+        carry_before(&mut retired.csrs, carries, &self.csrs);
         put_registers(&mut retired.effects, &self.registers);
         self.apply(&notes.change);
         put_effects(&mut retired.effects, self, &notes.executed);
         self.finish(&notes.executed, row);
-        retired.csrs_after = self.csrs;
+        carry_after(&mut retired.csrs, carries, &self.csrs);
     }
 
     /// Brings the hart to where the row's instruction finds it, and memory to after that: what is
@@ -410,6 +412,70 @@ fn write_ready<M: PhysMem>(mem: &mut M, writes: &[Write]) -> Result<(), NoMemory
         mem.write(write.pa, write.len, write.value)?;
     }
     Ok(())
+}
+
+/// Puts the control and status registers before an instruction into what it did, where its row
+/// shows a column of one. Elsewhere none are kept from an earlier row.
+fn carry_before(csrs: &mut Option<CsrsAround>, carries: bool, before: &Csrs)
+    ensures { CarriesBefore carries before.now csrs.new }
+{
+    if carries {
+        put_before(csrs, before);
+    } else if csrs.is_some() {
+        forget(csrs);
+    }
+}
+
+/// The registers are large and few rows show such a column, so this is kept apart.
+#[inline(never)]
+fn put_before(csrs: &mut Option<CsrsAround>, before: &Csrs)
+    ensures { IsSomeAnd csrs.new (λ around. around.before ≡ before.now) }
+{
+    if let Some(around) = csrs {
+        around.before = *before;
+    } else {
+        put_csrs_on(csrs, before);
+    }
+}
+
+/// The same where the row before carried none.
+#[inline(never)]
+fn put_csrs_on(csrs: &mut Option<CsrsAround>, before: &Csrs)
+    ensures { IsSomeAnd csrs.new (λ around. around.before ≡ before.now) }
+{
+    *csrs = Some(CsrsAround {
+        before: *before,
+        after: *before,
+    });
+}
+
+/// Kept apart, since it pays for a large local. Most rows have nothing to forget.
+#[inline(never)]
+fn forget(csrs: &mut Option<CsrsAround>)
+    ensures { csrs.new ≡ None }
+{
+    *csrs = None;
+}
+
+/// Puts those after the row beside those before the instruction.
+fn carry_after(csrs: &mut Option<CsrsAround>, carries: bool, after: &Csrs)
+    ensures { (before : Csrs) → CarriesBefore carries before csrs.old
+        → csrs.new ≡ csrs_around carries before after.now }
+{
+    if carries {
+        put_after(csrs, after);
+    }
+}
+
+/// Kept apart, as `put_before` is.
+#[inline(never)]
+fn put_after(csrs: &mut Option<CsrsAround>, after: &Csrs)
+    ensures { (before : Csrs) → IsSomeAnd csrs.old (λ around. around.before ≡ before)
+        → csrs.new ≡ csrs_around true before after.now }
+{
+    if let Some(around) = csrs {
+        around.after = *after;
+    }
 }
 
 /// Puts the registers before an instruction into what it did, where all else is put then.
