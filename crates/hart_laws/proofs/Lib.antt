@@ -3,3 +3,4 @@ pub mod Retired
 pub mod Own
 pub mod Rows
 pub mod Profiles
+pub mod Columns

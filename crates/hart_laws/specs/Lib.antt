@@ -1,3 +1,4 @@
 pub mod Rows
 pub mod Reservations
 pub mod Profiles
+pub mod Columns

@@ -5,7 +5,6 @@ ghost use Rattle.hart_words.specs.declared.accesses.Write.{Write};
 ghost use Rattle.row_origin.specs.Last.{IsNarrow};
 
 use super::*;
-use csr_file::Csrs;
 use elf_image::ElfFault;
 use hart_words::{CsrName, CsrSide, Difference, InsnBits, Mode, Registers, Seen, Signal, Wrote};
 use image_text::{FaultKind, ImageFault};
@@ -169,8 +168,7 @@ fn retired(rs1: u8, rs2: u8, rd: u8, access: Option<Accessed>) -> Expected {
             next_pc: 0x8000_0004,
             access,
         }),
-        csrs_before: Csrs::reset(),
-        csrs_after: Csrs::reset(),
+        csrs: None,
         lines: 0,
     })
 }
