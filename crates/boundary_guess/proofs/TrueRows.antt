@@ -5,6 +5,7 @@ use Rattle.std.specs.Option.{is_some}
 use Rattle.hart_words.specs.declared.signal.Signal.TheVariants.{Intr, PcRdata}
 use Rattle.hart_words.specs.Memory.{Bytes, after_writes}
 use Rattle.hart_words.specs.Signals.{Shown}
+use Rattle.rvfi_rows.specs.Rows.{shows_csr}
 use Rattle.rvfi_rows.specs.declared.expected.Expected.TheVariants as expected
 use Rattle.rvfi_rows.specs.declared.expected.Retired.{Retired as Retirement}
 use Rattle.rvfi_rows.specs.Meanings.{lost_by}
@@ -18,7 +19,7 @@ use Rattle.hart_step.specs.Meanings.{core_meaning}
 use Rattle.hart_step.specs.PlainRows.{core_shown, is_plain, memory_shown}
 use Rattle.hart_step.specs.TakenRows.{writes_shown}
 use Rattle.hart_step.specs.Steps.{before_instruction, core_after_count, effects_of, expected_of, core_after_run}
-use Rattle.hart_step.specs.Steps.{insn_of, interrupt_of, lacks_interrupt, step_of}
+use Rattle.hart_step.specs.Steps.{csrs_around, insn_of, interrupt_of, lacks_interrupt, step_of}
 use Rattle.hart_step.proofs.Phases.{begun_kept, expected_running, next_running, wrote_running}
 use Rattle.hart_step.proofs.LostAlike.{loses_alike}
 use Rattle.boundary_guess.specs.Truth.{ShowsChanges}
@@ -51,8 +52,7 @@ retirement core shown done = record {
   insn = insn_of done.executed;
   insn_bits = core.choices.insn_bits;
   effects = effects_of (before_instruction core shown) done.core done.executed;
-  csrs_before = (before_instruction core shown).csrs;
-  csrs_after = (core_after_run done shown).csrs;
+  csrs = csrs_around (shows_csr shown) (before_instruction core shown).csrs (core_after_run done shown).csrs;
   lines = (pending_lines_of shown).up;
 }
 
