@@ -10,7 +10,7 @@ use Rattle.std.proofs.lemmas.Bool.Decides.{eqb_tells}
 use Rattle.hart_words.specs.declared.signal.Signal.{Signal}
 use Rattle.hart_words.specs.Signals.{index_of}
 use Rattle.rvfi_rows.specs.declared.row.Row.{Row}
-use Rattle.rvfi_rows.specs.Cells.{shown_in}
+use Rattle.rvfi_rows.specs.Cells.{shown_by, shown_in}
 use Rattle.rvfi_rows.specs.Rows.{nothing, with_shown}
 
 -- what the bit and the value at an index show
@@ -70,16 +70,29 @@ cell_after shown values index value other within few = elim (eqb_tells other ind
   | inr differs ↦ rw differs.0 (cell_other shown values index value other few differs.1)
 ]
 
-pub shows_more : (row now : Row) (signal : Signal) {index : ℕ} (value : ℕ) → index ≡ index_of signal → index < 111
-    → now.shown ≡ bit_or row.shown (1 * 2 ^ index % 2 ^ 128) → now.values ≡ slice_set row.values index value
-    → shown_in now ≡ with_shown (shown_in row) signal value
-unfolding shown_in
-shows_more row now signal {index} value is below shown values =
-    let within : index < length row.values = omega (arith, row.full) in
+pub shows_more : (shown : ℕ) (values : List ℕ) (signal : Signal) {index bit : ℕ} (value : ℕ) → length values ≡ 256
+    → index ≡ index_of signal → index < 111 → bit ≡ 1 * 2 ^ index % 2 ^ 128
+    → shown_by (bit_or shown bit) (slice_set values index value) ≡ with_shown (shown_by shown values) signal value
+unfolding shown_by
+shows_more shown values signal {index} {bit} value full is below bit_is =
+    let within : index < length values = omega (arith, full) in
     fun_ext (λ (other : Signal).
-    ap (λ n. cell_in (bit_at n (index_of other)) (slice_index now.values (index_of other))) shown
-    ∙ ap (λ v. cell_in (bit_at (bit_or row.shown (1 * 2 ^ index % 2 ^ 128)) (index_of other))
-    (slice_index v (index_of other))) values
-    ∙ cell_after row.shown row.values index value (index_of other) within (omega arith)
-    ∙ ap (λ i. if index_of other == i then Some value else cell_in (bit_at row.shown (index_of other))
-    (slice_index row.values (index_of other))) is)
+    ap (λ b. cell_in (bit_at (bit_or shown b) (index_of other))
+    (slice_index (slice_set values index value) (index_of other))) bit_is
+    ∙ cell_after shown values index value (index_of other) within (omega arith)
+    ∙ ap (λ i. if index_of other == i then Some value else cell_in (bit_at shown (index_of other))
+    (slice_index values (index_of other))) is)
+
+pub none_shown : (values : List ℕ) → shown_by 0 values ≡ nothing
+unfolding shown_by
+none_shown values =
+    fun_ext (λ (signal : Signal). ap (λ b. cell_in b (slice_index values (index_of signal))) (bit_at-zero (index_of signal)))
+
+-- a row shows what its bits and values say
+pub by_its_bits : (row : Row) (shown : ℕ) (values : List ℕ) → row.shown ≡ shown → row.values ≡ values
+    → shown_in row ≡ shown_by shown values
+unfolding shown_in shown_by
+by_its_bits row shown values bits are =
+    fun_ext (λ (signal : Signal).
+    ap (λ b. cell_in (bit_at b (index_of signal)) (slice_index row.values (index_of signal))) bits
+    ∙ ap (λ v. cell_in (bit_at shown (index_of signal)) (slice_index v (index_of signal))) are)

@@ -141,11 +141,6 @@ abbrev pub row_fault : RowError → Option RowFault
 row_fault errors.NoMemory = None
 row_fault (errors.Fault fault) = Some fault
 
--- a row shows what a field shows besides, unless the field is refused
-abbrev pub Adds : Shown → Shown → Result (Unit {0}) RowFault → Result Shown RowFault → Type 0
-Adds before now (Ok done) shown = (shown >>= λ more. Ok (shown_then before more)) ≡ Ok now
-Adds before now (Err fault) shown = shown ≡ Err fault
-
 -- what is shown, where a row is valid
 abbrev pub shown_if : Shown → Bool → Option Shown
 shown_if shown true = Some shown

@@ -146,13 +146,14 @@ fn fill_cells(known: &PortColumns, fields: &Fields, row: &mut Row) -> Result<(),
     ensures { result_view (λ done. shown_in row.new) result
         ≡ cells_at known.now.placed.items fields.now }
 {
-    row.clear();
+    let mut shown = 0;
     for index in 0..known.cells.len() {
         let one = &known.cells[index];
         if let Some(field) = fields.untrimmed(one.placed.place) {
-            row.add(one, field)?;
+            shown = row.add(shown, one, field)?;
         }
     }
+    row.show(shown);
     Ok(())
 }
 

@@ -1,6 +1,6 @@
 //! What a row of a trace shows.
 
-ghost use Rattle.std.specs.Prelude.{◌≡◌, ◌≤◌, ◌<◌, ◌+◌, ◌++◌, ◌^◌, List, Some, length, map, nat_lt, slice_index, vec_capacity, vec_len, ℕ};
+ghost use Rattle.std.specs.Prelude.{◌≡◌, ◌≤◌, ◌<◌, ◌+◌, ◌++◌, ◌^◌, IfOk, List, Some, length, map, nat_lt, slice_index, vec_capacity, vec_len, ℕ};
 ghost use Rattle.hart_words.specs.declared.signal.Signal.{Signal};
 ghost use Rattle.hart_words.specs.Signals.{index_of};
 
@@ -24,9 +24,9 @@ pub struct Row {
 }
 
 impl Row {
-    ghost use Rattle.rvfi_rows.specs.Cells.{AreOf, shown_in, values_of, with_bits};
+    ghost use Rattle.rvfi_rows.specs.Cells.{Adds, AreOf, shown_by, shown_in, values_of, with_bits};
     ghost use Rattle.csv_line.specs.Fields.{trimmed_of};
-    ghost use Rattle.rvfi_rows.specs.Rows.{Adds, HasCsrBits, field_shown, hart_of, nothing, shows_csr, with_shown};
+    ghost use Rattle.rvfi_rows.specs.Rows.{HasCsrBits, field_shown, hart_of, nothing, shows_csr, with_shown};
 
     /// A row that shows nothing.
     pub fn empty() -> Row
@@ -81,33 +81,39 @@ impl Row {
         self.shown >> FIRST_CSR
     }
 
-    /// Shows nothing.
-    pub(crate) fn clear(&mut self)
-        ensures { shown_in self.new ≡ nothing }
-    {
-        self.shown = 0;
-    }
-
-    /// Shows a value of a column's signal, in place of the one shown before, if any.
-    fn show(&mut self, cell: &Cell, value: u64)
-        ensures { shown_in self.new
-            ≡ with_shown (shown_in self.old) cell.now.placed.column.signal value }
-    {
-        self.shown |= cell.bit;
-        self.values[usize::from(cell.index)] = value;
-    }
-
-    /// Adds what a field shows under its column, the blanks at its ends apart.
+    /// Puts what a field shows under its column, the blanks at its ends apart, among the values.
+    /// Gives the bits of what was shown and is shown now.
     #[inline(always)]
     #[tactic(auto, unfolding(crate::specs::Rows::field_shown))]
-    pub(crate) fn add(&mut self, cell: &Cell, field: &[u8]) -> Result<(), RowFault>
-        ensures { Adds (shown_in self.old) (shown_in self.new) result
+    pub(crate) fn add(&mut self, shown: u128, cell: &Cell, field: &[u8]) -> Result<u128, RowFault>
+        ensures adds { Adds (shown_by shown self.old.values) self.new.values result
             (field_shown (Some cell.now.placed.column) (trimmed_of field.now)) }
+        ensures within { IfOk result (λ now. shown < 2 ^ 111 → now < 2 ^ 111) }
     {
-        if let Some(value) = cell.shown(field)? {
-            self.show(cell, value);
+        match cell.shown(field)? {
+            None => Ok(shown),
+            Some(value) => Ok(self.put(shown, cell, value)),
         }
-        Ok(())
+    }
+
+    /// Puts a value of a column's signal in place of the one before. Gives the bits of what was
+    /// shown and is shown now.
+    #[inline(always)]
+    fn put(&mut self, shown: u128, cell: &Cell, value: u64) -> u128
+        ensures shown { shown_by result self.new.values
+            ≡ with_shown (shown_by shown self.old.values) cell.now.placed.column.signal value }
+        ensures within { shown < 2 ^ 111 → result < 2 ^ 111 }
+    {
+        self.values[usize::from(cell.index)] = value;
+        shown | cell.bit
+    }
+
+    /// Shows the signals of these bits, with the values that are there.
+    pub(crate) fn show(&mut self, shown: u128)
+        requires { shown < 2 ^ 111 }
+        ensures { shown_in self.new ≡ shown_by shown self.old.values }
+    {
+        self.shown = shown;
     }
 
     /// The bits of the signals that are shown.
