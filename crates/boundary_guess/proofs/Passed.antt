@@ -1,24 +1,27 @@
 -- Guesses after one row and one segment more.
 use Rattle.std.proofs.Common.{◌≡◌, ℕ, zero, suc, ◌+◌, ◌≤◌, ◌==◌, List, [], ◌∷◌, ◌++◌, length, drop, map, slice_get}
 use Rattle.std.proofs.Common.{option_map, Some, Bool, true, false, if◌then◌else◌, refl, sym, ap, ◌∙◌, arith, add-one}
-use Rattle.std.proofs.Common.{append_assoc, subst}
+use Rattle.std.proofs.Common.{append_assoc, subst, None, Ok, Err}
 use Rattle.std.proofs.lemmas.List.{drop_all, length-map, map-append}
 use Rattle.std.proofs.lemmas.List.Elements.{All-append, All-cons, All-nil}
 use Rattle.std.proofs.lemmas.Option.{slice_get-map}
 use Rattle.std.specs.List.{All}
 use Rattle.hart_words.specs.declared.span.Span.{Span}
 use Rattle.hart_words.specs.Memory.{Bytes}
+use Rattle.hart_words.specs.Signals.{Shown}
 use Rattle.rvfi_rows.specs.declared.segment.Segment.{Segment}
+use Rattle.rvfi_rows.specs.Readings.{valid_shown}
 use Rattle.rvfi_rows.specs.Segments.{segment_lines}
 use Rattle.rvfi_rows.specs.Columns.{TraceColumns}
 use Rattle.rvfi_rows.specs.Rows.{RowReading, rows_of}
 use Rattle.hart_set.specs.declared.set.HartSet.{HartSet}
-use Rattle.hart_set.specs.Calls.{CanStep}
+use Rattle.hart_set.specs.Calls.{CanStep, TakesQuietRow}
 use Rattle.hart_step.specs.declared.state.Core.{Core}
 use Rattle.hart_step.specs.Cores.{IsSound}
-use Rattle.hart_step.specs.HartSets.{SetState}
+use Rattle.hart_step.specs.HartSets.{SetState, set_after_row}
 use Rattle.hart_step.specs.Meanings.{core_meaning}
-use Rattle.boundary_guess.specs.Guesses.{SetCanStep, PassesReading, guess_after, guesses_of, set_state_of}
+use Rattle.boundary_guess.specs.Guesses.{SetCanStep, PassesReading, guess_after, guess_after_row, guesses_of}
+use Rattle.boundary_guess.specs.Guesses.{set_state_of, state_shown}
 
 drop_from : {A : Type 0} (xs : List A) (i : ℕ) (x : A) → Some x ≡ slice_get xs i → drop i xs ≡ x ∷ drop (suc i) xs
 drop_from [] i x is = absurd cc
@@ -154,3 +157,44 @@ all_push P items item all one = All-append P items (item ∷ []) all (All-cons P
 pub is_some_length : (count : ℕ) → (count == 0) ≡ false → 1 ≤ count
 is_some_length zero is = absurd cc
 is_some_length (suc count) is = omega arith
+
+-- ---- a row that is passed with few looks, and one that is not
+
+quiet_passes : {M : Type 0} (bytes : M → Bytes) (before now : HartSet Core M) (shown : Shown)
+    → TakesQuietRow core_meaning before.cores.items shown now.cores.items → bytes now.mem ≡ bytes before.mem
+    → PassesReading (set_state_of bytes before) (Ok (Some shown)) true (set_state_of bytes now)
+unfolding guess_after guess_after_row
+quiet_passes bytes before now shown quiet mem = λ rest.
+    let done = quiet.taken (bytes before.mem) in
+    let state = set_state_of bytes before in
+    let taken : state_shown state shown ≡ set_state_of bytes now =
+    sym (rw (done.value_is, mem ∙ done.bytes_are) refl) in
+    ap (λ test. guess_after (if test then state_shown state shown else set_after_row state shown) rest) quiet.plain
+    ∙ ap (λ after. guess_after after rest) taken
+
+is_valid : (reading : RowReading) (shown : Shown) → Some shown ≡ valid_shown (Some reading)
+    → Ok (Some shown) ≡ reading
+is_valid (Err fault) shown is = absurd cc
+is_valid (Ok None) shown is = absurd cc
+is_valid (Ok (Some other)) shown is =
+    let same : shown ≡ other = cc in
+    ap (λ (one : Shown). Ok (Some one)) same
+
+pub quiet_passes_there : {M : Type 0} (bytes : M → Bytes) (before now : HartSet Core M) (shown : Shown)
+    (rows : List RowReading) (place : ℕ) → Some shown ≡ valid_shown (slice_get rows place)
+    → TakesQuietRow core_meaning before.cores.items shown now.cores.items → bytes now.mem ≡ bytes before.mem
+    → (reading : RowReading) → Some reading ≡ slice_get rows place
+    → PassesReading (set_state_of bytes before) reading true (set_state_of bytes now)
+quiet_passes_there bytes before now shown rows place valid quiet mem = λ reading there.
+    let is : Ok (Some shown) ≡ reading = is_valid reading shown (valid ∙ ap valid_shown (sym there)) in
+    subst (λ (r : RowReading). PassesReading (set_state_of bytes before) r true (set_state_of bytes now)) is
+    (quiet_passes bytes before now shown quiet mem)
+
+pub slow_passes : (before same now : SetState) (rows : List RowReading) (place : ℕ) (row : RowReading) (goes_on : Bool)
+    → same ≡ before → Some row ≡ slice_get rows place → PassesReading same row goes_on now
+    → (reading : RowReading) → Some reading ≡ slice_get rows place → PassesReading before reading goes_on now
+slow_passes before same now rows place row goes_on is here passes = λ reading there.
+    let both : Some row ≡ Some reading = here ∙ sym there in
+    let one : row ≡ reading = cc in
+    subst (λ (r : RowReading). PassesReading before r goes_on now) one
+    (subst (λ (state : SetState). PassesReading state row goes_on now) is passes)

@@ -1,10 +1,10 @@
 //! Guessing the harts' state between segments.
 
-ghost use Rattle.std.specs.Prelude.{◌≡◌, IfOk, OnOk, map};
+ghost use Rattle.std.specs.Prelude.{◌≡◌, ◌<◌, IfOk, OnOk, Some, false, length, map, slice_get, true};
 ghost use Rattle.std.specs.List.{All};
 ghost use Rattle.rvfi_rows.specs.Cells.{shown_in};
 ghost use Rattle.rvfi_rows.specs.Readings.{reading_of, readings_in};
-ghost use Rattle.rvfi_rows.specs.Rows.{rows_of};
+ghost use Rattle.rvfi_rows.specs.Rows.{RowReading, rows_of};
 ghost use Rattle.rvfi_rows.specs.Segments.{segment_lines};
 ghost use Rattle.boundary_guess.specs.Guesses.{SetCanStep, PassesReading, guess_after, guess_after_row, guesses_of, set_state_of};
 ghost use Rattle.hart_step.specs.HartSets.{set_after_row};
@@ -79,15 +79,53 @@ fn pass_rows<M: PhysMem + Drop>(
     ensures can_step { SetCanStep M.ram harts.new }
 {
     for place in 0..rows.len() {
-        let reading = match rows.get(place, row) {
-            None => unreachable!(),
-            Some(reading) => reading,
-        };
-        if !pass_reading(harts, reading, row)? {
+        if !pass_place(harts, rows, place, row)? {
             return Ok(());
         }
     }
     Ok(())
+}
+
+/// Takes the guess past the row at a place; `row` is used for that. Of most rows few values are
+/// looked at, and only of the others all are put into `row`. Whether the guess goes on after it.
+fn pass_place<M: PhysMem + Drop>(
+    harts: &mut Harts<M>,
+    rows: &Rows,
+    place: usize,
+    row: &mut Row,
+) -> Result<bool, NoMemory>
+    requires can { SetCanStep M.ram harts.old }
+    requires there { place < length (readings_in rows.now) }
+    ensures passes { IfOk result (λ goes_on. (reading : RowReading)
+        → Some reading ≡ slice_get (readings_in rows.now) place
+        → PassesReading (set_state_of M.bytes harts.old) reading goes_on
+        (set_state_of M.bytes harts.new)) }
+    ensures can_step { SetCanStep M.ram harts.new }
+{
+    if take_quiet(harts, rows, place) {
+        return Ok(true);
+    }
+    match rows.get(place, row) {
+        None => unreachable!(),
+        Some(reading) => pass_reading(harts, reading, row),
+    }
+}
+
+/// Takes the guess past the row at a place where few looks suffice; else nothing changes. Whether
+/// it is so.
+fn take_quiet<M: PhysMem + Drop>(harts: &mut Harts<M>, rows: &Rows, place: usize) -> bool
+    requires { SetCanStep M.ram harts.old }
+    ensures passes { result ≡ true → (reading : RowReading)
+        → Some reading ≡ slice_get (readings_in rows.now) place
+        → PassesReading (set_state_of M.bytes harts.old) reading true
+        (set_state_of M.bytes harts.new) }
+    ensures kept { result ≡ false → set_state_of M.bytes harts.new ≡ set_state_of M.bytes harts.old }
+    ensures can_step { SetCanStep M.ram harts.new }
+{
+    match rows.kept_row(place) {
+        None => false,
+        Some(row) => harts.take_quiet(&row),
+    }
 }
 
 /// Takes the guess past one row, which reads so; `row` shows what it shows where it is valid.
