@@ -142,7 +142,8 @@ where
 /// for. A part has twelve, or a fifth of the window where that is more, and no more than a third of
 /// it, whatever the number of workers, so that what is held does not grow with them. Where guesses
 /// may be wrong it has one a worker, or three where these are fewer: enough for wrong ones to show,
-/// and no more, since those after the first wrong one are made in vain.
+/// and no more, since those after the first wrong one are made in vain. For a single worker it has
+/// one: the state before it is known, so that none is guessed.
 fn asked_after<R, G>(workers: &Workers<R, G>, job: &Job, lookahead: &Lookahead) -> Asked
     requires lawful { IsLawful (job_view job.now) }
     requires within_window { segments_ahead lookahead.now ≤ job.now.sharing.window }
@@ -153,7 +154,9 @@ fn asked_after<R, G>(workers: &Workers<R, G>, job: &Job, lookahead: &Lookahead) 
 {
     let window = job.sharing.window;
     let whole = (window / 5).max(SEGMENTS_OF_A_PART).min((window + 2) / 3);
-    let part = if lookahead.is_unsure {
+    let part = if workers.count == 1 {
+        1
+    } else if lookahead.is_unsure {
         whole.min((workers.count as usize).max(3))
     } else {
         whole

@@ -568,10 +568,10 @@ fn judges_side_by_side(rt: HostRuntime) -> Result<(), Fail> {
 /// Most lines of a segment, most segments of a window, and workers, by which a part of 400 rows or
 /// more has more than 64 segments.
 const MANY: [[&str; 3]; 4] = [
-    ["1", "1024", "1"],
+    ["1", "1024", "2"],
     ["1", "1024", "3"],
-    ["1", "400", "1"],
-    ["2", "1024", "1"],
+    ["1", "400", "2"],
+    ["2", "1024", "2"],
 ];
 
 /// A part may have more than 64 segments, whoever reads them.
