@@ -119,7 +119,8 @@ fn take_quiet<M: PhysMem + Drop>(harts: &mut Harts<M>, rows: &Rows, place: usize
         → Some reading ≡ slice_get (readings_in rows.now) place
         → PassesReading (set_state_of M.bytes harts.old) reading true
         (set_state_of M.bytes harts.new) }
-    ensures kept { result ≡ false → set_state_of M.bytes harts.new ≡ set_state_of M.bytes harts.old }
+    ensures kept { result ≡ false
+        → set_state_of M.bytes harts.new ≡ set_state_of M.bytes harts.old }
     ensures can_step { SetCanStep M.ram harts.new }
 {
     match rows.kept_row(place) {

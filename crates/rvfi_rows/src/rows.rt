@@ -149,7 +149,8 @@ impl Rows {
     /// The row at a place as it is kept, where it is valid.
     #[inline]
     pub fn kept_row(&self, place: usize) -> Option<KeptRow<'_>>
-        ensures { option_map kept_shown result ≡ valid_shown (slice_get (readings_in self.now) place) }
+        ensures { option_map kept_shown result
+            ≡ valid_shown (slice_get (readings_in self.now) place) }
     {
         match kept_at(&self.rows, place) {
             None => None,
