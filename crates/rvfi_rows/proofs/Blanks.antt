@@ -1,6 +1,6 @@
 -- No blank stands in a number, so that a field which writes one is trimmed already.
-use Rattle.std.proofs.Common.{◌≡◌, ◌∙◌, ap, refl, subst, sym, ℕ, zero, ◌+◌, ◌-◌, ◌<◌, ◌≤◌, ◌==◌, ◌&&◌, ◌||◌, not, Bool, true, false}
-use Rattle.std.proofs.Common.{List, [], ◌∷◌, arith, drop, get_or, length, Option, Some, None, inl, inr}
+use Rattle.std.proofs.Common.{◌≡◌, ◌∙◌, ap, refl, subst, sym, ℕ, ◌+◌, ◌-◌, ◌<◌, ◌≤◌, ◌==◌, ◌&&◌, not, Bool, true, false}
+use Rattle.std.proofs.Common.{List, [], ◌∷◌, arith, drop, get_or, length, Some, None, inl, inr}
 use Rattle.std.specs.Prelude.{if◌then◌else◌, slice_index}
 use Rattle.std.specs.List.{list_all}
 use Rattle.std.specs.Char.{digit_value, is_digit}
@@ -70,7 +70,8 @@ hexadecimal text begins number =
     let same : get_or (drop 2 text) (length text - 3) 0 ≡ get_or text (length text - 1) 0 =
     get_or-drop 2 text (length text - 3) 0 ∙ ap (λ i. get_or text i 0) at_end in
     let last : is_space_or_tab (get_or text (length text - 1) 0) ≡ false =
-    subst (λ byte. is_space_or_tab byte ≡ false) same (no_blank_at 16 (drop 2 text) (length text - 3) (omega arith) number within) in
+    subst (λ byte. is_space_or_tab byte ≡ false) same
+    (no_blank_at 16 (drop 2 text) (length text - 3) (omega arith) number within) in
     trimmed_already text (omega arith) first last
 
 pub number_is_trimmed : (text : List ℕ) (value : ℕ) → number_of text ≡ Some value → trimmed_of text ≡ text

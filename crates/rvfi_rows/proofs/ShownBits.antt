@@ -86,7 +86,8 @@ shows_more shown values signal {index} {bit} value full is below bit_is =
 pub none_shown : (values : List ℕ) → shown_by 0 values ≡ nothing
 unfolding shown_by
 none_shown values =
-    fun_ext (λ (signal : Signal). ap (λ b. cell_in b (slice_index values (index_of signal))) (bit_at-zero (index_of signal)))
+    fun_ext
+    (λ (signal : Signal). ap (λ b. cell_in b (slice_index values (index_of signal))) (bit_at-zero (index_of signal)))
 
 -- a row shows what its bits and values say
 pub by_its_bits : (row : Row) (shown : ℕ) (values : List ℕ) → row.shown ≡ shown → row.values ≡ values

@@ -20,17 +20,17 @@ loop-index-preserved c =
     let within : c.loop-index.index < length known.cells.items = omega arith in
     elim c.match-untrimmed.branch [
       | in-Some+in_ok-shown w ↦ rw (w.row-is, w.shown-is) (record {
-          front =
-              cell-next known c.args.fields.now c.loop-index.index c.index-one.result.now front within c.index-one.ensures
-              w.in-Some.ensures w.in_ok-shown.ensures.adds c.loop-index.invariant.front;
-          within = w.in_ok-shown.ensures.within c.loop-index.invariant.within;
-        })
+        front =
+            cell-next known c.args.fields.now c.loop-index.index c.index-one.result.now front within c.index-one.ensures
+            w.in-Some.ensures w.in_ok-shown.ensures.adds c.loop-index.invariant.front;
+        within = w.in_ok-shown.ensures.within c.loop-index.invariant.within;
+      })
       | in_default w ↦ rw (w.row-is, w.shown-is) (record {
-          front =
-              cell-skip known c.args.fields.now c.loop-index.index c.index-one.result.now front within c.index-one.ensures
-              w.in_default.ensures c.loop-index.invariant.front;
-          within = c.loop-index.invariant.within;
-        })
+        front =
+            cell-skip known c.args.fields.now c.loop-index.index c.index-one.result.now front within c.index-one.ensures
+            w.in_default.ensures c.loop-index.invariant.front;
+        within = c.loop-index.invariant.within;
+      })
     ]
 
 pub returns : goal.returns
