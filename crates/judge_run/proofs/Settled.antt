@@ -2,7 +2,7 @@
 use Rattle.std.proofs.Common.{◌≡◌, ℕ, zero, suc, Bool, ◌+◌, ◌-◌, ◌^◌, ◌<◌, ◌≤◌, ◌⊎◌, inl, inr, true, List, [], ◌∷◌, drop}
 use Rattle.std.proofs.Common.{length}
 use Rattle.std.proofs.Common.{map, take, Option, Some, None, option_map, Result, Ok, Err, IfOk, IfSome, refl, sym, ap}
-use Rattle.std.proofs.Common.{ap₂, ◌∙◌, subst, arith}
+use Rattle.std.proofs.Common.{ap₂, ◌∙◌, append-nil, subst, arith}
 use Rattle.std.specs.List.{All, flat_map}
 use Rattle.std.proofs.lemmas.List.{length-append, length-drop, length-map, take-append-drop, take_all}
 use Rattle.std.proofs.lemmas.List.Concat.{flat_map-append}
@@ -24,6 +24,7 @@ use Rattle.boundary_guess.specs.Truth.{SetNoMarks, ShowChanges}
 use Rattle.row_origin.specs.declared.history.History.{History}
 use Rattle.segment_judge.specs.declared.found.Found.{Found}
 use Rattle.segment_judge.specs.declared.judged.Judged.{Judged as JudgedSegment}
+use Rattle.segment_judge.specs.Judged.{IsJudgement, IsUsable}
 use Rattle.segment_judge.specs.Judgements.{by_set, verdict_after_rows}
 use Rattle.segment_judge.specs.Laws.{Conclusion, conclusion_after_end, conclusion_from, verdict_of_both}
 use Rattle.segment_judge.proofs.Parts.{counted_twice, uncounted}
@@ -675,3 +676,28 @@ settled_by_rounds {M} {E} {bytes_of} {ram_of} {columns} {segments} {start} {befo
         → joined.rejudged ≤ length segments
     by few (inl is) = omega (arith, few, is)
     by few (inr is) = omega (arith, few, is)
+
+-- ---- a part of one segment, judged from the state before it
+
+pub one_segment : (segment : Segment) → flat_map segment_lines (segment ∷ []) ≡ segment_lines segment
+one_segment segment = append-nil (segment_lines segment)
+
+pub settled_alone : {M : Type 0} {bytes_of : M → Bytes} {ram_of : M → Span} {ram : Span} {columns : TraceColumns}
+    (segment : Segment) {start : SetState} {judged : JudgedSegment M} (joined : JoinedSegments M)
+    → joined.verdict ≡ judged.verdict → joined.end ≡ judged.end → joined.rejudged ≡ 0
+    → IsJudgement bytes_of start (rows_of columns (segment_lines segment)) judged → IsUsable ram_of ram judged
+    → IsSettled bytes_of ram_of columns (segment ∷ []) start joined
+unfolding conclusion_from
+settled_alone {M} {bytes_of} {ram_of} {ram} {columns} segment {start} {judged} joined verdict end none is usable =
+    let all : rows_of columns (segment_lines segment) ≡ rows_of columns (flat_map segment_lines (segment ∷ [])) =
+    ap (rows_of columns) (sym (one_segment segment)) in
+    record {
+      verdict = verdict ∙ is.verdict ∙ ap (λ rows. (conclusion_from by_set start rows).verdict) all;
+      end =
+          ap (option_map (set_state_of bytes_of)) end
+          ∙ is.end
+          ∙ ap (λ rows. (conclusion_from by_set start rows).end) all;
+      can_step = subst (λ end. IfSome end (SetCanStep ram_of)) (sym end) usable.end;
+      again = omega (arith, none);
+      once = λ marks shows. none;
+    }

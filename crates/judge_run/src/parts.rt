@@ -1,6 +1,6 @@
 //! Settling the segments of a part, while those after it are read and taken.
 
-ghost use Rattle.std.specs.Prelude.{◌≡◌, ◌≤◌, ◌<◌, ◌+◌, ◌^◌, IfOk, IfSome, IsSome, length, string_bytes};
+ghost use Rattle.std.specs.Prelude.{◌≡◌, ◌≤◌, ◌<◌, ◌+◌, ◌^◌, [], ◌∷◌, IfOk, IfSome, IsSome, length, string_bytes};
 ghost use Rattle.std.specs.List.{flat_map};
 ghost use Rattle.hart_step.specs.HartSets.{SetCanStep, set_state_of};
 ghost use Rattle.judge_words.specs.Job.{IsLawful, job_view};
@@ -24,11 +24,12 @@ use judge_words::Job;
 use outside_ports::{Gate, Shelf};
 use row_origin::{History, follow};
 use rvfi_rows::{Columns, RowCounts, Segment, read_segments};
+use segment_judge::{Judged, judge_from};
 use segment_workers::Steps;
 use std::alloc::Global;
 use std::marker::Brand;
 use std::sync::ledger::{Blank, Ledger};
-use std::thread::{Threads, join_mut};
+use std::thread::{Threads, join_mut, yield_now};
 use trace_lines::{LineError, LineTaker};
 use verdict_join::Joined;
 
@@ -111,7 +112,7 @@ where
         requires { IsSome start × (IfSome start (CanSettle M.ram columns.now current.now)
             × ((length current.now < 2 ^ 32) × (line_count_of current.now < 2 ^ 60))) }
     { settle_from(workers, columns, current, &mut start) };
-    let mut take = || take_from(workers.alloc, job, asked, &mut from, shelf);
+    let mut take = || take_from(workers, job, asked, &mut from, shelf);
     let (read, settled, taken) = all_at_once(workers, &mut read, &mut settle, &mut take);
     let (taken, taker) = match taken {
         Ok(taken) => taken,
@@ -237,9 +238,10 @@ fn read_from<R: Threads + Sync, G: Gate>(
     }
 }
 
-/// Takes segments by a taker, which is taken out of its place.
-fn take_from<H: Shelf>(
-    alloc: Global,
+/// Takes segments by a taker, which is taken out of its place. Threads that were made before go
+/// first: the one that was made first mostly waits on the processor of its maker.
+fn take_from<R, G, H: Shelf>(
+    workers: &Workers<R, G>,
     job: &Job,
     asked: Asked,
     from: &mut Option<LineTaker>,
@@ -261,9 +263,12 @@ fn take_from<H: Shelf>(
         CountsMiss is_read_fault result (H.known_files shelf.old) (string_bytes taker.name)
         (H.misses shelf.old) (H.misses shelf.new)) }
 {
+    if workers.count != 1 {
+        yield_now();
+    }
     match from.take() {
         None => unreachable!(),
-        Some(taker) => take_after(alloc, job, asked, taker, shelf),
+        Some(taker) => take_after(workers.alloc, job, asked, taker, shelf),
     }
 }
 
@@ -301,15 +306,68 @@ where
         counts,
         mut history,
     } = reached;
-    let blank = Blank::new(1);
-    let mut joined = settle_from_blank::<R, G, M, Brand>(workers, harts, columns, part, blank)?;
+    let mut joined = settle_by_workers(workers, harts, columns, part)?;
     follow(&mut history, &joined.history, counts.rows)?;
     joined.history = history;
     Ok(joined)
 }
 
-/// Settles a part from the harts before it, with rounds counted from a blank. Nobody asks for the
-/// count.
+/// Settles a part from the harts before it by these workers. Nobody asks how often they were sent
+/// out.
+fn settle_by_workers<R, G: Gate, M: PhysMem + Drop + Send + Sync>(
+    workers: &Workers<R, G>,
+    start: Harts<M>,
+    columns: &Columns,
+    part: &[Segment],
+) -> Result<Joined<M>, NoMemory>
+where
+    R: Threads + Sync,
+    requires can_step { SetCanStep M.ram start }
+    requires below_2_to_32 { length part.now < 2 ^ 32 }
+    requires lines { line_count_of part.now < 2 ^ 60 }
+    ensures settled { IfOk result
+        (IsSettled M.bytes M.ram columns.now part.now (set_state_of M.bytes start)) }
+    ensures history { IfOk result (λ joined. IsKept workers.now.origin
+        (part_history M.bytes columns.now part.now start) joined.history) }
+{
+    match part {
+        [segment] if workers.count == 1 => judge_alone(workers, start, columns, segment),
+        _ => {
+            let blank = Blank::new(1);
+            settle_from_blank::<R, G, M, Brand>(workers, start, columns, part, blank)
+        }
+    }
+}
+
+/// Judges the one segment of a part from the harts before it, for a single worker: these are known,
+/// so that there is no guess to make, to meet or to move a verdict from.
+fn judge_alone<R, G: Gate, M: PhysMem + Drop>(
+    workers: &Workers<R, G>,
+    start: Harts<M>,
+    columns: &Columns,
+    segment: &Segment,
+) -> Result<Joined<M>, NoMemory>
+    requires can_step { SetCanStep M.ram start }
+    ensures settled { IfOk result (IsSettled M.bytes M.ram columns.now
+        (segment.now ∷ []) (set_state_of M.bytes start)) }
+    ensures history { IfOk result (λ joined. IsKept workers.now.origin
+        (part_history M.bytes columns.now (segment.now ∷ []) start) joined.history) }
+{
+    let Judged {
+        verdict,
+        end,
+        history,
+        ..
+    } = judge_from(workers.alloc, start, columns, segment, workers.origin)?;
+    Ok(Joined {
+        verdict,
+        end,
+        rejudged: 0,
+        history,
+    })
+}
+
+/// Settles a part from the harts before it, with rounds counted from a blank.
 fn settle_from_blank<R, G: Gate, M: PhysMem + Drop + Send + Sync, L: Ledger>(
     workers: &Workers<R, G>,
     start: Harts<M>,
