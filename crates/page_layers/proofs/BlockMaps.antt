@@ -2,7 +2,7 @@
 use Rattle.std.proofs.Common.{◌≡◌, ℕ, suc, All, ◌+◌, ◌/◌, ◌%◌, ◌^◌, ◌<◌, ◌≤◌, ◌⊎◌, true, false, Bool, cond, Option}
 use Rattle.std.proofs.Common.{Some, None, is_some, option_map, unwrap_or, List, [], ◌∷◌, refl, sym, ap, ◌∙◌, subst, inl}
 use Rattle.std.proofs.Common.{inr, arith, if◌then◌else◌}
-use Rattle.std.specs.Prelude.{◌==◌, nat_eq, nat_lt, Result, Ok, Err, OnErr}
+use Rattle.std.specs.Prelude.{◌==◌, nat_eq, nat_lt, Result, Ok, Err, OnErr, OnOk}
 use Rattle.std.specs.HashMap.{get}
 use Rattle.std.specs.List.{AllZip}
 use Rattle.std.specs.Option.{option_or}
@@ -78,12 +78,12 @@ numbers_stay before after key old new was sets q = elim (cases_eq q key) [
   | inr apart ↦ ap is_some (sets q) ∙ rw (eq_other q key apart) refl
 ]
 
-stored-congr : (pa len value at : ℕ) (one other : Bytes) → one at ≡ other at
+pub stored-congr : (pa len value at : ℕ) (one other : Bytes) → one at ≡ other at
     → bytes_after_store pa len value one at ≡ bytes_after_store pa len value other at
 unfolding bytes_after_store
 stored-congr pa len value at one other same = rw same refl
 
-outside : (pa len at : ℕ) → pa % 64 + len ≤ 64 → (at / 64 ≡ pa / 64 → ⊥) → (at < pa) ⊎ (pa + len ≤ at)
+pub outside : (pa len at : ℕ) → pa % 64 + len ≤ 64 → (at / 64 ≡ pa / 64 → ⊥) → (at < pa) ⊎ (pa + len ≤ at)
 outside pa len at inside apart = elim (cases_lt at pa) [
   | inl before ↦ inl before
   | inr from ↦ elim (cases_lt at (pa + len)) [
@@ -215,6 +215,11 @@ pub none_outside : (blocks : Blocks) (number : ℕ) → (number < blocks.lowest)
     → block_at blocks number ≡ None
 none_outside blocks number (inl low) = no_block blocks number (none_found _ (blocks.low number low))
 none_outside blocks number (inr high) = no_block blocks number (none_found _ (blocks.high number high))
+
+-- what follows from what a success has
+pub on_success : {T E P Q : Type 0} (result : Result T E) → (P → Q) → OnOk result P → OnOk result Q
+on_success (Ok value) follows holds = follows holds
+on_success (Err error) follows holds = tt
 
 -- what holds anyway holds of a refusal
 pub on_refusal : {T E P : Type 0} (result : Result T E) → P → OnErr result P

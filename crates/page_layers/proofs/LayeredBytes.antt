@@ -1,9 +1,12 @@
 -- The bytes of an image under blocks and layers.
-use Rattle.std.proofs.Common.{◌≡◌, ℕ, ◌/◌, true, false, Bool, Option, Some, None, option_map, unwrap_or, List, [], refl}
+use Rattle.std.proofs.Common.{◌≡◌, ℕ, ◌/◌, ◌%◌, ◌+◌, ◌≤◌, inl, inr, true, false, Bool, Option, Some, None, option_map, unwrap_or, List, [], refl}
 use Rattle.std.proofs.Common.{sym, ap, ◌∙◌, if◌then◌else◌}
 use Rattle.std.specs.Option.{option_or}
 use Rattle.std.proofs.Math.Path.{fun_ext}
-use Rattle.hart_words.specs.Memory.{Bytes}
+use Rattle.std.proofs.lemmas.Bool.{cases_eq}
+use Rattle.image_text.proofs.Pages.{eq_same, eq_other}
+use Rattle.hart_words.specs.Memory.{Bytes, bytes_after_store}
+use Rattle.hart_words.proofs.Stores.{stored-outside}
 use Rattle.page_image.specs.declared.image.PageImage.{PageImage}
 use Rattle.page_image.specs.Bytes.{byte_of}
 use Rattle.page_layers.specs.declared.block.Block.{Block}
@@ -13,6 +16,7 @@ use Rattle.page_layers.specs.declared.layered.Layered.{Layered}
 use Rattle.page_layers.specs.Blocks.{block_at, block_byte, bytes_in, over}
 use Rattle.page_layers.specs.Layers.{block_among, newest_block}
 use Rattle.page_layers.specs.Memories.{written_block_of, bytes_under, layered_bytes}
+use Rattle.page_layers.proofs.BlockMaps.{SetsBlock, outside, stored-congr}
 
 abbrev seen : ℕ → ℕ → Option Block → ℕ
 seen pa base block = unwrap_or (option_map (λ b. block_byte b pa) block) base
@@ -70,6 +74,25 @@ pub put_under : (before after : Blocks) (layers : List Layer) (image : PageImage
     ≡ (if done then change (bytes_under before layers image) else bytes_under before layers image)
 put_under before after layers image true change puts = over_changed before after layers image change (puts _)
 put_under before after layers image false change puts = over_same before after layers image (puts _)
+
+-- a block that is set with a number in it, of the bytes that were there, is the number's store
+pub set_under : (before after : Blocks) (layers : List Layer) (image : PageImage) (old : Block) {new : Block}
+    (pa len value : ℕ)
+    → pa % 64 + len ≤ 64 → SetsBlock (block_at before) (block_at after) (pa / 64) new
+    → ((at : ℕ) → at / 64 ≡ pa / 64 → block_byte old at ≡ bytes_under before layers image at)
+    → ((at : ℕ) → at / 64 ≡ pa / 64 → block_byte new at ≡ bytes_after_store pa len value (block_byte old) at)
+    → bytes_under after layers image ≡ bytes_after_store pa len value (bytes_under before layers image)
+set_under before after layers image old pa len value inside set has puts = fun_ext (λ at.
+    let found : Option Block → ℕ =
+    λ block. seen at (byte_of image at) (option_or block (block_among layers (at / 64))) in
+    elim (cases_eq (at / 64) (pa / 64)) [
+      | inl here ↦
+          ap found (set.sets (at / 64)) ∙ rw (here, eq_same (pa / 64)) (puts at here)
+          ∙ stored-congr pa len value at (block_byte old) (bytes_under before layers image) (has at here)
+      | inr apart ↦
+          ap found (set.sets (at / 64) ∙ rw (eq_other (at / 64) (pa / 64) apart) refl)
+          ∙ sym (stored-outside pa len value at (bytes_under before layers image) (outside pa len at inside apart))
+    ])
 
 -- memories whose blocks are the same have the same bytes
 pub same_under : (one other : Blocks) (layers others : List Layer) (image : PageImage)

@@ -31,7 +31,7 @@ pub struct Layered<'a> {
 }
 
 impl<'a> Layered<'a> {
-    ghost use Rattle.std.specs.Prelude.{◌≡◌, ◌⊎◌, IsOk, OnOk, if◌then◌else◌, option_copied};
+    ghost use Rattle.std.specs.Prelude.{◌≡◌, ◌⊎◌, IsOk, OnErr, OnOk, false, if◌then◌else◌, option_copied};
     ghost use Rattle.std.specs.Bool.{Decides};
     ghost use Rattle.hart_words.specs.Memory.{bytes_after_store};
     ghost use Rattle.page_layers.specs.declared.block.TheConstants.{BLOCK_SIZE};
@@ -66,7 +66,19 @@ impl<'a> Layered<'a> {
         ensures { (pa : ℕ) → pa / BLOCK_SIZE ≡ number
             → block_byte result pa ≡ layered_bytes self.now pa }
     {
-        match self.block(number) {
+        match self.written.block(number) {
+            Some(block) => *block,
+            None => self.value_beneath(number),
+        }
+    }
+
+    /// The bytes of a block that it has not for its own.
+    fn value_beneath(&self, number: u64) -> Block
+        requires beneath { owns self.now number ≡ false }
+        ensures { (pa : ℕ) → pa / BLOCK_SIZE ≡ number
+            → block_byte result pa ≡ layered_bytes self.now pa }
+    {
+        match block_among(&self.layers, number) {
             Some(block) => *block,
             None => image_block(self.image, number),
         }
@@ -98,7 +110,25 @@ impl<'a> Layered<'a> {
         if self.written.block(number).is_some() {
             return Ok(());
         }
-        let block = self.value(number);
+        let block = self.value_beneath(number);
+        self.written.set(number, block)
+    }
+
+    /// Makes a block its own, with the low `len` bytes of a number at an address within it.
+    fn own_with(&mut self, pa: u64, len: u8, value: u64) -> Result<(), NoMemory>
+        requires at_most_8 { len ≤ 8 }
+        requires inside { pa + len ≤ 2 ^ 64 }
+        requires block { pa % BLOCK_SIZE + len ≤ BLOCK_SIZE }
+        requires beneath { owns self.old (pa / BLOCK_SIZE) ≡ false }
+        ensures ok { OnOk result (layered_bytes self.new
+            ≡ bytes_after_store pa len value (layered_bytes self.old)) }
+        ensures err { OnErr result (layered_bytes self.new ≡ layered_bytes self.old) }
+        ensures keeps { (block : ℕ) → IsTrue (owns self.old block) → IsTrue (owns self.new block) }
+        ensures ram { layered_ram self.new ≡ layered_ram self.old }
+    {
+        let number = pa / BLOCK_SIZE;
+        let mut block = self.value_beneath(number);
+        block.put(pa, len, value);
         self.written.set(number, block)
     }
 
@@ -209,8 +239,7 @@ impl<'a> PhysMem for Layered<'a> {
         if is_within_block(pa, len) {
             // Most stores find a block that is owned, and look it up once.
             if !self.put(pa, len, value) {
-                self.own(pa / BLOCK_SIZE)?;
-                self.put(pa, len, value);
+                self.own_with(pa, len, value)?;
             }
         } else {
             self.admit(pa)?;
