@@ -1,19 +1,26 @@
 //! The two sets of addresses that rows leave.
 
-ghost use Rattle.std.specs.Prelude.{◌≡◌, ◌≤◌, ◌+◌, ◌%◌, ◌^◌, nat_eq};
+ghost use Rattle.std.specs.Prelude.{◌≡◌, ◌≤◌, ◌<◌, ◌+◌, ◌%◌, ◌^◌, All, length, nat_eq};
 ghost use Rattle.std.specs.Bool.{Decides};
 ghost use Rattle.std.specs.HashMap.{get};
+ghost use Rattle.read_footprint.specs.declared.footprint.TheConstants.{REMEMBERED};
 ghost use Rattle.read_footprint.specs.NotedBytes.{AreNoted};
 
 use crate::block::{BLOCK_SIZE, Block, bits_of};
 use crate::bytes::{move_bytes, same_bytes};
 use crate::noted_bytes::NotedBytes;
-use hart_words::{NoMemory, PhysMem, Read, Seen, Write, Wrote};
+use hart_words::{NoMemory, PAGE_SIZE, PhysMem, Read, Seen, Write, Wrote};
 use std::alloc::Global;
 use std::collections::HashMap;
 
 /// An access has at most 255 bytes, which lie in at most 5 blocks.
 const MOST_BLOCKS: usize = 5;
+
+/// Of how many blocks it is remembered what is noted.
+const REMEMBERED: usize = 8;
+
+/// How many blocks a page has.
+const PAGE_BLOCKS: u64 = PAGE_SIZE / BLOCK_SIZE;
 
 /// Whether a read goes on where another ends, and both are short.
 fn goes_on(one: &Read, next: &Read) -> bool
@@ -23,16 +30,23 @@ fn goes_on(one: &Read, next: &Read) -> bool
     one.len <= 8 && next.len <= 8 && next.pa == one.pa.wrapping_add(u64::from(one.len))
 }
 
+/// The place at which a block is remembered. Its page counts too: the tables of an address often
+/// are read at the same place of different pages.
+fn place_of(number: u64) -> usize
+    ensures { result < REMEMBERED }
+{
+    (number ^ (number / PAGE_BLOCKS)) as usize % REMEMBERED
+}
+
 /// Which bytes rows read that none of them had written before, and which they wrote.
 #[derive(Drop)]
 pub struct Footprint {
     blocks: HashMap<u64, Block>,
-    /// What is noted of the block of the last read that was not among them, of those with an even
-    /// number and of the others: most reads are, and need no search. Fetches and loads take turns.
-    last_even: NotedBytes,
-    last_odd: NotedBytes,
-    ghost noted_even: { AreNoted (get nat_eq blocks) last_even },
-    ghost noted_odd: { AreNoted (get nat_eq blocks) last_odd },
+    /// What is noted of a few blocks that were read last, each at the place of its number: most
+    /// reads are among them, and need no search.
+    remembered: [NotedBytes; REMEMBERED],
+    ghost each: { length remembered ≡ REMEMBERED },
+    ghost noted: { All (AreNoted (get nat_eq blocks)) remembered },
 }
 
 impl Footprint {
@@ -54,8 +68,7 @@ impl Footprint {
     {
         Footprint {
             blocks: HashMap::new(alloc),
-            last_even: NotedBytes::empty(),
-            last_odd: NotedBytes::empty(),
+            remembered: [NotedBytes::empty(); REMEMBERED],
         }
     }
 
@@ -171,20 +184,16 @@ impl Footprint {
             ≡ has_written self.old address }
         ensures room { spare self.old.blocks ≤ spare self.new.blocks + 5 }
     {
-        if !self.last_read(pa / BLOCK_SIZE).has_all(pa, len) {
+        if !self.remembered_at(pa / BLOCK_SIZE).has_all(pa, len) {
             self.note_read_blocks(pa, len);
         }
     }
 
     /// What is remembered of a block, or of another one.
-    fn last_read(&self, number: u64) -> NotedBytes
+    fn remembered_at(&self, number: u64) -> NotedBytes
         ensures { AreNoted (get nat_eq self.now.blocks) result }
     {
-        if number % 2 == 0 {
-            self.last_even
-        } else {
-            self.last_odd
-        }
+        self.remembered[place_of(number)]
     }
 
     /// Remembers what is noted of a block.
@@ -193,15 +202,10 @@ impl Footprint {
         ensures same { IsAsBefore self.old self.new }
         ensures room { spare self.new.blocks ≡ spare self.old.blocks }
     {
-        let noted = NotedBytes {
+        self.remembered[place_of(number)] = NotedBytes {
             number,
             bytes: block.noted(),
         };
-        if number % 2 == 0 {
-            self.last_even = noted;
-        } else {
-            self.last_odd = noted;
-        }
     }
 
     /// Notes that so many bytes were read from an address on, in their blocks.
