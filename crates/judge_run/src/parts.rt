@@ -34,7 +34,7 @@ use trace_lines::{LineError, LineTaker};
 use verdict_join::Joined;
 
 /// How many segments a part has at the default window.
-const SEGMENTS_OF_A_PART: usize = 12;
+const SEGMENTS_OF_A_PART: usize = 8;
 
 /// What a part comes to, and what was taken ahead of it.
 #[derive(Drop)]
@@ -140,11 +140,11 @@ where
 }
 
 /// How many segments are taken after those that are held: a part, or as many as the window has room
-/// for. A part has twelve, or a fifth of the window where that is more, and no more than a third of
-/// it, whatever the number of workers, so that what is held does not grow with them. Where guesses
-/// may be wrong it has one a worker, or three where these are fewer: enough for wrong ones to show,
-/// and no more, since those after the first wrong one are made in vain. For a single worker it has
-/// one: the state before it is known, so that none is guessed.
+/// for. A part has eight, or an eighth of the window where that is more, and at most a third of it,
+/// whatever the number of workers, so that what is held does not grow with them. Where guesses may
+/// be wrong it has one a worker, or three where these are fewer: enough for wrong ones to show, and
+/// no more, since those after the first wrong one are made in vain. For a single worker it has one:
+/// the state before it is known, so that none is guessed.
 fn asked_after<R, G>(workers: &Workers<R, G>, job: &Job, lookahead: &Lookahead) -> Asked
     requires lawful { IsLawful (job_view job.now) }
     requires within_window { segments_ahead lookahead.now ≤ job.now.sharing.window }
@@ -154,7 +154,7 @@ fn asked_after<R, G>(workers: &Workers<R, G>, job: &Job, lookahead: &Lookahead) 
     ensures ending { result.ending ≡ lookahead.now.ending }
 {
     let window = job.sharing.window;
-    let whole = (window / 5).max(SEGMENTS_OF_A_PART).min((window + 2) / 3);
+    let whole = (window / 8).max(SEGMENTS_OF_A_PART).min((window + 2) / 3);
     let part = if workers.count == 1 {
         1
     } else if lookahead.is_unsure {
@@ -272,7 +272,8 @@ fn take_from<R, G, H: Shelf>(
     }
 }
 
-/// Reads the segments of a part.
+/// Reads the segments of a part, in a quarter fewer threads than there are workers: another part is
+/// settled meanwhile, and a thread more would mostly wait for a processor.
 fn read_part<R: Threads + Sync, G: Gate>(
     workers: &Workers<R, G>,
     columns: &Columns,
@@ -280,7 +281,7 @@ fn read_part<R: Threads + Sync, G: Gate>(
 ) -> Result<Vec<Segment>, NoMemory>
     ensures { IfOk result (IsReadPart columns.now part.items) }
 {
-    let count = workers.count as usize;
+    let count = (workers.count - workers.count / 4) as usize;
     let mut part = part;
     read_segments(workers.rt, workers.alloc, count, columns, &mut part)?;
     Ok(part)
