@@ -1,6 +1,6 @@
 -- Fields and their blanks.
 use Rattle.std.proofs.Common.{◌≡◌, ◌∙◌, ap, refl, subst, sym, ℕ, zero, suc, ◌-◌, ◌<◌, false, arith}
-use Rattle.std.proofs.Common.{List, [], ◌∷◌, drop, get_or, length, map, take, slice_get, Option, Some, None, option_map}
+use Rattle.std.proofs.Common.{List, [], ◌∷◌, drop, get_or, length, map, take, slice_get, Option, option_map}
 use Rattle.std.specs.List.{prefix_len, suffix_len}
 use Rattle.std.proofs.lemmas.List.{take_all}
 use Rattle.std.proofs.lemmas.List.Sums.{prefix_len-drop_no, suffix_len-take_no}

@@ -1,12 +1,11 @@
 -- Hexadecimal digits, taken by fours.
 use Rattle.std.proofs.Common.{◌≡◌, ◌∙◌, ℕ, suc, ◌+◌, ◌-◌, ◌*◌, ◌^◌, ◌<◌, ◌≤◌, List, [], ◌∷◌, length, Bool, true, false}
-use Rattle.std.proofs.Common.{sym, arith, refl, ap, Option, Some, None, ◌&&◌, nat_lt, get_or, drop, take}
+use Rattle.std.proofs.Common.{sym, arith, refl, ap, Some, None, ◌&&◌, nat_lt, get_or, drop, take}
 use Rattle.std.specs.Prelude.{if◌then◌else◌}
 use Rattle.std.specs.List.{list_all}
 use Rattle.std.specs.Char.{is_digit, digit_value}
-use Rattle.std.specs.Str.Parse.{digits_value_after}
 use Rattle.std.proofs.Math.Nat.{mul_assoc, mul-le-mul_left, mul-le-mul_right, pow-le-pow_right, pow-suc}
-use Rattle.std.proofs.lemmas.Bool.{lt-ltb, le-ltb, ltb-true, ltb-false}
+use Rattle.std.proofs.lemmas.Bool.{ltb-true}
 use Rattle.std.proofs.lemmas.List.{take_all}
 use Rattle.hart_words.specs.Numbers.{digits_number, nibble}
 use Rattle.hart_words.proofs.Pairs.{AreLeft, two_more, value_with}

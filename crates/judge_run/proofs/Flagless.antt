@@ -1,5 +1,5 @@
 -- Without the flag no origin is told.
-use Rattle.std.proofs.Common.{◌≡◌, ℕ, Bool, false, List, drop, Option, Some, None, Ok, Err, refl, sym, ap, ◌∙◌, subst}
+use Rattle.std.proofs.Common.{◌≡◌, ℕ, false, List, drop, Option, Some, None, Ok, Err, refl, sym, ap, ◌∙◌, subst}
 use Rattle.outside_ports.specs.Ports.{Files}
 use Rattle.judge_words.specs.Job.{JobView, job_of}
 use Rattle.rvfi_rows.specs.Columns.{TraceColumns}
@@ -9,7 +9,6 @@ use Rattle.segment_judge.specs.Histories.{history_at, trail_from}
 use Rattle.segment_judge.specs.Judgements.{by_set}
 use Rattle.segment_judge.specs.Laws.{conclusion_from}
 use Rattle.trace_lines.specs.Lines.{RemainingLines, file_lines}
-use Rattle.trace_report.specs.declared.outcome.Outcome.{Outcome}
 use Rattle.judge_run.specs.Answer.{AnswerView, Step, answer, answer_of_step, asks_origins, columns_in, image_in}
 use Rattle.judge_run.specs.Answer.{job_answer, lines_answer, origins_if, start_of, trace_answer, trace_in}
 use Rattle.judge_run.proofs.MadeAnswers.{words_ask}

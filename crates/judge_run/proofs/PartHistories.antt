@@ -1,10 +1,10 @@
 -- What the rows of a trace did, as it is handed on from part to part.
-use Rattle.std.proofs.Common.{◌≡◌, ℕ, ◌+◌, Bool, List, [], ◌∷◌, ◌++◌, length, Option, Some, None, IsSome, option_map}
+use Rattle.std.proofs.Common.{◌≡◌, ℕ, ◌+◌, Bool, List, [], ◌++◌, length, Option, Some, None, option_map}
 use Rattle.std.proofs.Common.{refl, sym, ap, ap₂, ◌∙◌, subst, arith, append_assoc, append-nil, string_bytes}
 use Rattle.std.specs.List.{flat_map}
 use Rattle.std.proofs.lemmas.List.{length-append}
 use Rattle.hart_words.specs.declared.span.Span.{Span}
-use Rattle.hart_words.specs.Memory.{Bytes, after_writes}
+use Rattle.hart_words.specs.Memory.{Bytes}
 use Rattle.outside_ports.specs.Ports.{Files, file_of}
 use Rattle.rvfi_rows.specs.declared.columns.Columns.{Columns}
 use Rattle.rvfi_rows.specs.declared.verdict.Verdict.{Verdict}
@@ -16,9 +16,8 @@ use Rattle.rvfi_rows.proofs.PortRows.{rows_append}
 use Rattle.hart_set.specs.declared.set.HartSet.{HartSet}
 use Rattle.hart_step.specs.declared.state.Core.{Core}
 use Rattle.hart_step.specs.HartSets.{SetState, set_state_of}
-use Rattle.row_origin.specs.declared.history.History.{History}
 use Rattle.row_origin.specs.Histories.{Grows, HistoryView, IsKept, history_after, history_of}
-use Rattle.row_origin.specs.Trails.{RowFacts, Trail}
+use Rattle.row_origin.specs.Trails.{Trail}
 use Rattle.segment_judge.specs.Histories.{history_from, history_then}
 use Rattle.segment_judge.specs.Judgements.{by_set}
 use Rattle.segment_judge.specs.Laws.{conclusion_from, end_from, judgement_from}

@@ -1,6 +1,6 @@
 -- What the rows of segments did, as it is kept from round to round.
 use Rattle.std.proofs.Common.{◌≡◌, ℕ, zero, suc, ◌+◌, ◌≤◌, Bool, List, [], ◌∷◌, ◌++◌, length, take, drop}
-use Rattle.std.proofs.Common.{Option, Some, None, option_map, refl, sym, ap, ap₂, ◌∙◌, subst, arith}
+use Rattle.std.proofs.Common.{Option, Some, None, option_map, refl, sym, ap, ◌∙◌, subst, arith}
 use Rattle.std.specs.List.{flat_map}
 use Rattle.std.proofs.lemmas.List.{take_all}
 use Rattle.std.proofs.lemmas.List.Concat.{flat_map-append}
@@ -16,14 +16,12 @@ use Rattle.rvfi_rows.proofs.PortRows.{rows_append}
 use Rattle.hart_set.specs.declared.set.HartSet.{HartSet}
 use Rattle.hart_step.specs.declared.state.Core.{Core}
 use Rattle.hart_step.specs.HartSets.{SetState, set_state_of}
-use Rattle.row_origin.specs.declared.history.History.{History}
 use Rattle.row_origin.specs.Histories.{IsKept}
 use Rattle.segment_judge.specs.Histories.{history_from}
 use Rattle.segment_judge.specs.Judgements.{by_set}
 use Rattle.segment_judge.specs.Laws.{Conclusion, conclusion_from, end_from}
 use Rattle.segment_judge.proofs.Histories.{SoFar, history_ended, so_far_ends, so_far_kept, so_far_on, whole_end}
 use Rattle.verdict_join.specs.declared.joined.Joined.{Joined}
-use Rattle.verdict_join.specs.declared.joined.Round.{Round}
 use Rattle.verdict_join.proofs.Histories.{rows_through, rows_whole}
 use Rattle.verdict_join.proofs.Passed.{EndsWhereAgrees, conclusion_ends}
 use Rattle.judge_run.specs.declared.tally.AfterRound.{AfterRound}

@@ -9,9 +9,7 @@ use Rattle.judge_words.specs.declared.job.Job.{Job}
 use Rattle.judge_words.specs.declared.job.Command.TheVariants.{Make}
 use Rattle.rvfi_rows.specs.declared.verdict.Verdict.{Verdict}
 use Rattle.rvfi_rows.specs.declared.verdict.Verdict.TheVariants.{Agrees, Differs, Refused}
-use Rattle.hart_words.specs.declared.map.Map.{Map}
 use Rattle.hart_step.specs.HartSets.{SetState}
-use Rattle.page_image.specs.Bytes.{byte_of}
 use Rattle.state_text.specs.Laws.{IsZeroOutside}
 use Rattle.trace_maker.specs.Texts.{made_image, made_trace}
 use Rattle.trace_report.specs.declared.outcome.Outcome.{Outcome}

@@ -1,8 +1,7 @@
 -- Histories, and what is kept of them.
-use Rattle.std.proofs.Common.{◌≡◌, ℕ, ◌+◌, ◌^◌, ◌<◌, ◌++◌, Bool, true, false, length, [], ◌∷◌, Option, Some, None, refl, sym, ap}
-use Rattle.std.proofs.Common.{◌∙◌, option_map}
+use Rattle.std.proofs.Common.{ℕ, ◌+◌, ◌^◌, ◌<◌, ◌++◌, Bool, true, false, length, [], ◌∷◌, Option, Some, None}
 use Rattle.row_origin.specs.declared.history.History.{History}
-use Rattle.row_origin.specs.Histories.{HistoryView, IsHistoryOf, IsKept, KeptCountsFrom, history_of}
+use Rattle.row_origin.specs.Histories.{HistoryView, IsKept, KeptCountsFrom, history_of}
 use Rattle.row_origin.specs.Trails.{Trail}
 use Rattle.row_origin.proofs.LastOf.{count_on, of_none_more}
 

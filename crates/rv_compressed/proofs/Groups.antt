@@ -1,9 +1,9 @@
 -- No row of another funct3 or quadrant is met.
 use Rattle.std.proofs.Common.{◌≡◌, ◌∙◌, ℕ, zero, suc, ◌+◌, ◌≤◌, ◌<◌, ◌/◌, ◌%◌, Bool, true, false, ◌&&◌, List, [], ◌∷◌}
-use Rattle.std.proofs.Common.{ap, arith, refl, sym, subst, bit_and, ◌==◌, get_or, drop, option_map}
-use Rattle.std.specs.Prelude.{find, nat_lt, not, if◌then◌else◌, Option, Some, slice_index_or}
+use Rattle.std.proofs.Common.{ap, arith, refl, sym, bit_and, ◌==◌, get_or, drop, option_map}
+use Rattle.std.specs.Prelude.{find, nat_lt, not, if◌then◌else◌, Option, Some}
 use Rattle.std.proofs.lemmas.Nat.{and_assoc, and_le_r}
-use Rattle.std.proofs.lemmas.Bool.{eqb-true, and_parts, ltb-false, ltb-true, leb-true}
+use Rattle.std.proofs.lemmas.Bool.{eqb-true, and_parts, ltb-false, ltb-true}
 use Rattle.rv_compressed.specs.declared.patterns.Pattern.{Pattern}
 use Rattle.rv_compressed.specs.declared.patterns.TheConstants.{FIRST_ROWS, GROUP, PATTERNS}
 use Rattle.rv_compressed.specs.Patterns.{holds, meets}

@@ -1,10 +1,10 @@
 -- What rows did: in parts, from other memories, and as the trail of all rows tells it.
-use Rattle.std.proofs.Common.{◌≡◌, ℕ, zero, suc, ◌+◌, ◌≤◌, Bool, true, List, [], ◌∷◌, ◌++◌, length, take, Option, Some, None}
+use Rattle.std.proofs.Common.{◌≡◌, ℕ, zero, suc, ◌+◌, ◌≤◌, Bool, List, [], ◌∷◌, ◌++◌, length, take, Option, Some, None}
 use Rattle.std.proofs.Common.{Ok, Err, refl, sym, ap, ◌∙◌, subst, arith}
 use Rattle.std.proofs.lemmas.List.{length-append}
 use Rattle.hart_words.specs.declared.signal.Difference.{Difference}
 use Rattle.hart_words.specs.Actions.{Run, mapped}
-use Rattle.hart_words.specs.Memory.{Bytes, AgreeOn, after_writes}
+use Rattle.hart_words.specs.Memory.{Bytes, after_writes}
 use Rattle.hart_words.specs.Signals.{Shown}
 use Rattle.rvfi_rows.specs.declared.verdict.Verdict.{Verdict}
 use Rattle.rvfi_rows.specs.declared.verdict.Verdict.TheVariants.{Agrees, Differs, Refused}
@@ -16,9 +16,9 @@ use Rattle.row_compare.specs.Difference.{difference_of}
 use Rattle.row_origin.specs.declared.history.History.{History}
 use Rattle.row_origin.specs.Histories.{Grows, HistoryView, IsKept, history_after, history_of}
 use Rattle.row_origin.specs.Trails.{RowFacts, Trail}
-use Rattle.read_footprint.specs.Footprints.{Accesses, agree, footprint_of}
+use Rattle.read_footprint.specs.Footprints.{Accesses, agree}
 use Rattle.segment_judge.specs.Judgements.{Judgement, accesses_by, by_difference, by_set, judgement_of}
-use Rattle.segment_judge.specs.Judgements.{row_judgement_of, verdict_after_rows}
+use Rattle.segment_judge.specs.Judgements.{verdict_after_rows}
 use Rattle.segment_judge.specs.Histories.{HistoryInParts, HistoryIsFramed, HistoryIsTold, facts_at, history_after_row}
 use Rattle.segment_judge.specs.Histories.{history_at, history_by, history_from, history_then, trail_from}
 use Rattle.segment_judge.specs.Laws.{Conclusion, conclusion_after_end, conclusion_from, end_from, judgement_from}

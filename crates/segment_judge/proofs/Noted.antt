@@ -1,6 +1,6 @@
 -- What a row did is noted.
 use Rattle.std.proofs.Common.{◌≡◌, ℕ, Bool, List, [], ◌∷◌, ◌++◌, length, drop, Option, Some, None, Ok, Err, refl, sym, ap}
-use Rattle.std.proofs.Common.{◌∙◌, subst, append_assoc, append-nil, arith, suc, ◌+◌, ◌≤◌, slice_get}
+use Rattle.std.proofs.Common.{◌∙◌, subst, append_assoc, append-nil, arith, ◌+◌, ◌≤◌, slice_get}
 use Rattle.std.proofs.lemmas.List.{drop_all, length-append}
 use Rattle.hart_words.specs.declared.accesses.Read.{Read}
 use Rattle.hart_words.specs.declared.accesses.Write.{Write}
@@ -21,7 +21,7 @@ use Rattle.row_origin.specs.Histories.{HistoryView, IsKept, history_after, histo
 use Rattle.row_origin.specs.Trails.{RowFacts, Trail}
 use Rattle.segment_judge.specs.declared.progress.Progress.{Progress}
 use Rattle.segment_judge.specs.Histories.{facts_at, history_after_row, history_from}
-use Rattle.segment_judge.specs.Progress.{HistoryGoesOn, Notes, NotesRow}
+use Rattle.segment_judge.specs.Progress.{NotesRow}
 use Rattle.segment_judge.proofs.Histories.{agreed_history, different_history}
 use Rattle.segment_judge.proofs.Turns.{drop_found, performed_state}
 

@@ -1,6 +1,6 @@
 -- What is adopted, and what is not.
 use Rattle.std.proofs.Common.{◌≡◌, Bool, true, List, [], ◌∷◌, Option, Some, option_map, sym, ap, ◌∙◌}
-use Rattle.std.proofs.Common.{arith, subst, All}
+use Rattle.std.proofs.Common.{arith, subst}
 use Rattle.std.specs.Prelude.{◌&&◌}
 use Rattle.std.specs.Borrow.{Bor}
 use Rattle.std.proofs.lemmas.List.Elements.{All-head}

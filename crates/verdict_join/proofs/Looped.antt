@@ -6,15 +6,12 @@ use Rattle.std.specs.Prelude.{◌&&◌}
 use Rattle.std.specs.Borrow.{Bor}
 use Rattle.std.specs.Option.{is_none}
 use Rattle.std.proofs.lemmas.Option.{slice_get-map}
-use Rattle.std.proofs.lemmas.List.{length-append, length-map}
-use Rattle.std.proofs.lemmas.List.Concat.{flat_map-cons}
-use Rattle.std.specs.List.{flat_map}
 use Rattle.hart_words.specs.declared.span.Span.{Span}
 use Rattle.hart_words.specs.Memory.{Bytes}
 use Rattle.rvfi_rows.specs.declared.segment.Segment.{Segment}
 use Rattle.rvfi_rows.specs.declared.verdict.Verdict.{Verdict}
 use Rattle.rvfi_rows.specs.Columns.{TraceColumns}
-use Rattle.rvfi_rows.specs.Segments.{row_count_of, segment_lines}
+use Rattle.rvfi_rows.specs.Segments.{row_count_of}
 use Rattle.rvfi_rows.specs.Rows.{RowReading}
 use Rattle.rvfi_rows.proofs.PortRows.{count-cons}
 use Rattle.hart_set.specs.declared.set.HartSet.{HartSet}

@@ -6,7 +6,6 @@ use Rattle.hart_words.specs.Memory.{Bytes, after_writes}
 use Rattle.rvfi_rows.specs.declared.row_counts.RowCounts.{RowCounts}
 use Rattle.rvfi_rows.specs.declared.verdict.Verdict.{Verdict}
 use Rattle.rvfi_rows.specs.declared.verdict.Verdict.TheVariants.{Agrees, Differs, Refused}
-use Rattle.std.proofs.lemmas.List.{length-map}
 use Rattle.rvfi_rows.specs.Columns.{TraceColumns}
 use Rattle.rvfi_rows.specs.declared.segment.Segment.{Segment}
 use Rattle.rvfi_rows.specs.Rows.{RowReading, rows_of}

@@ -1,4 +1,4 @@
-use Rattle.std.proofs.Common.{ℕ, Some, Err, ap, refl, sym, ◌∙◌}
+use Rattle.std.proofs.Common.{Some, Err, ap, refl, sym, ◌∙◌}
 use Rattle.judge_words.specs.Job.{job_view}
 use Rattle.hart_step.specs.HartSets.{SetState}
 use Rattle.hart_words.specs.Memory.{Bytes}

@@ -1,7 +1,7 @@
-use Rattle.std.proofs.Common.{Ok, Err, refl}
+use Rattle.std.proofs.Common.{Err}
 use Rattle.judge_words.specs.Job.{job_view}
 use Rattle.judge_run.specs.Starts.{start_view}
-use Rattle.judge_run.proofs.Runs.{IsFoundOver, counts_on, counts_stop, ends_found, jobs_stop, read_back}
+use Rattle.judge_run.proofs.Runs.{counts_on, counts_stop, ends_found, jobs_stop, read_back}
 use Rattle.judge_run.proofs.Steps.{ReadsImage, job_stop, job_trace, missed_start, missed_trace}
 use Rattle.judge_run.proofs.jobs.run_files.Goals as goal
 

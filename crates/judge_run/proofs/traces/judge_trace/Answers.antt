@@ -1,4 +1,4 @@
-use Rattle.std.proofs.Common.{◌∙◌, List, [], Ok, ap, refl, subst, string_bytes, sym}
+use Rattle.std.proofs.Common.{◌∙◌, List, [], ap, refl, subst, string_bytes}
 use Rattle.hart_step.specs.declared.state.Core.{Core}
 use Rattle.judge_words.specs.Job.{job_view}
 use Rattle.outside_ports.specs.Ports.{IsMissing, file_of}

@@ -1,4 +1,4 @@
-use Rattle.std.proofs.Common.{sym, subst}
+use Rattle.std.proofs.Common.{subst}
 use Rattle.hart_step.specs.HartSets.{set_state_of}
 use Rattle.read_footprint.specs.Sets.{LiesInRam}
 use Rattle.segment_judge.specs.Judged.{IsUsable}
