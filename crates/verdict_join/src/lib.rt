@@ -22,6 +22,4 @@ pub use joined::{Joined, Round};
 #[cfg(test)]
 mod page_table_tests;
 #[cfg(test)]
-mod random_tests;
-#[cfg(test)]
 mod tests;
