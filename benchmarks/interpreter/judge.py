@@ -367,17 +367,39 @@ def read_bytes(image, ram):
     return read_image(image, ram), RAM.start
 
 
-def foretell(image, trace, setting, command="judge"):
-    """The text and the status for the bytes of an image and of a trace."""
+REMEMBERED = {}  # what was judged last, since the same trace is often judged again
+MOST_REMEMBERED = 40
+
+
+def judged(image, trace, setting):
+    """The text for the bytes of an image and of a trace, and the harts after it; None where it is refused."""
     try:
         harts = judge_at_start(image, setting)
         rows = read_rows(trace, setting.most_trace, KNOWN, setting.harts)
-        last = Last() if setting.origin and command == "judge" else None
-        said = answer(harts, rows, last=last)
-        if command == "state" and said.startswith("agrees"):
-            said = saved_state.text_of(harts).removesuffix("\n")
+        return answer(harts, rows, last=Last() if setting.origin else None), harts
     except Refused as refused:
-        said = f"refused {refused}"
+        return f"refused {refused}", None
+
+
+def judged_once(image, trace, setting):
+    """The same, from what is remembered where it is."""
+    key = image, trace, repr(setting)
+    if key not in REMEMBERED:
+        if len(REMEMBERED) == MOST_REMEMBERED:
+            del REMEMBERED[next(iter(REMEMBERED))]
+        REMEMBERED[key] = judged(image, trace, setting)
+    return REMEMBERED[key]
+
+
+def foretell(image, trace, setting, command="judge"):
+    """The text and the status for the bytes of an image and of a trace."""
+    said, harts = judged_once(
+        image, trace, setting._replace(origin=setting.origin and command == "judge"))
+    if command == "state" and said.startswith("agrees"):
+        try:
+            said = saved_state.text_of(harts).removesuffix("\n")
+        except Refused as refused:
+            said = f"refused {refused}"
     return said, next(status for front, status in STATUS.items() if said.startswith(front))
 
 

@@ -2,6 +2,7 @@
 
 The rules are those of docs/REFERENCE.md, written here a second time.
 """
+import functools
 import re
 
 from hart_memory import Memory
@@ -25,10 +26,12 @@ HARTS = re.compile(rb"harts (0|[1-9][0-9]*)")
 MODE, FLAGS = re.compile(rb"mode ([013])"), re.compile(rb"flags ([01])([01])")
 
 
+@functools.cache
 def numbered(name):
     return re.compile(name.encode() + b" " + NUMBER)
 
 
+@functools.cache
 def number_or_none(name):
     return re.compile(name.encode() + b" (?:" + NUMBER + b"|none)")
 

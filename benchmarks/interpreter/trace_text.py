@@ -2,6 +2,7 @@
 
 The rules are those of docs/REFERENCE.md, written here a second time; a part of judge.py.
 """
+import functools
 import itertools
 import re
 import sys
@@ -24,6 +25,7 @@ class Refused(Exception):
     """What stands in a refusal after `refused `."""
 
 
+@functools.lru_cache(maxsize=1 << 16)
 def read_number(text):
     """The number that bytes stand for; None where they are none."""
     if not NUMBER.fullmatch(text):
