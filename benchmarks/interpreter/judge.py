@@ -367,11 +367,11 @@ def read_bytes(image, ram):
     return read_image(image, ram), RAM.start
 
 
-REMEMBERED = {}  # what was judged last, since the same trace is often judged again
-MOST_REMEMBERED = 40
+LAST_VERDICTS = {}  # on what was judged last, since the same trace is often judged again
+MOST_VERDICTS = 40
 
 
-def judged(image, trace, setting):
+def verdict_on(image, trace, setting):
     """The text for the bytes of an image and of a trace, and the harts after it; None where it is refused."""
     try:
         harts = judge_at_start(image, setting)
@@ -381,19 +381,19 @@ def judged(image, trace, setting):
         return f"refused {refused}", None
 
 
-def judged_once(image, trace, setting):
-    """The same, from what is remembered where it is."""
+def known_verdict_on(image, trace, setting):
+    """The same, which is not worked out again where it is among the last ones."""
     key = image, trace, repr(setting)
-    if key not in REMEMBERED:
-        if len(REMEMBERED) == MOST_REMEMBERED:
-            del REMEMBERED[next(iter(REMEMBERED))]
-        REMEMBERED[key] = judged(image, trace, setting)
-    return REMEMBERED[key]
+    if key not in LAST_VERDICTS:
+        if len(LAST_VERDICTS) == MOST_VERDICTS:
+            del LAST_VERDICTS[next(iter(LAST_VERDICTS))]
+        LAST_VERDICTS[key] = verdict_on(image, trace, setting)
+    return LAST_VERDICTS[key]
 
 
 def foretell(image, trace, setting, command="judge"):
     """The text and the status for the bytes of an image and of a trace."""
-    said, harts = judged_once(
+    said, harts = known_verdict_on(
         image, trace, setting._replace(origin=setting.origin and command == "judge"))
     if command == "state" and said.startswith("agrees"):
         try:
