@@ -3,7 +3,7 @@
 ghost use Rattle.std.specs.Prelude.{◌≡◌, ◌≤◌, ◌<◌, ◌+◌, ◌%◌, ◌^◌, All, length, nat_eq};
 ghost use Rattle.std.specs.Bool.{Decides};
 ghost use Rattle.std.specs.HashMap.{get};
-ghost use Rattle.read_footprint.specs.declared.footprint.TheConstants.{REMEMBERED};
+ghost use Rattle.read_footprint.specs.declared.footprint.TheConstants.{RECENT_BLOCKS};
 ghost use Rattle.read_footprint.specs.NotedBytes.{AreNoted};
 
 use crate::block::{BLOCK_SIZE, Block, bits_of};
@@ -16,8 +16,8 @@ use std::collections::HashMap;
 /// An access has at most 255 bytes, which lie in at most 5 blocks.
 const MOST_BLOCKS: usize = 5;
 
-/// Of how many blocks it is remembered what is noted.
-const REMEMBERED: usize = 8;
+/// Of how many blocks that were read last it is remembered what is noted.
+const RECENT_BLOCKS: usize = 8;
 
 /// How many blocks a page has.
 const PAGE_BLOCKS: u64 = PAGE_SIZE / BLOCK_SIZE;
@@ -33,9 +33,9 @@ fn goes_on(one: &Read, next: &Read) -> bool
 /// The place at which a block is remembered. Its page counts too: the tables of an address often
 /// are read at the same place of different pages.
 fn place_of(number: u64) -> usize
-    ensures { result < REMEMBERED }
+    ensures { result < RECENT_BLOCKS }
 {
-    (number ^ (number / PAGE_BLOCKS)) as usize % REMEMBERED
+    (number ^ (number / PAGE_BLOCKS)) as usize % RECENT_BLOCKS
 }
 
 /// Which bytes rows read that none of them had written before, and which they wrote.
@@ -44,9 +44,9 @@ pub struct Footprint {
     blocks: HashMap<u64, Block>,
     /// What is noted of a few blocks that were read last, each at the place of its number: most
     /// reads are among them, and need no search.
-    remembered: [NotedBytes; REMEMBERED],
-    ghost each: { length remembered ≡ REMEMBERED },
-    ghost noted: { All (AreNoted (get nat_eq blocks)) remembered },
+    recent_blocks: [NotedBytes; RECENT_BLOCKS],
+    ghost each: { length recent_blocks ≡ RECENT_BLOCKS },
+    ghost noted: { All (AreNoted (get nat_eq blocks)) recent_blocks },
 }
 
 impl Footprint {
@@ -68,7 +68,7 @@ impl Footprint {
     {
         Footprint {
             blocks: HashMap::new(alloc),
-            remembered: [NotedBytes::empty(); REMEMBERED],
+            recent_blocks: [NotedBytes::empty(); RECENT_BLOCKS],
         }
     }
 
@@ -184,16 +184,16 @@ impl Footprint {
             ≡ has_written self.old address }
         ensures room { spare self.old.blocks ≤ spare self.new.blocks + 5 }
     {
-        if !self.remembered_at(pa / BLOCK_SIZE).has_all(pa, len) {
+        if !self.recent_block(pa / BLOCK_SIZE).has_all(pa, len) {
             self.note_read_blocks(pa, len);
         }
     }
 
     /// What is remembered of a block, or of another one.
-    fn remembered_at(&self, number: u64) -> NotedBytes
+    fn recent_block(&self, number: u64) -> NotedBytes
         ensures { AreNoted (get nat_eq self.now.blocks) result }
     {
-        self.remembered[place_of(number)]
+        self.recent_blocks[place_of(number)]
     }
 
     /// Remembers what is noted of a block.
@@ -202,7 +202,7 @@ impl Footprint {
         ensures same { IsAsBefore self.old self.new }
         ensures room { spare self.new.blocks ≡ spare self.old.blocks }
     {
-        self.remembered[place_of(number)] = NotedBytes {
+        self.recent_blocks[place_of(number)] = NotedBytes {
             number,
             bytes: block.noted(),
         };
