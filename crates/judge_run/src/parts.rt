@@ -34,7 +34,7 @@ use trace_lines::{LineError, LineTaker};
 use verdict_join::Joined;
 
 /// How many segments a part has at the default window.
-const SEGMENTS_OF_A_PART: usize = 8;
+const SEGMENTS_OF_A_PART: usize = 9;
 
 /// What a part comes to, and what was taken ahead of it.
 #[derive(Drop)]
@@ -140,7 +140,7 @@ where
 }
 
 /// How many segments are taken after those that are held: a part, or as many as the window has room
-/// for. A part has eight, or an eighth of the window where that is more, and at most a third of it,
+/// for. A part has nine, or an eighth of the window where that is more, and at most a third of it,
 /// whatever the number of workers, so that what is held does not grow with them. Where guesses may
 /// be wrong it has one a worker, or three where these are fewer: enough for wrong ones to show, and
 /// no more, since those after the first wrong one are made in vain. For a single worker it has one:
