@@ -26,20 +26,3 @@ mod workers;
 
 pub use judgement::judge;
 pub use rounds::settle;
-
-#[cfg(test)]
-mod failure_tests;
-#[cfg(test)]
-mod hart_tests;
-#[cfg(test)]
-mod limit_tests;
-#[cfg(test)]
-mod origin_tests;
-#[cfg(test)]
-mod program_tests;
-#[cfg(test)]
-mod segment_tests;
-#[cfg(test)]
-mod state_tests;
-#[cfg(test)]
-mod tests;

@@ -14,8 +14,3 @@ mod values;
 
 pub use job::{Command, Job, Product, Sharing, WordError, read_words};
 pub use values::FIRST_PC;
-
-#[cfg(test)]
-mod profile_tests;
-#[cfg(test)]
-mod tests;

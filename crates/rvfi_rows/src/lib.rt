@@ -47,6 +47,3 @@ pub use segment::Segment;
 pub use segments::{read_segments, reuse_rows};
 pub use verdict::Verdict;
 pub use window::{distance_in_window, moved_down, moved_up};
-
-#[cfg(test)]
-mod tests;

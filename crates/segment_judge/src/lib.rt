@@ -17,6 +17,3 @@ mod progress;
 pub use found::{Found, What};
 pub use judged::Judged;
 pub use judging::{judge, judge_from};
-
-#[cfg(test)]
-mod tests;

@@ -19,6 +19,3 @@ mod work;
 
 pub use running::run;
 pub use steps::Steps;
-
-#[cfg(test)]
-mod tests;

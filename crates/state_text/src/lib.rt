@@ -26,8 +26,3 @@ mod writing;
 pub use fault::{FaultKind, StateError, StateFault};
 pub use state::{MOST_HARTS, Platform, State, read_state};
 pub use writing::write_state;
-
-#[cfg(test)]
-mod tests;
-#[cfg(test)]
-mod writing_tests;

@@ -18,8 +18,3 @@ mod walk;
 
 pub use join::{join_all, join_round};
 pub use joined::{Joined, Round};
-
-#[cfg(test)]
-mod page_table_tests;
-#[cfg(test)]
-mod tests;

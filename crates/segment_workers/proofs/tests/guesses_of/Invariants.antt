@@ -1,6 +1,0 @@
-use Rattle.std.specs.List.{All}
-use Rattle.hart_step.specs.HartSets.{SetCanStep}
-use Rattle.segment_workers.proofs.tests.guesses_of.Given as goal
-
-abbrev pub invariant-guesses : goal.invariant-guesses
-invariant-guesses l = All (SetCanStep (λ mem. mem.ram)) l.guesses.items

@@ -1,8 +1,0 @@
-use Rattle.std.proofs.Common.{◌≡◌}
-use Rattle.verdict_join.proofs.tests.memory.Given as goal
-
-abbrev pub invariant-program : goal.invariant-program
-invariant-program l = l.mem.ram ≡ l.ram
-
-abbrev pub invariant-numbers : goal.invariant-numbers
-invariant-numbers l = l.mem.ram ≡ l.ram
