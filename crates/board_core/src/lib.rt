@@ -14,6 +14,3 @@ pub mod laws;
 
 pub use core_state::CoreState;
 pub use event::{Answer, Event};
-
-#[cfg(test)]
-mod tests;

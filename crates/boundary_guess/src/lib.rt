@@ -14,10 +14,3 @@ pub mod laws;
 
 pub use cuts::cut;
 pub use guessing::guesses;
-
-#[cfg(test)]
-mod compiled;
-#[cfg(test)]
-mod compiled_tests;
-#[cfg(test)]
-mod tests;

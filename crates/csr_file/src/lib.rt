@@ -21,6 +21,3 @@ pub use fields::{has_bit, merge, mode_of_encoding};
 pub use legal_values::is_legal_configuration;
 pub use profile::{CsrProfile, EntryCount, Presence};
 pub use stored_csr::{STORED_CSRS, StoredCsr};
-
-#[cfg(test)]
-mod tests;

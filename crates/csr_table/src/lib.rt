@@ -10,6 +10,3 @@ mod rows;
 
 pub use registers::{Csr, CsrRow};
 pub use rows::row;
-
-#[cfg(test)]
-mod tests;

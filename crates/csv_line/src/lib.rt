@@ -125,6 +125,3 @@ fn trim_end(text: &[u8]) -> &[u8]
     }
     &text[..end]
 }
-
-#[cfg(test)]
-mod tests;

@@ -15,6 +15,3 @@ mod segments;
 
 pub use fault::{ElfError, ElfFault};
 pub use image::read_elf;
-
-#[cfg(test)]
-mod tests;

@@ -36,8 +36,3 @@ pub use sets::{MOST_SETS, Sets};
 pub use signal::{CsrName, CsrSide, Difference, SIGNALS, Signal, SignalEntry};
 pub use span::{PAGE_BYTES, PAGE_SIZE, Span};
 pub use words::{div, divu, mulh, mulhsu, mulhu, rem, remu, sext};
-
-#[cfg(test)]
-mod tests;
-#[cfg(test)]
-mod word_tests;

@@ -15,6 +15,3 @@ mod word;
 pub use fault::{FaultKind, ImageError, ImageFault};
 pub use image::read_image;
 pub use pieces::{PiecePage, Pieces};
-
-#[cfg(test)]
-mod tests;

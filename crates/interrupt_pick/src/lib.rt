@@ -8,6 +8,3 @@ mod choice;
 pub mod laws;
 
 pub use choice::pick;
-
-#[cfg(test)]
-mod tests;

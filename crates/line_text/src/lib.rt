@@ -6,6 +6,3 @@
 mod lines;
 
 pub use lines::Lines;
-
-#[cfg(test)]
-mod tests;

@@ -32,6 +32,3 @@ pub use mem_sink::MemSink;
 pub use output::write_all;
 pub use shelf::Shelf;
 pub use sink::Sink;
-
-#[cfg(test)]
-mod tests;

@@ -15,6 +15,3 @@ pub use image::PageImage;
 pub use page::Page;
 pub use page_numbers::{PAGES, PageNumbers};
 pub use shared_page::SharedPage;
-
-#[cfg(test)]
-mod tests;

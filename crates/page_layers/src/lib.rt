@@ -17,6 +17,3 @@ mod sameness;
 
 pub use layered::Layered;
 pub use map_mem::MapMem;
-
-#[cfg(test)]
-mod tests;

@@ -9,6 +9,3 @@ pub mod laws;
 mod region;
 
 pub use check::allows;
-
-#[cfg(test)]
-mod tests;

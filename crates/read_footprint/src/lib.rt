@@ -15,6 +15,3 @@ pub mod laws;
 mod noted_bytes;
 
 pub use footprint::Footprint;
-
-#[cfg(test)]
-mod tests;

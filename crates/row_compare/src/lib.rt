@@ -16,6 +16,3 @@ mod signals;
 mod sources;
 
 pub use comparison::first_difference;
-
-#[cfg(test)]
-mod tests;

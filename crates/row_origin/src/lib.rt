@@ -21,6 +21,3 @@ pub use history::History;
 pub use kept::{follow, history_if, note_difference, note_row};
 pub use last::Last;
 pub use origins::{ByteOrigin, MOST_BYTES, MOST_REGISTERS, Origins, RegisterOrigin};
-
-#[cfg(test)]
-mod tests;

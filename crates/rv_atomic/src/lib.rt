@@ -11,6 +11,3 @@ mod reservation;
 
 pub use operations::amo;
 pub use reservation::{Block, Reservation};
-
-#[cfg(test)]
-mod tests;

@@ -12,6 +12,3 @@ pub mod laws;
 mod rotations;
 
 pub use computation::compute_bits;
-
-#[cfg(test)]
-mod tests;

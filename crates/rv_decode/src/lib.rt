@@ -18,8 +18,3 @@ pub use operation::{
     AmoOp, BitsOp, BranchOp, CsrOp, ImmediateOp, ImmediateWordOp, LoadOp, Op, Operands, RegisterOp,
     RegisterWordOp, StoreOp, Width,
 };
-
-#[cfg(test)]
-mod bits_tests;
-#[cfg(test)]
-mod tests;

@@ -15,6 +15,3 @@ mod word_forms;
 
 pub use computation::compute;
 pub use int_result::{CsrRequest, IntResult, MemoryOp, MemoryRequest, SystemRequest};
-
-#[cfg(test)]
-mod tests;

@@ -11,6 +11,3 @@ mod walk;
 
 pub use entry::ENTRY_SIZE;
 pub use walk::translate;
-
-#[cfg(test)]
-mod tests;

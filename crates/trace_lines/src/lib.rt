@@ -17,6 +17,3 @@ mod reading;
 
 pub use line_taker::LineTaker;
 pub use piece::{Ending, LineError, Piece};
-
-#[cfg(test)]
-mod tests;

@@ -21,9 +21,6 @@ use crate::trace::trace_text;
 use hart_words::NoMemory;
 use std::alloc::Global;
 
-#[cfg(test)]
-mod tests;
-
 /// The text of the image for a number, of which 11 bits count, and the text of the trace of its
 /// first rows from reset, with the header. `Err` is want of memory.
 pub fn make(alloc: Global, number: u32, rows: u32) -> Result<(Vec<u8>, Vec<u8>), NoMemory>

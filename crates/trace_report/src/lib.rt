@@ -13,6 +13,3 @@ mod wording;
 pub use outcome::{Made, Outcome, Ruling, status};
 pub use text::Text;
 pub use wording::report;
-
-#[cfg(test)]
-mod tests;

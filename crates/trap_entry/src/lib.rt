@@ -11,6 +11,3 @@ mod returns;
 
 pub use entry::enter;
 pub use returns::{mret, sret};
-
-#[cfg(test)]
-mod tests;

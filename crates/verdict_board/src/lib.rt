@@ -20,6 +20,3 @@ mod view;
 pub use board::Board;
 pub use seat::Seat;
 pub use view::View;
-
-#[cfg(test)]
-mod tests;

@@ -1,6 +1,0 @@
-use Rattle.hart_step.specs.HartSets.{SetCanStep}
-use Rattle.page_layers.specs.Memories.{layered_ram}
-use Rattle.boundary_guess.proofs.compiled_tests.run.Given as goal
-
-abbrev pub invariant-rows : goal.invariant-rows
-invariant-rows l = SetCanStep layered_ram l.harts

@@ -1,5 +1,0 @@
-use Rattle.std.proofs.Common.{◌≡◌}
-use Rattle.boundary_guess.proofs.tests.memory.Given as goal
-
-abbrev pub invariant-program : goal.invariant-program
-invariant-program l = l.mem.ram ≡ l.ram

@@ -1,6 +1,0 @@
-use Rattle.std.proofs.Common.{◌≡◌}
-use Rattle.page_layers.proofs.tests.write_some.Given as goal
-
--- RAM stays where it is
-abbrev pub invariant-loop-turn : goal.invariant-loop-turn
-invariant-loop-turn g l = g.M.PhysMem.ram l.mem ≡ g.M.PhysMem.ram l.initial.mem

@@ -1,5 +1,0 @@
-use Rattle.read_footprint.specs.LowMemory.{IsLow}
-use Rattle.read_footprint.proofs.tests.of_rows.Given as goal
-
-abbrev pub invariant-loop-row : goal.invariant-loop-row
-invariant-loop-row l = IsLow l.footprint
