@@ -15,7 +15,9 @@ run_judge() {
     heeds='env --default-signal=INT,QUIT'
     $heeds true 2>/dev/null || heeds=
     if (exec 3<&0) 2>/dev/null; then exec 3<&0; else exec 3</dev/null; fi
-    $heeds "$@" <&3 3<&- &
+    # The C library then gives what is larger back to the system as soon as the judge does. By
+    # itself it raises this number as it goes, and keeps much of each thread's memory to the end.
+    MALLOC_MMAP_THRESHOLD_=${MALLOC_MMAP_THRESHOLD_-1048576} $heeds "$@" <&3 3<&- &
     judge=$!
     for name in INT TERM HUP QUIT; do
         # shellcheck disable=SC2064  # the number is known now

@@ -317,6 +317,15 @@ expect_told 5 '' 'rvjudge: .: it is a folder' judge . t
 (run_judge 1 "$program" judge i /dev/stdin <t) >said 2>/dev/null
 [ "$(cat said)" = 'agrees 1' ] || fail "standard input: $(cat said)"
 
+# The judge gives memory back, unless the environment says how much it keeps.
+shown() {
+    (run_judge 3 sh -c 'echo "$MALLOC_MMAP_THRESHOLD_"' 2>/dev/null)
+}
+found=$(unset MALLOC_MMAP_THRESHOLD_; shown)
+[ "$found" = 1048576 ] || fail "memory is given back from '$found' bytes on"
+found=$(MALLOC_MMAP_THRESHOLD_=4096; export MALLOC_MMAP_THRESHOLD_; shown)
+[ "$found" = 4096 ] || fail "the environment asks for 4096, and the judge has '$found'"
+
 # Signals reach the judge, and this one ends by them.
 mkfifo pipe
 sh -c '. "$1/run_judge.sh"; tell_version() { :; }; run_judge 1 "$2" judge i pipe' '' "$bin" "$program" &
