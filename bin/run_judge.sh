@@ -15,8 +15,9 @@ run_judge() {
     heeds='env --default-signal=INT,QUIT'
     $heeds true 2>/dev/null || heeds=
     if (exec 3<&0) 2>/dev/null; then exec 3<&0; else exec 3</dev/null; fi
-    # The C library then gives what is larger back to the system as soon as the judge does. By
-    # itself it raises this number as it goes, and keeps much of each thread's memory to the end.
+    # Pieces of memory of so many bytes and more go back to the system as soon as the judge gives
+    # them back. By itself the C library raises the number as it goes, and keeps more with each
+    # thread (docs/DECISIONS.md).
     MALLOC_MMAP_THRESHOLD_=${MALLOC_MMAP_THRESHOLD_-1048576} $heeds "$@" <&3 3<&- &
     judge=$!
     for name in INT TERM HUP QUIT; do

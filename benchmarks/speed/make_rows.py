@@ -66,10 +66,11 @@ LOOP = [
 ]
 
 
-def write_image(path):
+def write_image(path, words):
+    """Writes the words as an image that begins at BASE."""
     with open(path, "w", encoding="ascii") as image:
         image.write(f"@{BASE:x}\n")
-        for word, _, _ in LOOP:
+        for word in words:
             image.write(" ".join(f"{byte:02x}" for byte in word.to_bytes(4, "little")) + "\n")
 
 
@@ -130,7 +131,7 @@ def main():
     form.add_argument("--quoted", action="store_true", help="put each field in quotes")
     form.add_argument("--all", action="store_true", help="write all 111 columns")
     options = parser.parse_args()
-    write_image(options.image)
+    write_image(options.image, [word for word, _, _ in LOOP])
     if options.all:
         write_all(options.trace, options.rows)
     else:

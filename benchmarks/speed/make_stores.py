@@ -1,17 +1,19 @@
 #!/usr/bin/env python3
 """Writes the image of a loop of stores and the trace of its run, and prints how many rows it has.
 
-make_stores.py IMAGE TRACE AREA STRIDE PASSES: the loop stores 8 bytes at each address of AREA bytes that is a multiple
-of STRIDE from its start, one after another, and all of that PASSES times. The rows are worked out here.
+make_stores.py IMAGE TRACE AREA STRIDE PASSES: the loop goes over AREA bytes of memory, stores 8 bytes at every STRIDE
+bytes, and does all of that PASSES times. The rows are worked out here.
 """
 import argparse
 
-from make_rows import BASE, i_type, jal, u_type
+from make_rows import BASE, i_type, jal, u_type, write_image
 
 # where the area begins: AUIPC gives addresses by multiples of 4,096 from the pc
 FIRST = BASE + 0x100000
 COLUMNS = "insn,pc_rdata,pc_wdata,rd_addr,rd_wdata,mem_addr,mem_wmask,mem_wdata"
 PAGE = 4096
+# what is left of the judge's RAM by default, 128 MiB
+MOST = 127 << 20
 
 
 def code(area, stride):
@@ -25,13 +27,6 @@ def code(area, stride):
         0xFE000CE3 | 3 << 20 | 1 << 15 | 1 << 12,  # BNE x1, x3, to the store
         jal(0, -24),  # JAL x0, to the first word
     ]
-
-
-def write_image(path, words):
-    with open(path, "w", encoding="ascii") as image:
-        image.write(f"@{BASE:x}\n")
-        for word in words:
-            image.write(" ".join(f"{byte:02x}" for byte in word.to_bytes(4, "little")) + "\n")
 
 
 def write_pass(trace, words, area, stride):
@@ -57,12 +52,14 @@ def main():
     parser = argparse.ArgumentParser(description="Writes the image of a loop of stores and the trace of its run.")
     parser.add_argument("image")
     parser.add_argument("trace")
-    parser.add_argument("area", type=int, help="bytes, a multiple of 4,096 and of the stride")
-    parser.add_argument("stride", type=int, help="bytes, from 8 to 2,040")
+    parser.add_argument("area", type=int, help="bytes, a multiple of 4,096 and of the stride, at most 127 MiB")
+    parser.add_argument("stride", type=int, help="bytes, a multiple of 8, from 8 to 2,040")
     parser.add_argument("passes", type=int)
     options = parser.parse_args()
-    if options.area % PAGE or options.area % options.stride or not 8 <= options.stride <= 2040:
-        parser.error("the area is no multiple of 4,096 and of the stride, or the stride is not in 8 to 2,040")
+    if options.stride % 8 or not 8 <= options.stride <= 2040:
+        parser.error("the stride is no multiple of 8 from 8 to 2,040")
+    if options.area % PAGE or options.area % options.stride or not 0 < options.area <= MOST:
+        parser.error("the area is no multiple of 4,096 and of the stride, or not in 1 byte to 127 MiB")
     words = code(options.area, options.stride)
     write_image(options.image, words)
     with open(options.trace, "w", encoding="ascii", buffering=1 << 20) as trace:
