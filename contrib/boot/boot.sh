@@ -7,7 +7,8 @@
 #
 # Where KEEP names a folder it gets the image (boot.rvstate), the trace (boot.csv), the judge's
 # options (boot.options) and what the firmware wrote to its serial port (boot.serial): for
-# contrib/explain.py, with ROWS not much above the row that differs. Each run is the same.
+# contrib/explain.py, with ROWS not much above the row that differs. Each run is the same, but for
+# how far it goes after the prompt.
 #
 # It is judged as what qemu chose where the standards leave a choice: --profile qemu.
 #
