@@ -7,7 +7,9 @@ PROGRAM ?= crates/rvjudge/out/rvjudge
 TO := $(DESTDIR)$(PREFIX)
 SHARE := $(TO)/share
 FILES = $(TO)/bin/rvjudge $(TO)/libexec/rvjudge/rvjudge $(TO)/libexec/rvjudge/run_judge.sh \
-    $(TO)/libexec/rvjudge/usage.txt $(TO)/libexec/rvjudge/version $(SHARE)/man/man1/rvjudge.1 \
+    $(TO)/libexec/rvjudge/usage.txt $(TO)/libexec/rvjudge/version $(TO)/libexec/rvjudge/words.py \
+    $(TO)/libexec/rvjudge/words.tsv $(TO)/libexec/rvjudge/registers.tsv \
+    $(SHARE)/man/man1/rvjudge.1 \
     $(SHARE)/bash-completion/completions/rvjudge $(SHARE)/zsh/site-functions/_rvjudge
 
 .PHONY: all install uninstall
@@ -20,7 +22,8 @@ install:
 	install -d $(sort $(dir $(FILES)))
 	install -m 755 contrib/install/rvjudge $(TO)/bin/rvjudge
 	install -m 755 $(PROGRAM) $(TO)/libexec/rvjudge/rvjudge
-	install -m 644 bin/run_judge.sh bin/usage.txt $(TO)/libexec/rvjudge
+	install -m 644 bin/run_judge.sh bin/usage.txt bin/words.py bin/words.tsv bin/registers.tsv \
+	    $(TO)/libexec/rvjudge
 	{ echo "rvjudge $$(git describe --always --dirty --tags 2>/dev/null || echo unknown)"; \
 	    rt version 2>/dev/null || true; echo "sha256 $$(sha256sum <$(PROGRAM) | cut -d ' ' -f 1)"; } \
 	    >$(TO)/libexec/rvjudge/version

@@ -1,46 +1,27 @@
 """What the control and status registers of a core can hold, by the judge's words that say it.
 
 --csr, --pmp, --pmp-bits, --lines and --profile mean here what they mean to the judge, as
-docs/REFERENCE.md has it ("Registers of a core", "Profiles"). What the judge refuses is refused.
+docs/REFERENCE.md has it ("Registers of a core", "Profiles"). What the judge refuses is refused. The
+words, and what each register may have, are those of bin/words.tsv and bin/registers.tsv.
 """
-import re
-from typing import NamedTuple
+import sys
+from pathlib import Path
 
-ALL, LOW = (1 << 64) - 1, (1 << 32) - 1
-HIGH = ALL & ~0xFFF
+sys.path.insert(0, str(Path(__file__).resolve().parents[1] / "bin"))
+import words as judge_words  # noqa: E402  # found by the line before
+
+ALL = judge_words.ALL
 XLENS, SD = 0xA00000000, 1 << 63  # of mstatus: UXL and SXL, always 2; whether VS or FS is 3
 FOR_S, SEIP = 0x222, 0x200  # SSIP, STIP and SEIP of mip can be stored; SEIP is a line besides
-MOST_ENTRIES, ENTRIES = 16, (0, 8, 16)  # of protection
-LINES = (0xA88, 0xA8A, 0xAA8, 0xAAA)
-NUMBER = re.compile(r"[0-9]+|0[xX][0-9a-fA-F]+")
+MOST_ENTRIES = 16  # of protection
 
 
 class Refused(Exception):
     """There is no such core, value or state."""
 
 
-class Bits(NamedTuple):
-    """The bits of a register that a write may change, must change, and changes by default; and those
-    that may always be 1."""
-
-    may: int
-    must: int
-    default: int
-    fixed: int = 0
-
-
 # the registers of which --csr tells the bits
-TOLD = {
-    "mstatus": Bits(0x7E7FAA, 0x19AA, 0x7E19AA, 0x6600),
-    "medeleg": Bits(ALL, 0, 0xB3FF, ALL),
-    "mideleg": Bits(FOR_S | HIGH, 0, FOR_S, FOR_S | HIGH),
-    "mie": Bits(0xAAA | HIGH, 0, 0xAAA),
-    "mtvec": Bits(ALL - 2, HIGH, ALL - 2), "stvec": Bits(ALL - 2, HIGH, ALL - 2),
-    "mcounteren": Bits(LOW, 0, 7, LOW), "scounteren": Bits(LOW, 0, 7, LOW),
-    "menvcfg": Bits(ALL, 0, 1, ALL), "senvcfg": Bits(ALL, 0, 1, ALL),
-    "mcountinhibit": Bits(LOW - 2, 0, 5, LOW - 2),
-    "satp": Bits(ALL, 0xF << 60, ALL),
-}
+TOLD = {it.name: it for it in judge_words.REGISTERS.values() if it.may is not None}
 # the registers of a saved state in its order, each with the bits that it can hold by default
 CSRS = {name: bits.default for name, bits in TOLD.items() if name != "satp"} | {
     "mscratch": ALL, "sscratch": ALL, "mepc": ALL - 1, "sepc": ALL - 1, "mcause": ALL,
@@ -48,12 +29,7 @@ CSRS = {name: bits.default for name, bits in TOLD.items() if name != "satp"} | {
     "pmpcfg0": 0x9F9F9F9F9F9F9F9F, "pmpcfg2": 0x9F9F9F9F9F9F9F9F,
     **{f"pmpaddr{it}": (1 << 54) - 1 for it in range(MOST_ENTRIES)},
 }
-MISSING = ("mcounteren", "mcountinhibit", "menvcfg", "senvcfg", "mhpmevent", "mhpmcounter",
-           "hpmcounter", "mconfigptr", "cycle", "time", "instret")
-# what --csr may tell of a register in place of its bits
-FORMS = {"row": ("misa", "mhpmevent", "mcountinhibit", "menvcfg", "senvcfg"), "none": MISSING,
-         "maybe": MISSING}
-NOT_HELD = ("row", "none")
+NOT_HELD = ("row", "none")  # forms of registers that a state holds as 0
 # the judge's words that a profile is short for
 PROFILES = {
     "qemu": {
@@ -64,21 +40,15 @@ PROFILES = {
     },
     "spike": {"pmp": "16"}, "rocket": {"pmp": "8"}, "cva6": {"pmp": "8"},
 }
-# the words that say what registers hold, and their help
-WORDS = {
-    "profile": ("NAME", f"a core, for what is not given: {', '.join(PROFILES)}"),
-    "csr": ("LIST", "registers: NAME=MASK, NAME=MASK:FIXED, NAME=row, NAME=none, NAME=maybe"),
-    "pmp": ("N", "the entries of protection: 0, 8 or 16"),
-    "pmp-bits": ("B", "the bits of pmpaddr, 10 to 54"),
-    "lines": ("MASK", "the interrupt lines of mip: 0xA88, 0xA8A, 0xAA8 or 0xAAA"),
-}
+# the words that say what registers hold, without their dashes
+WORDS = {it: judge_words.WORDS[f"--{it}"] for it in ("profile", "csr", "pmp", "pmp-bits", "lines")}
 
 
 def add_words(parser):
     """Gives a parser the judge's words for what registers hold."""
     group = parser.add_argument_group("what the core's registers hold, as the judge's words say it")
-    for name, (value, text) in WORDS.items():
-        group.add_argument(f"--{name}", metavar=value, help=text)
+    for word in WORDS.values():
+        group.add_argument(word.name, metavar=word.value, help=word.help_text())
 
 
 class Registers:
@@ -86,16 +56,15 @@ class Registers:
 
     def __init__(self, words):
         """The words are a table from the names of WORDS to texts; None: it is not given."""
-        said = {"csr": None, "pmp": "16", "pmp-bits": "54", "lines": "0xA88"}
+        said = {name: word.default or None for name, word in WORDS.items() if name != "profile"}
         if (name := words.get("profile")) is not None:
             if name not in PROFILES:
                 raise Refused(f"--profile {name}: it is none of {', '.join(PROFILES)}")
             said |= PROFILES[name]
         said |= {name: text for name, text in words.items() if text is not None}
         self.held, self.fixed = dict(CSRS), {name: 0 for name in CSRS}
-        self.held["mip"] &= ~chosen("lines", said["lines"], LINES) | SEIP
-        self.limit_protection(chosen("pmp", said["pmp"], ENTRIES),
-                              chosen("pmp-bits", said["pmp-bits"], range(10, 55)))
+        self.held["mip"] &= ~chosen("lines", said["lines"]) | SEIP
+        self.limit_protection(chosen("pmp", said["pmp"]), chosen("pmp-bits", said["pmp-bits"]))
         for name, mask, fixed in () if said["csr"] is None else told(said["csr"]):
             self.held[name], self.fixed[name] = mask | fixed, fixed
         self.held["mstatus"] |= XLENS
@@ -125,19 +94,13 @@ class Registers:
         return ""
 
 
-def number_in(text):
-    """A number as the judge reads it, or None."""
-    if not NUMBER.fullmatch(text):
-        return None
-    return int(text, 16) if text[:2] in ("0x", "0X") else int(text)
-
-
-def chosen(name, text, values):
-    """The number that a word says, of some that it may say."""
-    value = number_in(text)
-    if value not in values:
-        raise Refused(f"--{name} {text}: the judge refuses it")
-    return value
+def chosen(name, text):
+    """The number that a word says."""
+    try:
+        judge_words.check_value(WORDS[name], text)
+    except judge_words.Refused:
+        raise Refused(f"--{name} {text}: the judge refuses it") from None
+    return judge_words.number(text)
 
 
 def told(text):
@@ -146,23 +109,11 @@ def told(text):
     names = set()
     for item in text.split(","):
         name, _, what = item.partition("=")
-        if name in names or not is_lawful(name, what):
+        if name in names or judge_words.register_fault(name, what):
             raise Refused(f"--csr {item}: the judge refuses it")
         names.add(name)
         if what in NOT_HELD and name in CSRS:
             yield name, 0, 0
-        elif what not in FORMS:
+        elif what not in judge_words.FORMS:
             mask, _, fixed = what.partition(":")
-            yield name, number_in(mask), number_in(fixed) if fixed else 0
-
-
-def is_lawful(name, what):
-    """Whether the judge takes what an item tells of a register."""
-    if what in FORMS:
-        return name in FORMS[what]
-    mask, colon, text = what.partition(":")
-    numbers = number_in(mask), number_in(text) if colon else 0
-    if name not in TOLD or None in numbers:
-        return False
-    bits, (mask, fixed) = TOLD[name], numbers
-    return not (mask & ~bits.may or bits.must & ~mask or fixed & ~bits.fixed or fixed & mask)
+            yield name, judge_words.number(mask), judge_words.number(fixed or "0")

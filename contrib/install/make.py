@@ -1,28 +1,41 @@
 #!/usr/bin/env python3
-"""Makes the manual page and the completions of rvjudge from bin/usage.txt, their one source.
+"""Makes what tells rvjudge's words from their table, bin/words.tsv: the options of bin/usage.txt, whose
+other lines stay, the manual page from all of it, and the completions.
 
-    make.py man|bash|zsh [VERSION]
+    make.py usage|man|bash|zsh [VERSION]
 """
 import re
 import sys
 from pathlib import Path
 
-USAGE = Path(__file__).resolve().parents[2] / "bin" / "usage.txt"
-OPTION = re.compile(r"  (--[\w-]+)(?: (\S+))? +(.*)")  # a flag has no value
-COMMANDS = ("judge", "state", "make")
-OF_MAKE = ("--workers", "--segment", "--window")
-OF_JUDGE = ("--origin",)
-# where an option's value is one of a few words; the last may have more behind it
-WORDS = re.compile(r": ((?:\w+, )*\w+) or ([\w:,.]+) \(")
+BIN = Path(__file__).resolve().parents[2] / "bin"
+sys.path.insert(0, str(BIN))
+from words import COMMANDS, WORDS  # noqa: E402  # found by the line before
+
+OPTIONS = [it for it in WORDS.values() if it.is_option]
 
 
-def parts(text):
-    """The synopsis, the paragraphs, the options and the statuses."""
-    blocks = text.strip("\n").split("\n\n")
-    synopsis = [it.replace("usage:", "").strip() for it in blocks[0].split("\n")]
-    options = [OPTION.fullmatch(it).groups() for it in blocks[2].split("\n")]
-    statuses = [it.strip().split("  ", 1) for it in blocks[4].split("\n")]
-    return synopsis, blocks[1], options, blocks[3], statuses
+def of(command):
+    """The options of a command."""
+    return [it for it in OPTIONS if command in it.commands]
+
+
+def help_of(option):
+    """An option's line of help, with its default."""
+    default = f" (default {option.default})" if option.default else ""
+    return option.help_text() + default
+
+
+def parts():
+    """The synopsis, a paragraph, the options as they stand, a paragraph, and the statuses."""
+    return (BIN / "usage.txt").read_text(encoding="utf-8").strip("\n").split("\n\n")
+
+
+def usage(_):
+    synopsis, about, _, numbers, statuses = parts()
+    width = max(len(f"{it.name} {it.value}") for it in OPTIONS)
+    lines = [f"  {f'{it.name} {it.value}':<{width}}  {help_of(it)}" for it in OPTIONS]
+    yield "\n\n".join([synopsis, about, "\n".join(lines), numbers, statuses])
 
 
 def roff(text):
@@ -30,38 +43,39 @@ def roff(text):
 
 
 def man(version):
-    synopsis, about, options, numbers, statuses = parts(USAGE.read_text(encoding="utf-8"))
+    synopsis, about, _, numbers, statuses = parts()
     yield f'.TH RVJUDGE 1 "" "{version}" "User Commands"'
     yield ".SH NAME\nrvjudge \\- judges the trace of a RISC\\-V processor"
     yield ".SH SYNOPSIS"
-    for line in synopsis:
-        yield f".B {roff(line)}\n.br"
+    for line in synopsis.removeprefix("usage:").split("\n"):
+        yield f".B {roff(line.strip())}\n.br"
     yield f".SH DESCRIPTION\n{roff(about)}"
     yield ".SH OPTIONS"
-    for name, value, text in options:
-        label = f'.BI {roff(name)} " {roff(value)}"' if value else f".B {roff(name)}"
-        yield f".TP\n{label}\n{roff(text)}"
+    for it in OPTIONS:
+        label = f'.BI {roff(it.name)} " {roff(it.value)}"' if it.value else f".B {roff(it.name)}"
+        yield f".TP\n{label}\n{roff(help_of(it))}"
     yield f".PP\n{roff(numbers.rpartition(' Status:')[0])}"
     yield ".SH EXIT STATUS"
-    for number, text in statuses:
+    for line in statuses.split("\n"):
+        number, text = line.strip().split("  ", 1)
         yield f".TP\n.B {number}\n{roff(text)}"
     yield ".SH EXAMPLE\n.nf\nrvjudge judge image.hex core.csv \\-\\-io 0x10000000:0x1000\n.fi"
 
 
-def words_of(text):
+def words_of(option):
     """The words that an option's value may be, where they are words."""
-    found = WORDS.search(text)
-    words = found[1].split(", ") + [found[2]] if found else []
-    return " ".join(it for it in words if it.isalnum())
+    few = option.values if option.kind in ("one", "causes") else []
+    return " ".join(it for it in few if it.isalnum())
+
+
+def names(options):
+    return " ".join(it.name for it in options)
 
 
 def bash(_):
-    options = parts(USAGE.read_text(encoding="utf-8"))[2]
-    names = [it[0] for it in options]
-    of_state = [it for it in names if it not in OF_JUDGE]
-    flags = "|".join(name for name, value, _text in options if not value)
-    values = "\n".join(f"            {name}) values='{words_of(text)}' ;;"
-                       for name, _value, text in options if words_of(text))
+    flags = "|".join(it.name for it in OPTIONS if it.is_flag)
+    values = "\n".join(f"            {it.name}) values='{words_of(it)}' ;;"
+                       for it in OPTIONS if words_of(it))
     yield f"""# Completion of rvjudge for bash, made by contrib/install/make.py.
 _rvjudge() {{
     local word=${{COMP_WORDS[COMP_CWORD]}} before=${{COMP_WORDS[COMP_CWORD-1]}}
@@ -69,9 +83,9 @@ _rvjudge() {{
     if [ "$COMP_CWORD" -eq 1 ]; then
         mapfile -t COMPREPLY < <(compgen -W '{' '.join(COMMANDS)}' -- "$word")
     elif [[ $word == -* ]]; then
-        local names='{' '.join(names)}'
-        [ "${{COMP_WORDS[1]}}" != state ] || names='{' '.join(of_state)}'
-        [ "${{COMP_WORDS[1]}}" != make ] || names='{' '.join(OF_MAKE)}'
+        local names='{names(of("judge"))}'
+        [ "${{COMP_WORDS[1]}}" != state ] || names='{names(of("state"))}'
+        [ "${{COMP_WORDS[1]}}" != make ] || names='{names(of("make"))}'
         mapfile -t COMPREPLY < <(compgen -W "$names" -- "$word")
     elif [ "${{COMP_WORDS[1]}}" != make ] && [[ $before == -* && ! $before =~ ^({flags})$ ]]; then
         local values=
@@ -87,17 +101,15 @@ _rvjudge() {{
 complete -F _rvjudge rvjudge rvjudge-unproved"""
 
 
+def zsh_specs(options):
+    for it in options:
+        text = re.sub(r"[\[\]':]", " ", help_of(it))
+        words = f"({words_of(it)})" if words_of(it) else ""
+        value = f"=[{text}]:{it.value.replace(':', ' and ')}:{words}" if it.value else f"[{text}]"
+        yield f"        '{it.name}{value}'"
+
+
 def zsh(_):
-    options = parts(USAGE.read_text(encoding="utf-8"))[2]
-
-    def specs(names):
-        for name, value, text in options:
-            if name in names:
-                words = f"({words_of(text)})" if words_of(text) else ""
-                text = re.sub(r"[\[\]':]", " ", text)
-                taken = f"=[{text}]:{value.replace(':', ' and ')}:{words}" if value else f"[{text}]"
-                yield f"        '{name}{taken}'"
-
     yield f"""#compdef rvjudge rvjudge-unproved
 # Completion of rvjudge for zsh, made by contrib/install/make.py.
 local -a options
@@ -105,15 +117,15 @@ if (( CURRENT == 2 )); then
     compadd {' '.join(COMMANDS)}
 elif [[ $words[2] != make ]]; then
     options=("""
-    yield from specs([it[0] for it in options if it[0] not in OF_JUDGE])
+    yield from zsh_specs(of("state"))
     yield """    )
     [[ $words[2] == state ]] || options+=("""
-    yield from specs(OF_JUDGE)
+    yield from zsh_specs(it for it in of("judge") if it not in of("state"))
     yield """    )
     _arguments $options ':command:' ':image:_files' ':trace:_files'
 else
     options=("""
-    yield from specs(OF_MAKE)
+    yield from zsh_specs(of("make"))
     yield """    )
     _arguments $options ':command:' ':number:' ':rows:'
 fi"""
@@ -121,7 +133,7 @@ fi"""
 
 def main():
     what = sys.argv[1] if len(sys.argv) > 1 else ""
-    makers = {"man": man, "bash": bash, "zsh": zsh}
+    makers = {"usage": usage, "man": man, "bash": bash, "zsh": zsh}
     if what not in makers:
         print(__doc__.strip(), file=sys.stderr)
         return 2

@@ -671,6 +671,9 @@ test_install() {
     [ "$found" = 'agrees 9' ] || fail "the installed program: $found"
     "$folder/installed/bin/rvjudge" --version >/dev/null 2>"$folder/said"
     grep -q '^sha256 [0-9a-f]*$' "$folder/said" || fail "the version: $(cat "$folder/said")"
+    "$folder/installed/bin/rvjudge" judge image trace --workers 65 >/dev/null 2>"$folder/said"
+    grep -qx 'rvjudge: --workers: 65 is not in 1 to 64' "$folder/said" ||
+        fail "the installed program, refused words: $(cat "$folder/said")"
     for word in --pc --window 'refused words'; do
         sed 's/\\-/-/g' "$folder/installed/share/man/man1/rvjudge.1" | grep -qe "$word" ||
             fail "the manual page has no $word"
@@ -744,8 +747,8 @@ can_run 'rvfi_csv.sv in Verilator' verilator make g++ python3 &&
     has_version 'rvfi_csv.sv in Verilator' verilator 'Verilator [5-9]' && test_verilator
 can_run 'regress.py with GNU parallel' parallel
 can_run 'regress.py with .csv.zst' zstd
-if can_run 'what bin/ tells' pgrep; then
-    [ -n "$knows_harts" ] || leave_out 'the words of --harts, as the judge does not know it'
+can_run 'the words' python3 && { python3 "$tests/words_test.py" "$program" || fail 'the words'; }
+if can_run 'what bin/ tells' python3 pgrep; then
     sh "$tests/words_test.sh" "$program" || fail "what bin/ tells"
 fi
 if can_run 'the progress line' python3; then
