@@ -4,22 +4,12 @@
 docs/REFERENCE.md has it ("Registers of a core", "Profiles"). What the judge refuses is refused. The
 words, and what each register may have, are those of bin/words.tsv and bin/registers.tsv.
 """
-import sys
-from pathlib import Path
-
-sys.path.insert(0, str(Path(__file__).resolve().parents[1] / "bin"))
-import words as judge_words  # noqa: E402  # found by the line before
+from common import Refused, judge_words
 
 ALL = judge_words.ALL
 XLENS, SD = 0xA00000000, 1 << 63  # of mstatus: UXL and SXL, always 2; whether VS or FS is 3
 FOR_S, SEIP = 0x222, 0x200  # SSIP, STIP and SEIP of mip can be stored; SEIP is a line besides
 MOST_ENTRIES = 16  # of protection
-
-
-class Refused(Exception):
-    """There is no such core, value or state."""
-
-
 # the registers of which --csr tells the bits
 TOLD = {it.name: it for it in judge_words.REGISTERS.values() if it.may is not None}
 # the registers of a saved state in its order, each with the bits that it can hold by default

@@ -21,19 +21,18 @@ use does not grow with the traces.
 
 Status: 0, or 3 where the lint found something, or 2 where a trace could not be read.
 """
-import argparse
-import csv
 import difflib
-import functools
 import json
-import re
-import subprocess
 import sys
 from collections import Counter
-from contextlib import contextmanager
 from pathlib import Path
 
-UNPACK = {".gz": ["gzip", "-dc"], ".zst": ["zstd", "-dcq"]}
+from common import (
+    MOST_HARTS, Refused, ends, fields_under, header_of, names_of, number, opened, parser_of,
+    shown_lines,
+)
+from instructions import BIT_MANIPULATION, ILLEGAL, TABLE, decoded, name_of
+
 PLAIN = (
     "valid order intr pc_rdata mode ixl trap insn rs1_addr rs1_rdata rs2_addr rs2_rdata rd_addr "
     "rd_wdata pc_wdata mem_addr mem_rmask mem_rdata mem_wmask mem_wdata mem_paddr halt "
@@ -44,7 +43,6 @@ CSR_COLUMNS = (
 KNOWN = PLAIN + [f"csr_{it}_{part}" for it in CSR_COLUMNS
                  for part in ("rmask", "wmask", "rdata", "wdata")]
 OF_EXPLAIN = ("time", "cycle")
-MOST_HARTS = 8
 ADDRESSES = ("pc_rdata", "pc_wdata", "mem_addr", "mem_paddr")
 MODES = {0: "U", 1: "S", 3: "M"}
 EXCEPTIONS = {
@@ -72,172 +70,7 @@ CSRS = {
 }
 
 
-class Refused(Exception):
-    """A trace cannot be read."""
-
-
-def number(text):
-    return int(text, 16) if text[:2] in ("0x", "0X") else int(text)
-
-
-# ---- instructions
-
-BY_FUNCT3 = {
-    0x63: {0: "beq", 1: "bne", 4: "blt", 5: "bge", 6: "bltu", 7: "bgeu"},
-    0x03: dict(enumerate("lb lh lw ld lbu lhu lwu".split())),
-    0x23: dict(enumerate("sb sh sw sd".split())),
-    0x13: {0: "addi", 2: "slti", 3: "sltiu", 4: "xori", 6: "ori", 7: "andi"},
-    0x1B: {0: "addiw"}, 0x67: {0: "jalr"}, 0x0F: {0: "fence", 1: "fence.i"},
-    0x73: {1: "csrrw", 2: "csrrs", 3: "csrrc", 5: "csrrwi", 6: "csrrsi", 7: "csrrci"},
-}
-# By opcode, funct3 and funct7 (of shifts by an immediate of 6 bits without its lowest bit).
-BY_FUNCT7 = {
-    **{(0x33, at, 0): it for at, it in enumerate("add sll slt sltu xor srl or and".split())},
-    **{(0x33, at, 1): it
-       for at, it in enumerate("mul mulh mulhsu mulhu div divu rem remu".split())},
-    (0x33, 0, 32): "sub", (0x33, 5, 32): "sra",
-    (0x3B, 0, 0): "addw", (0x3B, 1, 0): "sllw", (0x3B, 5, 0): "srlw", (0x3B, 0, 32): "subw",
-    (0x3B, 5, 32): "sraw", (0x3B, 0, 1): "mulw", (0x3B, 4, 1): "divw", (0x3B, 5, 1): "divuw",
-    (0x3B, 6, 1): "remw", (0x3B, 7, 1): "remuw", (0x1B, 1, 0): "slliw", (0x1B, 5, 0): "srliw",
-    (0x1B, 5, 32): "sraiw", (0x13, 1, 0): "slli", (0x13, 5, 0): "srli", (0x13, 5, 32): "srai",
-}
-# Zba, Zbb and Zbs: the same, and those with one register by bits 31:20 in the place of funct7.
-BITS_BY_FUNCT7 = {
-    (0x33, 2, 16): "sh1add", (0x33, 4, 16): "sh2add", (0x33, 6, 16): "sh3add",
-    (0x33, 4, 32): "xnor", (0x33, 6, 32): "orn", (0x33, 7, 32): "andn",
-    (0x33, 4, 5): "min", (0x33, 5, 5): "minu", (0x33, 6, 5): "max", (0x33, 7, 5): "maxu",
-    (0x33, 1, 48): "rol", (0x33, 5, 48): "ror", (0x33, 1, 36): "bclr", (0x33, 5, 36): "bext",
-    (0x33, 1, 52): "binv", (0x33, 1, 20): "bset",
-    (0x3B, 0, 4): "add.uw", (0x3B, 2, 16): "sh1add.uw", (0x3B, 4, 16): "sh2add.uw",
-    (0x3B, 6, 16): "sh3add.uw", (0x3B, 1, 48): "rolw", (0x3B, 5, 48): "rorw",
-    (0x13, 1, 36): "bclri", (0x13, 5, 36): "bexti", (0x13, 1, 52): "binvi", (0x13, 1, 20): "bseti",
-    (0x13, 5, 48): "rori", (0x1B, 5, 48): "roriw",
-    (0x1B, 1, 4): "slli.uw", (0x1B, 1, 5): "slli.uw",  # the amount has 6 bits
-}
-BITS_BY_FUNCT12 = {
-    (0x13, 1, 0x600): "clz", (0x13, 1, 0x601): "ctz", (0x13, 1, 0x602): "cpop",
-    (0x13, 1, 0x604): "sext.b", (0x13, 1, 0x605): "sext.h", (0x13, 5, 0x287): "orc.b",
-    (0x13, 5, 0x6B8): "rev8", (0x3B, 4, 0x080): "zext.h",
-    (0x1B, 1, 0x600): "clzw", (0x1B, 1, 0x601): "ctzw", (0x1B, 1, 0x602): "cpopw",
-}
-BIT_MANIPULATION = [*dict.fromkeys([*BITS_BY_FUNCT7.values(), *BITS_BY_FUNCT12.values()])]
-BY_FUNCT5 = {
-    0: "amoadd", 1: "amoswap", 2: "lr", 3: "sc", 4: "amoxor", 8: "amoor", 12: "amoand",
-    16: "amomin", 20: "amomax", 24: "amominu", 28: "amomaxu",
-}
-WORDS = {0x73: "ecall", 0x100073: "ebreak", 0x10200073: "sret", 0x30200073: "mret",
-         0x10500073: "wfi"}
-COMPRESSED = (
-    "c.addi4spn c.lw c.ld c.sw c.sd c.addi c.addiw c.li c.addi16sp c.lui c.srli c.srai c.andi "
-    "c.sub c.xor c.or c.and c.subw c.addw c.j c.beqz c.bnez c.slli c.lwsp c.ldsp c.jr c.mv "
-    "c.ebreak c.jalr c.add c.swsp c.sdsp").split()
-TABLE = [
-    "lui", "auipc", "jal", *(it for rows in BY_FUNCT3.values() for it in rows.values()),
-    *BY_FUNCT7.values(), *WORDS.values(), "sfence.vma",
-    *(f"{it}.{width}" for it in BY_FUNCT5.values() for width in "wd"), *COMPRESSED,
-]
-ILLEGAL = "illegal"
-
-
-@functools.lru_cache(1 << 16)
-def name_of(bits):
-    """The instruction of the judge's table under --bits on that a word is, or ILLEGAL."""
-    if bits & 3 != 3:
-        return compressed_name(bits) if bits & 0xFFFF else ILLEGAL
-    opcode, funct3, funct7 = bits & 0x7F, bits >> 12 & 7, bits >> 25
-    if opcode in (0x37, 0x17, 0x6F):
-        return {0x37: "lui", 0x17: "auipc", 0x6F: "jal"}[opcode]
-    if bits in WORDS:
-        return WORDS[bits]
-    if opcode == 0x73 and funct7 == 9 and funct3 == 0 and bits >> 7 & 31 == 0:
-        return "sfence.vma"
-    if opcode == 0x2F:
-        name = BY_FUNCT5.get(bits >> 27)
-        if name is None or funct3 not in (2, 3) or name == "lr" and bits >> 20 & 31:
-            return ILLEGAL
-        return f"{name}.{'wd'[funct3 - 2]}"
-    if opcode == 0x13:
-        funct7 &= ~1
-    key = opcode, funct3, funct7
-    return BY_FUNCT3.get(opcode, {}).get(funct3) or BY_FUNCT7.get(key) or BITS_BY_FUNCT7.get(key) \
-        or BITS_BY_FUNCT12.get((opcode, funct3, bits >> 20), ILLEGAL)
-
-
-def compressed_name(bits):
-    rd, second, funct3 = bits >> 7 & 31, bits >> 2 & 31, bits >> 13 & 7
-    immediate = second | bits >> 12 & 1
-    match bits & 3, funct3:
-        case 0, 0:
-            return "c.addi4spn" if bits >> 5 & 0xFF else ILLEGAL
-        case 0, 2 | 3 | 6 | 7:
-            return {2: "c.lw", 3: "c.ld", 6: "c.sw", 7: "c.sd"}[funct3]
-        case 1, 0 | 2 | 5 | 6 | 7:
-            return {0: "c.addi", 2: "c.li", 5: "c.j", 6: "c.beqz", 7: "c.bnez"}[funct3]
-        case 1, 1:
-            return "c.addiw" if rd else ILLEGAL
-        case 1, 3:
-            return ("c.addi16sp" if rd == 2 else "c.lui") if immediate else ILLEGAL
-        case 1, 4 if bits >> 10 & 3 < 3:
-            return ("c.srli", "c.srai", "c.andi")[bits >> 10 & 3]
-        case 1, 4:
-            names = ("c.sub", "c.xor", "c.or", "c.and", "c.subw", "c.addw", ILLEGAL, ILLEGAL)
-            return names[bits >> 10 & 4 | bits >> 5 & 3]
-        case 2, 0:
-            return "c.slli"
-        case 2, 2 | 3:
-            return ("c.lwsp" if funct3 == 2 else "c.ldsp") if rd else ILLEGAL
-        case 2, 6 | 7:
-            return "c.swsp" if funct3 == 6 else "c.sdsp"
-        case 2, 4 if bits >> 12 & 1:
-            return "c.add" if second else "c.jalr" if rd else "c.ebreak"
-        case 2, 4:
-            return "c.mv" if second else "c.jr" if rd else ILLEGAL
-    return ILLEGAL
-
-
-@functools.lru_cache(1 << 16)
-def writes_register(bits):
-    """Whether an instruction writes a register that is not x0."""
-    name, rd = name_of(bits), bits >> 7 & 31
-    if name in ("c.addi4spn", "c.lw", "c.ld", "c.srli", "c.srai", "c.andi", "c.jalr") \
-            or re.fullmatch(r"c\.(sub|xor|or|and|subw|addw)", name):
-        return True
-    if name in ("c.sw", "c.sd", "c.j", "c.beqz", "c.bnez", "c.jr", "c.ebreak", "c.swsp", "c.sdsp"):
-        return False
-    if bits & 0x7F in (0x63, 0x23, 0x0F) and bits & 3 == 3 or name in WORDS.values():
-        return False
-    return name not in (ILLEGAL, "sfence.vma") and rd != 0
-
-
-@functools.lru_cache(1 << 16)
-def size_of(bits):
-    """The bytes of an instruction's access, 0 where it has none."""
-    name = name_of(bits).removeprefix("c.")
-    if found := re.fullmatch(r"[ls]([bhwd])u?(sp)?|(?:lr|sc|amo\w+)\.([wd])", name):
-        return 1 << "bhwd".index(found[1] or found[3])
-    return 0
-
-
 # ---- a trace
-
-
-@contextmanager
-def opened(path):
-    unpack = next((words for it, words in UNPACK.items() if path.endswith(it)), None)
-    with open(path, "rb") as file:
-        if unpack is None:
-            yield file
-            return
-        child = subprocess.Popen(unpack, stdin=file, stdout=subprocess.PIPE)
-        yield child.stdout
-        if child.wait():
-            raise Refused(f"{path}: it could not be unpacked")
-
-
-def names_in(header):
-    """The names of the columns in a trace's first line."""
-    return [it.strip(" \t").removeprefix("rvfi_")
-            for it in next(csv.reader([header.removeprefix("\xef\xbb\xbf")]))]
 
 
 def unknown_names(names):
@@ -266,22 +99,17 @@ class Cover:
     def read(self, path):
         self.trapped, self.orders = {}, {}
         with opened(path) as file:
-            lines = ((at, it) for at, line in enumerate(file, 1)
-                     if (it := line.decode("latin-1").rstrip("\r\n")))
-            _, header = next(lines, (0, None))
-            if header is None:
-                raise Refused(f"{path}: there is no header")
-            names = names_in(header)
+            lines = shown_lines(it.decode("latin-1") for it in file)
+            try:
+                names = names_of(header_of(lines))
+            except Refused as fault:
+                raise Refused(f"{path}: {fault}") from None
             self.lint_names(path, names)
             before = self.valid
             for at, line in lines:
-                fields = next(csv.reader([line])) if '"' in line else line.split(",")
-                if len(fields) != len(names):
-                    counts = f"{len(fields)} fields under {len(names)} names"
-                    raise Refused(f"{path}: line {at}: {counts}")
                 try:
-                    self.take(path, at, names, fields)
-                except ValueError as fault:
+                    self.take(path, at, names, fields_under(names, line))
+                except Refused as fault:
                     raise Refused(f"{path}: line {at}: {fault}") from None
             for row in self.trapped.values():
                 self.count_exception(row, {})
@@ -307,8 +135,8 @@ class Cover:
                 continue
             if name in ADDRESSES and len(text) >= 8 and text.isdigit() and text[0] != "0":
                 self.fault(path, at, f"{name} is a number of 8 digits and more without 0x")
-            if text[0].isdigit() or text.strip(" \t"):
-                row[name] = number(text.strip(" \t"))
+            if shown := text.strip(" \t"):
+                row[name] = number(shown)
         if row.get("valid", 1) == 0:
             return
         self.valid += 1
@@ -328,7 +156,7 @@ class Cover:
         if order is not None or due is not None:
             self.orders[hart] = (due if order is None else order) + 1 & (1 << 64) - 1
         if bits is not None and "rd_wdata" not in row and not row.get("trap") \
-                and writes_register(bits):
+                and decoded(bits).rd:
             self.fault(path, at, "rd_wdata is empty or missing where rd is not x0")
 
     def count(self, row):
@@ -353,7 +181,7 @@ class Cover:
         self.counts["instructions"][name] += 1
         if name.startswith("csrr"):
             self.counts["registers"][CSRS.get(bits >> 20, f"0x{bits >> 20:x}")] += 1
-        if size := size_of(bits):
+        if size := decoded(bits).size:
             self.count_access(row, size)
 
     def count_exception(self, before, row):
@@ -460,27 +288,25 @@ def as_text(report, is_lint):
 
 
 def main():
-    first, _, rest = __doc__.partition("\n")
-    parser = argparse.ArgumentParser(description=first, epilog=rest,
-                                     formatter_class=argparse.RawDescriptionHelpFormatter)
+    parser = parser_of(__doc__)
     parser.add_argument("traces", nargs="+", metavar="TRACE")
     parser.add_argument("--bits", choices=("off", "on"), default="off",
                         help="the table is that of the judge under this option")
     parser.add_argument("--json", metavar="FILE", help="write the report as JSON")
     parser.add_argument("--lint", action="store_true", help="tell the lint alone")
     words = parser.parse_args()
-    cover = Cover(words.bits == "on")
-    try:
+
+    def run():
+        cover = Cover(words.bits == "on")
         for path in words.traces:
             cover.read(path)
         report = cover.report()
         if words.json:
             Path(words.json).write_text(json.dumps(report, indent=1) + "\n", encoding="utf-8")
-    except (Refused, OSError) as fault:
-        print(f"cover.py: {fault}", file=sys.stderr)
-        return 2
-    print("\n".join(as_text(report, words.lint)))
-    return 3 if report["lint"] else 0
+        print("\n".join(as_text(report, words.lint)))
+        return 3 if report["lint"] else 0
+
+    return ends("cover.py", run, 2)
 
 
 if __name__ == "__main__":

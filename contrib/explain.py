@@ -18,36 +18,35 @@ shown in the trace is not known here: it is said so. The trace is read once for 
 more for each doubleword of memory that is looked for; no more than the last rows are held. The
 status is the judge's, or 70 where it gave no verdict.
 """
-import argparse
-import csv
 import html
 import re
 import shutil
 import subprocess
 import sys
 import tempfile
+from bisect import bisect_right
 from collections import deque
-from contextlib import contextmanager
 from pathlib import Path
 from typing import NamedTuple
 
 import elf_image
+from common import (
+    ABI, Refused, add_program, ends, fields_of, judge_words, names_of, number, opened, parser_of,
+    shown_lines, unpacker_of,
+)
 from core_registers import PROFILES
-from cover import BIT_MANIPULATION, name_of
 from image_start import bytes_at, registers_at
-from instructions import access_of, registers_of, signed
+from instructions import BIT_MANIPULATION, decoded, name_of, signed
 
-HERE = Path(__file__).resolve().parent
-UNPACK = {".gz": ["gzip", "-dc"], ".zst": ["zstd", "-dcq"]}
-ABI = ("zero ra sp gp tp t0 t1 t2 s0 s1 a0 a1 a2 a3 a4 a5 a6 a7 s2 s3 s4 s5 s6 s7 s8 s9 s10 s11 "
-       "t3 t4 t5 t6").split()
 DIFFERS = re.compile(r"differs row (\d+): (\w+) expected (\S+) found (\S+)")
 ORIGIN = re.compile(r"origin (?:x(\d+)|byte (0x[0-9a-f]{16})) (?:row (\d+)|reset|image)")
-# the judge's options that say what traps, with their defaults
-CHOICES = {"misaligned": "trap", "ad": "fault", "bits": "off", "io-faults": "none"}
+CHOICES = ("misaligned", "ad", "bits", "io-faults")  # the judge's options that say what traps
 DEBIAN = "/usr/lib/python3/dist-packages"
 MASK = (1 << 64) - 1
 SATP = 0x180
+SLOT = 8  # bytes of a file for objdump in which an instruction stands
+DISASSEMBLED = re.compile(r"^ *([0-9a-f]+):\t[^\t\n]*\t(.*)", re.MULTILINE)
+WITH_GOAL = ("jal", "beq", "bne", "blt", "bge", "bltu", "bgeu", "c.j", "c.beqz", "c.bnez")
 WITH_AMOUNT = ("slli.uw", "rori", "roriw", "bclri", "bexti", "binvi", "bseti")
 # The columns that are read; the others are the judge's matter.
 READ = {
@@ -70,31 +69,7 @@ MEANING = {
 }
 
 
-class Refused(Exception):
-    """There is nothing to explain from."""
-
-
-def number(text):
-    return int(text, 16) if text[:2] in ("0x", "0X") else int(text)
-
-
 # ---- the trace
-
-
-@contextmanager
-def opened(path):
-    """The bytes of a trace, unpacked."""
-    unpack = next((words for it, words in UNPACK.items() if path.endswith(it)), None)
-    with open(path, "rb") as file:
-        if unpack is None:
-            yield file
-            return
-        child = subprocess.Popen(unpack, stdin=file, stdout=subprocess.PIPE)
-        try:
-            yield child.stdout
-        finally:
-            child.kill()
-            child.wait()
 
 
 class Row(NamedTuple):
@@ -115,20 +90,6 @@ class Row(NamedTuple):
         return self.shown["insn"]
 
 
-def fields_of(line):
-    return next(csv.reader([line])) if '"' in line else line.split(",")
-
-
-def lines_of(file):
-    """The lines that are not blank, with their numbers."""
-    for at, line in enumerate(file, 1):
-        text = line.decode("latin-1").rstrip("\r\n")
-        if at == 1:
-            text = text.removeprefix("\xef\xbb\xbf")
-        if text:
-            yield at, text
-
-
 class Hart:
     """What the rows of a hart lead to: its registers, satp, and the number of its last row."""
 
@@ -144,9 +105,9 @@ class Hart:
 def rows_of(words, last):
     """The rows from the first to number last, each with its hart's registers before it."""
     harts = {it: Hart(start) for it, start in enumerate(words.start)}
-    with opened(words.trace) as file:
-        lines = lines_of(file)
-        names = [it.strip(" \t").removeprefix("rvfi_") for it in fields_of(next(lines)[1])]
+    with opened(words.trace, is_whole=False) as file:
+        lines = shown_lines(it.decode("latin-1") for it in file)
+        names = names_of(next(lines)[1])
         columns = [(at, name) for at, name in enumerate(names) if name in READ]
         for count, (at, text) in enumerate(lines, 1):
             fields = fields_of(text)
@@ -166,8 +127,7 @@ def state_after(row):
     """The registers after a row, as far as the trace shows them."""
     if row.shown.get("trap"):
         return row.state
-    rd = registers_of(row.bits)[2]
-    if not rd:
+    if not (rd := decoded(row.bits).rd):
         return row.state
     return row.state | {rd: (row.shown.get("rd_wdata"), row.number)}
 
@@ -204,7 +164,7 @@ def is_translated(row):
 
 def store_of(row):
     """The physical address, the size and the data of what a row stores, or None."""
-    access = access_of(row.bits)
+    access = decoded(row.bits).access
     if access is None or access.data is None or row.shown.get("trap"):
         return None
     if access.kind == "store-conditional" and row.shown.get("rd_wdata"):
@@ -277,6 +237,7 @@ class Places:
 
     def __init__(self, path):
         self.functions, self.lines, self.said = [], [], []
+        self.wanted = {}  # the instructions whose texts are shown
         names = ("riscv64-unknown-elf-objdump", "riscv64-linux-gnu-objdump", "llvm-objdump")
         self.objdump = next(filter(shutil.which, names[:2]), None)
         if not self.objdump:
@@ -328,36 +289,58 @@ class Places:
 
     @staticmethod
     def below(table, pc):
-        low, high = 0, len(table)
-        while low < high:
-            middle = (low + high) // 2
-            low, high = (middle + 1, high) if table[middle][0] <= pc else (low, middle)
-        return table[low - 1:low]
+        at = bisect_right(table, pc, key=lambda it: it[0])
+        return table[max(0, at - 1):at]
 
-    def disassembly(self, pc, bits):
-        if name_of(bits) in BIT_MANIPULATION:  # bytes without an ELF file's attributes are not
-            return bit_manipulation_text(bits)
-        if not self.objdump:
-            return ""
-        with tempfile.NamedTemporaryFile() as file:
-            file.write(bits.to_bytes(4, "little")[: 4 if bits & 3 == 3 else 2])
-            file.flush()
-            ran = subprocess.run([self.objdump, "-D", "-b", "binary", "-m", "riscv:rv64",
-                                  f"--adjust-vma=0x{pc:x}", file.name],
-                                 capture_output=True, text=True)
-        line = ran.stdout.rstrip().split("\n")[-1].split("\t")
-        return re.sub(r"\s*<.*?>|# .*", "", " ".join(line[2:])).strip() if len(line) > 2 else ""
+    def disassembly(self, pc, bits, width=0):
+        """What stands for the text of an instruction until `filled` puts it there."""
+        self.wanted.setdefault((pc, bits))
+        return f"\0{[*self.wanted].index((pc, bits))}:{width}\0"
+
+    def filled(self, parts):
+        """The parts of an explanation with the texts of their instructions, from one run of objdump."""
+        texts = self.disassembled([*self.wanted])
+
+        def text(found):
+            return f"{texts[int(found[1])]:<{found[2]}}"
+
+        return [(title, [re.sub(r"\0(\d+):(\d+)\0", text, it).rstrip() for it in lines])
+                for title, lines in parts]
+
+    def disassembled(self, wanted):
+        """The texts of instructions, each an address and bits. They stand side by side in one file, which
+        begins at 0, so that what a jump or a branch goes to is moved to where it is."""
+        ran = {}
+        if self.objdump and wanted:
+            with tempfile.NamedTemporaryFile() as file:
+                for _, bits in wanted:
+                    file.write(bits.to_bytes(4, "little")[: 4 if bits & 3 == 3 else 2].ljust(SLOT, b"\0"))
+                file.flush()
+                ran = subprocess.run([self.objdump, "-D", "-z", "-b", "binary", "-m", "riscv:rv64",
+                                      file.name], capture_output=True, text=True)
+            ran = {int(it[1], 16): it[2] for it in DISASSEMBLED.finditer(ran.stdout)}
+        return [bit_manipulation_text(bits) if name_of(bits) in BIT_MANIPULATION
+                else moved(ran.get(SLOT * at, ""), name_of(bits), pc - SLOT * at)
+                for at, (pc, bits) in enumerate(wanted)]
 
     def row(self, row, mark=" ", has_harts=False):
         bits = f"{row.bits:08x}" if row.bits & 3 == 3 else f"    {row.bits & 0xffff:04x}"
         hart = f"hart {row.hart}  " if has_harts else ""
         text = f"{mark} row {row.number:<6} {hart}0x{row.pc:016x}  {bits}  "
-        return f"{text}{self.disassembly(row.pc, row.bits):<28} {self.name(row.pc)}".rstrip()
+        return f"{text}{self.disassembly(row.pc, row.bits, 28)} {self.name(row.pc)}"
+
+
+def moved(text, name, distance):
+    """The text of an instruction, whose goal is so far from where it was disassembled."""
+    text = re.sub(r"\s*<.*?>|# .*", "", text.replace("\t", " ")).strip()
+    if name not in WITH_GOAL:
+        return text
+    return re.sub("0x[0-9a-f]+$", lambda it: hex(int(it[0], 16) + distance & MASK), text)
 
 
 def bit_manipulation_text(bits):
     """An instruction of bit manipulation as the assembler has it."""
-    name, (rs1, rs2, rd) = name_of(bits), registers_of(bits)
+    name, rs1, rs2, rd, _ = decoded(bits)
     words = [ABI[rd], ABI[rs1]]
     if rs2 is not None:
         words.append(ABI[rs2])
@@ -421,7 +404,7 @@ class Explanation:
 
     def tell_operands(self):
         lines = []
-        shown = registers_of(self.row.bits)[:2]
+        shown = decoded(self.row.bits)[1:3]
         for name, register in zip(("rs1", "rs2"), shown):
             if register:
                 lines.append(f"{name} {self.register(self.row, register, name)}")
@@ -465,7 +448,7 @@ class Explanation:
             self.tell_access(before)
 
     def tell_access(self, row):
-        access = access_of(row.bits)
+        access = decoded(row.bits).access
         if access is None:
             return
         address = address_of(row, access)
@@ -667,8 +650,8 @@ def judged(words):
 
 def run_judge(words, more):
     """The judge's status, and what it printed and told."""
-    with opened(words.trace) as source:
-        is_packed = words.trace.endswith(tuple(UNPACK))
+    with opened(words.trace, is_whole=False) as source:
+        is_packed = unpacker_of(words.trace) is not None
         trace = "/dev/stdin" if is_packed else words.trace
         ran = subprocess.run(
             [words.program, "judge", words.image, trace, *words.options, *more],
@@ -685,11 +668,15 @@ def value_of(options, name):
     return None
 
 
-def spans(options, name, default):
-    """Base and size of each range of an option, or the default."""
-    text = value_of(options, name)
-    if not text:
-        return default
+def default_of(name):
+    return judge_words.WORDS[f"--{name}"].default
+
+
+def spans(options, name):
+    """Base and size of each range of an option."""
+    text = value_of(options, name) or default_of(name)
+    if text == "none":
+        return []
     return [tuple(number(it) for it in part.split(":")) for part in text.split(",")]
 
 
@@ -698,15 +685,11 @@ def as_spans(ranges):
 
 
 def arguments(given):
-    first, _, rest = __doc__.partition("\n")
-    parser = argparse.ArgumentParser(
-        prog="explain.py", description=first, epilog=rest,
-        formatter_class=argparse.RawDescriptionHelpFormatter)
+    parser = parser_of(__doc__, prog="explain.py")
     add = parser.add_argument
     add("image", metavar="IMAGE")
     add("trace", metavar="TRACE")
-    add("-p", "--program", default=str(HERE.parent / "bin/rvjudge"), metavar="PROGRAM",
-        help="the judge (default: bin/rvjudge of this repository)")
+    add_program(parser)
     add("--elf", metavar="FILE", help="the program, for functions and source lines")
     add("--rows", type=int, default=8, metavar="N", help="rows that are shown (default 8)")
     add("--html", metavar="FILE", help="write the explanation as one page")
@@ -714,13 +697,13 @@ def arguments(given):
     cut = given.index("--") if "--" in given else len(given)
     words = parser.parse_args(given[:cut])
     words.options = given[cut + 1:]
-    words.ram = spans(words.options, "ram", [(0x80000000, 0x8000000)])[0]
-    words.io = spans(words.options, "io", [])
+    words.ram = spans(words.options, "ram")[0]
+    words.io = spans(words.options, "io")
     core = PROFILES.get(value_of(words.options, "profile"), {})
-    for name, default in CHOICES.items():
-        value = value_of(words.options, name) or core.get(name, default)
+    for name in CHOICES:
+        value = value_of(words.options, name) or core.get(name, default_of(name))
         setattr(words, name.replace("-", "_"), value)
-    words.harts = number(value_of(words.options, "harts") or "1")
+    words.harts = number(value_of(words.options, "harts") or default_of("harts"))
     return words
 
 
@@ -741,7 +724,8 @@ def explain(words):
     if not rows or rows[-1].number != int(found[1]):
         raise Refused(f"row {found[1]} was not found in {words.trace}")
     places = Places(words.elf or elf_of(words.image))
-    parts = Explanation(words, places, found, list(rows), origins_in(more)).parts
+    explanation = Explanation(words, places, found, list(rows), origins_in(more))
+    parts = places.filled(explanation.parts)
     print(as_text(line, parts), end="")
     if words.html:
         Path(words.html).write_text(as_page(line, parts, words), encoding="utf-8")
@@ -752,11 +736,7 @@ def explain(words):
 
 def main():
     words = arguments(sys.argv[1:])
-    try:
-        return explain(words)
-    except (Refused, OSError, ValueError) as fault:
-        print(f"explain.py: {fault}", file=sys.stderr)
-        return 70
+    return ends("explain.py", lambda: explain(words), 70)
 
 
 if __name__ == "__main__":

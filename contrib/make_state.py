@@ -33,17 +33,15 @@ import struct
 import sys
 
 import elf_image
-from core_registers import ALL, CSRS, SD, WORDS, XLENS, Refused, Registers, add_words
-from image_start import SAVED
+from common import ABI, MOST_HARTS, Refused, ends, judge_words, parser_of, target_of
+from core_registers import ALL, CSRS, SD, WORDS, XLENS, Registers, add_words
+from image_start import SAVED, text_parts
 
 PAGE, BLOCK = 4096, 16  # bytes
-RESET_PC = RAM_BASE = 0x80000000
-RAM_SIZE = 0x8000000
-NAMES = ("zero ra sp gp tp t0 t1 t2 s0 s1 a0 a1 a2 a3 a4 a5 a6 a7 s2 s3 s4 s5 s6 s7 s8 s9 s10 s11 "
-         "t3 t4 t5 t6").split()
-REGISTERS = {f"x{it}": it for it in range(32)} | {it: at for at, it in enumerate(NAMES)} | {"fp": 8}
+RESET_PC = 0x80000000
+RAM = judge_words.WORDS["--ram"].default
+REGISTERS = {f"x{it}": it for it in range(32)} | {it: at for at, it in enumerate(ABI)} | {"fp": 8}
 HARTS = re.compile(rb"harts ([2-8])\n")
-MOST_HARTS = 8
 MODES, FLAGS = {"M": 3, "S": 1, "U": 0}, ("00", "01", "10", "11")
 
 
@@ -258,17 +256,13 @@ def take_state(state, path, lines):
 
 
 def take_text(state, path, text):
-    """Takes text as objcopy writes it, which may have comments."""
-    address, data = 0, bytearray()
-    for token in re.sub(r"/\*.*?\*/|//[^\n]*", " ", text, flags=re.DOTALL).split():
-        if re.fullmatch("@[0-9a-fA-F]{1,16}", token):
-            state.memory.put(address, data)
-            address, data = int(token[1:], 16), bytearray()
-        elif re.fullmatch("[0-9a-fA-F]{2}", token):
-            data.append(int(token, 16))
-        else:
-            raise Refused(f"{path}: {token[:20]!r} is neither a byte nor an address")
-    state.memory.put(address, data)
+    """Takes Verilog text."""
+    try:
+        parts = [*text_parts(text)]
+    except Refused as fault:
+        raise Refused(f"{path}: {fault}") from None
+    for address, part in parts:
+        state.memory.put(address, part)
 
 
 # ---- the command
@@ -294,9 +288,7 @@ def assignment(text):
 
 
 def arguments():
-    first, _, rest = __doc__.partition("\n")
-    parser = argparse.ArgumentParser(description=first, epilog=rest, allow_abbrev=False,
-                                     formatter_class=argparse.RawDescriptionHelpFormatter)
+    parser = parser_of(__doc__, allow_abbrev=False)
     add = parser.add_argument
     add("image", nargs="?", metavar="IMAGE", help="an ELF file, Verilog text, or a saved state")
     add("-o", metavar="FILE", help="where to write (default: standard output)")
@@ -307,8 +299,8 @@ def arguments():
     add("--blob", action="append", default=[], type=assignment, metavar="ADDRESS=FILE",
         help="a file whose bytes stand from an address on")
     add("--pc", metavar="A", help="the address of the next instruction")
-    add("--ram", default=f"0x{RAM_BASE:x}:0x{RAM_SIZE:x}", metavar="B:S",
-        help="base and size of RAM, as the judge's --ram (default 0x80000000:0x8000000)")
+    add("--ram", default=RAM, metavar="B:S",
+        help=f"base and size of RAM, as the judge's --ram (default {RAM})")
     add_words(parser)
     return parser.parse_args()
 
@@ -336,14 +328,14 @@ def make(words):
 
 def main():
     words = arguments()
-    try:
+
+    def run():
         state = make(words)
-        with open(1 if words.o is None else words.o, "w", encoding="ascii") as out:
+        with target_of(words.o, "ascii") as out:
             out.writelines(state.lines())
-    except (Refused, OSError) as fault:
-        print(f"make_state.py: {fault}", file=sys.stderr)
-        return 1
-    return 0
+        return 0
+
+    return ends("make_state.py", run)
 
 
 if __name__ == "__main__":

@@ -18,56 +18,29 @@ what was written ends with a row that the judge refuses.
 
 Judge what is merged with --harts, which is more than the greatest number of a hart.
 """
-import argparse
-import csv
 import heapq
 import io
 import os
 import re
-import subprocess
 import sys
 from contextlib import suppress
 
-UNPACK = {".gz": ["gzip", "-dc"], ".zst": ["zstd", "-dcq"]}
+from common import (
+    MOST_HARTS, Refused, ends, fields_under, header_of, names_of, number, opened, parser_of,
+    shown_lines, target_of,
+)
+
 INSN = re.compile(r"insn(|_[0-3])")
-NUMBER = re.compile(r"[ \t]*(0[xX][0-9a-fA-F]{1,40}|[0-9]{1,40})[ \t]*", re.ASCII)
-MOST_HARTS = 8
 SAME_PORT = {"": "_0", "_0": ""}
-
-
-class Refused(Exception):
-    """The traces cannot be merged."""
-
-
-def number(text):
-    found = NUMBER.fullmatch(text)
-    if found is None:
-        raise Refused(f"{text[:60]!r} is no number")
-    return int(found[1], 16 if found[1][:2] in ("0x", "0X") else 10)
-
-
-def fields_of(line):
-    try:
-        return next(csv.reader([line])) if '"' in line else line.split(",")
-    except csv.Error as fault:
-        raise Refused(str(fault)) from None
 
 
 def lines_of(path):
     """The lines of a trace, which is unpacked where its name says so."""
-    unpack = next((words for it, words in UNPACK.items() if path.endswith(it)), None)
-    with open(0 if path == "-" else path, "rb") as file:
-        child = unpack and subprocess.Popen(unpack, stdin=file, stdout=subprocess.PIPE)
+    with opened(path) as file:
         try:
-            yield from io.TextIOWrapper(child.stdout if child else file, encoding="utf-8")
-            if child and child.wait():
-                raise Refused(f"{path}: it could not be unpacked")
+            yield from io.TextIOWrapper(file, encoding="utf-8")
         except UnicodeDecodeError as fault:
             raise Refused(f"{path}: {fault}") from None
-        finally:
-            if child:
-                child.kill()
-                child.wait()
 
 
 class Trace:
@@ -75,13 +48,12 @@ class Trace:
 
     def __init__(self, path, hart, owners):
         self.path, self.hart, self.owners = path, None, owners
-        self.lines = ((at, it) for at, line in enumerate(lines_of(path), 1)
-                      if (it := line.rstrip("\r\n")))
-        _, header = next(self.lines, (0, None))
-        if header is None:
-            raise Refused(f"{path}: there is no header")
-        self.header = header.removeprefix("\ufeff")
-        self.names = [it.strip(" \t").removeprefix("rvfi_") for it in fields_of(self.header)]
+        self.lines = shown_lines(lines_of(path))
+        try:
+            self.header = header_of(self.lines).removeprefix("\ufeff")
+            self.names = names_of(self.header)
+        except Refused as fault:
+            raise Refused(f"{path}: {fault}") from None
         self.suffixes = [found[1] for it in self.names if (found := INSN.fullmatch(it))] or [""]
         self.harts, self.valids = self.places("hart"), self.places("valid")
         self.by, self.times = None, []
@@ -123,10 +95,8 @@ class Trace:
         if self.line is None:
             return False
         try:
-            fields = fields_of(self.line)
-            if len(fields) != len(self.names):
-                raise Refused(f"{len(fields)} fields under {len(self.names)} names")
-            valid = [it is None or number(fields[it].strip(" \t") or "1") for it in self.valids]
+            fields = [it.strip(" \t") for it in fields_under(self.names, self.line)]
+            valid = [it is None or number(fields[it] or "1") for it in self.valids]
             if self.has_hart():
                 self.take_harts([it for it, shown in zip(self.harts, valid) if shown], fields)
             self.take_time(fields, any(valid))
@@ -138,15 +108,14 @@ class Trace:
     def take_harts(self, places, fields):
         """The harts of a line's rows, 0 where none is shown, must be the trace's one."""
         for place in places:
-            shown = "" if place is None else fields[place].strip(" \t")
-            hart = number(shown) if shown else 0
+            hart = 0 if place is None or not fields[place] else number(fields[place])
             if self.hart is None:
                 self.claim(hart)
             elif hart != self.hart:
                 raise Refused(f"a row of hart {hart}, where the trace is of hart {self.hart}")
 
     def take_time(self, fields, is_valid):
-        found = {number(fields[it]) for it in self.times if fields[it].strip(" \t")}
+        found = {number(fields[it]) for it in self.times if fields[it]}
         if len(found) > 1:
             raise Refused(f"several values of {self.by}: take the ports apart by port_rows.py")
         if not found and is_valid:
@@ -200,9 +169,7 @@ def source(text):
 
 
 def arguments():
-    first, _, rest = __doc__.partition("\n")
-    parser = argparse.ArgumentParser(description=first, epilog=rest,
-                                     formatter_class=argparse.RawDescriptionHelpFormatter)
+    parser = parser_of(__doc__)
     parser.add_argument("traces", nargs="+", type=source, metavar="TRACE[=HART]")
     parser.add_argument("-o", metavar="FILE", help="where to write (default: standard output)")
     parser.add_argument("--by", metavar="COLUMN",
@@ -228,7 +195,7 @@ def run(words):
     for trace in traces:
         check_columns(traces[0], trace)
         trace.order_by([words.by] if words.by else ["time", "cycle"])
-    with open(1 if words.o is None else words.o, "w", encoding="utf-8") as out:
+    with target_of(words.o) as out:
         merge(traces, out)
     kind = "lines" if len(traces[0].suffixes) > 1 else "rows"
     for trace in traces:
@@ -238,16 +205,12 @@ def run(words):
         count = max(harts) + 1
         fit = f"judge with --harts {count}" if count <= MOST_HARTS else "the judge has at most 8"
         print(f"merge_rows.py: {count} harts: {fit}", file=sys.stderr)
+    return 0
 
 
 def main():
     words = arguments()
-    try:
-        run(words)
-    except (Refused, OSError) as fault:
-        print(f"merge_rows.py: {fault}", file=sys.stderr)
-        return 1
-    return 0
+    return ends("merge_rows.py", lambda: run(words))
 
 
 if __name__ == "__main__":

@@ -23,33 +23,30 @@ On several machines, which must see the same files at the same paths:
                                          job is done, pieces.py --collect NEW gives the verdict.
 """
 import argparse
-import json
 import os
 import re
 import shutil
-import signal
 import subprocess
 import sys
 import tempfile
 import threading
 import time
-from concurrent.futures import ThreadPoolExecutor
 from itertools import chain
 from pathlib import Path
 from typing import NamedTuple
 
+from common import Refused, add_program, fields_of, judge_words, number, parser_of, positive
 from image_start import SAVED
-from port_rows import fields_of, names_in
+from port_rows import names_in
 from regress import (
-    CHILDREN, HERE, Refused, add_ways, check_program, check_ways, done_in_turn, options_by_name,
-    parallel_results, positive, results_of, words_of, write_job,
+    CHILDREN, add_ways, check_program, check_ways, options_by_name, read_list, results_of, run_here,
+    run_parallel, run_part, run_with_children, words_of, write_slurm,
 )
 
 AGREES, DIFFERS, REFUSED, NONE = "agrees", "differs", "refused", "no verdict"
 STATUS = {AGREES: 0, DIFFERS: 1, NONE: 2}
 MARK, BLANK = b"\xef\xbb\xbf", (b"", b"\n", b"\r", b"\r\n")
 BLOCK = 1 << 20  # bytes that are read at once
-MOST_BYTES = 1 << 40  # of a trace, where no option says another number
 VERDICTS = {
     1: (DIFFERS, re.compile(r"differs row \d+: \w+ expected \S+ found \S+")),
     3: (REFUSED, re.compile(r"refused image: .*")),
@@ -302,49 +299,6 @@ def tell(piece, outcome):
     print(f"rows {piece.rows + 1} to {piece.rows + piece.count}: {line}{more}", flush=True)
 
 
-def run_here(pieces, settings, jobs):
-    """Outcomes as they come, by so many threads."""
-    pool = ThreadPoolExecutor(max_workers=jobs)
-    try:
-        tasks = [pool.submit(judged, piece, settings) for piece in pieces]
-        yield from done_in_turn(tasks)
-    finally:
-        CHILDREN.end_all()
-        pool.shutdown(cancel_futures=True)
-
-
-def write_list(path, pieces, settings):
-    lines = [settings, *(piece._asdict() for piece in pieces)]
-    path.write_text("".join(json.dumps(it) + "\n" for it in lines), encoding="utf-8")
-
-
-def read_list(path):
-    lines = [json.loads(it) for it in Path(path).read_text(encoding="utf-8").splitlines()]
-    return [Piece(**it) for it in lines[1:]], lines[0]
-
-
-def run_part(words):
-    """Judges part I of N of a list, and prints the outcomes as lines of JSON."""
-    pieces, settings = read_list(words.list)
-    part, parts = map(int, words.part.split("/"))
-    try:
-        for piece in pieces[part::parts]:
-            print(json.dumps(judged(piece, settings)._asdict()), flush=True)
-    finally:
-        CHILDREN.end_all()
-    return 0
-
-
-def outcomes_of(pieces, settings, words):
-    """Outcomes as they come, here or by GNU parallel."""
-    if words.way != "parallel":
-        yield from run_here(pieces, settings, words.jobs)
-        return
-    with tempfile.TemporaryDirectory(prefix="pieces-") as folder:
-        write_list(Path(folder, "list"), pieces, settings)
-        yield from parallel_results("pieces.py", Path(folder, "list"), len(pieces), words, Outcome)
-
-
 # ---- the words
 
 
@@ -356,18 +310,14 @@ def mark(text):
 
 
 def arguments(words):
-    first, _, rest = __doc__.partition("\n")
-    parser = argparse.ArgumentParser(
-        prog="pieces.py", description=first, epilog=rest, allow_abbrev=False,
-        formatter_class=argparse.RawDescriptionHelpFormatter)
+    parser = parser_of(__doc__, prog="pieces.py", allow_abbrev=False)
     add = parser.add_argument
     add("image", nargs="?", metavar="IMAGE")
     add("trace", nargs="?", metavar="TRACE")
     add("--at", type=mark, action="append", default=[], metavar="ROWS=STATE",
         help="cut after so many rows, where the hart is in this state")
     add("--end", default="", metavar="FILE", help="where the state after the last row is written")
-    add("-p", "--program", default=str(HERE.parent / "bin/rvjudge"), metavar="PROGRAM",
-        help="the judge (default: bin/rvjudge of this repository)")
+    add_program(parser)
     add("-j", "--jobs", type=positive, default=len(os.sched_getaffinity(0)), metavar="N",
         help="pieces that are judged at once (default: as many as there are processors)")
     add("--timeout", type=float, default=0, metavar="S", help="most seconds of a piece")
@@ -383,10 +333,12 @@ def arguments(words):
 
 def most_bytes(given):
     """The most bytes that the trace may have by the judge's options."""
-    text = given.get("--max-trace", str(MOST_BYTES))
+    text = given.get("--max-trace")
+    if text is None:
+        return judge_words.bound(judge_words.WORDS["--max-trace"].default)
     try:
-        return int(text, 16) if text[:2] in ("0x", "0X") else int(text)
-    except ValueError:
+        return number(text)
+    except Refused:
         raise Refused(f"--max-trace {text} is no number") from None
 
 
@@ -411,18 +363,18 @@ def prepared(words):
 
 def run(words):
     if words.list:
-        return run_part(words)
+        return run_part(words, Piece, judged)
     if words.collect:
-        pieces, _ = read_list(Path(words.collect, "list"))
+        pieces, _ = read_list(Path(words.collect, "list"), Piece)
         source = results_of(words.collect, Outcome)
     else:
         pieces, settings = prepared(words)
         if words.way == "slurm":
-            folder = Path(words.results).resolve()
-            folder.mkdir(parents=True)
-            write_list(folder / "list", pieces, settings)
-            return write_job("pieces.py", folder, len(pieces), words)
-        source = outcomes_of(pieces, settings, words)
+            return write_slurm("pieces.py", pieces, settings, words)
+        if words.way == "parallel":
+            source = run_parallel("pieces.py", pieces, settings, words, Outcome)
+        else:
+            source = run_here(pieces, settings, words.jobs, judged)
     outcomes = []
     for outcome in source:
         outcomes.append(outcome)
@@ -434,15 +386,7 @@ def run(words):
 
 def main():
     words = arguments(sys.argv[1:])
-    for number in (signal.SIGTERM, signal.SIGINT, signal.SIGHUP):
-        signal.signal(number, lambda it, _: sys.exit(128 + it))
-    try:
-        return run(words)
-    except (Refused, OSError) as fault:
-        print(f"pieces.py: {fault}", file=sys.stderr)
-        return 2
-    finally:
-        CHILDREN.end_all()
+    return run_with_children("pieces.py", lambda: run(words))
 
 
 if __name__ == "__main__":

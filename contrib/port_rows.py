@@ -8,29 +8,21 @@ and hart, time and cycle. Each line gives a row for each port, port 0 first, tho
 valid too: so rows keep the numbers that the judge gives them. A column that a port lacks is empty
 in its rows. Without TRACE, or with - for it, standard input is read.
 """
-import argparse
-import csv
 import re
 import sys
 
+from common import (
+    Refused, ends, fields_under, header_of, names_of, parser_of, rows_between, shown_lines,
+)
 from cover import KNOWN
 
 SUFFIX = re.compile(r"(.*)_([0-3])")
 OF_PORTS = {*KNOWN, "hart", "time", "cycle"}
 
 
-class Refused(Exception):
-    """The trace cannot be taken apart."""
-
-
-def fields_of(line):
-    return next(csv.reader([line])) if '"' in line else line.split(",")
-
-
-def names_in(line):
+def names_in(header):
     """The column and the port of each name of the header. One that is not of ports is of port 0."""
-    for name in fields_of(line.removeprefix("\ufeff")):
-        name = name.strip(" \t").removeprefix("rvfi_")
+    for name in names_of(header):
         found = SUFFIX.fullmatch(name)
         yield (found[1], int(found[2])) if found and found[1] in OF_PORTS else (name, 0)
 
@@ -41,10 +33,8 @@ def quoted(field):
 
 def take_apart(source, out):
     """Writes the rows of a trace, and gives how many."""
-    lines = ((at, it) for at, line in enumerate(source, 1) if (it := line.rstrip("\r\n")))
-    _, header = next(lines, (0, None))
-    if header is None:
-        raise Refused("there is no header")
+    lines = shown_lines(source)
+    header = header_of(lines)
     names = list(names_in(header))
     columns = list(dict.fromkeys(column for column, _ in names))
     ports = 1 + max(port for _, port in names)
@@ -53,9 +43,10 @@ def take_apart(source, out):
     out.write(",".join(map(quoted, columns)) + "\n")
     rows = 0
     for at, line in lines:
-        fields = fields_of(line)
-        if len(fields) != len(names):
-            raise Refused(f"line {at}: {len(fields)} fields under {len(names)} names")
+        try:
+            fields = fields_under(names, line)
+        except Refused as fault:
+            raise Refused(f"line {at}: {fault}") from None
         for places in wanted:
             out.write(",".join("" if it is None else quoted(fields[it]) for it in places) + "\n")
         rows += ports
@@ -63,23 +54,18 @@ def take_apart(source, out):
 
 
 def main():
-    first, _, rest = __doc__.partition("\n")
-    parser = argparse.ArgumentParser(description=first, epilog=rest,
-                                     formatter_class=argparse.RawDescriptionHelpFormatter)
+    parser = parser_of(__doc__)
     parser.add_argument("trace", nargs="?", default="-", metavar="TRACE")
     parser.add_argument("-o", metavar="FILE", help="where to write (default: standard output)")
     words = parser.parse_args()
-    try:
-        with (
-            open(0 if words.trace == "-" else words.trace, encoding="utf-8") as source,
-            open(1 if words.o is None else words.o, "w", encoding="utf-8") as out,
-        ):
+
+    def run():
+        with rows_between(words) as (source, out):
             rows = take_apart(source, out)
         print(f"port_rows.py: {rows} rows", file=sys.stderr)
-    except (Refused, OSError, UnicodeDecodeError) as fault:
-        print(f"port_rows.py: {words.trace}: {fault}", file=sys.stderr)
-        return 1
-    return 0
+        return 0
+
+    return ends("port_rows.py", run)
 
 
 if __name__ == "__main__":

@@ -34,15 +34,17 @@ in the order in which qemu carried them out, which is the order of memory; those
 of a second, wait until the harts before it go on. Judge with --harts N too.
 """
 import argparse
+import functools
 import re
 import sys
 from collections import deque
 from typing import NamedTuple
 
-import elf_image
 import make_state
+from common import MOST_HARTS, Refused, add_log, convert_log, parser_of, row_writer, take_log_words
 from core_registers import XLENS
-from operands import NO_ACCESS, decoded, memory_fields
+from image_start import parts_of
+from instructions import BIT_MANIPULATION, Access, decoded, signed
 
 CSRS = (
     "mstatus", "medeleg", "mideleg", "mie", "mtvec", "mscratch", "mepc", "mcause", "mtval", "mip",
@@ -67,14 +69,11 @@ PRIVILEGE = re.compile(r"Priv: (\d)")
 ENTERED = re.compile(r"Trace (\d+): (0x[0-9a-f]+) \[[0-9a-f]+/[0-9a-f]+/([0-9a-f]+)/")
 RAISED = re.compile(r"riscv_cpu_do_interrupt: hart:(\d+), async:([01]), cause:([0-9a-f]+), "
                     r"epc:0x([0-9a-f]+)")
-MOST_HARTS = 8
+READS_OF_MIP = (0x344, 0x144)
+NO_ACCESS = ",0x0,,0x0,"
 ONE_AT_A_TIME = "-accel tcg,thread=single"
 NOT_CARRIED_OUT = ("Stopped execution", "cpu_io_recompile")
 PASSED_OVER = ("----", "IN:", "Disassembler disagrees", "Please report this")
-
-
-class Refused(Exception):
-    """The log cannot be turned into a trace."""
 
 
 class Endless(Exception):
@@ -89,13 +88,6 @@ class Code(NamedTuple):
     mode: int | None
 
 
-def number(text):
-    try:
-        return int(text, 0)
-    except ValueError:
-        raise argparse.ArgumentTypeError(f"{text} is no number") from None
-
-
 def harts(text):
     if not text.isdigit() or not 1 <= int(text) <= MOST_HARTS:
         raise argparse.ArgumentTypeError(f"{text} is no number from 1 to {MOST_HARTS}")
@@ -103,26 +95,70 @@ def harts(text):
 
 
 def image_bytes(path):
-    """The bytes of an image by address: an ELF file, or a text as objcopy writes it."""
-    found, at = {}, 0
-    with open(path, "rb") as file:
-        data = file.read()
-    if data.startswith(elf_image.MAGIC):
-        for at, part in elf_image.segments(data):
-            found.update(enumerate(part, at))
-        return found
-    for token in data.decode("ascii").split():
-        if token.startswith("@"):
-            at = int(token[1:], 16)
-        else:
-            found[at] = int(token, 16)
-            at += 1
+    """The bytes of an image by address."""
+    found = {}
+    for at, part in parts_of(path):
+        found.update(enumerate(part, at))
     return found
 
 
 def as_hex(digits):
     """The digits of a state as a number of the trace."""
     return "0x" + (digits.lstrip("0") or "0")
+
+
+class Shown(NamedTuple):
+    """What rows show of an instruction: rs1 and rs2 are those of 32-bit instructions alone."""
+
+    insn: str
+    name: str
+    rs1: int | None
+    rs2: int | None
+    rd: int
+    reads_mip: bool
+    is_bit_manipulation: bool
+    access: Access | None
+
+
+@functools.lru_cache(1 << 16)
+def shown_of(bits):
+    name, rs1, rs2, rd, access = decoded(bits)
+    if bits & 3 != 3:
+        rs1 = rs2 = None
+    reads_mip = name.startswith("csrr") and bits >> 20 in READS_OF_MIP
+    return Shown(f"0x{bits:x}", name, rs1, rs2, rd, reads_mip, name in BIT_MANIPULATION, access)
+
+
+def amo_result(name, old, operand, bits):
+    """What an AMO stores, of the old value and the operand, both below 2^bits."""
+    signs = signed(old, bits), signed(operand, bits)
+    return {
+        "amoadd": old + operand, "amoswap": operand, "amoxor": old ^ operand,
+        "amoor": old | operand, "amoand": old & operand, "amomin": min(signs),
+        "amomax": max(signs), "amominu": min(old, operand), "amomaxu": max(old, operand),
+    }[name] & (1 << bits) - 1
+
+
+def memory_fields(code, address, registers, value):
+    """The fields of MEMORY: registers are those before, value is what rd got, or None (x0)."""
+    kind, size, _, _, source = code.access
+    mask, most = (1 << size) - 1, (1 << 8 * size) - 1
+    read = None if value is None else value & most
+    if source is None:
+        return f"0x{address:x},0x{mask:x},{as_field(read)},0x0,"
+    data = int(registers[source], 16) & most
+    if kind == "store-conditional" and value is None:
+        return ",,,,"
+    if kind == "store-conditional" and value:
+        return NO_ACCESS
+    if kind != "atomic":
+        return f"0x{address:x},0x0,,0x{mask:x},0x{data:x}"
+    stored = None if read is None else amo_result(code.name.partition(".")[0], read, data, 8 * size)
+    return f"0x{address:x},0x{mask:x},{as_field(read)},0x{mask:x},{as_field(stored)}"
+
+
+def as_field(value):
+    return "" if value is None else f"0x{value:x}"
 
 
 class State(NamedTuple):
@@ -424,7 +460,7 @@ class Hart:
         if self.held is not None and self.is_same(state):
             self.drop()
         self.finish(state)
-        row, now = Row(), decoded(code.bits)
+        row, now = Row(), shown_of(code.bits)
         row.pc, row.code, row.state, row.pc_wdata = pc, now, state, None
         row.mode = code.mode if mode is None else mode
         if self.first is None:
@@ -439,7 +475,7 @@ class Hart:
         """Another hart has its turn. One that waits in WFI may do so to the log's end: its row is
         known, and the rows of others do not wait for it."""
         row = self.held
-        if row and row.code.is_wfi and not row.trap and not self.unfetched:
+        if row and row.code.name == "wfi" and not row.trap and not self.unfetched:
             self.finish(row.state._replace(pc=f"{row.pc + 4:x}"))
 
     def lines_of(self, code, state):
@@ -537,9 +573,9 @@ class Hart:
                 value = int(after.registers[code.rd], 16) if code.rd else None
                 base, offset = registers[code.access.base], code.access.offset
                 address = int(base, 16) + offset & (1 << 64) - 1
-                if address % code.access.size and code.access.operation is None:
+                if address % code.access.size and code.access.kind in ("load", "store"):
                     self.misaligned += 1
-                memory = memory_fields(code.access, address, registers, value)
+                memory = memory_fields(code, address, registers, value)
         before_mip, after_mip = self.csr_fields(row.state.csrs)
         mode = "" if row.mode is None else f"0x{row.mode:x}"
         trap = "" if row.trap is None else f"0x{row.trap:x}"
@@ -605,44 +641,24 @@ class Reader:
 
 
 def arguments():
-    first, _, rest = __doc__.partition("\n")
-    parser = argparse.ArgumentParser(
-        description=first, epilog=rest, formatter_class=argparse.RawDescriptionHelpFormatter
-    )
-    parser.add_argument("log", nargs="?", default="-", metavar="LOG")
-    parser.add_argument("-o", metavar="FILE", help="the trace (default: standard output)")
-    parser.add_argument("--pc", type=number, default=0x80000000, metavar="A",
-                        help="address of the first row, as the judge's --pc (default 0x80000000)")
+    parser = parser_of(__doc__)
+    add_log(parser, "csr_medeleg_rdata")
     parser.add_argument("--image", metavar="FILE",
                         help="the judge's image, for instructions that the log does not list")
-    parser.add_argument("--without", default="", metavar="COLUMN,..",
-                        help="columns to leave out, as csr_medeleg_rdata")
     parser.add_argument("--harts", type=harts, default=1, metavar="N",
                         help="the harts of the log, which are then shown in a column hart: 1 to "
                         f"{MOST_HARTS} (default 1: no such column)")
     parser.add_argument("--choices", action="store_true",
                         help="tell on standard error which options of the judge fit what qemu "
                         "chooses otherwise than the judge does by default")
-    words = parser.parse_args()
-    words.without = words.without.split(",") if words.without else []
-    for name in words.without:
-        if name not in COLUMNS or name in ("insn", "pc_rdata"):
-            parser.error(f"--without {name}: there is no such column to leave out")
-    return words
+    return take_log_words(parser, COLUMNS)
 
 
 def convert(log, words, out):
     """Writes the trace of a log, and says on standard error what was left out."""
     columns = ("hart", *COLUMNS) if words.harts > 1 else COLUMNS
-    kept = [at for at, name in enumerate(columns) if name not in words.without]
-
-    def write(text):
-        fields = text[:-1].split(",")
-        out.write(",".join([fields[at] for at in kept]) + "\n")
-
-    out.write(",".join(columns[at] for at in kept) + "\n")
+    write = row_writer(out, columns, words.without)
     image = image_bytes(words.image) if words.image else {}
-    write = write if words.without else out.write
     converter = Converter(words.pc, image, words.harts, write)
     reader = Reader(converter)
     hint = "" if words.harts == 1 else f" (several harts need {ONE_AT_A_TIME})"
@@ -676,20 +692,5 @@ def tell(converter, words):
               file=sys.stderr)
 
 
-def main():
-    words = arguments()
-    source, target = words.log, words.o
-    try:
-        with (
-            open(0 if source == "-" else source, "rb") as log,
-            open(1 if target is None else target, "w", encoding="ascii") as out,
-        ):
-            convert(log, words, out)
-    except (Refused, OSError) as fault:
-        print(f"qemu_log.py: {fault}", file=sys.stderr)
-        return 1
-    return 0
-
-
 if __name__ == "__main__":
-    sys.exit(main())
+    sys.exit(convert_log("qemu_log.py", arguments(), convert))

@@ -41,23 +41,22 @@ import tempfile
 import threading
 import time
 from concurrent.futures import ThreadPoolExecutor
+from contextlib import contextmanager
 from pathlib import Path
 from typing import NamedTuple
 from xml.sax.saxutils import escape, quoteattr
 
 import cover
+from common import (
+    HERE, UNPACK, Refused, add_program, ends, judge_words, names_of, parser_of, positive,
+    unpacker_of,
+)
 
-HERE = Path(__file__).resolve().parent
-UNPACK = {".csv": None, ".csv.gz": ["gzip", "-dc"], ".csv.zst": ["zstd", "-dcq"]}
+ENDINGS = (*(f".csv{it}" for it in UNPACK), ".csv")  # of the names of traces
 AGREES, DIFFERS, SHORT, REFUSED = "agrees", "differs", "short", "refused"
 COUNTED = {AGREES: "agree", DIFFERS: "differ", SHORT: "too short", REFUSED: "could not be judged"}
-FLAGS = ("--origin",)  # options of the judge that have no value
 TAIL = 1 << 18  # bytes at a trace's end in which its last row is looked for
 MOST_TASKS = 1000  # of an array job
-
-
-class Refused(Exception):
-    """No verdict can be reached."""
 
 
 class Trace(NamedTuple):
@@ -82,7 +81,7 @@ class Result(NamedTuple):
 
 def ending_of(name):
     """The ending of a trace's name, or None."""
-    return next((it for it in (".csv.gz", ".csv.zst", ".csv") if name.endswith(it)), None)
+    return next((it for it in ENDINGS if name.endswith(it)), None)
 
 
 # ---- the list
@@ -91,11 +90,12 @@ def ending_of(name):
 def options_by_name(words, where):
     """The judge's options as a table from name to value, which is None for one without."""
     given, words = {}, iter(words)
+    flags = [name for name, word in judge_words.WORDS.items() if word.is_flag]
     for word in words:
         name, has_value, value = word.partition("=")
         if not name.startswith("--"):
             raise Refused(f"{where}: {word!r} where an option is awaited")
-        if name in FLAGS and not has_value:
+        if name in flags and not has_value:
             given[name] = None
             continue
         value = value if has_value else next(words, None)
@@ -193,7 +193,7 @@ def traces_in(folders, given):
 
 
 def has_trace(base):
-    return any(base.with_name(base.name + it).exists() for it in UNPACK)
+    return any(base.with_name(base.name + it).exists() for it in ENDINGS)
 
 
 # ---- judging
@@ -271,20 +271,26 @@ def lines_in_turn(file):
         yield line
 
 
-def last_row_halts(path):
-    """Whether the last valid row of a trace shows halt as 1."""
-    unpack = UNPACK[ending_of(path)]
+@contextmanager
+def unpacked(path):
+    """The bytes of a trace, by a process that ends with the others."""
+    unpack = unpacker_of(path)
     with open(path, "rb") as file:
         child = CHILDREN.start(unpack, stdin=file, stdout=subprocess.PIPE) if unpack else None
         try:
-            source = child.stdout if child else file
-            tail = source.read(TAIL)
-            head = tail.lstrip(b"\xef\xbb\xbf\r\n").partition(b"\n")[0]
-            while more := source.read(TAIL):
-                tail = (tail + more)[-TAIL:]
+            yield child.stdout if child else file
         finally:
             if child:
                 CHILDREN.end(child)
+
+
+def last_row_halts(path):
+    """Whether the last valid row of a trace shows halt as 1."""
+    with unpacked(path) as source:
+        tail = source.read(TAIL)
+        head = tail.lstrip(b"\xef\xbb\xbf\r\n").partition(b"\n")[0]
+        while more := source.read(TAIL):
+            tail = (tail + more)[-TAIL:]
     names = [it.strip(' \t\r"').removeprefix("rvfi_") for it in head.decode("latin-1").split(",")]
     for line in reversed(tail.decode("latin-1").splitlines()):
         fields = [it.strip(' \t"') for it in line.split(",")]
@@ -296,16 +302,9 @@ def last_row_halts(path):
 
 def unknown_column(path):
     """A column that the judge does not know, whatever its port, or an empty text."""
-    unpack = UNPACK[ending_of(path)]
-    with open(path, "rb") as file:
-        child = CHILDREN.start(unpack, stdin=file, stdout=subprocess.PIPE) if unpack else None
-        source = child.stdout if child else file
-        try:
-            line = next((it for it in source if it.strip(b"\r\n")), b"")
-        finally:
-            if child:
-                CHILDREN.end(child)
-    names = cover.names_in(line.decode("latin-1").rstrip("\r\n"))
+    with unpacked(path) as source:
+        line = next((it for it in source if it.strip(b"\r\n")), b"")
+    names = names_of(line.decode("latin-1").rstrip("\r\n"))
     if any(re.fullmatch("insn_[0-3]", it) for it in names):
         names = [re.sub("_[0-3]$", "", it) for it in names]
     return next(cover.unknown_names(names), "")
@@ -327,7 +326,7 @@ def shortfall(trace, rows, at_least):
 def run_judge(trace, program, timeout):
     """The judge's status, its line, and why there is no verdict where there is none."""
     words = [program, "judge", trace.image, trace.path, *trace.options]
-    unpack, unpacker = UNPACK[ending_of(trace.path)], None
+    unpack, unpacker = unpacker_of(trace.path), None
     until = time.monotonic() + timeout if timeout else None
     judge = None
     with open(trace.path, "rb") as file:
@@ -414,34 +413,34 @@ def check_program(program):
 # ---- ways to run the list
 
 
-def run_here(traces, settings, jobs):
-    """Results as they come, by so many threads."""
+def run_here(items, settings, jobs, judge=judged):
+    """What judging some items gives, as it comes, by so many threads."""
     pool = ThreadPoolExecutor(max_workers=jobs)
     try:
-        tasks = [pool.submit(judged, trace, settings) for trace in traces]
+        tasks = [pool.submit(judge, it, settings) for it in items]
         yield from done_in_turn(tasks)
     finally:
         CHILDREN.end_all()
         pool.shutdown(cancel_futures=True)
 
 
-def write_list(path, traces, settings):
-    lines = [settings, *(trace._asdict() for trace in traces)]
+def write_list(path, items, settings):
+    lines = [settings, *(it._asdict() for it in items)]
     path.write_text("".join(json.dumps(it) + "\n" for it in lines), encoding="utf-8")
 
 
-def read_list(path):
+def read_list(path, kind=Trace):
     lines = [json.loads(it) for it in Path(path).read_text(encoding="utf-8").splitlines()]
-    return [Trace(**it) for it in lines[1:]], lines[0]
+    return [kind(**it) for it in lines[1:]], lines[0]
 
 
-def run_part(words):
-    """Judges part I of N of a list, and prints the results as lines of JSON."""
-    traces, settings = read_list(words.list)
+def run_part(words, kind=Trace, judge=judged):
+    """Judges part I of N of a list, and prints what it gives as lines of JSON."""
+    items, settings = read_list(words.list, kind)
     part, parts = map(int, words.part.split("/"))
     try:
-        for trace in traces[part::parts]:
-            print(json.dumps(judged(trace, settings)._asdict()), flush=True)
+        for it in items[part::parts]:
+            print(json.dumps(judge(it, settings)._asdict()), flush=True)
     finally:
         CHILDREN.end_all()
     return 0
@@ -452,11 +451,11 @@ def part_command(script, path, part):
            f"--list {shlex.quote(str(path))} --part {part}"
 
 
-def run_parallel(traces, settings, words):
-    """Results from GNU parallel, which runs a part for each trace."""
-    with tempfile.TemporaryDirectory(prefix="regress-") as folder:
-        write_list(Path(folder, "list"), traces, settings)
-        yield from parallel_results("regress.py", Path(folder, "list"), len(traces), words, Result)
+def run_parallel(script, items, settings, words, kind):
+    """Results of a kind from GNU parallel, which runs a part for each item."""
+    with tempfile.TemporaryDirectory(prefix=f"{script.removesuffix('.py')}-") as folder:
+        write_list(Path(folder, "list"), items, settings)
+        yield from parallel_results(script, Path(folder, "list"), len(items), words, kind)
 
 
 def parallel_results(script, path, count, words, kind):
@@ -489,17 +488,12 @@ def results_in(lines, kind):
             print(f"{Path(sys.argv[0]).name}: no result: {line[:80]!r}", file=sys.stderr)
 
 
-def write_slurm(traces, settings, words):
-    """Writes the list and an array job that judges it."""
+def write_slurm(script, items, settings, words):
+    """Writes the list and an array job that runs a script for each of its parts."""
     folder = Path(words.results).resolve()
     folder.mkdir(parents=True)
-    write_list(folder / "list", traces, settings)
-    return write_job("regress.py", folder, len(traces), words)
-
-
-def write_job(script, folder, count, words):
-    """Writes an array job that runs a script for each of so many parts of the folder's list."""
-    tasks = min(count, MOST_TASKS)
+    write_list(folder / "list", items, settings)
+    tasks = min(len(items), MOST_TASKS)
     job = folder / "job.sh"
     command = part_command(script, folder / "list", f'"$SLURM_ARRAY_TASK_ID/{tasks}"')
     job.write_text(f"""#!/bin/sh
@@ -594,23 +588,14 @@ def tell(traces, results, words, program):
     return int(DIFFERS in kinds)
 
 
-def positive(text):
-    if not text.isdigit() or int(text) == 0:
-        raise argparse.ArgumentTypeError(f"{text} is no number above 0")
-    return int(text)
-
-
 def arguments(words):
-    first, _, rest = __doc__.partition("\n")
-    parser = argparse.ArgumentParser(
-        prog="regress.py", description=first, epilog=rest, allow_abbrev=False,
-        formatter_class=argparse.RawDescriptionHelpFormatter,
+    parser = parser_of(
+        __doc__, prog="regress.py", allow_abbrev=False,
         usage="regress.py FOLDER.. [-p PROGRAM] [-j N] [--at-least N] [--timeout S] [--explain N]"
               " [--lint] [--junit FILE] [--json FILE] [--with parallel|slurm] [-- OPTION..]")
     add = parser.add_argument
     add("folders", nargs="*", metavar="FOLDER")
-    add("-p", "--program", default=str(HERE.parent / "bin/rvjudge"), metavar="PROGRAM",
-        help="the judge (default: bin/rvjudge of this repository)")
+    add_program(parser)
     add("-j", "--jobs", type=positive, default=len(os.sched_getaffinity(0)), metavar="N",
         help="traces that are judged at once (default: as many as there are processors)")
     add("--at-least", type=int, default=1, metavar="N",
@@ -663,9 +648,9 @@ def run(words):
     settings = {"program": program, "timeout": words.timeout, "at_least": words.at_least,
                 "lint": words.lint}
     if words.way == "slurm":
-        return write_slurm(traces, settings, words)
+        return write_slurm("regress.py", traces, settings, words)
     if words.way == "parallel":
-        source = run_parallel(traces, settings, words)
+        source = run_parallel("regress.py", traces, settings, words, Result)
     else:
         source = run_here(traces, settings, words.jobs)
     results = []
@@ -675,17 +660,19 @@ def run(words):
     return tell(traces, account(traces, results), words, program)
 
 
-def main():
-    words = arguments(sys.argv[1:])
+def run_with_children(name, run):
+    """The status of a tool, which ends its processes when it ends, also by a signal."""
     for number in (signal.SIGTERM, signal.SIGINT, signal.SIGHUP):
         signal.signal(number, lambda it, _: sys.exit(128 + it))
     try:
-        return run(words)
-    except (Refused, OSError) as fault:
-        print(f"regress.py: {fault}", file=sys.stderr)
-        return 2
+        return ends(name, run, 2)
     finally:
         CHILDREN.end_all()
+
+
+def main():
+    words = arguments(sys.argv[1:])
+    return run_with_children("regress.py", lambda: run(words))
 
 
 if __name__ == "__main__":

@@ -17,12 +17,14 @@ by which the judge begins with these: make_state.py makes the state.
 What is not said on a row: the mode of an instruction that traps, what a load found in memory, and
 registers that have no column. The last are counted on standard error.
 """
-import argparse
 import re
 import sys
 from collections import Counter
 
 import make_state
+from common import (
+    Refused, add_log, convert_log, number_word, parser_of, row_writer, take_log_words,
+)
 
 CSRS = (
     "mstatus", "misa", "medeleg", "mideleg", "mie", "mtvec", "mscratch", "mepc", "mcause", "mtval",
@@ -58,17 +60,6 @@ BEFORE, AFTER = COLUMNS[: COLUMNS.index("pc_wdata")], COLUMNS[COLUMNS.index("pc_
 REST = "," * len(AFTER[3:]) + "\n"  # the fields of registers, all empty
 NO_REGISTER, NO_ACCESS = "0x0,0x0,", ",,0x0," + REST
 REGISTERS = {str(it): f"0x{it:x}," for it in range(32)}
-
-
-class Refused(Exception):
-    """The log cannot be turned into a trace."""
-
-
-def number(text):
-    try:
-        return int(text, 0)
-    except ValueError:
-        raise argparse.ArgumentTypeError(f"{text} is no number") from None
 
 
 def address(digits):
@@ -243,24 +234,11 @@ class Converter:
 
 
 def arguments():
-    first, _, rest = __doc__.partition("\n")
-    parser = argparse.ArgumentParser(
-        description=first, epilog=rest, formatter_class=argparse.RawDescriptionHelpFormatter
-    )
-    parser.add_argument("log", nargs="?", default="-", metavar="LOG")
-    parser.add_argument("-o", metavar="FILE", help="the trace (default: standard output)")
-    parser.add_argument("--pc", type=number, default=0x80000000, metavar="A",
-                        help="address of the first row, as the judge's --pc (default 0x80000000)")
-    parser.add_argument("--hart", type=number, default=0, metavar="N",
+    parser = parser_of(__doc__)
+    add_log(parser, "csr_medeleg_wdata")
+    parser.add_argument("--hart", type=number_word, default=0, metavar="N",
                         help="the core whose rows are written (default 0)")
-    parser.add_argument("--without", default="", metavar="COLUMN,..",
-                        help="columns to leave out, as csr_medeleg_wdata")
-    words = parser.parse_args()
-    words.without = words.without.split(",") if words.without else []
-    for name in words.without:
-        if name not in COLUMNS or name in ("insn", "pc_rdata"):
-            parser.error(f"--without {name}: there is no such column to leave out")
-    return words
+    return take_log_words(parser, COLUMNS)
 
 
 class Reader:
@@ -297,14 +275,7 @@ class Reader:
 
 def convert(log, words, out):
     """Writes the trace of a log, and says on standard error what was left out."""
-    kept = [at for at, name in enumerate(COLUMNS) if name not in words.without]
-
-    def write(text):
-        fields = text[:-1].split(",")
-        out.write(",".join([fields[at] for at in kept]) + "\n")
-
-    out.write(",".join(COLUMNS[at] for at in kept) + "\n")
-    converter = Converter(words.pc, words.hart, write if words.without else out.write)
+    converter = Converter(words.pc, words.hart, row_writer(out, COLUMNS, words.without))
     reader = Reader(converter)
     try:
         while chunk := log.read1(CHUNK):
@@ -321,20 +292,5 @@ def convert(log, words, out):
               *make_state.command_lines([found], words.pc, words.o), sep="\n", file=sys.stderr)
 
 
-def main():
-    words = arguments()
-    source, target = words.log, words.o
-    try:
-        with (
-            open(0 if source == "-" else source, "rb") as log,
-            open(1 if target is None else target, "w", encoding="ascii") as out,
-        ):
-            convert(log, words, out)
-    except (Refused, OSError) as fault:
-        print(f"spike_log.py: {fault}", file=sys.stderr)
-        return 1
-    return 0
-
-
 if __name__ == "__main__":
-    sys.exit(main())
+    sys.exit(convert_log("spike_log.py", arguments(), convert))

@@ -10,24 +10,20 @@ qemu up to the state at the firmware's first address (--pc), and passes on to st
 it has read. WORDS gets a word --set=NAME=VALUE for each register that is not as at reset. At the
 end of a whole log qemu_log.py tells the same; this tells it at once, for a run that is judged live.
 """
-import argparse
 import os
 import re
 import sys
 from pathlib import Path
 
 sys.path.insert(0, str(Path(__file__).resolve().parents[1]))
-from core_registers import CSRS  # noqa: E402  # found by the line before
-from qemu_log import AT_RESET, number  # noqa: E402
+from common import Refused, ends, number_word, parser_of  # noqa: E402  # found by the line before
+from core_registers import CSRS  # noqa: E402
+from qemu_log import AT_RESET  # noqa: E402
 
 MOST_OF_A_ROM = 1 << 20  # bytes of a log
 STORED_OF_MIP = 0x22  # what no interrupt line has
 VALUE = re.compile(r"^ (?:(x\d+)/\S+|(\w+)) +([0-9a-f]{16})$|(?<= )(x\d+)/\S+ +([0-9a-f]{16})\b",
                    re.MULTILINE)
-
-
-class Refused(Exception):
-    """There is no state to begin from."""
 
 
 def values_in(text, pc):
@@ -68,28 +64,22 @@ def words_of(values):
             yield f"--set={name}=0x{value:x}\n"
 
 
-def arguments():
-    first, _, rest = __doc__.partition("\n")
-    parser = argparse.ArgumentParser(
-        description=first, epilog=rest, formatter_class=argparse.RawDescriptionHelpFormatter)
-    parser.add_argument("words", metavar="WORDS")
-    parser.add_argument("--pc", type=number, default=0x80000000, metavar="A",
-                        help="where the firmware begins (default 0x80000000)")
-    return parser.parse_args()
-
-
 def main():
-    words = arguments()
-    try:
+    parser = parser_of(__doc__)
+    parser.add_argument("words", metavar="WORDS")
+    parser.add_argument("--pc", type=number_word, default=0x80000000, metavar="A",
+                        help="where the firmware begins (default 0x80000000)")
+    words = parser.parse_args()
+
+    def run():
         head, values = read_head(0, words.pc)
         with open(words.words, "w", encoding="ascii") as out:
             out.writelines(words_of(values))
         sys.stdout.buffer.write(head)
         sys.stdout.flush()
-    except (Refused, OSError) as fault:
-        print(f"first_state.py: {fault}", file=sys.stderr)
-        return 1
-    return 0
+        return 0
+
+    return ends("first_state.py", run)
 
 
 if __name__ == "__main__":

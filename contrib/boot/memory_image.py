@@ -13,13 +13,13 @@ import socket
 import sys
 import tempfile
 import time
+from pathlib import Path
+
+sys.path.insert(0, str(Path(__file__).resolve().parents[1]))
+from common import Refused, ends, parser_of  # noqa: E402  # found by the line before
 
 PAGE, LINE = 4096, 16  # bytes
 SECONDS_TO_CONNECT = 60
-
-
-class Refused(Exception):
-    """Memory cannot be saved."""
 
 
 class Control:
@@ -74,31 +74,25 @@ def base_and_size(text):
     return base, size
 
 
-def arguments():
-    first, _, rest = __doc__.partition("\n")
-    parser = argparse.ArgumentParser(
-        description=first, epilog=rest, formatter_class=argparse.RawDescriptionHelpFormatter)
+def main():
+    parser = parser_of(__doc__)
     parser.add_argument("socket", metavar="SOCKET")
     parser.add_argument("--ram", required=True, type=base_and_size, metavar="B:S",
                         help="the memory that is saved, as the judge's --ram")
     parser.add_argument("-o", required=True, metavar="FILE", help="the image")
-    return parser.parse_args()
+    words = parser.parse_args()
+    return ends("memory_image.py", lambda: save(words))
 
 
-def main():
-    words = arguments()
+def save(words):
     base, size = words.ram
-    try:
-        control = Control(words.socket)
-        with tempfile.TemporaryDirectory() as folder:
-            path = os.path.join(folder, "memory")
-            control.ask("pmemsave", val=base, size=size, filename=path)
-            with open(path, "rb") as memory, open(words.o, "w", encoding="ascii") as image:
-                image.writelines(image_text(memory.read(), base))
-        control.ask("cont")
-    except (Refused, OSError) as fault:
-        print(f"memory_image.py: {fault}", file=sys.stderr)
-        return 1
+    control = Control(words.socket)
+    with tempfile.TemporaryDirectory() as folder:
+        path = os.path.join(folder, "memory")
+        control.ask("pmemsave", val=base, size=size, filename=path)
+        with open(path, "rb") as memory, open(words.o, "w", encoding="ascii") as image:
+            image.writelines(image_text(memory.read(), base))
+    control.ask("cont")
     return 0
 
 

@@ -1,6 +1,7 @@
 #!/usr/bin/env python3
 """Tries cover.py on traces whose content is known. Names each test that failed; status 1 then."""
 import json
+import re
 import subprocess
 import sys
 import tempfile
@@ -116,9 +117,9 @@ def test_bits(folder):
 
 
 def test_illegal_words(folder):
-    """cover.py and the interpreter of benchmarks/ know the same instructions."""
+    """The tools and the interpreter of benchmarks/ know the same instructions, and read them alike."""
     sys.path[:0] = [str(TESTS.parent), str(TESTS.parents[1] / "benchmarks/interpreter")]
-    from cover import BIT_MANIPULATION, ILLEGAL, name_of
+    from instructions import BIT_MANIPULATION, ILLEGAL, decoded, name_of
     from hart_bits import decode_bits
     from hart_instructions import decode, expand
     words = [it for it in range(1 << 16) if it & 3 != 3]
@@ -127,10 +128,15 @@ def test_illegal_words(folder):
               for at in range(8) for high in range(128)]
     words += [opcode | at << 12 | 0xB << 15 | high << 20 for opcode in (0x13, 0x1B, 0x33, 0x3B)
               for at in range(8) for high in range(1 << 12)]
+    words += [opcode | at * 0x9E3779B1 % (1 << 25) << 7 for at in range(400)
+              for opcode in (0x03, 0x13, 0x1B, 0x23, 0x2F, 0x37, 0x63, 0x67, 0x6F, 0x73)]
     names = set()
     for bits in words:
-        is_legal = (decode(bits) if bits & 3 == 3 else expand(bits)) is not None
-        found, name = decode_bits(bits) if bits & 3 == 3 else None, name_of(bits)
+        plain = decode(bits) if bits & 3 == 3 else expand(bits)
+        is_legal, name = plain is not None, name_of(bits)
+        found = decode_bits(bits) if bits & 3 == 3 else None
+        if found or plain:
+            check_registers(bits, found or plain, decoded(bits))
         if found:
             assert name.upper().replace(".", "_") == found.name, f"0x{bits:x}: {name}, {found}"
             assert name in BIT_MANIPULATION and not is_legal, name
@@ -138,6 +144,17 @@ def test_illegal_words(folder):
         else:
             assert (name != ILLEGAL) == is_legal, f"0x{bits:x}: {name}, {is_legal}"
     assert names == set(BIT_MANIPULATION) and len(names) == 40, names
+
+
+def check_registers(bits, wanted, found):
+    """An instruction reads and writes the registers, and accesses the place, that the other says; x0
+    may stand for none."""
+    registers = wanted.rs1 or 0, wanted.rs2 or 0, wanted.rd
+    assert (found.rs1 or 0, found.rs2 or 0, found.rd) == registers, f"0x{bits:x}: {wanted}, {found}"
+    if access := found.access:
+        assert (access.base, access.data or 0) == registers[:2], f"0x{bits:x}: {wanted}, {found}"
+        assert access.offset == getattr(wanted, "imm", 0), f"0x{bits:x}: {wanted}, {found}"
+    assert bool(access) == bool(re.match("[LS][BHWD]U?$|LR|SC|AMO", wanted.name)), f"{wanted}, {found}"
 
 
 def main():

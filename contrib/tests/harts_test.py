@@ -19,7 +19,7 @@ TESTS = Path(__file__).resolve().parent
 CONTRIB = TESTS.parent
 sys.path.insert(0, str(CONTRIB))
 import qemu_log  # noqa: E402  # found by the line before
-from cover import name_of, size_of  # noqa: E402
+from instructions import decoded, name_of  # noqa: E402
 
 LOG, IMAGE = (TESTS / "qemu" / it for it in ("harts.log.gz", "harts.hex"))
 IO = ["--io", "0x100000:0xff01000"]
@@ -365,7 +365,7 @@ class Four:
     def access(self, at):
         """Follows memory through a row; gives its read, where it is of what another hart wrote."""
         row, hart, name = self.rows[at], self.harts[at], self.names[at]
-        address, size = int(row["mem_addr"] or "0", 0), size_of(int(row["insn"], 0))
+        address, size = int(row["mem_addr"] or "0", 0), decoded(int(row["insn"], 0)).size
         if address < START:
             return
         places = range(address, address + size)

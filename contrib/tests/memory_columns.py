@@ -10,7 +10,7 @@ import sys
 from pathlib import Path
 
 sys.path.insert(0, str(Path(__file__).resolve().parents[1]))
-from cover import name_of, size_of
+from instructions import decoded, name_of
 
 
 def wanted(row, name, size):
@@ -39,7 +39,7 @@ def main():
     with open(sys.argv[1], encoding="ascii") as text:
         for number, row in enumerate(csv.DictReader(text), 1):
             bits = int(row["insn"], 16)
-            name, size = name_of(bits), size_of(bits)
+            name, size = name_of(bits), decoded(bits).size
             filled = {it for it in row if it.startswith("mem_") and row[it]}
             due = wanted(row, name, size)
             if filled != due:

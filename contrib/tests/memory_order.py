@@ -12,7 +12,7 @@ import sys
 from pathlib import Path
 
 sys.path.insert(0, str(Path(__file__).resolve().parents[1]))
-from cover import name_of, size_of
+from instructions import decoded, name_of
 
 BLOCK, RAM = 64, 0x80000000
 
@@ -40,8 +40,8 @@ class Harts:
         else:
             self.next.pop(hart, None)
         bits = int(row["insn"], 0)
-        if size_of(bits) and row["trap"] != "0x1":
-            self.access(hart, name_of(bits), size_of(bits), row)
+        if decoded(bits).size and row["trap"] != "0x1":
+            self.access(hart, name_of(bits), decoded(bits).size, row)
 
     def access(self, hart, name, size, row):
         if name.startswith("sc."):
