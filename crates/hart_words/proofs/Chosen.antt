@@ -13,7 +13,7 @@ use Rattle.hart_words.specs.Choices.{OtherChoices, choices_with, choices_by, cho
 block_prop : (size : ℕ) → IsProp (IsTrue (is_block_size size))
 block_prop size = Prim.hlevel props
 
-same_with : (others : OtherChoices) (size size' : ℕ) → size ≡ size' → (one : is_block_size size ≡ true)
+pub same_with : (others : OtherChoices) (size size' : ℕ) → size ≡ size' → (one : is_block_size size ≡ true)
     → (other : is_block_size size' ≡ true) → choices_with others size one ≡ choices_with others size' other
 same_with others size size' s one =
     let P : ℕ → Type 0 = λ x. (other : is_block_size x ≡ true)
@@ -48,12 +48,6 @@ by_false : (others : OtherChoices) (size : ℕ) (test : Bool) (is : is_block_siz
     → None ≡ choices_by others size test is
 by_false others size false is test = refl
 by_false others size true is test = cc
-
--- choices that say the same are the same
-pub equal_choices : (one other : Choices) → others_of one ≡ others_of other → one.block_size ≡ other.block_size
-    → one ≡ other
-unfolding others_of
-equal_choices one other others size = same_choices (others_of other) other.block_size other.block one others size
 
 -- what a constructor says, where rows show instructions whole and devices refuse nothing
 plain_others : Choices → OtherChoices

@@ -142,7 +142,7 @@ high_fits : (z : ℤ) → unsigned_abs z < 2 ^ 127 → mag (int_div_euclid z (po
 high_fits (pos n) h = omega arith
 high_fits (negsuc n) h = omega arith
 
-residue_below : (z : ℤ) → residue w64 z < 2 ^ 64
+pub residue_below : (z : ℤ) → residue w64 z < 2 ^ 64
 residue_below (pos n) = omega arith
 residue_below (negsuc n) = omega arith
 

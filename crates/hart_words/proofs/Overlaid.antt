@@ -32,7 +32,8 @@ same_entry write pa bytes is same =
     subst P same
     (subst Q (sym is.whole) (number_after_store bytes write.pa 8 write.value ∙ mod-eq_of_lt is.fits))
 
-apart : (one other : ℕ) → one % 8 ≡ 0 → other % 8 ≡ 0 → (one ≡ other → ⊥) → (other + 8 ≤ one) ⊎ (one + 8 ≤ other)
+-- two entries that differ do not overlap
+pub apart : (one other : ℕ) → one % 8 ≡ 0 → other % 8 ≡ 0 → (one ≡ other → ⊥) → (other + 8 ≤ one) ⊎ (one + 8 ≤ other)
 apart one other o t differ = grind (arith)
 
 -- every other is as it was

@@ -1,5 +1,5 @@
 -- Powers that count bytes and bits.
-use Rattle.std.proofs.Common.{◌≡◌, ℕ, zero, suc, ◌+◌, ◌*◌, ◌/◌, ◌<◌, ◌≤◌, ◌^◌, nat_eq, nat_lt, inl, inr, refl, arith}
+use Rattle.std.proofs.Common.{◌≡◌, ◌⊎◌, ℕ, zero, suc, ◌+◌, ◌*◌, ◌/◌, ◌%◌, ◌<◌, ◌≤◌, ◌^◌, nat_eq, nat_lt, inl, inr, refl, arith}
 use Rattle.std.proofs.Common.{lit<}
 use Rattle.std.proofs.Math.Nat.{pow-le-pow_right, pow-suc}
 use Rattle.std.proofs.lemmas.Nat.{pow-add, pow_pos, div_below, le-div}
@@ -38,3 +38,14 @@ none_left value width = elim (cases_lt value (2 ^ width)) [
       let some : 1 ≤ value / 2 ^ width = le-div 1 value (2 ^ width) (pow_pos width) (omega arith) in
       grind (arith, nat_tests)
 ]
+
+-- a number below 2
+pub zero_or_one : (n : ℕ) → n < 2 → (n ≡ 0) ⊎ (n ≡ 1)
+zero_or_one zero below = inl refl
+zero_or_one (suc n) below = inr (omega arith)
+
+-- a bit shifted in 128 bits is a power of 2
+pub one_shifted : (k : ℕ) → k ≤ 64 → 1 * 2 ^ k % 2 ^ 128 ≡ 2 ^ k
+one_shifted k few =
+    let below : 2 ^ k ≤ 2 ^ 64 = pow-le-pow_right {n = 2} (lit< tt) few in
+    omega (arith, below)

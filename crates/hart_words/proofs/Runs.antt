@@ -29,46 +29,6 @@ both_at first next x bytes now value is =
     ∙ ap (λ y. followed_by (first.run bytes) ((next y).run (after_writes (first.run bytes).wrote bytes))) (sym value)
     ∙ ap (λ m. followed_by (first.run bytes) ((next x).run m)) (sym is)
 
-pub Performs-then : {A B : Type 0} (first : Action A) (next : A → Action B) {x : A} {y : B} {s0 s1 s2 : List Read}
-    {w0 w1 w2 : List Write} {b0 b1 b2 : Bytes}
-    → Performs first x s0 s1 w0 w1 b0 b1 → Performs (next x) y s1 s2 w1 w2 b1 b2
-    → Performs (first >>= next) y s0 s2 w0 w2 b0 b2
-Performs-then first next {x} {s0} {w0} {b0} {b1} one two =
-    let whole = both_at first next x b0 b1 one.value_is one.bytes_are in
-    let before = first.run b0 in
-    let after = (next x).run b1 in
-    record {
-      value_is = two.value_is ∙ sym (ap (λ t. t.value) whole);
-      seen_is =
-          two.seen_is ∙ ap (λ s. s ++ after.reads) one.seen_is ∙ append_assoc s0 before.reads after.reads
-          ∙ ap (λ r. s0 ++ r) (sym (ap (λ t. t.reads) whole));
-      wrote_is =
-          two.wrote_is ∙ ap (λ w. w ++ after.wrote) one.wrote_is ∙ append_assoc w0 before.wrote after.wrote
-          ∙ ap (λ r. w0 ++ r) (sym (ap (λ t. t.wrote) whole));
-      bytes_are =
-          two.bytes_are ∙ ap (λ m. after_writes after.wrote m) one.bytes_are
-          ∙ sym (after_writes-append before.wrote after.wrote b0)
-          ∙ ap (λ r. after_writes r b0) (sym (ap (λ t. t.wrote) whole));
-    }
-
-pub Observes-then : {A B : Type 0} (first : Action A) (next : A → Action B) {x : A} {y : B} {s0 s1 s2 : List Read}
-    {bytes : Bytes}
-    → Observes first x s0 s1 bytes → Observes (next x) y s1 s2 bytes → Observes (first >>= next) y s0 s2 bytes
-unfolding after_writes
-Observes-then first next {x} {s0} {bytes} one two =
-    let same : bytes ≡ after_writes (first.run bytes).wrote bytes =
-    ap (λ w. after_writes w bytes) (sym one.writes_none) in
-    let whole = both_at first next x bytes bytes one.value_is same in
-    let before = first.run bytes in
-    let after = (next x).run bytes in
-    record {
-      value_is = two.value_is ∙ sym (ap (λ t. t.value) whole);
-      seen_is =
-          two.seen_is ∙ ap (λ s. s ++ after.reads) one.seen_is ∙ append_assoc s0 before.reads after.reads
-          ∙ ap (λ r. s0 ++ r) (sym (ap (λ t. t.reads) whole));
-      writes_none = ap (λ t. t.wrote) whole ∙ ap (λ w. w ++ after.wrote) one.writes_none ∙ two.writes_none;
-    }
-
 -- an action that writes nothing ran
 pub Performs-observed : {A : Type 0} (action : Action A) (x : A) (s0 s1 : List Read) (wrote : List Write)
     (bytes : Bytes) → Observes action x s0 s1 bytes → Performs action x s0 s1 wrote wrote bytes bytes
@@ -89,22 +49,9 @@ pub Observes-read_memory : (read : Read) (value : ℕ) (seen : List Read) (bytes
 unfolding read_memory
 Observes-read_memory read value seen bytes is = record { value_is = is; seen_is = refl; writes_none = refl }
 
-pub Observes-mapped : {A B : Type 0} (f : A → B) (action : Action A) (x : A) (s0 s1 : List Read) (bytes : Bytes)
-    → Observes action x s0 s1 bytes → Observes (mapped f action) (f x) s0 s1 bytes
-unfolding mapped
-Observes-mapped f action x s0 s1 bytes look =
-    record { value_is = ap f look.value_is; seen_is = look.seen_is; writes_none = look.writes_none }
-
 pub Performs-pure : {A : Type 0} (x : A) (seen : List Read) (wrote : List Write) (bytes : Bytes)
     → Performs (pure x) x seen seen wrote wrote bytes bytes
 Performs-pure x seen wrote bytes = Performs-observed (pure x) x seen seen wrote bytes (Observes-pure x seen bytes)
-
-pub Performs-write_memory : (write : Write) (seen : List Read) (wrote : List Write) (bytes : Bytes)
-    → Performs (write_memory write) tt seen seen wrote (wrote ++ write ∷ []) bytes
-    (bytes_after_store write.pa write.len write.value bytes)
-unfolding write_memory after_writes
-Performs-write_memory write seen wrote bytes =
-    record { value_is = refl; seen_is = sym (append-nil seen); wrote_is = refl; bytes_are = refl }
 
 pub Performs-mapped : {A B : Type 0} (f : A → B) (action : Action A) {x : A} {s0 s1 : List Read} {w0 w1 : List Write}
     {b0 b1 : Bytes} → Performs action x s0 s1 w0 w1 b0 b1 → Performs (mapped f action) (f x) s0 s1 w0 w1 b0 b1

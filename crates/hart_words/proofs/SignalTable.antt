@@ -1,9 +1,10 @@
 -- Every signal stands in the table at its index, and no width is above 64.
 use Rattle.std.proofs.Common.{◌≡◌, ◌≤◌, ℕ, zero, suc, Bool, true, false, List, [], ◌∷◌, Option, Some, refl, sym, subst}
 use Rattle.std.proofs.Common.{arith}
-use Rattle.std.specs.Prelude.{◌&&◌, nat_le, slice_get}
+use Rattle.std.specs.Prelude.{nat_le, slice_get}
 use Rattle.std.specs.List.{list_all}
 use Rattle.std.specs.Option.{option_map_or}
+use Rattle.std.proofs.lemmas.Bool.{and_parts}
 use Rattle.std.proofs.lemmas.Grind.{common_steps}
 use Rattle.hart_words.specs.declared.signal.SignalEntry.{SignalEntry}
 use Rattle.hart_words.specs.declared.signal.TheConstants.{SIGNALS}
@@ -225,24 +226,16 @@ stands_at_its_index Halt = refl
 stands_at_its_index Hart = refl
 stands_at_its_index (Csr csr side) = of_register csr side
 
-first_of : (a b : Bool) → (a && b) ≡ true → a ≡ true
-first_of true b h = refl
-first_of false b h = h
-
-rest_of : (a b : Bool) → (a && b) ≡ true → b ≡ true
-rest_of true b h = h
-rest_of false b h = cc
-
 width_within : (width : ℕ) → nat_le width 64 ≡ true → width ≤ 64
 width_within width h = grind (arith, common_steps)
 
 width_at : (entries : List SignalEntry) (i : ℕ) → list_all (λ entry. nat_le entry.width 64) entries ≡ true
     → option_map_or (λ entry. entry.width) (slice_get entries i) 64 ≤ 64
 width_at [] i h = omega arith
-width_at (entry ∷ entries) zero h = width_within entry.width (first_of _ _ h)
-width_at (entry ∷ entries) (suc i) h = width_at entries i (rest_of (nat_le entry.width 64) _ h)
+width_at (entry ∷ entries) zero h = width_within entry.width (and_parts (nat_le entry.width 64) _ h).0
+width_at (entry ∷ entries) (suc i) h = width_at entries i (and_parts (nat_le entry.width 64) _ h).1
 
-widths_fit : (signal : Signal) → width_of signal ≤ 64
+pub widths_fit : (signal : Signal) → width_of signal ≤ 64
 unfolding width_of signal_entry_of
 widths_fit signal = width_at SIGNALS (index_of signal) refl
 

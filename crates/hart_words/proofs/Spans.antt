@@ -1,8 +1,9 @@
 -- A range is determined by its base and its size.
-use Rattle.std.proofs.Common.{◌≡◌, ℕ, Bool, true, false, refl, Some, None, ap, subst}
+use Rattle.std.proofs.Common.{◌≡◌, ℕ, ◌<◌, ◌^◌, Bool, true, false, refl, Some, None, ap, subst, arith}
+use Rattle.std.proofs.lemmas.Bool.Decides.{nat_tests}
 use Rattle.std.proofs.Props.{props}
 use Rattle.hart_words.specs.declared.span.Span.{Span}
-use Rattle.hart_words.specs.Spans.{is_span, IsSpan, IsSpan-prop, span_with, span_by, span_of}
+use Rattle.hart_words.specs.Spans.{is_span, IsSpan, IsSpan-prop, is_in, span_with, span_by, span_of}
 
 facts_prop : (base size : ℕ) → IsProp (IsSpan base size)
 facts_prop base size = IsSpan-prop (Prim.hlevel props) (Prim.hlevel props) (Prim.hlevel props) (Prim.hlevel props)
@@ -44,3 +45,7 @@ some_span base size span b s test = by_true base size (is_span base size) refl s
 pub no_span : (base size : ℕ) → is_span base size ≡ false → None ≡ span_of base size
 unfolding span_of
 no_span base size test = by_false base size (is_span base size) refl test
+
+-- addresses in a range are words
+pub below_end : (span : Span) (address : ℕ) → is_in span address ≡ true → address < 2 ^ 64
+below_end span address inside = let end = span.below in grind (arith, nat_tests)

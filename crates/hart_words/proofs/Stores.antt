@@ -10,6 +10,9 @@ use Rattle.hart_words.specs.Memory.{Bytes, number_at, is_within, bytes_after_sto
 pub within-true : (pa len k : ℕ) → k < len → is_within pa len (pa + k) ≡ true
 within-true pa len k below = grind (arith, nat_tests)
 
+pub within_from : (pa len at : ℕ) → pa ≤ at → at < pa + len → is_within pa len at ≡ true
+within_from pa len at from before = grind (arith, nat_tests)
+
 pub within-false : (pa len at : ℕ) → (at < pa) ⊎ (pa + len ≤ at) → is_within pa len at ≡ false
 within-false pa len at (inl before) = grind (arith, nat_tests)
 within-false pa len at (inr after) = grind (arith, nat_tests)
@@ -26,7 +29,8 @@ pub stored-outside : (pa len value at : ℕ) (bytes : Bytes) → (at < pa) ⊎ (
 unfolding bytes_after_store
 stored-outside pa len value at bytes apart = rw (within-false pa len at apart) refl
 
-positive : (k : ℕ) → 0 < 256 ^ k
+-- a number of bytes has room for 0
+pub positive : (k : ℕ) → 0 < 256 ^ k
 positive zero = lit< tt
 positive (suc k) = rw (pow-suc 256 k) (omega (arith, positive k))
 
