@@ -4,3 +4,4 @@ pub mod Chains
 pub mod Slots
 pub mod Marked
 pub mod Noted
+pub mod WritableAlone

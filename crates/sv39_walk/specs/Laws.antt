@@ -1,7 +1,7 @@
 -- What a translation amounts to, by the entries that it comes to, from the Privileged Architecture's chapter
 -- "Supervisor-Level ISA".
-use Rattle.std.specs.Prelude.{◌≡◌, ℕ, ◌+◌, ◌-◌, ◌*◌, ◌/◌, ◌%◌, ◌^◌, ◌≤◌, ◌==◌, Bool, true, false, ◌||◌, IsTrue}
-use Rattle.std.specs.Prelude.{List, [], All, length, if◌then◌else◌}
+use Rattle.std.specs.Prelude.{◌≡◌, ℕ, ◌+◌, ◌-◌, ◌*◌, ◌/◌, ◌%◌, ◌^◌, ◌≤◌, ◌<◌, ◌==◌, Bool, true, false, not, ◌&&◌}
+use Rattle.std.specs.Prelude.{◌||◌, IsTrue, List, [], All, length, if◌then◌else◌, Err}
 use Rattle.std.specs.Bool.{IsFalse}
 use Rattle.std.specs.Int.{bit_at}
 use Rattle.hart_words.specs.declared.accesses.Write.{Write}
@@ -11,10 +11,11 @@ use Rattle.hart_words.specs.declared.privilege.Access.TheVariants.{Fetch, Load, 
 use Rattle.hart_words.specs.declared.privilege.WalkFlags.{WalkFlags}
 use Rattle.hart_words.specs.EntryWrites.{entry_write}
 use Rattle.hart_words.specs.Memory.{Bytes}
-use Rattle.sv39_walk.specs.declared.entry.Flag.TheVariants.{Accessed, Dirty}
+use Rattle.hart_words.specs.Privilege.{page_fault_of}
+use Rattle.sv39_walk.specs.declared.entry.Flag.TheVariants.{Readable, Writable, Accessed, Dirty}
 use Rattle.sv39_walk.specs.declared.entry.TheConstants.{INDEX_BITS, OFFSET_BITS, TOP_LEVEL}
 use Rattle.sv39_walk.specs.Entries.{Tables, address_in, bit_of, entry_address, is_aligned, is_canonical, is_leaf}
-use Rattle.sv39_walk.specs.Entries.{is_marked, leaf_allows, with_marks, page_number}
+use Rattle.sv39_walk.specs.Entries.{is_marked, is_set, leaf_allows, with_marks, page_number}
 use Rattle.sv39_walk.specs.Walk.{IsWalk, Visit, by_chain, chain, entry_in, root_of, translation_of, visit_at}
 
 -- a translation gives what the last entry of its chain decides, reads its entries and writes at most the last
@@ -65,6 +66,18 @@ SetsItsLast tables bytes satp flags va access =
 abbrev pub WritesNoneUnderFault : Tables → Bytes → ℕ → WalkFlags → ℕ → Access → Type 0
 WritesNoneUnderFault tables bytes satp flags va access =
     tables.marks ≡ marks.Fault → walk_writes_of tables bytes satp flags va access ≡ []
+
+-- an entry is writable and not readable, which is reserved
+abbrev pub is_writable_alone : ℕ → Bool
+is_writable_alone entry = is_set entry Writable && not (is_set entry Readable)
+
+-- a walk that reads such an entry ends in a page fault of the access, whatever the entry's level and its other bits
+abbrev pub RefusesWritableAlone : Tables → Bytes → ℕ → WalkFlags → ℕ → Access → Type 0
+RefusesWritableAlone tables bytes satp flags va access =
+    (i : ℕ) → i < length (chain tables.readable bytes satp va)
+    → tables.readable (visit_at (chain tables.readable bytes satp va) i).pa ≡ true
+    → is_writable_alone (entry_in bytes (visit_at (chain tables.readable bytes satp va) i)) ≡ true
+    → ((translation_of tables satp flags va access).run bytes).value ≡ Err (page_fault_of access)
 
 -- a walk from level 2 on, in the table that satp names
 abbrev pub IsWalkFromRoot : (ℕ → Bool) → Bytes → ℕ → ℕ → List Visit → Type 0

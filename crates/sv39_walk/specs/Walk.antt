@@ -138,8 +138,7 @@ by_chain tables bytes flags va access visits = record {
 abbrev pub visit_at : List Visit → ℕ → Visit
 visit_at visits i = slice_index_or visits i (record { level = 0; pa = 0 })
 
--- one visit leads to the next: its entry can be read and names the table, one level below, that the next is
--- in
+-- one visit leads to the next: its entry can be read and names the table, one level below, that the next is in
 pub record LeadsTo (readable : ℕ → Bool) (bytes : Bytes) (va : ℕ) (visit next : Visit) : Type 0 where
   pub read : readable visit.pa ≡ true
   pub link : is_link (entry_in bytes visit) ≡ true

@@ -6,7 +6,7 @@ ghost use Rattle.hart_words.specs.declared.privilege.WalkFlags.{WalkFlags};
 ghost use Rattle.hart_words.specs.Memory.{Bytes};
 ghost use Rattle.sv39_walk.specs.Entries.{Tables};
 ghost use Rattle.sv39_walk.specs.Walk.{Visit};
-ghost use Rattle.sv39_walk.specs.Laws.{ChainIsEmpty, ChainIsWalk, GainsItsMarks, HasPageNumber, IsByChain, KeepsOffset, SetsItsLast, WalkIsChain, WritesAtMostOne, WritesNoneUnderFault};
+ghost use Rattle.sv39_walk.specs.Laws.{ChainIsEmpty, ChainIsWalk, GainsItsMarks, HasPageNumber, IsByChain, KeepsOffset, RefusesWritableAlone, SetsItsLast, WalkIsChain, WritesAtMostOne, WritesNoneUnderFault};
 
 /// A translation gives what the last entry of its chain decides, reads the entries of the chain
 /// that can be read, each once and in their order, and writes none but the last.
@@ -30,6 +30,13 @@ pub fn translation_sets_its_last_entry()
         (access : Access) → SetsItsLast tables bytes satp flags va access }
     ensures none { (tables : Tables) (bytes : Bytes) (satp : ℕ) (flags : WalkFlags) (va : ℕ)
         (access : Access) → WritesNoneUnderFault tables bytes satp flags va access }
+{}
+
+/// An entry that is writable and not readable is a page fault of every access that comes to it, at
+/// every level, whatever its other bits are: it is reserved, and neither a page nor a pointer.
+pub fn writable_alone_is_refused()
+    ensures { (tables : Tables) (bytes : Bytes) (satp : ℕ) (flags : WalkFlags) (va : ℕ)
+        (access : Access) → RefusesWritableAlone tables bytes satp flags va access }
 {}
 
 /// The chain of an address that extends its low 39 bits is the walk from level 2 on, in the table
