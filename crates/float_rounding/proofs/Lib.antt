@@ -1,0 +1,10 @@
+pub mod Places
+pub mod Scales
+pub mod Rounds
+pub mod Digits
+pub mod Steps
+pub mod Lawful
+pub mod Tininess
+pub mod Thresholds
+pub mod Nearest
+pub mod Order
