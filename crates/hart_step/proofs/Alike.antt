@@ -95,7 +95,7 @@ access_lower : (core : Core) (request : AccessRequest) (va : ℕ) (bytes : Bytes
 access_lower core request va bytes lower =
     let look = look_of core request bytes in
     access_all IsLower look va (λ pa can. supervisor_lower)
-    (always (look_place look va) (λ place. place.io ≡ false → IsLower (own_read request va place))
+    (always (look_place look va) (λ place. place.is_device ≡ false → IsLower (own_read request va place))
     (λ place memory. lower))
 
 fetch_lower : (core : Core) (bytes : Bytes) → core.mode ≢ Machine → All IsLower

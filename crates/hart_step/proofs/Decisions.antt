@@ -45,7 +45,7 @@ use Rattle.mem_access.specs.declared.place.Place.{Place}
 use Rattle.mem_access.specs.Accesses.{Exception, LocatedValue}
 use Rattle.hart_step.specs.declared.state.Core.{Core}
 use Rattle.hart_step.specs.declared.choices.RowChoices.{RowChoices}
-use Rattle.hart_step.specs.declared.choices.Lines.{Lines}
+use Rattle.hart_step.specs.declared.choices.InterruptLines.{InterruptLines}
 use Rattle.hart_step.specs.declared.instruction.Instruction.{Instruction}
 use Rattle.hart_step.specs.declared.memory.AccessResult.{AccessResult}
 use Rattle.hart_step.specs.Choices.{shows, order_after, asks_interrupt, pending_lines_of, row_choices_of}
@@ -238,12 +238,12 @@ found_by one other request true held same = same refl
 found_by one other request false held same = refl
 
 found_same : (one other : Shown) (rd : ℕ) (request : MemoryRequest) (found : LocatedValue)
-    → (found.0.io ≡ true → AgreeOnDevice one other)
+    → (found.0.is_device ≡ true → AgreeOnDevice one other)
     → value_found (row_choices_of other rd) request found.0 found.2
     ≡ value_found (row_choices_of one rd) request found.0 found.2
 unfolding row_choices_of
 found_same one other rd request found agree =
-    found_by (row_choices_of one rd) (row_choices_of other rd) request found.0.io found.2 (λ io.
+    found_by (row_choices_of one rd) (row_choices_of other rd) request found.0.is_device found.2 (λ io.
     device_same (row_choices_of one rd) (row_choices_of other rd) request.address (bytes_of request.size)
     (rd_same one other rd (agree io).0) (agree io).1.0 (agree io).1.1)
 
@@ -289,9 +289,10 @@ answer_same core one other rd request found (memory.Amo op width b) agree =
     (found_same one other rd request found agree)
 
 -- whether a device refused an access
-refused_same : (core : Core) (one other : Shown) (rd : ℕ) (place : Place) → (place.io ≡ true → AgreeOnFault core one other)
+refused_same : (core : Core) (one other : Shown) (rd : ℕ) (place : Place)
+    → (place.is_device ≡ true → AgreeOnFault core one other)
     → device_refuses core (row_choices_of other rd) place ≡ device_refuses core (row_choices_of one rd) place
-refused_same core one other rd place agree = by place.io agree
+refused_same core one other rd place agree = by place.is_device agree
   where
     faults : (by_row : Bool) → (by_row ≡ true → SameAt Trap one other)
         → (by_row && (row_choices_of other rd).traps) ≡ (by_row && (row_choices_of one rd).traps)
@@ -390,7 +391,7 @@ old_by_same : (core : Core) (one other : RowChoices) (address : ℕ) (row : CsrR
     → old_value_by core other address (Some row) ≡ old_value_by core one address (Some row)
 old_by_same core one other address row lines takes =
     let kind = kind_in core.csrs.profile row.csr in
-    let old : RowChoices → Lines → CsrRead → Result OldValue Illegal =
+    let old : RowChoices → InterruptLines → CsrRead → Result OldValue Illegal =
     λ choices l read. Ok (
       bit_or read.value (bit_and (unwrap_or choices.rd_wdata 0) (adopted_bits_of core.csrs kind l.shown)),
       read.base,

@@ -61,7 +61,7 @@ read_places : (len : ℕ) (places : Result Places Exception) (P : Places → Typ
     → IfOk ((found_with_read len places).run bytes).value (λ found. P (found.0, found.1))
 unfolding pure mapped read_memory
 read_places len (Err exception) P bytes holds = tt
-read_places len (Ok (first, second)) P bytes holds = by first.io
+read_places len (Ok (first, second)) P bytes holds = by first.is_device
   where
     by : (io : Bool) → IfOk {T = LocatedValue} ((if io then pure {A = Result LocatedValue Exception}
         (Ok (first, second, 0)) else mapped (λ held. Ok (first, second, held))
@@ -77,7 +77,7 @@ amo_own : (request : AccessRequest) (va : ℕ) (walk : List CheckedRead) (placed
 unfolding pure mapped read_memory
 amo_own request va walk (Err cause) bytes =
     append-nil (reads_in walk) ∙ ap (λ reads. reads_in reads) (sym (append-nil (walk ++ []) ∙ append-nil walk))
-amo_own request va walk (Ok place) bytes = by place.io
+amo_own request va walk (Ok place) bytes = by place.is_device
   where
     by : (io : Bool)
         → reads_in walk ++ ((if io then pure {A = Result LocatedValue Exception} (Ok (place, None, 0))

@@ -125,13 +125,13 @@ store_to part place value = record { pa = place.pa; len = part.len; value = valu
 
 permitted_store : (core : Core) (request : MemoryRequest) (part : Part) (place : Place) (value : ℕ)
     → access_kind_of request.op ≡ kind.Store
-    → IsPermittedPlace core.csrs core.map (request_for (check_of core request) part) place → place.io ≡ false
+    → IsPermittedPlace core.csrs core.map (request_for (check_of core request) part) place → place.is_device ≡ false
     → IsPermittedStore core (store_to part place value)
 permitted_store core request part place value kind is memory =
     (is.inside memory, subst (λ (a : Access). MayAccess core a place.pa part.len) kind is.granted)
 
 whole_stored : (core : Core) (request : MemoryRequest) (start : Bytes) (first : Place) (value : ℕ)
-    → AreOfKind core request start kind.Store (first, None) → first.io ≡ false
+    → AreOfKind core request start kind.Store (first, None) → first.is_device ≡ false
     → AreStored core request start (store_to (whole_part request.address (bytes_of request.size)) first value ∷ [])
 whole_stored core request start first value is memory =
     let part = whole_part request.address (bytes_of request.size) in
@@ -189,7 +189,7 @@ puts_nothing core request start places bytes =
     record { reads = refl; stores = stores_nothing core (Some (results.Access request)) start }
 
 puts_whole : (core : Core) (request : MemoryRequest) (start : Bytes) (first : Place) (value : ℕ) (io : Bool)
-    (bytes : Bytes) → AreOfKind core request start kind.Store (first, None) × (first.io ≡ io)
+    (bytes : Bytes) → AreOfKind core request start kind.Store (first, None) × (first.is_device ≡ io)
     → Puts core request start ((put_to first (bytes_of request.size) value io).run bytes)
 unfolding pure write_memory
 puts_whole core request start first value true bytes is =
@@ -202,7 +202,7 @@ puts_value : (core : Core) (request : MemoryRequest) (start : Bytes) (places : P
     → Puts core request start ((put places request (Some value)).run bytes)
 unfolding put ◌>>=◌ run_then write_memory
 puts_value core request start (first, None) value bytes is =
-    puts_whole core request start first value first.io bytes (is, refl)
+    puts_whole core request start first value first.is_device bytes (is, refl)
 puts_value core request start (first, Some second) value bytes is = record {
   reads = refl;
   stores =

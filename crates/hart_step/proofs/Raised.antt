@@ -230,7 +230,7 @@ load_from_at : (core : Core) (va len : ℕ) (places : Result Places Exception) (
     → IsAtPart core va len places → IsAtPart core va len ((load_from va len places).run bytes).value
 unfolding pure mapped read_memory ◌>>=◌ run_then
 load_from_at core va len (Err e) bytes at = at
-load_from_at core va len (Ok (place, None)) bytes at = value_is_at core place va len place.io bytes
+load_from_at core va len (Ok (place, None)) bytes at = value_is_at core place va len place.is_device bytes
 load_from_at core va len (Ok (first, Some second)) bytes at = tt
 
 loaded_is_at : (core : Core) (va len : ℕ) (atomicity : Atomicity) (bytes : Bytes)
@@ -258,7 +258,7 @@ read_is_at : (core : Core) (va len : ℕ) (places : Result Places Exception) (by
     → IsAtPart core va len ((found_with_read len places).run bytes).value
 unfolding pure mapped read_memory
 read_is_at core va len (Err e) bytes at = at
-read_is_at core va len (Ok (first, second)) bytes at = by first.io
+read_is_at core va len (Ok (first, second)) bytes at = by first.is_device
   where
     by : (io : Bool)
         → IsAtPart core va len ((if io then pure {A = Result LocatedValue Exception} (Ok (first, second, 0))

@@ -114,7 +114,7 @@ answer_if : (core : Core) (request : MemoryRequest) (place : Place) (value : ℕ
     ((put (place, None) request (number_written (answer_for request place value stored).access)).run bytes).wrote
 unfolding put pure
 answer_if core request place value true bytes covered =
-    put_in core place (bytes_of request.size) value place.io bytes (covered refl)
+    put_in core place (bytes_of request.size) value place.is_device bytes (covered refl)
 answer_if core request place value false bytes covered = All-nil (IsCovered core)
 
 if_is : (request : MemoryRequest) (place : Place) (value : ℕ) (stored : Bool)

@@ -76,7 +76,7 @@ read_sets : (core : Core) (len : ℕ) (places : Result Places Exception) (bytes 
     → SetsEntriesAlone core bytes ((found_with_read len places).run bytes).wrote
 unfolding pure mapped read_memory
 read_sets core len (Err exception) bytes = sets_nothing core bytes
-read_sets core len (Ok (first, second)) bytes = by first.io
+read_sets core len (Ok (first, second)) bytes = by first.is_device
   where
     by : (io : Bool)
         → SetsEntriesAlone core bytes ((if io then pure {A = Result LocatedValue Exception} (Ok (first, second, 0))

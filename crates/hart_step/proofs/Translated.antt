@@ -67,7 +67,7 @@ parcel_mapped core va bytes sets even are =
     access_all (IsMappedRead core bytes) look va (λ pa can. tt)
     (IfOk-weaker (look_place look va)
     (λ place. AreMapped core.csrs core.map core.choices request now va place.pa)
-    (λ place. place.io ≡ false → IsMappedRead core bytes (own_read request va place))
+    (λ place. place.is_device ≡ false → IsMappedRead core bytes (own_read request va place))
     (λ place mapped memory. before_sets va place.pa sets are mapped)
     (place_mapped core.csrs core.map core.choices request va now (fits_in_page va even)))
 

@@ -98,7 +98,7 @@ exchange_refused core va len {exception} {s1} {w1} {bytes} look =
 
 pub exchange_placed : (core : Core) (va len : ℕ) {places : Places} {held : ℕ} {s0 s1 s2 : List Read}
     {w0 w1 : List Write} {bytes : Bytes}
-    → Notes (store_places core va len Amo) (Ok places) s0 s1 w0 w1 bytes → places.0.io ≡ false
+    → Notes (store_places core va len Amo) (Ok places) s0 s1 w0 w1 bytes → places.0.is_device ≡ false
     → held ≡ number_at (after_writes w1 bytes) places.0.pa len
     → s2 ≡ s1 ++ record { pa = places.0.pa; len = len } ∷ []
     → Notes (exchange_at core va len) (Ok (places.0, places.1, held)) s0 s2 w0 w1 bytes
@@ -117,7 +117,7 @@ exchange_placed core va len {places} {held} {s1} {s2} {w1} {bytes} look memory r
 -- a device is not read
 pub exchange_at_device : (core : Core) (va len : ℕ) {places : Places} {s0 s1 : List Read} {w0 w1 : List Write}
     {bytes : Bytes}
-    → Notes (store_places core va len Amo) (Ok places) s0 s1 w0 w1 bytes → places.0.io ≡ true
+    → Notes (store_places core va len Amo) (Ok places) s0 s1 w0 w1 bytes → places.0.is_device ≡ true
     → Notes (exchange_at core va len) (Ok (places.0, places.1, 0)) s0 s1 w0 w1 bytes
 exchange_at_device core va len {places} {s1} {w1} {bytes} look device =
     let asked : Read = record { pa = places.0.pa; len = len } in
@@ -161,7 +161,7 @@ nothing_stored action {x} {s0} {s1} {w0} {sets} {bytes} blank noted =
 -- a device takes a number; memory gets it at one place or at two
 pub stored_by_device : (first : Place) (request : MemoryRequest) (value : ℕ) {stores : List Write} (seen : List Read)
     (sets : List Write) (bytes : Bytes)
-    → first.io ≡ true → stores ≡ []
+    → first.is_device ≡ true → stores ≡ []
     → Notes (put_at (first, None) request value) tt seen seen sets (sets ++ stores) bytes
 stored_by_device first request value {stores} seen sets bytes io blank =
     let P : Bool → Type 0 =
@@ -170,7 +170,7 @@ stored_by_device first request value {stores} seen sets bytes io blank =
 
 pub stored_at_one : (first : Place) (request : MemoryRequest) (value : ℕ) {stores : List Write} (seen : List Read)
     (sets : List Write) (bytes : Bytes)
-    → first.io ≡ false
+    → first.is_device ≡ false
     → stores ≡ record { pa = first.pa; len = bytes_of request.size; value = value } ∷ []
     → Notes (put_at (first, None) request value) tt seen seen sets (sets ++ stores) bytes
 stored_at_one first request value {stores} seen sets bytes memory is =

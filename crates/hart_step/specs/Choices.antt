@@ -9,7 +9,7 @@ use Rattle.hart_words.specs.Signals.{Shown}
 use Rattle.csr_file.specs.Fields.{all_bits}
 use Rattle.rvfi_rows.specs.Window.{distance_in_window, moved_down}
 use Rattle.hart_step.specs.declared.state.Core.{Core}
-use Rattle.hart_step.specs.declared.choices.Lines.{Lines}
+use Rattle.hart_step.specs.declared.choices.InterruptLines.{InterruptLines}
 use Rattle.hart_step.specs.declared.choices.RowChoices.{RowChoices}
 
 -- a signal is shown with this value
@@ -23,12 +23,12 @@ order_after (Some known) shown = Some ((known + 1) % 2 ^ 64)
 order_after None shown = option_map (λ order. (order + 1) % 2 ^ 64) shown
 
 -- the interrupt lines: csr_mip_rdata under its mask, where it is shown; a mask that is not shown has all bits
-abbrev pub pending_lines_under : Option ℕ → Option ℕ → Lines
+abbrev pub pending_lines_under : Option ℕ → Option ℕ → InterruptLines
 pending_lines_under None mask = record { up = 0; shown = 0 }
 pending_lines_under (Some mip) mask =
     record { up = bit_and mip (unwrap_or mask all_bits); shown = unwrap_or mask all_bits }
 
-unfoldable pub pending_lines_of : Shown → Lines
+unfoldable pub pending_lines_of : Shown → InterruptLines
 pending_lines_of shown = pending_lines_under (shown (Csr Mip Rdata)) (shown (Csr Mip Rmask))
 
 -- the row says that an interrupt was entered before it: not where it is the first row of a trap's handler

@@ -71,8 +71,7 @@ abbrev pub SameAt : Signal → Shown → Shown → Type 0
 SameAt signal one other = other signal ≡ one signal
 
 -- what a step takes from its row whatever the instruction is: `pc_rdata` only where `intr` is 1, and the interrupt
--- lines,
--- which are csr_mip_rdata under its mask, with the mask
+-- lines, which are csr_mip_rdata under its mask, with the mask
 pub record AgreeOnRow (one other : Shown) : Type 0 where
   pub order : SameAt Order one other
   pub intr : SameAt Intr one other
@@ -117,7 +116,7 @@ AgreeOnSystem profile _ one other = Unit {0}
 -- the access goes to a device
 abbrev pub is_device_found : Result LocatedValue Exception → Bool
 is_device_found (Err exception) = false
-is_device_found (Ok found) = found.0.io
+is_device_found (Ok found) = found.0.is_device
 
 -- what a device gave, and whether it refused the access, where devices may
 abbrev pub AgreeOnDevice : Shown → Shown → Type 0

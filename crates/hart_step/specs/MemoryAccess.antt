@@ -32,7 +32,7 @@ found_without_value (Ok (first, second)) = Ok (first, second, 0)
 abbrev pub found_with_read : ℕ → Result Places Exception → Action (Result LocatedValue Exception)
 found_with_read len (Err exception) = pure (Err exception)
 found_with_read len (Ok (first, second)) =
-    if first.io then pure (Ok (first, second, 0))
+    if first.is_device then pure (Ok (first, second, 0))
     else mapped (λ held. Ok (first, second, held)) (read_memory (record { pa = first.pa; len = len }))
 
 -- LR, SC and the AMOs are atomic, LR and SC by what is reserved
@@ -75,7 +75,7 @@ expected_access request place read written =
 -- what a load or an atomic memory operation found: a device gives what the row shows
 abbrev pub value_found : RowChoices → MemoryRequest → Place → ℕ → ℕ
 value_found choices request place held =
-    if place.io then device_value choices request.address (bytes_of request.size) else held
+    if place.is_device then device_value choices request.address (bytes_of request.size) else held
 
 -- a number of the access's bytes as a register gets it
 abbrev pub loaded_value : Bool → MemoryRequest → ℕ → ℕ
@@ -138,7 +138,7 @@ put_to place len value false = write_memory (record { pa = place.pa; len = len; 
 
 -- a number at its one place, or its low bytes at the first and the others at the second
 abbrev pub put_at : Places → MemoryRequest → ℕ → Action (Unit {0})
-put_at (first, None) request value = put_to first (bytes_of request.size) value first.io
+put_at (first, None) request value = put_to first (bytes_of request.size) value first.is_device
 put_at (first, Some second) request value =
     let low_len = first_len request.address (bytes_of request.size) in
     write_memory (record { pa = first.pa; len = low_len; value = value })
@@ -151,7 +151,7 @@ put places request (Some value) = put_at places request value
 
 -- a device refuses the access, where devices may and the row shows a trap
 abbrev pub device_refuses : Core → RowChoices → Place → Bool
-device_refuses core choices place = place.io && (are_by_row core.choices.device_faults && choices.traps)
+device_refuses core choices place = place.is_device && (are_by_row core.choices.device_faults && choices.traps)
 
 -- the fault of an access that is refused
 abbrev pub fault_of : MemoryOp → Cause

@@ -9,7 +9,7 @@ use rvfi_rows::{Row, distance_in_window, moved_down};
 
 /// The interrupt lines that a row shows, by their bits in mip.
 #[derive(Clone, Copy, Debug)]
-pub struct Lines {
+pub struct InterruptLines {
     /// Those that are up.
     pub up: u64,
     /// Those that are shown, up or not.
@@ -27,7 +27,7 @@ pub struct RowChoices {
     pub mem_wmask: Option<u64>,
     /// Whether `trap` is shown as 1.
     pub traps: bool,
-    pub lines: Lines,
+    pub lines: InterruptLines,
 }
 
 /// Whether the row shows this value of the signal.
@@ -55,7 +55,7 @@ pub fn order_after(known: Option<u64>, shown: Option<u64>) -> Option<u64>
 
 /// The interrupt lines at a row.
 #[tactic(auto, unfolding(crate::specs::Choices::pending_lines_of))]
-pub fn lines_of(row: &Row) -> Lines
+pub fn lines_of(row: &Row) -> InterruptLines
     ensures { result ≡ pending_lines_of (shown_in row.now) }
 {
     lines_under(
@@ -64,14 +64,14 @@ pub fn lines_of(row: &Row) -> Lines
     )
 }
 
-fn lines_under(mip: Option<u64>, mask: Option<u64>) -> Lines
+fn lines_under(mip: Option<u64>, mask: Option<u64>) -> InterruptLines
     ensures { result ≡ pending_lines_under mip mask }
 {
     match mip {
-        None => Lines { up: 0, shown: 0 },
+        None => InterruptLines { up: 0, shown: 0 },
         Some(mip) => {
             let shown = mask.unwrap_or(u64::MAX);
-            Lines {
+            InterruptLines {
                 up: mip & shown,
                 shown,
             }

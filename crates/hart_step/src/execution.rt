@@ -12,14 +12,13 @@ ghost use Rattle.hart_step.specs.declared.changes.Change.{Change};
 ghost use Rattle.hart_step.specs.declared.instruction.InstructionOutcome.TheVariants.{Trapped};
 ghost use Rattle.hart_step.specs.Changes.{retirement_of, completion_by, completion_by_change, KeepsSound, run_by, AreInRam, AreStores};
 
-use crate::accesses::Accesses;
 use crate::changes::{Change, InstructionNotes, Retirement};
 use crate::choices::{RowChoices, row_choices_of};
 use crate::instruction::{Exception, Instruction, InstructionOutcome};
 use crate::state::Core;
 use csr_file::fields::{TSR, TVM};
 use hart_words::{Cause, MOST_SETS, Mode, PhysMem};
-use mem_access::{ACCESS_SETS, FETCH_READS, FETCH_SETS, fetch};
+use mem_access::{ACCESS_SETS, Accesses, AddressSpace, FETCH_READS, FETCH_SETS};
 use rv_compressed::expand;
 use rv_decode::{Op, decode, decode_with};
 use rv_integer::{CsrRequest, IntResult, SystemRequest, compute};
@@ -48,16 +47,14 @@ impl Core {
         ensures set_in_ram { AreInRam self.now.map.ram accesses.new.sets }
         ensures stored { AreStores self.now.map.ram accesses.new.stores }
     {
-        let fetched = fetch(
+        let space = AddressSpace {
             mem,
-            &self.csrs,
-            &self.map,
-            self.mode,
-            self.pc,
-            &self.choices,
-            &mut accesses.seen,
-            &mut accesses.sets,
-        );
+            csrs: &self.csrs,
+            map: &self.map,
+            choices: &self.choices,
+            mode: self.mode,
+        };
+        let fetched = space.fetch(self.pc, accesses);
         let (word, len) = match fetched {
             Ok(word) => word,
             Err(exception) => return notes.trap(None, exception),

@@ -11,7 +11,6 @@
 //! that their instructions change (`specs/PlainRows.antt`).
 #![tactic(auto)]
 
-mod accesses;
 mod changes;
 mod choices;
 mod core_step;

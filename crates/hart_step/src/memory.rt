@@ -12,14 +12,12 @@ ghost use Rattle.mem_access.specs.Accesses.{LieInRam, devices_answer, first_len,
 ghost use Rattle.hart_step.specs.Cores.{IsSound, IsSoundReservation};
 ghost use Rattle.hart_step.specs.Changes.{AreInRam, AreStores};
 
-use crate::accesses::Accesses;
 use crate::choices::RowChoices;
 use crate::instruction::Exception;
 use crate::state::Core;
 use hart_words::{Cause, MOST_READS, PhysMem, Wrote, sext};
 use mem_access::{
-    ACCESS_SETS, AddressSpace, Atomicity, FETCH_READS, FETCH_SETS, Place, first_len, load,
-    store_place,
+    ACCESS_SETS, Accesses, AddressSpace, Atomicity, FETCH_READS, FETCH_SETS, Place, first_len,
 };
 use rv_atomic::{Reservation, amo};
 use rv_integer::{MemoryOp, MemoryRequest};
@@ -67,8 +65,8 @@ impl Core {
         if self.device_refuses(choices, first) {
             return Err((fault_of(request.op), request.address));
         }
-        let answer = self.answer(request, choices, first, held);
-        if let Some(value) = written_by(answer.access) {
+        let answer = self.access_result(request, choices, first, held);
+        if let Some(value) = number_written(answer.access) {
             note_store(request, first, second, value, &mut accesses.stores);
         }
         Ok(answer)
@@ -99,10 +97,10 @@ impl Core {
             MemoryOp::Load { .. } => self.load_at(request, Atomicity::Plain, mem, accesses),
             MemoryOp::LoadReserved => { self.load_at(request, Atomicity::Reserved, mem, accesses) }
             MemoryOp::Store { .. } => {
-                without_value(self.store_places(request, Atomicity::Plain, mem, accesses))
+                found_without_value(self.store_places(request, Atomicity::Plain, mem, accesses))
             }
             MemoryOp::StoreConditional { .. } => {
-                without_value(self.store_places(request, Atomicity::Reserved, mem, accesses))
+                found_without_value(self.store_places(request, Atomicity::Reserved, mem, accesses))
             }
             MemoryOp::Amo { .. } => self.exchange_at(request, mem, accesses),
         }
@@ -133,7 +131,7 @@ impl Core {
             Ok(places) => places,
             Err(exception) => return Err(exception),
         };
-        if first.io {
+        if first.is_device {
             return Ok((first, second, 0));
         }
         let len = request.size.bytes();
@@ -143,6 +141,7 @@ impl Core {
             csrs: &self.csrs,
             map: &self.map,
             choices: &self.choices,
+            mode: self.mode,
         };
         let held = space.number(first.pa, len, &accesses.sets);
         Ok((first, second, held))
@@ -170,18 +169,14 @@ impl Core {
         ensures in_ram { IfOk result (λ found. LieInRam self.now.map.ram request.now.address
             (bytes_of request.now.size) (found.0, found.1)) }
     {
-        load(
+        let space = AddressSpace {
             mem,
-            &self.csrs,
-            &self.map,
-            self.mode,
-            request.address,
-            request.size.bytes(),
-            atomicity,
-            &self.choices,
-            &mut accesses.seen,
-            &mut accesses.sets,
-        )
+            csrs: &self.csrs,
+            map: &self.map,
+            choices: &self.choices,
+            mode: self.mode,
+        };
+        space.load(request.address, request.size.bytes(), atomicity, accesses)
     }
 
     /// The places of a store.
@@ -205,28 +200,24 @@ impl Core {
         ensures set_in_ram { AreInRam self.now.map.ram accesses.new.sets }
         ensures stores { accesses.new.stores ≡ accesses.old.stores }
         ensures memory { devices_answer self.now.choices atomicity ≡ false
-            → IfOk result (λ places. places.0.io ≡ false) }
+            → IfOk result (λ places. places.0.is_device ≡ false) }
         ensures one { is_atomic atomicity ≡ true → IfOk result (λ places. places.1 ≡ None) }
         ensures in_ram { IfOk result (LieInRam self.now.map.ram request.now.address
             (bytes_of request.now.size)) }
     {
-        store_place(
+        let space = AddressSpace {
             mem,
-            &self.csrs,
-            &self.map,
-            self.mode,
-            request.address,
-            request.size.bytes(),
-            atomicity,
-            &self.choices,
-            &mut accesses.seen,
-            &mut accesses.sets,
-        )
+            csrs: &self.csrs,
+            map: &self.map,
+            choices: &self.choices,
+            mode: self.mode,
+        };
+        space.store_place(request.address, request.size.bytes(), atomicity, accesses)
     }
 
     /// What comes of an access to a place where memory has this number.
     #[tactic(auto, unfolding(crate::specs::MemoryAccess::access_result_of))]
-    fn answer(
+    fn access_result(
         &self,
         request: &MemoryRequest,
         choices: &RowChoices,
@@ -239,8 +230,8 @@ impl Core {
             MemoryOp::Load { signed } => {
                 let value = value_found(choices, request, place, held);
                 AccessResult {
-                    value: extended_value(signed, request, value),
-                    access: access_at(request, place, Some(value), None),
+                    value: loaded_value(signed, request, value),
+                    access: expected_access(request, place, Some(value), None),
                     reservation: self.reservation,
                 }
             }
@@ -248,19 +239,19 @@ impl Core {
                 let mut reservation = self.reservation;
                 reservation.set(place.pa, self.choices.block_size);
                 AccessResult {
-                    value: extended_value(true, request, held),
-                    access: access_at(request, place, Some(held), None),
+                    value: loaded_value(true, request, held),
+                    access: expected_access(request, place, Some(held), None),
                     reservation,
                 }
             }
             MemoryOp::Store { value } => AccessResult {
                 value: 0,
-                access: access_at(request, place, None, Some(value)),
+                access: expected_access(request, place, None, Some(value)),
                 reservation: self.reservation,
             },
             MemoryOp::StoreConditional { value } => {
                 let stored = self.is_stored(choices, request, place);
-                let access = access_at(request, place, None, Some(value));
+                let access = expected_access(request, place, None, Some(value));
                 AccessResult {
                     value: if stored { 0 } else { 1 },
                     access: if stored { access } else { None },
@@ -271,8 +262,8 @@ impl Core {
                 let found = value_found(choices, request, place, held);
                 let written = amo(op, width, found, b);
                 AccessResult {
-                    value: extended_value(true, request, found),
-                    access: access_at(request, place, Some(found), Some(written)),
+                    value: loaded_value(true, request, found),
+                    access: expected_access(request, place, Some(found), Some(written)),
                     reservation: self.reservation,
                 }
             }
@@ -283,7 +274,7 @@ impl Core {
     fn device_refuses(&self, choices: &RowChoices, place: Place) -> bool
         ensures { result ≡ device_refuses self.now choices.now place }
     {
-        place.io && self.choices.device_faults.are_by_row() && choices.traps
+        place.is_device && self.choices.device_faults.are_by_row() && choices.traps
     }
 
     /// Whether an SC stores: in the reserved block alone, and there as the row says.
@@ -306,7 +297,7 @@ fn fault_of(op: MemoryOp) -> Cause
 }
 
 /// The places of a store, which does not look at what memory has.
-fn without_value(
+fn found_without_value(
     found: Result<(Place, Option<Place>), Exception>,
 ) -> Result<(Place, Option<Place>, u64), Exception>
     ensures { result ≡ found_without_value found }
@@ -318,7 +309,7 @@ fn without_value(
 }
 
 /// The access, as the comparison sees it.
-fn access_at(
+fn expected_access(
     request: &MemoryRequest,
     place: Place,
     read: Option<u64>,
@@ -339,7 +330,7 @@ fn access_at(
 fn value_found(choices: &RowChoices, request: &MemoryRequest, place: Place, held: u64) -> u64
     ensures { result ≡ value_found choices.now request.now place held }
 {
-    if place.io {
+    if place.is_device {
         choices.device_value(request.address, request.size.bytes())
     } else {
         held
@@ -347,7 +338,7 @@ fn value_found(choices: &RowChoices, request: &MemoryRequest, place: Place, held
 }
 
 /// A number of the access's bytes as a register gets it.
-fn extended_value(signed: bool, request: &MemoryRequest, value: u64) -> u64
+fn loaded_value(signed: bool, request: &MemoryRequest, value: u64) -> u64
     ensures { result ≡ loaded_value signed request.now value }
 {
     if signed {
@@ -358,7 +349,7 @@ fn extended_value(signed: bool, request: &MemoryRequest, value: u64) -> u64
 }
 
 /// The number that is written.
-fn written_by(access: Option<Accessed>) -> Option<u64>
+fn number_written(access: Option<Accessed>) -> Option<u64>
     ensures { result ≡ number_written access }
 {
     match access {
@@ -389,7 +380,7 @@ fn note_store(
     let len = request.size.bytes();
     match second {
         None => {
-            if !first.io {
+            if !first.is_device {
                 stores.put(first.pa, len, value);
             }
         }

@@ -13,7 +13,6 @@ ghost use Rattle.hart_step.specs.Steps.{before_instruction, core_after_count, co
 ghost use Rattle.hart_step.specs.Instructions.{instruction_run};
 ghost use Rattle.hart_step.specs.Changes.{run_by, retired_by, CarriesBefore, KeepsSound, AreInRam, AreReady};
 
-use crate::accesses::Accesses;
 use crate::changes::InstructionNotes;
 use crate::choices::{lines_of, order_after, row_shows};
 use crate::instruction::InstructionOutcome;
@@ -21,6 +20,7 @@ use crate::state::Core;
 use csr_file::Csrs;
 use hart_words::{Cause, NoMemory, PhysMem, Registers, Signal, Write};
 use interrupt_pick::pick;
+use mem_access::Accesses;
 use rvfi_rows::{CsrsAround, Effects, Expected, Retired, Row, Stepped};
 use trap_entry::enter;
 

@@ -42,7 +42,7 @@ cell_inside map made = rw (made.base, made.size) refl
 cell_place : (map : Map) (access : Access) (misaligned : Cause) (bytes : Bytes) → IsMadeMap map
     → (data_places_of csrs_at_reset map plain_choices (data_request csrs_at_reset Machine access 8 true) Plain
     misaligned 0x80001000).run bytes
-    ≡ record { value = Ok (record { pa = 0x80001000; io = false }, None); reads = []; wrote = [] }
+    ≡ record { value = Ok (record { pa = 0x80001000; is_device = false }, None); reads = []; wrote = [] }
 unfolding data_places_of part_place_of mapped
 cell_place map access misaligned bytes made =
     rw (mode_at_reset, reached_at_reset map access 8 true 0x80001000 bytes, cell_inside map made) refl
@@ -50,7 +50,7 @@ cell_place map access misaligned bytes made =
 -- the place of the store
 stored_place : (map : Map) (bytes : Bytes) → IsMadeMap map
     → (store_place_of csrs_at_reset map plain_choices Machine 0x80001000 8 Plain).run bytes
-    ≡ record { value = Ok (record { pa = 0x80001000; io = false }, None); reads = []; wrote = [] }
+    ≡ record { value = Ok (record { pa = 0x80001000; is_device = false }, None); reads = []; wrote = [] }
 unfolding store_place_of
 stored_place map bytes made = cell_place map Store StoreAddressMisaligned bytes made
 
@@ -59,7 +59,7 @@ loaded_cell : (map : Map) (bytes : Bytes) → IsMadeMap map
     → (load_result csrs_at_reset map plain_choices Machine 0x80001000 8 Plain).run bytes
     ≡ record {
       value =
-          Ok (record { pa = 0x80001000; io = false }, None, number_at bytes 0x80001000 8);
+          Ok (record { pa = 0x80001000; is_device = false }, None, number_at bytes 0x80001000 8);
       reads =
           record { pa = 0x80001000; len = 8 } ∷ [];
       wrote = [];

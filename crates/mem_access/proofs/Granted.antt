@@ -129,23 +129,23 @@ walk_all P csrs map mode va bytes of_entry =
     all_if P (entry_loads (chain_reads csrs map va bytes)) (is_translated csrs mode)
     (loads_all P (is_readable csrs map) (chain_of csrs map bytes va) of_entry)
 
-own_by : (P : CheckedRead → Type 0) (request : AccessRequest) (va : ℕ) (place : Place) (io : Bool) → place.io ≡ io
-    → (place.io ≡ false → P (own_read request va place))
+own_by : (P : CheckedRead → Type 0) (request : AccessRequest) (va : ℕ) (place : Place) (io : Bool)
+    → place.is_device ≡ io → (place.is_device ≡ false → P (own_read request va place))
     → All P (if io then [] else own_read request va place ∷ [])
 own_by P request va place true is of_bytes = All-nil P
 own_by P request va place false is of_bytes = one_element P (own_read request va place) (of_bytes is)
 
 pub own_all : (P : CheckedRead → Type 0) (request : AccessRequest) (va : ℕ) (placed : Result Place Cause)
-    → IfOk placed (λ place. place.io ≡ false → P (own_read request va place))
+    → IfOk placed (λ place. place.is_device ≡ false → P (own_read request va place))
     → All P (own_reads_at request va placed)
 own_all P request va (Err cause) of_bytes = All-nil P
-own_all P request va (Ok place) of_bytes = own_by P request va place place.io refl of_bytes
+own_all P request va (Ok place) of_bytes = own_by P request va place place.is_device refl of_bytes
 
 abbrev pub look_place : Look → ℕ → Result Place Cause
 look_place look va = place_found look.csrs look.map look.choices look.request va look.bytes
 
 pub access_all : (P : CheckedRead → Type 0) (look : Look) (va : ℕ) → HoldsOfEntries look.csrs look.map P
-    → IfOk (look_place look va) (λ place. place.io ≡ false → P (own_read look.request va place))
+    → IfOk (look_place look va) (λ place. place.is_device ≡ false → P (own_read look.request va place))
     → All P (access_reads_of look.csrs look.map look.choices look.request va look.bytes)
 unfolding access_reads_of
 access_all P look va of_entry of_bytes =
@@ -189,7 +189,7 @@ walks_all P csrs map choices request (part ∷ parts) bytes of_entry =
 -- it holds of the own bytes of a part, where no device answers
 abbrev pub HoldsOfOwn : (CheckedRead → Type 0) → AccessRequest → PlacedPart → Type 0
 HoldsOfOwn P request placed =
-    placed.place.io ≡ false → P (own_read (request_for request placed.part) placed.part.va placed.place)
+    placed.place.is_device ≡ false → P (own_read (request_for request placed.part) placed.part.va placed.place)
 
 each_own : (P : CheckedRead → Type 0) (request : AccessRequest) (placed : List PlacedPart)
     → All (HoldsOfOwn P request) placed → All P (flat_map (part_reads_of request) placed)
@@ -228,7 +228,7 @@ entry_permitted csrs map pa can =
 
 own_permitted : (csrs : Csrs) (map : Map) (request : AccessRequest) (va : ℕ) (placed : Result Place Cause)
     → IfOk placed (IsPermittedPlace csrs map request)
-    → IfOk placed (λ place. place.io ≡ false → IsPermittedRead csrs map (own_read request va place))
+    → IfOk placed (λ place. place.is_device ≡ false → IsPermittedRead csrs map (own_read request va place))
 own_permitted csrs map request va (Err cause) granted = tt
 own_permitted csrs map request va (Ok place) granted = λ memory. (granted.inside memory, granted.granted)
 

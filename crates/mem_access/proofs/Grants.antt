@@ -39,7 +39,8 @@ filtered p (x ∷ xs) = filtered_from p x (filter p xs) (p x) refl (filtered p x
 in_by : (csrs : Csrs) (map : Map) (request : AccessRequest) (pa : ℕ) (held device : Bool)
     → holds_all map.ram pa request.len ≡ held → is_permitted csrs request pa ≡ true
     → IfOk
-    (if held then Ok (record { pa = pa; io = false }) else if device then Ok (record { pa = pa; io = true })
+    (if held then Ok (record { pa = pa; is_device = false })
+    else if device then Ok (record { pa = pa; is_device = true })
     else Err (access_fault_of request.access)) (IsPermittedPlace csrs map request)
 in_by csrs map request pa true device is granted = record { granted = granted; inside = λ ram. is }
 in_by csrs map request pa false true is granted = record { granted = granted; inside = λ ram. cc }
@@ -62,12 +63,12 @@ behind_granted csrs map request (Ok pa) = placed_by csrs map request pa (is_perm
 
 -- no device answers an access that devices do not answer
 abbrev pub IsMemory : Place → Type 0
-IsMemory place = place.io ≡ false
+IsMemory place = place.is_device ≡ false
 
 memory_in : (map : Map) (request : AccessRequest) (pa : ℕ) (held device : Bool)
     → IfOk
-    (if held then Ok (record { pa = pa; io = false }) else if false
-    && device then Ok (record { pa = pa; io = true }) else Err (access_fault_of request.access)) IsMemory
+    (if held then Ok (record { pa = pa; is_device = false }) else if false
+    && device then Ok (record { pa = pa; is_device = true }) else Err (access_fault_of request.access)) IsMemory
 memory_in map request pa true device = refl
 memory_in map request pa false device = tt
 
@@ -76,8 +77,8 @@ memory_by : (map : Map) (request : AccessRequest) (pa : ℕ) (granted : Bool) �
 memory_by map request pa true none =
     let P : Bool → Type 0 =
     λ devices. IfOk
-    (if holds_all map.ram pa request.len then Ok (record { pa = pa; io = false }) else if devices
-    && is_device map.io pa request.len then Ok (record { pa = pa; io = true }) else Err
+    (if holds_all map.ram pa request.len then Ok (record { pa = pa; is_device = false }) else if devices
+    && is_device map.io pa request.len then Ok (record { pa = pa; is_device = true }) else Err
     (access_fault_of request.access)) IsMemory in
     subst P (sym none) (memory_in map request pa (holds_all map.ram pa request.len) (is_device map.io pa request.len))
 memory_by map request pa false none = tt

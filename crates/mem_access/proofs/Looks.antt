@@ -131,15 +131,16 @@ fetch_long csrs map choices mode pc {first} look long more =
 
 -- what stands at a place
 pub value_device : (place : Place) (len : ℕ) {seen : List Read} {wrote : List Write} {bytes : Bytes}
-    → place.io ≡ true → Notes (value_at place len place.io) (Ok (place, None, 0)) seen seen wrote wrote bytes
+    → place.is_device ≡ true
+    → Notes (value_at place len place.is_device) (Ok (place, None, 0)) seen seen wrote wrote bytes
 value_device place len {seen} {wrote} {bytes} io =
     let Q : Bool → Type 0 = λ b. Notes (value_at place len b) (Ok (place, None, 0)) seen seen wrote wrote bytes in
     subst Q (sym io) (Notes-pure (Ok (place, None, 0)) seen wrote bytes)
 
 pub value_memory : (place : Place) (len : ℕ) {value : ℕ} {s0 s1 : List Read} {wrote : List Write} {bytes : Bytes}
-    → place.io ≡ false → value ≡ number_at (after_writes wrote bytes) place.pa len
+    → place.is_device ≡ false → value ≡ number_at (after_writes wrote bytes) place.pa len
     → s1 ≡ s0 ++ record { pa = place.pa; len = len } ∷ []
-    → Notes (value_at place len place.io) (Ok (place, None, value)) s0 s1 wrote wrote bytes
+    → Notes (value_at place len place.is_device) (Ok (place, None, value)) s0 s1 wrote wrote bytes
 value_memory place len {value} {s0} {s1} {wrote} {bytes} io is noted =
     let own : Read = record { pa = place.pa; len = len } in
     let Q : Bool → Type 0 = λ b. Notes (value_at place len b) (Ok (place, None, value)) s0 s1 wrote wrote bytes in
@@ -169,7 +170,7 @@ pub whole_loaded : (csrs : Csrs) (map : Map) (choices : Choices) (request : Acce
     {place : Place} {loaded : Result LocatedValue Exception} {s0 s1 s2 : List Read} {w0 w1 : List Write} {bytes : Bytes}
     → Notes (part_place_of csrs map choices request (record { va = va; len = request.len })) (Ok place)
     s0 s1 w0 w1 bytes
-    → Notes (value_at place request.len place.io) loaded s1 s2 w1 w1 bytes
+    → Notes (value_at place request.len place.is_device) loaded s1 s2 w1 w1 bytes
     → Notes (whole_place_of csrs map choices request va >>= load_from va request.len) loaded s0 s2 w0 w1 bytes
 whole_loaded csrs map choices request va look read =
     Notes-then (whole_place_of csrs map choices request va) (load_from va request.len)
@@ -262,7 +263,7 @@ split_load_refused csrs map choices request va {exception} {seen'} {wrote'} {byt
 pub split_load_whole : (csrs : Csrs) (map : Map) (choices : Choices) (request : AccessRequest) (va : ℕ)
     {place : Place} {loaded : Result LocatedValue Exception} {s0 s1 s2 : List Read} {w0 w1 : List Write} {bytes : Bytes}
     → Notes (split_places_of csrs map choices request va) (Ok (place, None)) s0 s1 w0 w1 bytes
-    → Notes (value_at place request.len place.io) loaded s1 s2 w1 w1 bytes
+    → Notes (value_at place request.len place.is_device) loaded s1 s2 w1 w1 bytes
     → Notes (split_places_of csrs map choices request va >>= load_from va request.len) loaded s0 s2 w0 w1 bytes
 split_load_whole csrs map choices request va look read =
     Notes-then (split_places_of csrs map choices request va) (load_from va request.len) look read

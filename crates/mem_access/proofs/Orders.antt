@@ -395,7 +395,7 @@ own_whole : (request : AccessRequest) (va : ℕ) (trap : Exception) (found : Res
     ((load_from va request.len (places_by trap parts)).run now).reads ≡ reads_in (own_reads_of request parts)
 unfolding pure mapped read_memory
 own_whole request va trap (Err cause) now = refl
-own_whole request va trap (Ok place) now = by place.io
+own_whole request va trap (Ok place) now = by place.is_device
   where
     by : (io : Bool)
         → ((value_at place request.len io).run now).reads
@@ -418,7 +418,7 @@ both_reads request va first second now low high =
     let reads : List Read = one.read ∷ two.read ∷ [] in
     let P : Bool → Bool → Type 0 =
     λ a b. reads ≡ reads_in ((if a then [] else one ∷ []) ++ ((if b then [] else two ∷ []) ++ [])) in
-    subst (λ a. P a second.io) (sym low) (subst (λ b. P false b) (sym high) refl)
+    subst (λ a. P a second.is_device) (sym low) (subst (λ b. P false b) (sym high) refl)
 
 own_both : (request : AccessRequest) (va : ℕ) (trap : Exception) (one two : Result Place Cause) (now : Bytes)
     → IfOk one IsMemory → IfOk two IsMemory
@@ -486,7 +486,7 @@ load_from_wrote : (va len : ℕ) (places : Result Places Exception) (now : Bytes
     → ((load_from va len places).run now).wrote ≡ []
 unfolding pure mapped read_memory ◌>>=◌ run_then
 load_from_wrote va len (Err exception) now = refl
-load_from_wrote va len (Ok (place, None)) now = value_wrote place len place.io now
+load_from_wrote va len (Ok (place, None)) now = value_wrote place len place.is_device now
 load_from_wrote va len (Ok (first, Some second)) now = refl
 
 -- what a load or the look for a store's places sets
@@ -541,7 +541,7 @@ pub load_from_places : (va len : ℕ) (places : Result Places Exception) (P : Pl
     → IfOk ((load_from va len places).run now).value (λ found. P (found.0, found.1))
 unfolding pure mapped read_memory ◌>>=◌ run_then
 load_from_places va len (Err exception) P now holds = tt
-load_from_places va len (Ok (place, None)) P now holds = by place.io
+load_from_places va len (Ok (place, None)) P now holds = by place.is_device
   where
     by : (io : Bool) → IfOk ((value_at place len io).run now).value (λ found. P (found.0, found.1))
     by true = holds

@@ -69,8 +69,8 @@ no_sets csrs map choices request va bytes off = rw off refl
 
 place_by : (csrs : Csrs) (map : Map) (request : AccessRequest) (pa : ℕ) (held device granted : Bool)
     → IfOk
-    (if granted then (if held then Ok (record { pa = pa; io = false }) else if device then Ok
-    (record { pa = pa; io = true }) else Err (access_fault_of request.access)) else Err
+    (if granted then (if held then Ok (record { pa = pa; is_device = false }) else if device then Ok
+    (record { pa = pa; is_device = true }) else Err (access_fault_of request.access)) else Err
     (access_fault_of request.access)) (IsAt pa)
 place_by csrs map request pa held device false = tt
 place_by csrs map request pa true device true = refl
@@ -106,7 +106,7 @@ one_parcel P csrs map choices mode va bytes is =
     let Q : List CheckedRead → Type 0 = λ walk. All P (walk ++ own) in
     subst Q (sym (no_walk csrs map mode va bytes is.0))
     (own_all P request va placed
-    (IfOk-weaker placed (IsAt va) (λ place. place.io ≡ false → P (own_read request va place))
+    (IfOk-weaker placed (IsAt va) (λ place. place.is_device ≡ false → P (own_read request va place))
     (λ place here memory. is.1 place here) (found_at csrs map choices request va bytes is.0)))
 
 abbrev IsParcelCheck : ℕ → CheckedRead → Type 0

@@ -93,7 +93,7 @@ plain_word csrs map mode pc wrote word found is =
 -- two of them
 in_ram : (csrs : Csrs) (map : Map) (mode : Mode) (at : ℕ)
     → is_allowed (pmp_entries_of csrs) mode at 2 Fetch ≡ true → holds_all map.ram at 2 ≡ true
-    → Ok (record { pa = at; io = false }) ≡ place_of csrs map (parcel_fetch mode) at
+    → Ok (record { pa = at; is_device = false }) ≡ place_of csrs map (parcel_fetch mode) at
 unfolding place_of
 in_ram csrs map mode at allowed held = rw (allowed, held) refl
 
@@ -103,7 +103,7 @@ plain_parcel : (csrs : Csrs) (map : Map) (choices : Choices) (mode : Mode) (at :
     (seen ++ record { pa = at; len = 2 } ∷ []) [] [] bytes
 unfolding after_writes
 plain_parcel csrs map choices mode at seen bytes off granted held =
-    let place : Place = record { pa = at; io = false } in
+    let place : Place = record { pa = at; is_device = false } in
     let request = parcel_fetch mode in
     parcel_read csrs map choices mode at {place = place} {parcel = number_at bytes at 2} {s0 = seen} {s1 = seen}
     {w0 = []} {w1 = []} {bytes = bytes}

@@ -179,7 +179,7 @@ value_of_parts first second low_len high_len =
 -- the data are read when all parts have their places
 abbrev pub load_from : ℕ → ℕ → Result Places Exception → Action (Result LocatedValue Exception)
 load_from va len (Err exception) = pure (Err exception)
-load_from va len (Ok (place, None)) = value_at place len place.io
+load_from va len (Ok (place, None)) = value_at place len place.is_device
 load_from va len (Ok (first, Some second)) =
     value_of_parts first second (first_len va len) (len - first_len va len)
 
@@ -200,12 +200,12 @@ load_by places va len = places >>= load_from va len
 
 -- two parts are places in RAM, each with its own bytes
 pub record LieInTwo (ram : Span) (va len : ℕ) (first second : Place) : Type 0 where
-  pub first_memory : first.io ≡ false
-  pub second_memory : second.io ≡ false
+  pub first_memory : first.is_device ≡ false
+  pub second_memory : second.is_device ≡ false
   pub first_place : IsPlace ram first.pa (first_len va len)
   pub second_place : IsPlace ram second.pa (len - first_len va len)
 
 -- where no device answers, the bytes of an access lie in RAM, each part's in one page
 abbrev pub LieInRam : Span → ℕ → ℕ → Places → Type 0
-LieInRam ram va len (place, None) = place.io ≡ false → IsPlace ram place.pa len
+LieInRam ram va len (place, None) = place.is_device ≡ false → IsPlace ram place.pa len
 LieInRam ram va len (first, Some second) = LieInTwo ram va len first second

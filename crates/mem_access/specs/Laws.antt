@@ -75,7 +75,7 @@ pub record AreReads (csrs : Csrs) (map : Map) (checks : List CheckedRead) (reads
 -- protection grants the access at its place, and where no device answers it that is RAM
 pub record IsPermittedPlace (csrs : Csrs) (map : Map) (request : AccessRequest) (place : Place) : Type 0 where
   pub granted : is_permitted csrs request place.pa ≡ true
-  pub inside : place.io ≡ false → holds_all map.ram place.pa request.len ≡ true
+  pub inside : place.is_device ≡ false → holds_all map.ram place.pa request.len ≡ true
 
 -- such a place for a part, over the part's own bytes
 abbrev pub IsPermittedPart : Csrs → Map → AccessRequest → PlacedPart → Type 0

@@ -27,8 +27,8 @@ data_mode_of csrs User = User
 -- RAM, or, for accesses that devices answer, one range of devices; elsewhere is nothing
 abbrev pub place_in : Map → AccessRequest → ℕ → Result Place Cause
 place_in map request pa =
-    if holds_all map.ram pa request.len then Ok (record { pa = pa; io = false })
-    else if request.devices && is_device map.io pa request.len then Ok (record { pa = pa; io = true })
+    if holds_all map.ram pa request.len then Ok (record { pa = pa; is_device = false })
+    else if request.devices && is_device map.io pa request.len then Ok (record { pa = pa; is_device = true })
     else Err (access_fault_of request.access)
 
 -- protection allows the access

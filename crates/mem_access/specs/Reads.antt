@@ -104,7 +104,7 @@ own_read request va place = record {
 -- the access's own bytes at its place; those of a device are not read
 abbrev pub own_reads_at : AccessRequest → ℕ → Result Place Cause → List CheckedRead
 own_reads_at request va (Err cause) = []
-own_reads_at request va (Ok place) = if place.io then [] else own_read request va place ∷ []
+own_reads_at request va (Ok place) = if place.is_device then [] else own_read request va place ∷ []
 
 -- the walk, and then the access's own bytes
 unfoldable pub access_reads_of : Csrs → Map → Choices → AccessRequest → ℕ → Bytes → List CheckedRead

@@ -25,13 +25,15 @@ pub const WALK_READS: usize = 3;
 /// The most entries of page tables that a translation sets.
 pub const WALK_SETS: usize = 1;
 
-/// Memory with what governs accesses to it. The memory's RAM is the map's.
+/// Memory with what governs the accesses of an instruction to it. The memory's RAM is the map's.
 #[derive(Drop)]
 pub struct AddressSpace<'a, M: PhysMem> {
     pub mem: &'a M,
     pub csrs: &'a Csrs,
     pub map: &'a Map,
     pub choices: &'a Choices,
+    /// The mode of the instruction.
+    pub mode: Mode,
     ghost ram: { M.ram mem.now ≡ map.now.ram },
 }
 
@@ -81,8 +83,8 @@ impl<'a, M: PhysMem> AddressSpace<'a, M> {
         ensures walk_reads { length seen.new ≤ length seen.old + WALK_READS }
         ensures walk_sets { length sets.new ≤ length sets.old + WALK_SETS }
         ensures walk_sets_none { self.now.choices.now.marks ≡ Fault → sets.new ≡ sets.old }
-        ensures memory { request.devices ≡ false → IfOk result (λ place. place.io ≡ false) }
-        ensures placed { IfOk result (λ place. place.io ≡ false
+        ensures memory { request.devices ≡ false → IfOk result (λ place. place.is_device ≡ false) }
+        ensures placed { IfOk result (λ place. place.is_device ≡ false
             → IsPlace self.now.map.now.ram place.pa request.len) }
     {
         match self.translate(request, va, seen, sets) {
@@ -112,8 +114,8 @@ impl<'a, M: PhysMem> AddressSpace<'a, M> {
         ensures walk_reads { length seen.new ≤ length seen.old + WALK_READS }
         ensures walk_sets { length sets.new ≤ length sets.old + WALK_SETS }
         ensures walk_sets_none { self.now.choices.now.marks ≡ Fault → sets.new ≡ sets.old }
-        ensures memory { request.devices ≡ false → IfOk result (λ place. place.io ≡ false) }
-        ensures placed { IfOk result (λ place. place.io ≡ false
+        ensures memory { request.devices ≡ false → IfOk result (λ place. place.is_device ≡ false) }
+        ensures placed { IfOk result (λ place. place.is_device ≡ false
             → IsPlace self.now.map.now.ram place.pa request.len) }
     {
         match self.reach(request, va, seen, sets) {
@@ -152,14 +154,14 @@ impl<'a, M: PhysMem> AddressSpace<'a, M> {
 
     /// What stands at a place, 0 where a device answers. The read is noted where there is one.
     pub fn value_at(&self, place: Place, len: u8, seen: &mut Seen, sets: &Sets) -> u64
-        requires placed { place.io ≡ false → IsPlace self.now.map.now.ram place.pa len }
+        requires placed { place.is_device ≡ false → IsPlace self.now.map.now.ram place.pa len }
         requires room { length seen.old < MOST_READS }
-        ensures value { Notes (value_at place len place.io) (Ok (place, None, result)) seen.old
-            seen.new sets.now sets.now (M.bytes self.now.mem.now) }
+        ensures value { Notes (value_at place len place.is_device) (Ok (place, None, result))
+            seen.old seen.new sets.now sets.now (M.bytes self.now.mem.now) }
         ensures noted { length seen.new ≤ length seen.old + 1 }
         ensures fits { result < 2 ^ (8 * len) }
     {
-        if place.io {
+        if place.is_device {
             return 0;
         }
         seen.put(place.pa, len);

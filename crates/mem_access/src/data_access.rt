@@ -9,11 +9,12 @@ ghost use Rattle.hart_words.specs.Options.{are_done};
 ghost use Rattle.hart_words.specs.AccessSizes.{IsLength};
 ghost use Rattle.mem_access.specs.Accesses.{LieInRam, data_request, devices_answer, first_len, is_atomic, load_by, load_result, split_places_of, store_place_of, whole_place_of};
 
+use crate::accesses::Accesses;
 use crate::address_space::{AddressSpace, WALK_READS, WALK_SETS};
 use crate::place::{AccessRequest, Atomicity, Place, data_mode};
 use csr_file::Csrs;
 use hart_words::{
-    Access, Cause, Choices, MOST_READS, MOST_SETS, Map, Mode, PAGE_SIZE, PhysMem, Read, Seen, Sets,
+    Access, Cause, Choices, MOST_READS, MOST_SETS, Mode, PAGE_SIZE, PhysMem, Read, Seen, Sets,
 };
 
 /// The most reads of a data access: for each of two parts three entries of page tables, and its own
@@ -25,113 +26,103 @@ const PART_READS: usize = WALK_READS + 1;
 /// The most entries of page tables that a data access sets: one for each part.
 pub const ACCESS_SETS: usize = 2 * WALK_SETS;
 
-/// Loads `len` bytes, 1, 2, 4 or 8, from a virtual address: the place of each of its parts, and the
-/// number that stands there, 0 where a device answers. `mode` is that of the instruction; with MPRV
-/// in M the access is one of MPP. LR is `Reserved`, any other load `Plain`.
-///
-/// An access at a multiple of its length has one part. Another is misaligned: it traps, unless it
-/// is not atomic and `choices` has it done. Then it is split where it runs into the next page, and
-/// no device answers it. Each part in order is translated at its own first byte and checked over
-/// its own bytes. An exception gives the cause and the address of the first part that is refused,
-/// and no byte is read before all parts have their places.
-///
-/// What is read is noted in `seen`, which has room for `ACCESS_READS` more, and what is set in page
-/// tables in `sets`, which has room for `ACCESS_SETS` more. What the step has set before is read as
-/// it was set.
-#[tactic(auto, unfolding(crate::specs::Accesses::load_result, crate::specs::Accesses::data_places_of))]
-pub fn load<M: PhysMem>(
-    mem: &M,
-    csrs: &Csrs,
-    map: &Map,
-    mode: Mode,
-    va: u64,
-    len: u8,
-    atomicity: Atomicity,
-    choices: &Choices,
-    seen: &mut Seen,
-    sets: &mut Sets,
-) -> Result<(Place, Option<Place>, u64), (Cause, u64)>
-    requires ram { M.ram mem.now ≡ map.now.ram }
-    requires length { IsLength len }
-    requires room { length seen.old + ACCESS_READS ≤ MOST_READS }
-    requires sets { length sets.old + ACCESS_SETS ≤ MOST_SETS }
-    ensures looked { Notes (load_result csrs.now map.now choices.now mode va len atomicity) result
-        seen.old seen.new sets.old sets.new (M.bytes mem.now) }
-    ensures noted { length seen.new ≤ length seen.old + ACCESS_READS }
-    ensures set { length sets.new ≤ length sets.old + ACCESS_SETS }
-    ensures set_none { choices.now.marks ≡ Fault → sets.new ≡ sets.old }
-    ensures fits { IfOk result (λ found. found.2 < 2 ^ (8 * len)) }
-    ensures one { (is_atomic atomicity ≡ true) ⊎ ((choices.now.misaligned ≡ Trap) ⊎ (va % len ≡ 0))
-        → IfOk result (λ found. found.1 ≡ None) }
-    ensures memory { devices_answer choices.now atomicity ≡ false
-        → IfOk result (λ found. found.0.io ≡ false) }
-    ensures placed { IfOk result (λ found. LieInRam map.now.ram va len (found.0, found.1)) }
-{
-    let devices = atomicity.devices_answer(choices);
-    let request = data_request(csrs, mode, Access::Load, len, devices);
-    let space = AddressSpace {
-        mem,
-        csrs,
-        map,
-        choices,
-    };
-    if va % u64::from(len) == 0 {
-        return load_whole(&space, request, va, seen, sets);
+impl<'a, M: PhysMem> AddressSpace<'a, M> {
+    /// Loads `len` bytes, 1, 2, 4 or 8, from a virtual address: the place of each of its parts, and
+    /// the number that stands there, 0 where a device answers. With MPRV in M the access is one of
+    /// MPP. LR is `Reserved`, any other load `Plain`.
+    ///
+    /// An access at a multiple of its length has one part. Another is misaligned: it traps, unless
+    /// it is not atomic and the choices have it done. Then it is split where it runs into the next
+    /// page, and no device answers it. Each part in order is translated at its own first byte and
+    /// checked over its own bytes. An exception gives the cause and the address of the first part
+    /// that is refused, and no byte is read before all parts have their places.
+    ///
+    /// `accesses` has room for `ACCESS_READS` more reads and `ACCESS_SETS` more entries that are
+    /// set. What the step has set before is read as it was set.
+    #[tactic(auto, unfolding(crate::specs::Accesses::load_result, crate::specs::Accesses::data_places_of))]
+    pub fn load(
+        &self,
+        va: u64,
+        len: u8,
+        atomicity: Atomicity,
+        accesses: &mut Accesses,
+    ) -> Result<(Place, Option<Place>, u64), (Cause, u64)>
+        requires length { IsLength len }
+        requires room { length accesses.old.seen + ACCESS_READS ≤ MOST_READS }
+        requires sets { length accesses.old.sets + ACCESS_SETS ≤ MOST_SETS }
+        ensures looked { let space = self.now in Notes
+            (load_result space.csrs.now space.map.now space.choices.now space.mode va len atomicity)
+            result accesses.old.seen accesses.new.seen accesses.old.sets accesses.new.sets
+            (M.bytes space.mem.now) }
+        ensures noted { length accesses.new.seen ≤ length accesses.old.seen + ACCESS_READS }
+        ensures set { length accesses.new.sets ≤ length accesses.old.sets + ACCESS_SETS }
+        ensures set_none { self.now.choices.now.marks ≡ Fault
+            → accesses.new.sets ≡ accesses.old.sets }
+        ensures stores { accesses.new.stores ≡ accesses.old.stores }
+        ensures fits { IfOk result (λ found. found.2 < 2 ^ (8 * len)) }
+        ensures one { (is_atomic atomicity ≡ true)
+            ⊎ ((self.now.choices.now.misaligned ≡ Trap) ⊎ (va % len ≡ 0))
+            → IfOk result (λ found. found.1 ≡ None) }
+        ensures memory { devices_answer self.now.choices.now atomicity ≡ false
+            → IfOk result (λ found. found.0.is_device ≡ false) }
+        ensures placed { IfOk result
+            (λ found. LieInRam self.now.map.now.ram va len (found.0, found.1)) }
+    {
+        let devices = atomicity.devices_answer(self.choices);
+        let request = data_request(self.csrs, self.mode, Access::Load, len, devices);
+        if va % u64::from(len) == 0 {
+            return load_whole(self, request, va, &mut accesses.seen, &mut accesses.sets);
+        }
+        if is_trapped(self.choices, atomicity) {
+            return Err((Cause::LoadAddressMisaligned, va));
+        }
+        let request = without_devices(request);
+        load_split(self, request, va, &mut accesses.seen, &mut accesses.sets)
     }
-    if is_trapped(choices, atomicity) {
-        return Err((Cause::LoadAddressMisaligned, va));
-    }
-    load_split(&space, without_devices(request), va, seen, sets)
-}
 
-/// The places of a store of `len` bytes, 1, 2, 4 or 8, at a virtual address, one for each of its
-/// parts; mode, parts and exceptions are as for a load. SC is `Reserved`, an atomic memory
-/// operation `Amo`, and any other store `Plain`. What is read on the way is noted in `seen`, which
-/// has room for `ACCESS_READS` more, and what is set in `sets`, which has room for `ACCESS_SETS`
-/// more.
-#[tactic(auto, unfolding(crate::specs::Accesses::store_place_of, crate::specs::Accesses::data_places_of))]
-pub fn store_place<M: PhysMem>(
-    mem: &M,
-    csrs: &Csrs,
-    map: &Map,
-    mode: Mode,
-    va: u64,
-    len: u8,
-    atomicity: Atomicity,
-    choices: &Choices,
-    seen: &mut Seen,
-    sets: &mut Sets,
-) -> Result<(Place, Option<Place>), (Cause, u64)>
-    requires ram { M.ram mem.now ≡ map.now.ram }
-    requires length { IsLength len }
-    requires room { length seen.old + ACCESS_READS ≤ MOST_READS }
-    requires sets { length sets.old + ACCESS_SETS ≤ MOST_SETS }
-    ensures looked { Notes (store_place_of csrs.now map.now choices.now mode va len atomicity)
-        result seen.old seen.new sets.old sets.new (M.bytes mem.now) }
-    ensures noted { length seen.new ≤ length seen.old + 2 * WALK_READS }
-    ensures set { length sets.new ≤ length sets.old + ACCESS_SETS }
-    ensures set_none { choices.now.marks ≡ Fault → sets.new ≡ sets.old }
-    ensures one { (is_atomic atomicity ≡ true) ⊎ ((choices.now.misaligned ≡ Trap) ⊎ (va % len ≡ 0))
-        → IfOk result (λ places. places.1 ≡ None) }
-    ensures memory { devices_answer choices.now atomicity ≡ false
-        → IfOk result (λ places. places.0.io ≡ false) }
-    ensures placed { IfOk result (LieInRam map.now.ram va len) }
-{
-    let devices = atomicity.devices_answer(choices);
-    let request = data_request(csrs, mode, Access::Store, len, devices);
-    let space = AddressSpace {
-        mem,
-        csrs,
-        map,
-        choices,
-    };
-    if va % u64::from(len) == 0 {
-        return whole_place(&space, request, va, seen, sets);
+    /// The places of a store of `len` bytes, 1, 2, 4 or 8, at a virtual address, one for each of
+    /// its parts; mode, parts and exceptions are as for a load. SC is `Reserved`, an atomic memory
+    /// operation `Amo`, and any other store `Plain`. `accesses` has room for `ACCESS_READS` more
+    /// reads and `ACCESS_SETS` more entries that are set.
+    #[tactic(auto, unfolding(crate::specs::Accesses::store_place_of, crate::specs::Accesses::data_places_of))]
+    pub fn store_place(
+        &self,
+        va: u64,
+        len: u8,
+        atomicity: Atomicity,
+        accesses: &mut Accesses,
+    ) -> Result<(Place, Option<Place>), (Cause, u64)>
+        requires length { IsLength len }
+        requires room { length accesses.old.seen + ACCESS_READS ≤ MOST_READS }
+        requires sets { length accesses.old.sets + ACCESS_SETS ≤ MOST_SETS }
+        ensures looked { let space = self.now in Notes
+            (store_place_of space.csrs.now space.map.now space.choices.now space.mode va len
+            atomicity)
+            result accesses.old.seen accesses.new.seen accesses.old.sets accesses.new.sets
+            (M.bytes space.mem.now) }
+        ensures noted { length accesses.new.seen ≤ length accesses.old.seen + 2 * WALK_READS }
+        ensures set { length accesses.new.sets ≤ length accesses.old.sets + ACCESS_SETS }
+        ensures set_none { self.now.choices.now.marks ≡ Fault
+            → accesses.new.sets ≡ accesses.old.sets }
+        ensures stores { accesses.new.stores ≡ accesses.old.stores }
+        ensures one { (is_atomic atomicity ≡ true)
+            ⊎ ((self.now.choices.now.misaligned ≡ Trap) ⊎ (va % len ≡ 0))
+            → IfOk result (λ places. places.1 ≡ None) }
+        ensures memory { devices_answer self.now.choices.now atomicity ≡ false
+            → IfOk result (λ places. places.0.is_device ≡ false) }
+        ensures placed { IfOk result (LieInRam self.now.map.now.ram va len) }
+    {
+        let devices = atomicity.devices_answer(self.choices);
+        let request = data_request(self.csrs, self.mode, Access::Store, len, devices);
+        if va % u64::from(len) == 0 {
+            return whole_place(self, request, va, &mut accesses.seen, &mut accesses.sets);
+        }
+        if is_trapped(self.choices, atomicity) {
+            return Err((Cause::StoreAddressMisaligned, va));
+        }
+        let request = without_devices(request);
+        split_places(self, request, va, &mut accesses.seen, &mut accesses.sets)
     }
-    if is_trapped(choices, atomicity) {
-        return Err((Cause::StoreAddressMisaligned, va));
-    }
-    split_places(&space, without_devices(request), va, seen, sets)
 }
 
 /// Whether an access that is misaligned traps.
@@ -185,7 +176,7 @@ fn load_whole<M: PhysMem>(
     ensures set_none { space.now.choices.now.marks ≡ Fault → sets.new ≡ sets.old }
     ensures fits { IfOk result (λ found. found.2 < 2 ^ (8 * request.len)) }
     ensures one { IfOk result (λ found. found.1 ≡ None) }
-    ensures memory { request.devices ≡ false → IfOk result (λ found. found.0.io ≡ false) }
+    ensures memory { request.devices ≡ false → IfOk result (λ found. found.0.is_device ≡ false) }
     ensures placed { IfOk result
         (λ found. LieInRam space.now.map.now.ram va request.len (found.0, found.1)) }
 {
@@ -216,7 +207,7 @@ fn load_split<M: PhysMem>(
     ensures set { length sets.new ≤ length sets.old + ACCESS_SETS }
     ensures set_none { space.now.choices.now.marks ≡ Fault → sets.new ≡ sets.old }
     ensures fits { IfOk result (λ found. found.2 < 2 ^ (8 * request.len)) }
-    ensures memory { IfOk result (λ found. found.0.io ≡ false) }
+    ensures memory { IfOk result (λ found. found.0.is_device ≡ false) }
     ensures placed { IfOk result
         (λ found. LieInRam space.now.map.now.ram va request.len (found.0, found.1)) }
 {
@@ -256,7 +247,7 @@ fn whole_place<M: PhysMem>(
     ensures set { length sets.new ≤ length sets.old + WALK_SETS }
     ensures set_none { space.now.choices.now.marks ≡ Fault → sets.new ≡ sets.old }
     ensures one { IfOk result (λ places. places.1 ≡ None) }
-    ensures memory { request.devices ≡ false → IfOk result (λ places. places.0.io ≡ false) }
+    ensures memory { request.devices ≡ false → IfOk result (λ places. places.0.is_device ≡ false) }
     ensures placed { IfOk result (LieInRam space.now.map.now.ram va request.len) }
 {
     match space.part_place(request, va, seen, sets) {
@@ -285,7 +276,7 @@ fn split_places<M: PhysMem>(
     ensures noted { length seen.new ≤ length seen.old + 2 * WALK_READS }
     ensures set { length sets.new ≤ length sets.old + ACCESS_SETS }
     ensures set_none { space.now.choices.now.marks ≡ Fault → sets.new ≡ sets.old }
-    ensures memory { IfOk result (λ places. places.0.io ≡ false) }
+    ensures memory { IfOk result (λ places. places.0.is_device ≡ false) }
     ensures placed { IfOk result (LieInRam space.now.map.now.ram va request.len) }
 {
     let low_len = first_len(va, request.len);

@@ -11,10 +11,10 @@ ghost use Rattle.pmp_check.specs.Protection.{is_machine};
 ghost use Rattle.mem_access.specs.Accesses.{parcel_at, fetch_result};
 ghost use Rattle.mem_access.specs.Translation.{is_translated};
 
+use crate::accesses::Accesses;
 use crate::address_space::{AddressSpace, WALK_READS, WALK_SETS, is_translated};
 use crate::place::{AccessRequest, is_open};
-use csr_file::Csrs;
-use hart_words::{Access, Cause, Choices, MOST_READS, MOST_SETS, Map, Mode, PhysMem, Seen, Sets};
+use hart_words::{Access, Cause, MOST_READS, MOST_SETS, Mode, PhysMem, Sets};
 
 /// The most reads of a fetch: for each of two parcels three entries of page tables, and the parcel.
 pub const FETCH_READS: usize = 2 * PARCEL_READS;
@@ -27,62 +27,51 @@ pub const FETCH_SETS: usize = 2 * WALK_SETS;
 /// So many bytes, from a multiple of them on, are mostly looked up at once.
 const LOOKED_UP: u64 = 64;
 
-/// The instruction at `pc` and its length in bytes, 2 or 4: a word of 4 where the low two bits of
-/// the first parcel are 3. Each parcel is fetched by itself, with its own check, but where nothing
-/// can refuse either. An exception gives the cause and the address of the parcel that is refused.
-/// What is read is noted in `seen`, which has room for `FETCH_READS` more, and what is set in page
-/// tables in `sets`, which has room for `FETCH_SETS` more. What the step has set before is read as
-/// it was set.
-///
-/// From the Unprivileged ISA's chapter "Introduction" (instruction length encoding) and the
-/// Privileged Architecture's chapter "Machine-Level ISA".
-#[tactic(auto, unfolding(crate::specs::Accesses::fetch_result))]
-pub fn fetch<M: PhysMem>(
-    mem: &M,
-    csrs: &Csrs,
-    map: &Map,
-    mode: Mode,
-    pc: u64,
-    choices: &Choices,
-    seen: &mut Seen,
-    sets: &mut Sets,
-) -> Result<(u32, u8), (Cause, u64)>
-    requires ram { M.ram mem.now ≡ map.now.ram }
-    requires even { pc % 2 ≡ 0 }
-    requires room { length seen.old + FETCH_READS ≤ MOST_READS }
-    requires sets { length sets.old + FETCH_SETS ≤ MOST_SETS }
-    ensures looked { Notes (fetch_result csrs.now map.now choices.now mode pc) result
-        seen.old seen.new sets.old sets.new (M.bytes mem.now) }
-    ensures noted { length seen.new ≤ length seen.old + FETCH_READS }
-    ensures set { length sets.new ≤ length sets.old + FETCH_SETS }
-    ensures set_none { choices.now.marks ≡ Fault → sets.new ≡ sets.old }
-    ensures lengths { IfOk result (λ word. (word.1 ≡ 2) ⊎ (word.1 ≡ 4)) }
-    ensures short { IfOk result (λ word. word.1 ≡ 2 → word.0 < 2 ^ 16) }
-{
-    let space = AddressSpace {
-        mem,
-        csrs,
-        map,
-        choices,
-    };
-    if let Some(word) = plain_word(&space, mode, pc, sets) {
-        seen.put(pc, 2);
-        if word % 4 != 3 {
-            return Ok((word % 0x1_0000, 2));
+impl<'a, M: PhysMem> AddressSpace<'a, M> {
+    /// The instruction at `pc` and its length in bytes, 2 or 4: a word of 4 where the low two bits
+    /// of the first parcel are 3. Each parcel is fetched by itself, with its own check, but where
+    /// nothing can refuse either. An exception gives the cause and the address of the parcel that
+    /// is refused. `accesses` has room for `FETCH_READS` more reads and `FETCH_SETS` more entries
+    /// that are set. What the step has set before is read as it was set.
+    ///
+    /// From the Unprivileged ISA's chapter "Introduction" (instruction length encoding) and the
+    /// Privileged Architecture's chapter "Machine-Level ISA".
+    #[tactic(auto, unfolding(crate::specs::Accesses::fetch_result))]
+    pub fn fetch(&self, pc: u64, accesses: &mut Accesses) -> Result<(u32, u8), (Cause, u64)>
+        requires even { pc % 2 ≡ 0 }
+        requires room { length accesses.old.seen + FETCH_READS ≤ MOST_READS }
+        requires sets { length accesses.old.sets + FETCH_SETS ≤ MOST_SETS }
+        ensures looked { let space = self.now in Notes
+            (fetch_result space.csrs.now space.map.now space.choices.now space.mode pc) result
+            accesses.old.seen accesses.new.seen accesses.old.sets accesses.new.sets
+            (M.bytes space.mem.now) }
+        ensures noted { length accesses.new.seen ≤ length accesses.old.seen + FETCH_READS }
+        ensures set { length accesses.new.sets ≤ length accesses.old.sets + FETCH_SETS }
+        ensures set_none { self.now.choices.now.marks ≡ Fault
+            → accesses.new.sets ≡ accesses.old.sets }
+        ensures stores { accesses.new.stores ≡ accesses.old.stores }
+        ensures lengths { IfOk result (λ word. (word.1 ≡ 2) ⊎ (word.1 ≡ 4)) }
+        ensures short { IfOk result (λ word. word.1 ≡ 2 → word.0 < 2 ^ 16) }
+    {
+        if let Some(word) = plain_word(self, self.mode, pc, &accesses.sets) {
+            accesses.seen.put(pc, 2);
+            if word % 4 != 3 {
+                return Ok((word % 0x1_0000, 2));
+            }
+            accesses.seen.put(pc + 2, 2);
+            return Ok((word, 4));
         }
-        seen.put(pc + 2, 2);
-        return Ok((word, 4));
-    }
-    let first = match parcel(&space, mode, pc, seen, sets) {
-        Ok(first) => first,
-        Err(exception) => return Err(exception),
-    };
-    if first % 4 != 3 {
-        return Ok((u32::from(first), 2));
-    }
-    match parcel(&space, mode, pc.wrapping_add(2), seen, sets) {
-        Ok(second) => Ok((u32::from(first) + 0x1_0000 * u32::from(second), 4)),
-        Err(exception) => Err(exception),
+        let first = match parcel(self, self.mode, pc, accesses) {
+            Ok(first) => first,
+            Err(exception) => return Err(exception),
+        };
+        if first % 4 != 3 {
+            return Ok((u32::from(first), 2));
+        }
+        match parcel(self, self.mode, pc.wrapping_add(2), accesses) {
+            Ok(second) => Ok((u32::from(first) + 0x1_0000 * u32::from(second), 4)),
+            Err(exception) => Err(exception),
+        }
     }
 }
 
@@ -111,18 +100,20 @@ fn parcel<M: PhysMem>(
     space: &AddressSpace<M>,
     mode: Mode,
     at: u64,
-    seen: &mut Seen,
-    sets: &mut Sets,
+    accesses: &mut Accesses,
 ) -> Result<u16, (Cause, u64)>
     requires even { at % 2 ≡ 0 }
-    requires room { length seen.old + PARCEL_READS ≤ MOST_READS }
-    requires sets { length sets.old < MOST_SETS }
+    requires room { length accesses.old.seen + PARCEL_READS ≤ MOST_READS }
+    requires sets { length accesses.old.sets < MOST_SETS }
     ensures looked { Notes
         (parcel_at space.now.csrs.now space.now.map.now space.now.choices.now mode at) result
-        seen.old seen.new sets.old sets.new (M.bytes space.now.mem.now) }
-    ensures noted { length seen.new ≤ length seen.old + PARCEL_READS }
-    ensures set { length sets.new ≤ length sets.old + WALK_SETS }
-    ensures set_none { space.now.choices.now.marks ≡ Fault → sets.new ≡ sets.old }
+        accesses.old.seen accesses.new.seen accesses.old.sets accesses.new.sets
+        (M.bytes space.now.mem.now) }
+    ensures noted { length accesses.new.seen ≤ length accesses.old.seen + PARCEL_READS }
+    ensures set { length accesses.new.sets ≤ length accesses.old.sets + WALK_SETS }
+    ensures set_none { space.now.choices.now.marks ≡ Fault
+        → accesses.new.sets ≡ accesses.old.sets }
+    ensures stores { accesses.new.stores ≡ accesses.old.stores }
 {
     let request = AccessRequest {
         mode,
@@ -130,11 +121,11 @@ fn parcel<M: PhysMem>(
         len: 2,
         devices: false,
     };
-    match space.reach(request, at, seen, sets) {
+    match space.reach(request, at, &mut accesses.seen, &mut accesses.sets) {
         Err(cause) => Err((cause, at)),
         Ok(place) => {
-            seen.put(place.pa, 2);
-            Ok(space.number(place.pa, 2, sets) as u16)
+            accesses.seen.put(place.pa, 2);
+            Ok(space.number(place.pa, 2, &accesses.sets) as u16)
         }
     }
 }

@@ -6,15 +6,17 @@
 //! Privileged Architecture's chapter "Machine-Level ISA".
 #![tactic(auto)]
 
+mod accesses;
 mod address_space;
 mod data_access;
 mod instruction_fetch;
 pub mod laws;
 mod place;
 
+pub use accesses::Accesses;
 pub use address_space::{AddressSpace, is_translated};
-pub use data_access::{ACCESS_READS, ACCESS_SETS, first_len, load, store_place};
-pub use instruction_fetch::{FETCH_READS, FETCH_SETS, fetch};
+pub use data_access::{ACCESS_READS, ACCESS_SETS, first_len};
+pub use instruction_fetch::{FETCH_READS, FETCH_SETS};
 pub use place::{Atomicity, Place, data_mode};
 
 #[cfg(test)]

@@ -18,7 +18,7 @@ use pmp_check::allows;
 #[derive(Clone, Copy, Debug, PartialEq, Eq)]
 pub struct Place {
     pub pa: u64,
-    pub io: bool,
+    pub is_device: bool,
 }
 
 /// An access as it is asked for, but for its address.
@@ -93,18 +93,24 @@ pub fn place_of(csrs: &Csrs, map: &Map, request: AccessRequest, pa: u64) -> Resu
     requires at_most_8 { request.len ≤ 8 }
     requires page { pa % PAGE_SIZE + request.len ≤ PAGE_SIZE }
     ensures meant { result ≡ place_of csrs.now map.now request pa }
-    ensures memory { request.devices ≡ false → IfOk result (λ place. place.io ≡ false) }
-    ensures placed { IfOk result (λ place. place.io ≡ false
+    ensures memory { request.devices ≡ false → IfOk result (λ place. place.is_device ≡ false) }
+    ensures placed { IfOk result (λ place. place.is_device ≡ false
         → IsPlace map.now.ram place.pa request.len) }
 {
     if !is_allowed(csrs, request.mode, pa, request.len, request.access) {
         return Err(request.access.access_fault());
     }
     if map.ram.holds(pa, request.len) {
-        return Ok(Place { pa, io: false });
+        return Ok(Place {
+            pa,
+            is_device: false,
+        });
     }
     if request.devices && map.is_device(pa, request.len) {
-        return Ok(Place { pa, io: true });
+        return Ok(Place {
+            pa,
+            is_device: true,
+        });
     }
     Err(request.access.access_fault())
 }

@@ -4,10 +4,11 @@ ghost use Rattle.hart_words.specs.Memory.{after_writes};
 use super::*;
 use crate::address_space::join_numbers;
 use crate::place::is_allowed;
+use csr_file::fields::{SATP_MODE, SV39};
 use csr_file::{Csrs, EntryCount, StoredCsr};
 use hart_words::{
     Access, Cause, Choices, DeviceFaults, InsnBits, Map, Marks, Misaligned, Mode, NoMemory,
-    PhysMem, PmpEntry, Seen, Sets, Span, TrapValues, Write,
+    PhysMem, PmpEntry, Sets, Span, TrapValues, Write,
 };
 use std::test::Fail;
 
@@ -119,8 +120,27 @@ fn paging_csrs() -> Csrs {
         cfg: 0x1f,
         addr: 0x3f_ffff_ffff_ffff,
     };
-    csrs.set(StoredCsr::Satp, 8 << 60 | ROOT >> 12);
+    csrs.set(StoredCsr::Satp, SV39 << SATP_MODE | ROOT >> 12);
     csrs
+}
+
+/// A memory as a hart accesses it.
+fn space_of<'a>(
+    mem: &'a Counted,
+    csrs: &'a Csrs,
+    map: &'a Map,
+    choices: &'a Choices,
+    mode: Mode,
+) -> AddressSpace<'a, Counted>
+    requires { mem.now.ram ≡ map.now.ram }
+{
+    AddressSpace {
+        mem,
+        csrs,
+        map,
+        choices,
+        mode,
+    }
 }
 
 /// Choices by which misaligned accesses are done.
@@ -131,7 +151,10 @@ fn done(marks: Marks) -> Result<Choices, Fail> {
 
 /// A place in memory.
 fn memory(pa: u64) -> Place {
-    Place { pa, io: false }
+    Place {
+        pa,
+        is_device: false,
+    }
 }
 
 /// Loads of eight bytes where misaligned accesses trap: the address, whether it is LR, and what
@@ -156,25 +179,17 @@ fn loads(rt: HostRuntime) -> Result<(), Fail> {
         (u64::MAX - 7, plain, Err((fault, u64::MAX - 7))),
     ];
     for (va, atomicity, want) in cases {
-        let mut seen = Seen::empty();
-        let found = load(
-            &mem,
-            &Csrs::reset(),
-            &map,
-            Mode::Machine,
-            va,
-            8,
-            atomicity,
-            &Choices::plain(),
-            &mut seen,
-            &mut Sets::empty(),
-        );
+        let mut accesses = Accesses::nothing();
+        let csrs = Csrs::reset();
+        let choices = Choices::plain();
+        let space = space_of(&mem, &csrs, &map, &choices, Mode::Machine);
+        let found = space.load(va, 8, atomicity, &mut accesses);
         let of_device = match found {
-            Ok((place, _, _)) => Ok(place.io),
+            Ok((place, _, _)) => Ok(place.is_device),
             Err(exception) => Err(exception),
         };
         assert_eq!(rt; of_device, want);
-        assert_eq!(rt; seen.as_slice().len() == 1, want == Ok(false));
+        assert_eq!(rt; accesses.seen.as_slice().len() == 1, want == Ok(false));
     }
     Ok(())
 }
@@ -197,20 +212,12 @@ fn places_of_stores(rt: HostRuntime) -> Result<(), Fail> {
         (0x1000_1000, plain, Err((fault, 0x1000_1000))),
     ];
     for (va, atomicity, want) in cases {
-        let found = store_place(
-            &mem,
-            &Csrs::reset(),
-            &map,
-            Mode::Machine,
-            va,
-            4,
-            atomicity,
-            &Choices::plain(),
-            &mut Seen::empty(),
-            &mut Sets::empty(),
-        );
+        let csrs = Csrs::reset();
+        let choices = Choices::plain();
+        let space = space_of(&mem, &csrs, &map, &choices, Mode::Machine);
+        let found = space.store_place(va, 4, atomicity, &mut Accesses::nothing());
         let of_device = match found {
-            Ok((place, _)) => Ok(place.io),
+            Ok((place, _)) => Ok(place.is_device),
             Err(exception) => Err(exception),
         };
         assert_eq!(rt; of_device, want);
@@ -237,20 +244,11 @@ fn places_of_amos(rt: HostRuntime) -> Result<(), Fail> {
         (by_row, 0x1000_1000, Err((fault, 0x1000_1000))),
     ];
     for (choices, va, want) in cases {
-        let found = store_place(
-            &mem,
-            &Csrs::reset(),
-            &map,
-            Mode::Machine,
-            va,
-            4,
-            Atomicity::Amo,
-            &choices,
-            &mut Seen::empty(),
-            &mut Sets::empty(),
-        );
+        let csrs = Csrs::reset();
+        let space = space_of(&mem, &csrs, &map, &choices, Mode::Machine);
+        let found = space.store_place(va, 4, Atomicity::Amo, &mut Accesses::nothing());
         let of_device = match found {
-            Ok((place, _)) => Ok(place.io),
+            Ok((place, _)) => Ok(place.is_device),
             Err(exception) => Err(exception),
         };
         assert_eq!(rt; of_device, want);
@@ -300,16 +298,10 @@ fn fetches(rt: HostRuntime) -> Result<(), Fail> {
     ];
     for (pc, mode, want) in cases {
         assert!(rt; pc % 2 == 0);
-        let found = fetch(
-            &mem,
-            &Csrs::reset(),
-            &map,
-            mode,
-            pc,
-            &Choices::plain(),
-            &mut Seen::empty(),
-            &mut Sets::empty(),
-        );
+        let csrs = Csrs::reset();
+        let choices = Choices::plain();
+        let space = space_of(&mem, &csrs, &map, &choices, mode);
+        let found = space.fetch(pc, &mut Accesses::nothing());
         assert_eq!(rt; found, want);
     }
     Ok(())
@@ -322,8 +314,8 @@ fn fetches(rt: HostRuntime) -> Result<(), Fail> {
 fn loads_by_page_tables(rt: HostRuntime) -> Result<(), Fail> {
     let map = ram_and_devices()?;
     let mem = tables(map.ram, [0; 3]);
-    let inside = 8 << 60 | 0x80001;
-    let outside = 8 << 60 | 0x100000;
+    let inside = SV39 << SATP_MODE | 0x80001;
+    let outside = SV39 << SATP_MODE | 0x100000;
     let page_fault = Err(Cause::LoadPageFault);
     let access_fault = Err(Cause::LoadAccessFault);
     let cases = [
@@ -347,28 +339,19 @@ fn loads_by_page_tables(rt: HostRuntime) -> Result<(), Fail> {
         let mut csrs = paging_csrs();
         csrs.entries[0].cfg = cfg;
         csrs.set(StoredCsr::Satp, satp);
-        let mut seen = Seen::empty();
-        let found = load(
-            &mem,
-            &csrs,
-            &map,
-            mode,
-            va,
-            1,
-            Atomicity::Plain,
-            &Choices::plain(),
-            &mut seen,
-            &mut Sets::empty(),
-        );
+        let mut accesses = Accesses::nothing();
+        let choices = Choices::plain();
+        let space = space_of(&mem, &csrs, &map, &choices, mode);
+        let found = space.load(va, 1, Atomicity::Plain, &mut accesses);
         let of_device = match found {
-            Ok((place, _, _)) => Ok(place.io),
+            Ok((place, _, _)) => Ok(place.is_device),
             Err((cause, value)) => {
                 assert_eq!(rt; value, va);
                 Err(cause)
             }
         };
         assert_eq!(rt; of_device, want);
-        assert_eq!(rt; seen.as_slice().len(), reads);
+        assert_eq!(rt; accesses.seen.as_slice().len(), reads);
     }
     Ok(())
 }
@@ -431,18 +414,9 @@ fn misaligned_loads(rt: HostRuntime) -> Result<(), Fail> {
             ),
         ];
         for (choices, atomicity, comes) in ways {
-            let found = load(
-                &mem,
-                &Csrs::reset(),
-                &map,
-                Mode::Machine,
-                va,
-                8,
-                atomicity,
-                &choices,
-                &mut Seen::empty(),
-                &mut Sets::empty(),
-            );
+            let csrs = Csrs::reset();
+            let space = space_of(&mem, &csrs, &map, &choices, Mode::Machine);
+            let found = space.load(va, 8, atomicity, &mut Accesses::nothing());
             assert_eq!(rt; found, comes);
         }
     }
@@ -481,18 +455,9 @@ fn misaligned_stores(rt: HostRuntime) -> Result<(), Fail> {
         ),
     ];
     for (choices, atomicity, va, want) in cases {
-        let found = store_place(
-            &mem,
-            &Csrs::reset(),
-            &map,
-            Mode::Machine,
-            va,
-            4,
-            atomicity,
-            &choices,
-            &mut Seen::empty(),
-            &mut Sets::empty(),
-        );
+        let csrs = Csrs::reset();
+        let space = space_of(&mem, &csrs, &map, &choices, Mode::Machine);
+        let found = space.store_place(va, 4, atomicity, &mut Accesses::nothing());
         assert_eq!(rt; found, want);
     }
     Ok(())
@@ -567,23 +532,13 @@ fn loads_over_two_entries(rt: HostRuntime) -> Result<(), Fail> {
     ];
     for (entries, va, reads, want, sets) in cases {
         let mem = tables(map.ram, entries);
-        let mut seen = Seen::empty();
-        let mut set = Sets::empty();
-        let found = load(
-            &mem,
-            &paging_csrs(),
-            &map,
-            Mode::Supervisor,
-            va,
-            8,
-            Atomicity::Plain,
-            &choices,
-            &mut seen,
-            &mut set,
-        );
+        let mut accesses = Accesses::nothing();
+        let csrs = paging_csrs();
+        let space = space_of(&mem, &csrs, &map, &choices, Mode::Supervisor);
+        let found = space.load(va, 8, Atomicity::Plain, &mut accesses);
         assert_eq!(rt; found, want);
-        assert_eq!(rt; seen.as_slice().len(), reads);
-        assert_eq!(rt; set.as_slice(), sets);
+        assert_eq!(rt; accesses.seen.as_slice().len(), reads);
+        assert_eq!(rt; accesses.sets.as_slice(), sets);
     }
     Ok(())
 }
@@ -615,19 +570,14 @@ fn fetches_over_two_entries(rt: HostRuntime) -> Result<(), Fail> {
         ),
     ];
     for (marks, entries, want, sets) in cases {
-        let mut set = Sets::empty();
-        let found = fetch(
-            &tables(map.ram, entries),
-            &paging_csrs(),
-            &map,
-            Mode::Supervisor,
-            0x3fff_fffe,
-            &done(marks)?,
-            &mut Seen::empty(),
-            &mut set,
-        );
+        let mut accesses = Accesses::nothing();
+        let csrs = paging_csrs();
+        let mem = tables(map.ram, entries);
+        let choices = done(marks)?;
+        let space = space_of(&mem, &csrs, &map, &choices, Mode::Supervisor);
+        let found = space.fetch(0x3fff_fffe, &mut accesses);
         assert_eq!(rt; found, want);
-        assert_eq!(rt; set.as_slice(), sets);
+        assert_eq!(rt; accesses.sets.as_slice(), sets);
     }
     Ok(())
 }
@@ -645,37 +595,19 @@ fn entries_set_before(rt: HostRuntime) -> Result<(), Fail> {
         (ROOT + 14, 0x1615_1413_1211_0000),
     ];
     for (va, value) in cases {
-        let mut sets = Sets::empty();
-        sets.put(ROOT, HIGH | 0x4f);
-        sets.put(ROOT + 8, LOW | 0x4f);
-        let found = load(
-            &mem,
-            &paging_csrs(),
-            &map,
-            Mode::Machine,
-            va,
-            8,
-            Atomicity::Plain,
-            &choices,
-            &mut Seen::empty(),
-            &mut sets,
-        );
+        let mut accesses = Accesses::nothing();
+        accesses.sets.put(ROOT, HIGH | 0x4f);
+        accesses.sets.put(ROOT + 8, LOW | 0x4f);
+        let csrs = paging_csrs();
+        let space = space_of(&mem, &csrs, &map, &choices, Mode::Machine);
+        let found = space.load(va, 8, Atomicity::Plain, &mut accesses);
         assert_eq!(rt; found, Ok((memory(va), None, value)));
     }
-    let mut sets = Sets::empty();
-    sets.put(ROOT, HIGH | 0x4f);
-    let found = store_place(
-        &mem,
-        &paging_csrs(),
-        &map,
-        Mode::Supervisor,
-        0x3fff_fffe,
-        4,
-        Atomicity::Plain,
-        &choices,
-        &mut Seen::empty(),
-        &mut sets,
-    );
+    let mut accesses = Accesses::nothing();
+    accesses.sets.put(ROOT, HIGH | 0x4f);
+    let csrs = paging_csrs();
+    let space = space_of(&mem, &csrs, &map, &choices, Mode::Supervisor);
+    let found = space.store_place(0x3fff_fffe, 4, Atomicity::Plain, &mut accesses);
     let places = (memory(0xffff_fffe), Some(memory(0x8000_0000)));
     assert_eq!(rt; found, Ok(places));
     let set = [
@@ -683,6 +615,6 @@ fn entries_set_before(rt: HostRuntime) -> Result<(), Fail> {
         set_entry(0, HIGH | MARKED),
         set_entry(1, LOW | MARKED),
     ];
-    assert_eq!(rt; sets.as_slice(), set.as_slice());
+    assert_eq!(rt; accesses.sets.as_slice(), set.as_slice());
     Ok(())
 }

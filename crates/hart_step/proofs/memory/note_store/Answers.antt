@@ -19,7 +19,7 @@ pub returns-then-not-first-clause-put : goal.returns-then-not-first-clause-put
 returns-then-not-first-clause-put c = λ seen sets bytes.
     let first = c.args.first in
     let request = c.args.request.now in
-    let memory : first.io ≡ false = unset c.if-not-first.true in
+    let memory : first.is_device ≡ false = unset c.if-not-first.true in
     let P : Option Place → Type 0 =
     λ second. Notes (put_at (first, second) request c.args.value) tt seen seen sets (sets ++ c.put.new.self) bytes in
     subst P (sym c.in-None.is)
@@ -30,7 +30,7 @@ pub returns-else-not-first-clause-put : goal.returns-else-not-first-clause-put
 returns-else-not-first-clause-put c = λ seen sets bytes.
     let first = c.args.first in
     let request = c.args.request.now in
-    let device : first.io ≡ true = still_set c.if-not-first.false in
+    let device : first.is_device ≡ true = still_set c.if-not-first.false in
     let P : Option Place → Type 0 =
     λ second. Notes (put_at (first, second) request c.args.value) tt seen seen sets (sets ++ c.args.stores.now)
     bytes in

@@ -33,8 +33,8 @@ returns-in-Some-clause-accessed g c =
     let request = c.args.request.now in
     let found = c.in-Ok.found in
     access_made core c.args.choices.now request c.in-Ok.ensures.located
-    (sym c.device_refuses.ensures ∙ c.if-device_refuses.false) c.answer-answer.ensures
-    (puts_value (found.0, found.1) request (sym c.written_by.ensures ∙ c.in-Some.is)
+    (sym c.device_refuses.ensures ∙ c.if-device_refuses.false) c.access_result-answer.ensures
+    (puts_value (found.0, found.1) request (sym c.number_written.ensures ∙ c.in-Some.is)
     (c.note_store.ensures.put c.locate.new.accesses.seen c.locate.new.accesses.sets
     (g.M.PhysMem.bytes c.args.mem.now)))
 
@@ -47,20 +47,20 @@ returns-in_default-clause-accessed g c =
     let request = c.args.request.now in
     let found = c.in-Ok.found in
     let stores : c.locate.new.accesses.stores ≡ _ = c.locate.ensures.stores ∙ c.requires.blank in
-    let nothing : number_written c.answer-answer.result.access ≡ None =
-    sym c.written_by.ensures ∙ c.in_default.is in
+    let nothing : number_written c.access_result-answer.result.access ≡ None =
+    sym c.number_written.ensures ∙ c.in_default.is in
     nothing_stored (memory_access core c.args.choices.now request) stores
     (access_made core c.args.choices.now request c.in-Ok.ensures.located
-    (sym c.device_refuses.ensures ∙ c.if-device_refuses.false) c.answer-answer.ensures
+    (sym c.device_refuses.ensures ∙ c.if-device_refuses.false) c.access_result-answer.ensures
     (puts_nothing (found.0, found.1) request c.locate.new.accesses.seen c.locate.new.accesses.sets
     (g.M.PhysMem.bytes c.args.mem.now) nothing))
 
 pub returns-in-Some-clause-reserved : goal.returns-in-Some-clause-reserved
 returns-in-Some-clause-reserved g c = λ sound.
-    answer_sound c.args.self.now c.args.choices.now c.args.request.now c.in-Ok.found c.answer-answer.result _
-    sound.reserved c.in-Ok.ensures.located.value_is c.answer-answer.ensures
+    answer_sound c.args.self.now c.args.choices.now c.args.request.now c.in-Ok.found c.access_result-answer.result _
+    sound.reserved c.in-Ok.ensures.located.value_is c.access_result-answer.ensures
 
 pub returns-in_default-clause-reserved : goal.returns-in_default-clause-reserved
 returns-in_default-clause-reserved g c = λ sound.
-    answer_sound c.args.self.now c.args.choices.now c.args.request.now c.in-Ok.found c.answer-answer.result _
-    sound.reserved c.in-Ok.ensures.located.value_is c.answer-answer.ensures
+    answer_sound c.args.self.now c.args.choices.now c.args.request.now c.in-Ok.found c.access_result-answer.result _
+    sound.reserved c.in-Ok.ensures.located.value_is c.access_result-answer.ensures

@@ -1,4 +1,4 @@
-use Rattle.std.proofs.Common.{ap, refl, Some, None}
+use Rattle.std.proofs.Common.{◌∙◌, ap, refl, Some, None}
 use Rattle.rvfi_rows.specs.Cells.{shown_in}
 use Rattle.hart_words.specs.declared.privilege.Cause.TheVariants.{IllegalInstruction}
 use Rattle.hart_step.specs.Instructions.{instruction_run, run_of_exception}
@@ -25,7 +25,7 @@ pub returns-in-Err-clause-ran : goal.returns-in-Err-clause-ran
 returns-in-Err-clause-ran g c =
     let core = c.args.self.now in
     let shown = shown_in c.args.row.now in
-    nothing_stored (instruction_run core shown) c.requires.blank
+    nothing_stored (instruction_run core shown) (c.fetch-fetched.ensures.stores ∙ c.requires.blank)
     (ran_raised core shown None c.in-Err.exception c.trap.ensures
     (ran_refused core shown c.in-Err.exception c.in-Err.ensures.looked))
 
@@ -35,12 +35,12 @@ returns-in-None-clause-ran g c =
     let shown = shown_in c.args.row.now in
     let word = c.in-Ok.word in
     let bits = c.from-bits.result in
-    nothing_stored (instruction_run core shown) c.requires.blank
+    nothing_stored (instruction_run core shown) (c.fetch-fetched.ensures.stores ∙ c.requires.blank)
     (ran_raised core shown (Some bits) (IllegalInstruction, bits) c.trap-in-None.ensures
     (ran_decoded core shown word.0 word.1 c.in-Ok.ensures.looked c.in-None.ensures.meaning
     (executed_pure (run_of_exception core (Some word.0) (IllegalInstruction, word.0))
-    (run_of_exception core (Some bits) (IllegalInstruction, bits)) c.fetch-fetched.new.seen
-    c.fetch-fetched.new.sets (g.M.PhysMem.bytes c.args.mem.now)
+    (run_of_exception core (Some bits) (IllegalInstruction, bits)) c.fetch-fetched.new.accesses.seen
+    c.fetch-fetched.new.accesses.sets (g.M.PhysMem.bytes c.args.mem.now)
     (ap (λ b. run_of_exception core (Some b) (IllegalInstruction, b)) c.from-bits.ensures))))
 
 pub returns-in-Ok-execute-clause-ran : goal.returns-in-Ok-execute-clause-ran
