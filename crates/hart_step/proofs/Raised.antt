@@ -2,11 +2,13 @@
 use Rattle.std.proofs.Common.{◌≡◌, ℕ, ◌+◌, ◌%◌, ◌^◌, ◌⊎◌, inl, inr, Bool, true, false, not, refl, sym, subst}
 use Rattle.std.proofs.Common.{Option, Some, None, Result, Ok, Err, if◌then◌else◌}
 use Rattle.std.specs.Prelude.{◌==◌, ◌&&◌, IfErr}
+use Rattle.std.proofs.lemmas.Bool.{and_parts}
 use Rattle.hart_words.specs.declared.privilege.Cause.{Cause}
 use Rattle.hart_words.specs.declared.privilege.Cause.TheVariants.{IllegalInstruction, LoadAddressMisaligned}
 use Rattle.hart_words.specs.declared.privilege.Cause.TheVariants.{StoreAddressMisaligned}
 use Rattle.hart_words.specs.AccessSizes.{bytes_of}
-use Rattle.hart_words.specs.Options.{are_done}
+use Rattle.hart_words.specs.Options.{are_by_row, are_done}
+use Rattle.hart_words.specs.declared.signal.Signal.TheVariants.{Trap}
 use Rattle.hart_words.specs.Memory.{Bytes, after_writes}
 use Rattle.hart_words.specs.Signals.{Shown}
 use Rattle.hart_words.specs.Actions.{Action, Run, pure, read_memory, mapped, run_then, ◌>>=◌}
@@ -39,7 +41,7 @@ use Rattle.hart_step.specs.declared.state.Core.{Core}
 use Rattle.hart_step.specs.declared.choices.RowChoices.{RowChoices}
 use Rattle.hart_step.specs.declared.instruction.Instruction.{Instruction}
 use Rattle.hart_step.specs.declared.memory.AccessResult.{AccessResult}
-use Rattle.hart_step.specs.Choices.{row_choices_of}
+use Rattle.hart_step.specs.Choices.{row_choices_of, shows}
 use Rattle.hart_step.specs.MemoryAccess.{access_at_places, device_refuses, fault_of}
 use Rattle.hart_step.specs.MemoryAccess.{found_without_value, found_with_read, located_access_by}
 use Rattle.hart_step.specs.MemoryAccess.{load_at, store_places, located_access, access_after_location, memory_access}
@@ -51,9 +53,9 @@ use Rattle.hart_step.specs.Instructions.{completion_if, system_execution, execut
 use Rattle.hart_step.specs.Instructions.{second_value, run_of_result, op_for, run_of_decoded, run_of_fetched}
 use Rattle.hart_step.specs.Instructions.{fetch_at_pc, instruction_run}
 use Rattle.hart_step.specs.Steps.{before_instruction}
-use Rattle.hart_step.specs.Laws.{request_by}
-use Rattle.hart_step.specs.TrapLaws.{executed_at, Raises, IsSecondAddress, IsPartAddress, IsRaisedAs, IsRaisedFrom}
-use Rattle.hart_step.specs.TrapLaws.{IsRaisedIn}
+use Rattle.hart_step.specs.Laws.{bytes_after_fetch, is_device_found, request_by}
+use Rattle.hart_step.specs.TrapLaws.{executed_at, Raises, IsSecondAddress, IsPartAddress, IsRefused, IsRaisedAs}
+use Rattle.hart_step.specs.TrapLaws.{IsRaisedFrom, IsRaisedIn}
 
 -- the trap value of a parcel, or of a part of an access, that is refused is its address
 abbrev IsAt : {A : Type 0} → ℕ → Result A Exception → Type 0
@@ -291,37 +293,58 @@ placed_is_at : (core : Core) (request : MemoryRequest) (bytes : Bytes)
 unfolding located_access
 placed_is_at core request bytes = placed_by_at core request.address (bytes_of request.size) request.op bytes
 
-answered_is_at : (core : Core) (choices : RowChoices) (request : MemoryRequest) (found : Result LocatedValue Exception)
-    (bytes : Bytes) → IsAtAccess core request found
-    → IsAtAccess core request ((access_after_location core choices request found).run bytes).value
-unfolding pure mapped
-answered_is_at core choices request (Err e) bytes at = at
-answered_is_at core choices request (Ok found) bytes at = by (device_refuses core choices found.0)
+-- what an access comes to where its places are found
+answered_refused : (core : Core) (shown : Shown) (rd : ℕ) (request : MemoryRequest)
+    (found : Result LocatedValue Exception) (start bytes : Bytes)
+    → ((located_access core request).run start).value ≡ found → IsAtAccess core request found
+    → IfErr ((access_after_location core (row_choices_of shown rd) request found).run bytes).value
+    (IsRefused core shown request start)
+unfolding pure mapped row_choices_of
+answered_refused core shown rd request (Err e) start bytes is at = record { address = at; refused = inl is }
+answered_refused core shown rd request (Ok found) start bytes is at =
+    by (device_refuses core (row_choices_of shown rd) found.0) refl
   where
-    by : (refused : Bool)
-        → IsAtAccess core request ((if refused then pure (Err (fault_of request.op, request.address))
-        else access_at_places core choices request found).run bytes).value
-    by true = inl refl
-    by false = tt
+    by : (refuses : Bool) → device_refuses core (row_choices_of shown rd) found.0 ≡ refuses
+        → IfErr ((if refuses then pure (Err (fault_of request.op, request.address))
+        else access_at_places core (row_choices_of shown rd) request found).run bytes).value
+        (IsRefused core shown request start)
+    by true refuses =
+        let parts =
+        and_parts found.0.is_device (are_by_row core.choices.device_faults && shows (shown Trap) 1) refuses in
+        let by_row = and_parts (are_by_row core.choices.device_faults) (shows (shown Trap) 1) parts.1 in
+        record {
+          address = inl refl;
+          refused = inr (record {
+            may_refuse = by_row.0;
+            shows_trap = by_row.1;
+            at_device = subst (λ located. is_device_found located ≡ true) (sym is) parts.0;
+            fault = refl;
+          });
+        }
+    by false refuses = tt
 
-accessed_is_at : (core : Core) (choices : RowChoices) (request : MemoryRequest) (bytes : Bytes)
-    → IsAtAccess core request ((memory_access core choices request).run bytes).value
+access_refused : (core : Core) (shown : Shown) (rd : ℕ) (request : MemoryRequest) (bytes : Bytes)
+    → IfErr ((memory_access core (row_choices_of shown rd) request).run bytes).value
+    (IsRefused core shown request bytes)
 unfolding memory_access
-accessed_is_at core choices request bytes =
+access_refused core shown rd request bytes =
     let first = located_access core request in
-    at_then first (access_after_location core choices request) (IsAtAccess core request) bytes
-    (answered_is_at core choices request (first.run bytes).value (after_writes (first.run bytes).wrote bytes)
-    (placed_is_at core request bytes))
+    let choices = row_choices_of shown rd in
+    at_then first (access_after_location core choices request)
+    (λ answer. IfErr answer (IsRefused core shown request bytes)) bytes
+    (answered_refused core shown rd request (first.run bytes).value bytes (after_writes (first.run bytes).wrote bytes)
+    refl (placed_is_at core request bytes))
 
-access_raises : (core : Core) (i : Instruction) (request : MemoryRequest) (answer : Result AccessResult Exception)
-    → IsAtAccess core request answer → IsAtAccess core request (after_access core i answer)
+access_raises : (core : Core) (i : Instruction) (P : Exception → Type 0) (answer : Result AccessResult Exception)
+    → IfErr answer P → IfErr (after_access core i answer) P
 unfolding after_access
-access_raises core i request (Err e) at = at
-access_raises core i request (Ok answer) at = tt
+access_raises core i P (Err e) holds = holds
+access_raises core i P (Ok answer) holds = tt
 
 -- an instruction of the opcode SYSTEM
-abbrev RaisesAs : Core → Instruction → SystemRequest → Result Completion Exception → Type 0
-RaisesAs core i request did = IfErr did (IsRaisedAs core i.bits (Some (results.System request)))
+abbrev RaisesAs : Core → Shown → Bytes → Instruction → SystemRequest → Result Completion Exception → Type 0
+RaisesAs core shown bytes i request did =
+    IfErr did (IsRaisedAs core shown bytes i.bits (Some (results.System request)))
 
 csr_raises : (core : Core) (i : Instruction) (answer : Result (ℕ × Csrs) Illegal)
     → IfErr (after_csr core i answer) (λ e. e ≡ (IllegalInstruction, i.bits))
@@ -334,30 +357,34 @@ if_raises : (next : Core) (i : Instruction) (allowed : Bool)
 if_raises next i true = tt
 if_raises next i false = refl
 
-system_raises : (core : Core) (choices : RowChoices) (i : Instruction) (request : SystemRequest)
-    → RaisesAs core i request (system_execution core choices i request)
+system_raises : (core : Core) (shown : Shown) (bytes : Bytes) (choices : RowChoices) (i : Instruction)
+    (request : SystemRequest) → RaisesAs core shown bytes i request (system_execution core choices i request)
 unfolding system_execution
-system_raises core choices i (system.Csr request) = csr_raises core i (csr_access_result core choices request)
-system_raises core choices i system.EnvironmentCall = refl
-system_raises core choices i system.Breakpoint = refl
-system_raises core choices i system.MachineReturn = if_raises (core_after_mret core) i (may_mret core.mode)
-system_raises core choices i system.SupervisorReturn =
+system_raises core shown bytes choices i (system.Csr request) =
+    csr_raises core i (csr_access_result core choices request)
+system_raises core shown bytes choices i system.EnvironmentCall = refl
+system_raises core shown bytes choices i system.Breakpoint = refl
+system_raises core shown bytes choices i system.MachineReturn = if_raises (core_after_mret core) i (may_mret core.mode)
+system_raises core shown bytes choices i system.SupervisorReturn =
     if_raises (core_after_sret core) i (may_use_supervisor_instruction core TSR)
-system_raises core choices i system.WaitForInterrupt =
+system_raises core shown bytes choices i system.WaitForInterrupt =
     if_raises (core_at_next core i 0) i (not (wfi_traps core choices))
-system_raises core choices i system.TranslationFence =
+system_raises core shown bytes choices i system.TranslationFence =
     if_raises (core_at_next core i 0) i (may_use_supervisor_instruction core TVM)
 
-executed_by_raises : (core : Core) (choices : RowChoices) (i : Instruction) (result : IntResult) (bytes : Bytes)
-    → IfErr ((execution_by core choices i result).run bytes).value (IsRaisedAs core i.bits (Some result))
+executed_by_raises : (core : Core) (shown : Shown) (rd : ℕ) (i : Instruction) (result : IntResult) (bytes : Bytes)
+    → IfErr ((execution_by core (row_choices_of shown rd) i result).run bytes).value
+    (IsRaisedAs core shown bytes i.bits (Some result))
 unfolding pure mapped
-executed_by_raises core choices i (results.Value value) bytes = tt
-executed_by_raises core choices i (results.Jump link target) bytes = tt
-executed_by_raises core choices i (results.Continue next_pc) bytes = tt
-executed_by_raises core choices i (results.Access request) bytes =
-    access_raises core i request ((memory_access core choices request).run bytes).value
-    (accessed_is_at core choices request bytes)
-executed_by_raises core choices i (results.System request) bytes = system_raises core choices i request
+executed_by_raises core shown rd i (results.Value value) bytes = tt
+executed_by_raises core shown rd i (results.Jump link target) bytes = tt
+executed_by_raises core shown rd i (results.Continue next_pc) bytes = tt
+executed_by_raises core shown rd i (results.Access request) bytes =
+    access_raises core i (IsRefused core shown request bytes)
+    ((memory_access core (row_choices_of shown rd) request).run bytes).value
+    (access_refused core shown rd request bytes)
+executed_by_raises core shown rd i (results.System request) bytes =
+    system_raises core shown bytes (row_choices_of shown rd) i request
 
 -- what stands at pc
 ended_raises : (core : Core) (i : Instruction) (done : Result Completion Exception) (P : Exception → Type 0)
@@ -367,19 +394,20 @@ ended_raises core i (Ok done) P exception holds is = absurd is
 
 decoded_raises : (core : Core) (shown : Shown) (bits len : ℕ) (op : Option Op) (bytes : Bytes) (exception : Exception)
     → Raises ((run_of_decoded core shown bits len op).run bytes).value.executed exception
-    → IsRaisedAs core bits (request_by core len op) exception
+    → IsRaisedAs core shown bytes bits (request_by core len op) exception
 unfolding pure mapped execution_of
 decoded_raises core shown bits len None bytes exception is = sym is
 decoded_raises core shown bits len (Some op) bytes exception is =
     let i : Instruction = record { op = op; bits = bits; len = len } in
-    let choices = row_choices_of shown (operands_of op).rd in
+    let rd = (operands_of op).rd in
     let result = result_of op (first_value core op) (second_value core op) core.pc len in
-    ended_raises core i ((execution_of core choices i).run bytes).value (IsRaisedAs core bits (Some result)) exception
-    (executed_by_raises core choices i result bytes) is
+    ended_raises core i ((execution_of core (row_choices_of shown rd) i).run bytes).value
+    (IsRaisedAs core shown bytes bits (Some result)) exception (executed_by_raises core shown rd i result bytes) is
 
 fetched_raises : (core : Core) (shown : Shown) (word : Result (ℕ × ℕ) Exception) (bytes : Bytes)
     (exception : Exception) → IsAtHalf core.pc word
-    → Raises ((run_of_fetched core shown word).run bytes).value.executed exception → IsRaisedFrom core word exception
+    → Raises ((run_of_fetched core shown word).run bytes).value.executed exception
+    → IsRaisedFrom core shown bytes word exception
 unfolding pure
 fetched_raises core shown (Err e) bytes exception at is =
     (sym is, subst (λ (x : Exception). (x.1 ≡ core.pc) ⊎ (x.1 ≡ (core.pc + 2) % 2 ^ 64)) is at)
@@ -388,8 +416,8 @@ fetched_raises core shown (Ok word) bytes exception at is =
 
 ran_raises : (core : Core) (shown : Shown) (bytes : Bytes) (exception : Exception)
     → Raises ((instruction_run core shown).run bytes).value.executed exception
-    → IsRaisedFrom core ((fetch_at_pc core).run bytes).value exception
-unfolding instruction_run
+    → IsRaisedFrom core shown (bytes_after_fetch core bytes) ((fetch_at_pc core).run bytes).value exception
+unfolding instruction_run bytes_after_fetch
 ran_raises core shown bytes exception is =
     let before = (fetch_at_pc core).run bytes in
     let P : Run InstructionRun → Type 0 = λ r. Raises r.value.executed exception in
@@ -398,5 +426,5 @@ ran_raises core shown bytes exception is =
 
 pub raised_from : (core : Core) (shown : Shown) (bytes : Bytes) (exception : Exception)
     → Raises (executed_at core shown bytes) exception
-    → IsRaisedIn (before_instruction core shown) bytes exception
+    → IsRaisedIn (before_instruction core shown) shown bytes exception
 raised_from core shown bytes exception is = ran_raises (before_instruction core shown) shown bytes exception is

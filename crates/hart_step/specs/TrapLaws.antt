@@ -1,6 +1,5 @@
 -- Where a synchronous trap leads, from the Privileged Architecture's chapters "Machine-Level ISA" (medeleg, mtvec,
--- mepc,
--- mcause, mtval) and "Supervisor-Level ISA" (stvec, sepc, scause, stval).
+-- mepc, mcause, mtval) and "Supervisor-Level ISA" (stvec, sepc, scause, stval).
 use Rattle.std.specs.Prelude.{◌≡◌, ◌≢◌, ◌⊎◌, ℕ, ◌+◌, ◌*◌, ◌/◌, ◌%◌, ◌^◌, true, Option, Some, None, Result, Ok, Err}
 use Rattle.hart_words.specs.declared.privilege.Mode.TheVariants.{Supervisor, Machine}
 use Rattle.hart_words.specs.declared.privilege.Cause.{Cause}
@@ -9,7 +8,8 @@ use Rattle.hart_words.specs.Privilege.{cause_code}
 use Rattle.hart_words.specs.Memory.{Bytes}
 use Rattle.hart_words.specs.Signals.{Shown}
 use Rattle.hart_words.specs.AccessSizes.{bytes_of}
-use Rattle.hart_words.specs.Options.{are_done}
+use Rattle.hart_words.specs.Options.{are_by_row, are_done}
+use Rattle.hart_words.specs.declared.signal.Signal.TheVariants.{Trap}
 use Rattle.rv_integer.specs.declared.int_result.IntResult.{IntResult}
 use Rattle.rv_integer.specs.declared.int_result.MemoryRequest.{MemoryRequest}
 use Rattle.rv_integer.specs.declared.int_result.IntResult.TheVariants.{Access, System}
@@ -26,9 +26,11 @@ use Rattle.mem_access.specs.Accesses.{Exception, has_second_part, second_part}
 use Rattle.hart_step.specs.declared.state.Core.{Core}
 use Rattle.hart_step.specs.declared.instruction.InstructionOutcome.{InstructionOutcome}
 use Rattle.hart_step.specs.declared.instruction.InstructionOutcome.TheVariants.{Trapped, Retired}
+use Rattle.hart_step.specs.Choices.{shows}
+use Rattle.hart_step.specs.MemoryAccess.{fault_of, located_access}
 use Rattle.hart_step.specs.Instructions.{call_from, fetch_at_pc, op_for, instruction_run}
 use Rattle.hart_step.specs.Steps.{before_instruction, written_trap_value}
-use Rattle.hart_step.specs.Laws.{request_by}
+use Rattle.hart_step.specs.Laws.{bytes_after_fetch, is_device_found, request_by}
 
 -- what became of the instruction of a step
 abbrev pub executed_at : Core → Shown → Bytes → InstructionOutcome
@@ -50,26 +52,43 @@ abbrev pub IsPartAddress : Core → MemoryRequest → ℕ → Type 0
 IsPartAddress before request address =
     (address ≡ request.address) ⊎ IsSecondAddress before request.address (bytes_of request.size) address
 
--- the exception by what the instruction asks for: the trap value is the address of an access, or of its part, that is
--- refused, 0 of a call, pc of a breakpoint, and the bits of an instruction that is illegal
-abbrev pub IsRaisedAs : Core → ℕ → Option IntResult → Exception → Type 0
-IsRaisedAs before bits None exception = exception ≡ (IllegalInstruction, bits)
-IsRaisedAs before bits (Some (Access request)) exception = IsPartAddress before request exception.1
-IsRaisedAs before bits (Some (System system.EnvironmentCall)) exception = exception ≡ (call_from before.mode, 0)
-IsRaisedAs before bits (Some (System system.Breakpoint)) exception = exception ≡ (Breakpoint, before.pc)
-IsRaisedAs before bits (Some (System request)) exception = exception ≡ (IllegalInstruction, bits)
-IsRaisedAs before bits (Some result) exception = ⊥
+-- a device that has the place of the access refuses it: devices may, and the row shows a trap
+pub record IsRefusedByDevice (before : Core) (shown : Shown) (request : MemoryRequest) (bytes : Bytes)
+    (exception : Exception) : Type 0 where
+  pub may_refuse : are_by_row before.choices.device_faults ≡ true
+  pub shows_trap : shows (shown Trap) 1 ≡ true
+  pub at_device : is_device_found ((located_access before request).run bytes).value ≡ true
+  pub fault : exception ≡ (fault_of request.op, request.address)
+
+-- an access, in memory as the fetch leaves it: its exception is the one that looking for its places comes to, of the
+-- first part that is refused, with that part's cause and address; or a device that has its place refuses it
+pub record IsRefused (before : Core) (shown : Shown) (request : MemoryRequest) (bytes : Bytes) (exception : Exception)
+    : Type 0 where
+  pub address : IsPartAddress before request exception.1
+  pub refused : (((located_access before request).run bytes).value ≡ Err exception)
+      ⊎ IsRefusedByDevice before shown request bytes exception
+
+-- the exception by what the instruction asks for: of an access the one that refuses it; else the trap value is 0 of a
+-- call, pc of a breakpoint, and the bits of an instruction that is illegal
+abbrev pub IsRaisedAs : Core → Shown → Bytes → ℕ → Option IntResult → Exception → Type 0
+IsRaisedAs before shown bytes bits None exception = exception ≡ (IllegalInstruction, bits)
+IsRaisedAs before shown bytes bits (Some (Access request)) exception = IsRefused before shown request bytes exception
+IsRaisedAs before shown bytes bits (Some (System system.EnvironmentCall)) exception =
+    exception ≡ (call_from before.mode, 0)
+IsRaisedAs before shown bytes bits (Some (System system.Breakpoint)) exception = exception ≡ (Breakpoint, before.pc)
+IsRaisedAs before shown bytes bits (Some (System request)) exception = exception ≡ (IllegalInstruction, bits)
+IsRaisedAs before shown bytes bits (Some result) exception = ⊥
 
 -- and where it cannot be fetched, the address of the half that is refused
-abbrev pub IsRaisedFrom : Core → Result (ℕ × ℕ) Exception → Exception → Type 0
-IsRaisedFrom before (Err refused) exception =
+abbrev pub IsRaisedFrom : Core → Shown → Bytes → Result (ℕ × ℕ) Exception → Exception → Type 0
+IsRaisedFrom before shown bytes (Err refused) exception =
     (exception ≡ refused) × ((exception.1 ≡ before.pc) ⊎ (exception.1 ≡ (before.pc + 2) % 2 ^ 64))
-IsRaisedFrom before (Ok word) exception =
-    IsRaisedAs before word.0 (request_by before word.1 (op_for before word.0 word.1)) exception
+IsRaisedFrom before shown bytes (Ok word) exception =
+    IsRaisedAs before shown bytes word.0 (request_by before word.1 (op_for before word.0 word.1)) exception
 
-abbrev pub IsRaisedIn : Core → Bytes → Exception → Type 0
-IsRaisedIn before bytes exception =
-    IsRaisedFrom before ((fetch_at_pc before).run bytes).value exception
+abbrev pub IsRaisedIn : Core → Shown → Bytes → Exception → Type 0
+IsRaisedIn before shown bytes exception =
+    IsRaisedFrom before shown (bytes_after_fetch before bytes) ((fetch_at_pc before).run bytes).value exception
 
 -- an exception is delegated to S where it is raised in S or U and medeleg has the bit of its code
 pub record IsDelegatedToSupervisor (before : Core) (cause : Cause) : Type 0 where

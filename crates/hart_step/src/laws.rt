@@ -99,17 +99,18 @@ pub fn registers_are_carried_where_shown()
 
 /// A step whose instruction raises an exception leads to the handler of S, where the instruction
 /// ran in S or U and medeleg has the bit of the cause, and else to that of M: at the vector's base,
-/// with the cause, the trap value and the instruction's pc in the registers of that mode. The trap
-/// value is the address of a fetch, or of the part of an access, that is refused, 0 of a call, pc
-/// of a breakpoint, and the bits of an illegal instruction; or 0 in every trap, where a core has it
-/// so.
+/// with the cause, the trap value and the instruction's pc in the registers of that mode. The
+/// exception of a fetch or of an access is that of its first part that is refused, with the part's
+/// cause and its address as the trap value; an access that comes to a device is refused where
+/// devices may refuse and the row shows a trap. The trap value of a call is 0, of a breakpoint pc,
+/// and of an illegal instruction its bits; or it is 0 in every trap, where a core has it so.
 pub fn exceptions_lead_to_handlers()
     ensures leads { (core : Core) (shown : Shown) (bytes : Bytes) (exception : Exception)
         → IsSound core → core.halted ≡ false → Raises (executed_at core shown bytes) exception
         → LeadsToHandler (before_instruction core shown) (next_of core shown bytes) exception }
     ensures raised { (core : Core) (shown : Shown) (bytes : Bytes) (exception : Exception)
         → Raises (executed_at core shown bytes) exception
-        → IsRaisedIn (before_instruction core shown) bytes exception }
+        → IsRaisedIn (before_instruction core shown) shown bytes exception }
     ensures cause { (core : Core) (shown : Shown) (bytes : Bytes) (exception : Exception)
         → core.halted ≡ false → Raises (executed_at core shown bytes) exception
         → HasCause ((step_of core shown).run bytes).value.expected exception.0 }
