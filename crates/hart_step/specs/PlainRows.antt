@@ -1,7 +1,6 @@
 -- What a guess of a later state takes from a row: the plain rows, which show all that their instructions change, and
--- the
--- state after one. The signals are those of riscv-formal's description of RVFI, the opcodes those of the Unprivileged
--- ISA's chapter "RV32/64G Instruction Set Listings".
+-- the state after one. The signals are those of riscv-formal's description of RVFI, the opcodes those of the
+-- Unprivileged ISA's chapter "RV32/64G Instruction Set Listings".
 use Rattle.std.specs.Prelude.{◌≡◌, ◌<◌, ℕ, zero, suc, ◌+◌, ◌-◌, ◌/◌, ◌%◌, ◌^◌, Bool, true, false, not, ◌&&◌, ◌||◌, ◌==◌}
 use Rattle.std.specs.Prelude.{if◌then◌else◌, Option, Some, None, unwrap_or}
 use Rattle.std.specs.Option.{is_some}

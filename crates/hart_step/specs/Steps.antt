@@ -1,8 +1,6 @@
 -- The step of the hart by one valid row, in its phases: the state after it, what the reference hart did, and what is
--- read
--- and written. From the Privileged Architecture's chapter "Machine-Level ISA", and riscv-formal's description of RVFI
--- for
--- what a row tells.
+-- read and written. From the Privileged Architecture's chapter "Machine-Level ISA", and riscv-formal's description of
+-- RVFI for what a row tells.
 use Rattle.std.specs.Prelude.{ℕ, Bool, true, false, if◌then◌else◌, Option, Some, None, Result, Ok, Err}
 use Rattle.std.specs.Option.{is_none}
 use Rattle.hart_words.specs.declared.privilege.Mode.{Mode}
@@ -103,8 +101,8 @@ effects_of before after (Retired instruction access) = Ok (record {
 abbrev pub csrs_around : Bool → Csrs → Csrs → Option CsrsAround
 csrs_around carries before after = if carries then Some (record { before = before; after = after }) else None
 
--- what the reference hart did at the row. It carries the control and status registers where the row shows a column of
--- one
+-- what the reference hart did at the row; it carries the control and status registers where the row shows a column
+-- of one
 unfoldable pub expected_of : Core → Shown → InstructionRun → Expected
 expected_of core shown done =
     let before = before_instruction core shown in
