@@ -357,6 +357,30 @@ const KINDS: [(Access, Cause, Cause, u64); 3] = [
     ),
 ];
 
+/// Entries that are writable and not readable: two that would name a table, and a page at each level
+/// that can be executed. Each is a page fault of every access, and none is set.
+#[test]
+fn entries_writable_alone(rt: HostRuntime) -> Result<(), Fail> {
+    let cases = [
+        (TO_MIDDLE | 0x04, TO_LAST, PAGE),
+        (TO_MIDDLE, TO_LAST | 0x04, PAGE),
+        (HUGE ^ 0x02, 0, 0),
+        (TO_MIDDLE, LARGE ^ 0x02, 0),
+        (TO_MIDDLE, TO_LAST, PAGE ^ 0x02),
+    ];
+    for (root, middle, last) in cases {
+        for (access, page_fault, _, _) in KINDS {
+            let mut sets = Sets::empty();
+            assert_eq!(rt;
+                access_result(&memory(root, middle, last), access, Marks::Set, &mut sets),
+                Err(page_fault)
+            );
+            assert!(rt; sets.is_empty());
+        }
+    }
+    Ok(())
+}
+
 /// A leaf at each level with A and D clear: by the choice it is a page fault, or the entry is set,
 /// or an access fault where that may not be.
 #[test]
