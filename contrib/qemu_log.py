@@ -10,8 +10,10 @@
 The log must have in_asm (or --image), cpu and nochain, and one instruction in each block
 (-singlestep; later versions: -accel tcg,one-insn-per-tb=on). int tells traps and interrupts: without
 it a program that takes interrupts differs, and so does one that cannot be fetched somewhere. exec
-tells apart what stands at one address in several address spaces. qemu 7.2 lists the word 0xffffffff
-without end: the trace ends there; the whole run needs exec without in_asm, and --image. Without LOG,
+tells apart what stands at one address in several address spaces. qemu 7.2 lists a word whose seven low
+bits are 1, as 0xffffffff or 0x7f, without end: the trace ends there; the whole run needs exec without
+in_asm, and --image. What M carries out where MPRV of mstatus has loads translated it lists as loads
+find it: the instruction is then that of --image, or that which was listed there before. Without LOG,
 or with - for it, standard input is read. A row is written for each instruction that was carried out
 or trapped, from the first at --pc on; what the log does not show stays an empty field. Memory use
 grows with the program's code, and not with the log.
@@ -54,7 +56,8 @@ KNOWN = {"pc", "mhartid", *CSRS, *(f"x{number}" for number in range(32))}
 # The judge's options that fit qemu.
 CORE, BITS = "--profile qemu", "--bits on"
 AT_RESET = {"mstatus": XLENS, "mode": 3}
-SATP = [it for it in CSRS if it != "mip"].index("satp")
+MSTATUS, SATP = ([it for it in CSRS if it != "mip"].index(name) for name in ("mstatus", "satp"))
+MACHINE = 3  # the mode M
 MEMORY = ("mem_addr", "mem_rmask", "mem_rdata", "mem_wmask", "mem_wdata")
 COLUMNS = (
     "intr", "pc_rdata", "mode", "trap", "insn", "rs1_addr", "rs1_rdata", "rs2_addr", "rs2_rdata",
@@ -179,6 +182,12 @@ class State(NamedTuple):
                 and self.csrs == other.csrs)
 
 
+def translates_loads(state):
+    """Whether loads of M are translated, by MPRV of mstatus."""
+    status, satp = (int(state.csrs[it] or "0", 16) for it in (MSTATUS, SATP))
+    return status >> 17 & 1 == 1 and status >> 11 & 3 != MACHINE and satp >> 60 != 0
+
+
 def state_of(names, values):
     by_name = dict(zip(names, values))
     return State(by_name["pc"], [by_name[f"x{it}"] for it in range(32)],
@@ -261,26 +270,40 @@ class Translations:
         self.image = image  # bytes by address, for what is not listed
         self.by_block = {}
         self.by_address = {}
-        self.latest = None  # until the state after it says which block it is
+        self.of_machine = {}  # the bits of instructions of M by address
+        self.listed = []  # until the state after it says which block it is
         self.mode = None
 
     def take(self, text, shown):
-        if self.latest and self.latest.pc == int(text, 16):
+        if self.listed and self.listed[-1].pc == int(text, 16):
             raise Endless(f"qemu lists the word at {text} without end: "
                           "run it without in_asm, and give --image")
-        if self.latest:
-            raise Refused("several instructions in one block: qemu was run without -singlestep")
         bits = None if shown == "Address" else int(shown, 16)
-        self.latest = Code(int(text, 16), bits, self.mode)
+        self.listed.append(Code(int(text, 16), bits, self.mode))
+
+    def latest(self, state):
+        """The instruction that was listed before a state, or None. Of an address of M qemu lists what
+        a load finds there. Where MPRV has loads translated that may be anything."""
+        listed, self.listed = self.listed, []
+        if listed and listed[0].mode == MACHINE and translates_loads(state):
+            pc = listed[0].pc
+            bits = self.word(pc) if pc in self.image else self.of_machine.get(pc)
+            return Code(pc, bits, MACHINE)
+        if len(listed) > 1:
+            raise Refused("several instructions in one block: qemu was run without -singlestep")
+        for it in listed:
+            if it.mode == MACHINE:
+                self.of_machine[it.pc] = it.bits
+        return listed[0] if listed else None
 
     def word(self, pc):
         """The instruction that the image has at an address."""
         bits = sum(self.image.get(pc + it, 0) << 8 * it for it in range(4))
         return bits if bits & 3 == 3 else bits & 0xFFFF
 
-    def find(self, pc, block):
+    def find(self, pc, block, state):
         """The instruction that a state at pc, in a block, begins to carry out."""
-        latest, self.latest = self.latest, None
+        latest = self.latest(state)
         if block is not None:
             if latest:
                 self.by_block[block] = latest
@@ -299,6 +322,9 @@ class Translations:
             found = Code(pc, self.word(pc), None)
         if found is None or found.pc != pc:
             raise Refused(f"no instruction at 0x{pc:x} is listed: add in_asm to -d")
+        if found.bits is None and found.mode == MACHINE:
+            raise Refused(f"qemu does not show the instruction at 0x{pc:x}, where MPRV has loads "
+                          "translated: give --image")
         if found.bits is None:
             raise Refused(f"qemu does not show the instruction at 0x{pc:x}, in a page without R")
         return found
@@ -392,7 +418,7 @@ class Converter:
             self.take_turn(hart)
         pc, block, mode = int(state.pc, 16), self.block, self.block_mode
         self.block = self.block_mode = self.turn_of = None
-        hart.begin(state, pc, self.code.find(pc, block), mode)
+        hart.begin(state, pc, self.code.find(pc, block, state), mode)
 
     def take_turn(self, hart):
         """The state of one of several harts: it must be that which exec names."""

@@ -291,6 +291,20 @@ test_qemu_bits() {
     [ $? -eq 1 ] || fail "bits.s without --bits on: $(cat "$folder/said")"
 }
 
+# What M carries out while its loads are translated: qemu lists other bytes, and the image has the right
+# ones.
+test_qemu_translated_loads() {
+    sh "$tests/qemu/make.sh" "$folder" mprv.s || fail "mprv.s did not run in qemu"
+    out=$folder/run.csv
+    python3 "$contrib/qemu_log.py" "$folder/run.log" --image "$folder/program.elf" -o "$out" \
+        2>"$folder/said" || fail "qemu_log.py: mprv.s: $(cat "$folder/said")"
+    rows=$(($(wc -l <"$out") - 1))
+    [ "$rows" -gt 40 ] || fail "mprv.s: $rows rows"
+    expect 'mprv.s' "agrees $rows" "$folder/image.hex" "$out" --io 0x100000:0xff01000 --profile qemu
+    expect_fault 'mprv.s without its image' 'where MPRV has loads translated: give --image' \
+        python3 "$contrib/qemu_log.py" "$folder/run.log"
+}
+
 # Firmware that Debian has, from its first instruction on, live; and a difference, which ends qemu.
 test_boot() {
     found=$(sh "$contrib/boot/boot.sh" 200000 "$program" 2>"$folder/said")
@@ -705,7 +719,8 @@ can_run 'logs of Spike' python3 && test_spike
 can_run 'the stored log of qemu' python3 gzip && test_qemu_log
 can_run 'a run in qemu' python3 riscv64-unknown-elf-gcc riscv64-unknown-elf-objcopy \
     qemu-system-riscv64 && has_version 'a run in qemu' qemu-system-riscv64 'version 7\.' &&
-    test_qemu && test_qemu_choices && test_qemu_registers && test_qemu_bits && test_qemu_rom
+    test_qemu && test_qemu_choices && test_qemu_registers && test_qemu_bits && test_qemu_rom &&
+    test_qemu_translated_loads
 if can_run 'rows of several harts' python3; then
     if [ -n "$knows_harts" ]; then
         python3 "$tests/harts_test.py" "$program" || fail "rows of several harts"
