@@ -14,6 +14,7 @@ import words as judge_words  # noqa: E402  # found by the line before
 
 PROGRAM = str(HERE.parent / "bin/rvjudge")
 MOST_HARTS = int(judge_words.WORDS["--harts"].values[1])
+RESET_PC = 0x80000000
 UNPACK = {".gz": ["gzip", "-dc"], ".zst": ["zstd", "-dcq"]}
 NUMBER = re.compile(r"0[xX][0-9a-fA-F]{1,40}|[0-9]{1,40}", re.ASCII)
 MARKS = ("\ufeff", "\xef\xbb\xbf")  # the byte order mark of UTF-8, decoded as that and as Latin-1
@@ -55,11 +56,9 @@ def add_program(parser):
 
 
 def add_log(parser, example):
-    """The words of a tool that makes a trace of a log."""
+    """The words of a tool that makes a trace of a log, but for --pc."""
     parser.add_argument("log", nargs="?", default="-", metavar="LOG")
     parser.add_argument("-o", metavar="FILE", help="the trace (default: standard output)")
-    parser.add_argument("--pc", type=number_word, default=0x80000000, metavar="A",
-                        help="address of the first row, as the judge's --pc (default 0x80000000)")
     parser.add_argument("--without", default="", metavar="COLUMN,..",
                         help=f"columns to leave out, as {example}")
 

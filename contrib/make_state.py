@@ -33,12 +33,11 @@ import struct
 import sys
 
 import elf_image
-from common import ABI, MOST_HARTS, Refused, ends, judge_words, parser_of, target_of
+from common import ABI, MOST_HARTS, RESET_PC, Refused, ends, judge_words, parser_of, target_of
 from core_registers import ALL, CSRS, SD, WORDS, XLENS, Registers, add_words
 from image_start import SAVED, text_parts
 
 PAGE, BLOCK = 4096, 16  # bytes
-RESET_PC = 0x80000000
 RAM = judge_words.WORDS["--ram"].default
 REGISTERS = {f"x{it}": it for it in range(32)} | {it: at for at, it in enumerate(ABI)} | {"fp": 8}
 HARTS = re.compile(rb"harts ([2-8])\n")
@@ -270,13 +269,14 @@ def take_text(state, path, text):
 
 def command_lines(values, pc, trace, core=""):
     """The commands by which a trace is judged whose harts began with these values, a table for
-    each; the image's name is left to the reader, and that of a trace that has none. core has the
-    judge's words for the core."""
+    each, and at this pc, or where it is None at those of the tables; the image's name is left to the
+    reader, and that of a trace that has none. core has the judge's words for the core."""
     many = f" --harts {len(values)}" if len(values) > 1 else ""
     more = many + (core and f" {core}")
     words = [f"--set {f'{at}:' if many else ''}{name}=0x{value:x}"
              for at, table in enumerate(values) for name, value in table.items()]
-    yield f"    contrib/make_state.py IMAGE{more} --pc 0x{pc:x} {' '.join(words)} -o start.rvstate"
+    words = words if pc is None else [f"--pc 0x{pc:x}", *words]
+    yield f"    contrib/make_state.py IMAGE{more} {' '.join(words)} -o start.rvstate"
     yield f"    bin/rvjudge judge start.rvstate {trace or 'TRACE'}{more}"
 
 

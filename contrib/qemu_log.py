@@ -33,7 +33,8 @@ begins with these: make_state.py makes the state.
 Several harts: --harts N reads the log of -smp N with -accel tcg,thread=single, under which qemu
 runs one hart at a time, and with exec in -d. The column hart names the hart of each row. Rows stand
 in the order in which qemu carried them out, which is the order of memory; those of a turn, a tenth
-of a second, wait until the harts before it go on. Judge with --harts N too.
+of a second, wait until the harts before it go on. Judge with --harts N too. The rows of each hart
+begin at --pc; where harts stand apart at first, as at a checkpoint, --pc has an address for each.
 """
 import argparse
 import functools
@@ -43,7 +44,10 @@ from collections import deque
 from typing import NamedTuple
 
 import make_state
-from common import MOST_HARTS, Refused, add_log, convert_log, parser_of, row_writer, take_log_words
+from common import (
+    MOST_HARTS, RESET_PC, Refused, add_log, convert_log, number_word, parser_of, row_writer,
+    take_log_words,
+)
 from core_registers import XLENS
 from image_start import parts_of
 from instructions import BIT_MANIPULATION, Access, decoded, signed
@@ -89,6 +93,10 @@ class Code(NamedTuple):
     pc: int
     bits: int | None
     mode: int | None
+
+
+def addresses(text):
+    return [number_word(it) for it in text.split(",")]
 
 
 def harts(text):
@@ -352,7 +360,7 @@ class Order:
 class Converter:
     """What the lines of a log say, for its harts."""
 
-    def __init__(self, start, image, harts, write):
+    def __init__(self, starts, image, harts, write):
         self.code = Translations(image)
         self.block = self.block_mode = self.turn_of = None  # of the latest line of exec
         self.lines, self.names, self.values = [], [], []  # of the state that is being read
@@ -360,7 +368,8 @@ class Converter:
         self.blocks = {}  # lines of exec, with what they say
         self.tells_traps = False
         order = Order(write) if harts > 1 else None
-        self.harts = [Hart(self, it, start, write, order) for it in range(harts)]
+        self.starts = starts if len(starts) == harts else starts * harts
+        self.harts = [Hart(self, it, start, write, order) for it, start in enumerate(self.starts)]
         self.by_digits = {}  # the harts of states, by mhartid as it stands there
         self.hart = self.harts[0]  # that of the latest state
 
@@ -443,7 +452,7 @@ class Converter:
         """What standard error gets of a log that was read."""
         yield f"{self.total('rows')} rows"
         if before := self.total("before"):
-            yield f"{before} rows before 0x{self.hart.start:x} are left out"
+            yield f"{before} rows before {self.where()} are left out"
         if again := self.total("again"):
             yield f"{again} states are left out that were begun anew, or led to themselves"
         if self.lines:
@@ -457,6 +466,18 @@ class Converter:
         if len(self.harts) > 1:
             yield from (f"hart {it.number} has no row" for it in self.harts if not it.rows)
             yield f"{len(self.harts)} harts: judge with --harts {len(self.harts)}"
+
+    def where(self):
+        """The addresses of the first rows."""
+        return " and ".join(f"0x{it:x}" for it in dict.fromkeys(self.starts))
+
+    def set_at_start(self):
+        """What is not as at reset before the first rows, a table for each hart, and their pc, which is
+        in the tables where it is not that of all."""
+        found = [it.set_at_start() for it in self.harts]
+        if len({*self.starts}) == 1:
+            return found, self.starts[0]
+        return [{"pc": start} | it for start, it in zip(self.starts, found)], None
 
     def choices(self):
         """The judge's options that fit qemu, and what it carried out."""
@@ -669,6 +690,9 @@ class Reader:
 def arguments():
     parser = parser_of(__doc__)
     add_log(parser, "csr_medeleg_rdata")
+    parser.add_argument("--pc", type=addresses, default=[RESET_PC], metavar="A[,A..]",
+                        help="address of the first row, as the judge's --pc, or one for each hart, where "
+                        "they stand apart at a checkpoint (default 0x80000000)")
     parser.add_argument("--image", metavar="FILE",
                         help="the judge's image, for instructions that the log does not list")
     parser.add_argument("--harts", type=harts, default=1, metavar="N",
@@ -685,6 +709,8 @@ def convert(log, words, out):
     columns = ("hart", *COLUMNS) if words.harts > 1 else COLUMNS
     write = row_writer(out, columns, words.without)
     image = image_bytes(words.image) if words.image else {}
+    if len(words.pc) not in (1, words.harts):
+        raise Refused(f"--pc has {len(words.pc)} addresses, and there are {words.harts} harts")
     converter = Converter(words.pc, image, words.harts, write)
     reader = Reader(converter)
     hint = "" if words.harts == 1 else f" (several harts need {ONE_AT_A_TIME})"
@@ -699,7 +725,7 @@ def convert(log, words, out):
     try:
         converter.finish()
         if not converter.total("rows"):
-            raise Refused(f"no instruction at 0x{words.pc:x}")
+            raise Refused(f"no instruction at {converter.where()}")
     except Refused as fault:
         raise Refused(f"{words.log}: line {reader.at}: {fault}") from None
     tell(converter, words)
@@ -709,10 +735,10 @@ def tell(converter, words):
     """Says on standard error what there is to say of a log that was read."""
     for text in converter.tell():
         print(f"qemu_log.py: {text}", file=sys.stderr)
-    found = [it.set_at_start() for it in converter.harts]
+    found, pc = converter.set_at_start()
     if any(found):
         print("qemu_log.py: registers are set before the first row; to begin with them:",
-              *make_state.command_lines(found, words.pc, words.o, CORE), sep="\n", file=sys.stderr)
+              *make_state.command_lines(found, pc, words.o, CORE), sep="\n", file=sys.stderr)
     if words.choices:
         print(f"qemu_log.py: the judge's options that fit qemu: {converter.choices()}",
               file=sys.stderr)

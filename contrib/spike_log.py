@@ -23,7 +23,7 @@ from collections import Counter
 
 import make_state
 from common import (
-    Refused, add_log, convert_log, number_word, parser_of, row_writer, take_log_words,
+    RESET_PC, Refused, add_log, convert_log, number_word, parser_of, row_writer, take_log_words,
 )
 
 CSRS = (
@@ -236,6 +236,8 @@ class Converter:
 def arguments():
     parser = parser_of(__doc__)
     add_log(parser, "csr_medeleg_wdata")
+    parser.add_argument("--pc", type=number_word, default=RESET_PC, metavar="A",
+                        help="address of the first row, as the judge's --pc (default 0x80000000)")
     parser.add_argument("--hart", type=number_word, default=0, metavar="N",
                         help="the core whose rows are written (default 0)")
     return take_log_words(parser, COLUMNS)

@@ -98,7 +98,7 @@ def rows_that_wait(log):
     """A hart in WFI holds up no row of others; one that was left elsewhere does, until its turn."""
     turns = log.split("Trace 0:")
     one, rows = "Trace 0:".join(turns[:20]), []  # to the first hart's first WFI, and hart 1's turn
-    converter = qemu_log.Converter(START, {}, 2, rows.append)
+    converter = qemu_log.Converter([START], {}, 2, rows.append)
     qemu_log.Reader(converter).take(one)
     begun = one.count("Trace ") - one.count("Stopped execution")
     check("rows after a WFI", len(rows) == begun - 1 and not converter.harts[0].held, len(rows))
@@ -316,6 +316,23 @@ def judged_starts(judge, log):
     check("the state, written again", f"{found}\n" == start.read_text(), found[:400])
 
 
+def from_a_checkpoint(log, out):
+    """The rows of a log that begins where the harts stand apart."""
+    begun = [it.start() for it in re.finditer("^Trace ", log, re.MULTILINE)]
+    late, rows = log[begun[100]:], out.read_text().splitlines()
+    pcs = [re.search(f" pc +([0-9a-f]+)\n mhartid +0+{it}\n", late)[1] for it in range(2)]
+    words = "--harts", 2, "--image", IMAGE, "--pc", ",".join(f"0x{it}" for it in pcs)
+    ran = run(CONTRIB / "qemu_log.py", *words, text=late)
+    found = ran.stdout.splitlines()[1:]
+    check("from a checkpoint", pcs[0] != pcs[1] and found == rows[-len(found):] and
+          len(found) > 80, ran.stderr)
+    sets = [f"--set {at}:pc=0x{int(it, 16):x} " for at, it in enumerate(pcs)]
+    check("from a checkpoint, its state", all(it in ran.stderr for it in sets)
+          and "--pc" not in ran.stderr, ran.stderr)
+    refused("more addresses than harts", "--pc has 3 addresses, and there are 2 harts", run(
+        CONTRIB / "qemu_log.py", "--harts", 2, "--pc", "1,2,3", text=late))
+
+
 def judged_pieces(judge, out):
     """The run in two pieces, from a state of two harts."""
     rows, two = out.read_text().splitlines(), ["--harts", "2", *IO]
@@ -509,6 +526,7 @@ def main():
         faults_of_logs(log)
         rows_that_wait(log)
         values_at_start(log)
+        from_a_checkpoint(log, out)
         documented()
         merged_again(folder, out)
         merged(folder)
