@@ -48,6 +48,7 @@ expect_told 5 '' 'rvjudge: .: it is a folder' judge . t
 # Where there is no python3 the shell tells what it can.
 mkdir tools
 for tool in env cat grep; do ln -s "$(command -v $tool)" tools; done
+# shellcheck disable=SC2123  # the path that commands are looked for in
 usual=$PATH PATH=$folder/tools
 expect_told 2 'refused words' 'rvjudge: these words are refused' judge i t --workers 65
 expect_told 5 '' 'rvjudge: none: there is no such file' judge --origin none t
