@@ -26,6 +26,7 @@ use Rattle.csr_file.specs.Legal.{IsLegal}
 use Rattle.csr_file.specs.Registers.{at}
 use Rattle.csr_file.specs.Profiles.{kind_in}
 use Rattle.csr_file.specs.Values.{csr_read_of, csr_write_of, adopted_bits_of}
+use Rattle.csr_file.proofs.LegalTests.{even_legal, legal_even, whole_legal}
 use Rattle.csr_file.proofs.Legal.{legal_with, write_legal}
 use Rattle.rv_decode.specs.declared.operation.CsrOp.{CsrOp}
 use Rattle.rv_decode.specs.declared.operation.CsrOp.TheVariants.{Write, Set, Clear}
@@ -227,11 +228,11 @@ machine_words : (csrs : Csrs) (mode : Mode) (value tval pc : ℕ) → AreSane cs
 unfolding enter_machine_of
 machine_words csrs mode value tval pc sane enters =
     let words = sane.1 in
-    let first = legal_with csrs Mepc pc sane.0 enters.pc_even in
+    let first = legal_with csrs Mepc pc sane.0 (even_legal _ Mepc pc refl enters.pc_even) in
     let first_words = with_word csrs Mepc pc sane.0 words enters.pc_fits in
-    let second = legal_with _ Mcause value first tt in
+    let second = legal_with _ Mcause value first (whole_legal _ Mcause value refl) in
     let second_words = with_word _ Mcause value first first_words enters.cause_fits in
-    let third = legal_with _ Mtval tval second tt in
+    let third = legal_with _ Mtval tval second (whole_legal _ Mtval tval refl) in
     let third_words = with_word _ Mtval tval second second_words enters.tval_fits in
     with_word _ Mstatus _ third third_words (into_machine_word (at csrs Mstatus) mode (words.values Mstatus))
 
@@ -240,11 +241,11 @@ supervisor_words : (csrs : Csrs) (mode : Mode) (value tval pc : ℕ) → AreSane
 unfolding enter_supervisor_of
 supervisor_words csrs mode value tval pc sane enters =
     let words = sane.1 in
-    let first = legal_with csrs Sepc pc sane.0 enters.pc_even in
+    let first = legal_with csrs Sepc pc sane.0 (even_legal _ Sepc pc refl enters.pc_even) in
     let first_words = with_word csrs Sepc pc sane.0 words enters.pc_fits in
-    let second = legal_with _ Scause value first tt in
+    let second = legal_with _ Scause value first (whole_legal _ Scause value refl) in
     let second_words = with_word _ Scause value first first_words enters.cause_fits in
-    let third = legal_with _ Stval tval second tt in
+    let third = legal_with _ Stval tval second (whole_legal _ Stval tval refl) in
     let third_words = with_word _ Stval tval second second_words enters.tval_fits in
     with_word _ Mstatus _ third third_words (into_supervisor_word (at csrs Mstatus) mode (words.values Mstatus))
 
@@ -342,7 +343,7 @@ pub mret_sane : (core : Core) → IsSane core → IsSane (core_after_mret core)
 unfolding core_after_mret
 mret_sane core sane = record {
   sound = record {
-    even = sane.sound.legal.values Mepc;
+    even = legal_even _ Mepc _ refl (sane.sound.legal.values Mepc);
     legal = mret_legal core.csrs sane.sound.legal;
     reserved = sane.sound.reserved;
   };
@@ -355,7 +356,7 @@ pub sret_sane : (core : Core) → IsSane core → IsSane (core_after_sret core)
 unfolding core_after_sret
 sret_sane core sane = record {
   sound = record {
-    even = sane.sound.legal.values Sepc;
+    even = legal_even _ Sepc _ refl (sane.sound.legal.values Sepc);
     legal = sret_legal core.csrs sane.sound.legal;
     reserved = sane.sound.reserved;
   };

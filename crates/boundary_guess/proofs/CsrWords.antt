@@ -21,14 +21,14 @@ use Rattle.csr_file.specs.declared.csr_kind.CsrKind.TheVariants.{LowConfiguratio
 use Rattle.csr_file.specs.declared.csr_kind.CsrKind.TheVariants.{Constant, ImplementationDefined, Counter}
 use Rattle.csr_file.specs.declared.stored_csr.StoredCsr.{StoredCsr}
 use Rattle.csr_file.specs.declared.stored_csr.StoredCsr.TheVariants.{Mstatus, Mie, Mip, Satp}
-use Rattle.csr_file.specs.declared.fields.TheConstants.{PMP_LOCK}
+use Rattle.csr_file.specs.declared.fields.TheConstants.{FS, PMP_LOCK, SD, VS}
 use Rattle.csr_file.specs.Fields.{all_bits, bit_is_set, is_supported_mode, masked_update, satp_mode_of}
 use Rattle.csr_file.specs.Legal.{IsLegal}
-use Rattle.csr_file.specs.Registers.{at, no_entry, stored_index_of, with_at}
+use Rattle.csr_file.specs.Registers.{at, no_entry, with_at}
 use Rattle.csr_file.specs.declared.profile.CsrProfile.{CsrProfile}
-use Rattle.csr_file.specs.Profiles.{addable_lines, added_lines_of, entry_bits_of, is_from_row, kind_in, line_bits_of}
+use Rattle.csr_file.specs.Profiles.{added_lines_of, entry_bits_of, is_from_row, kind_in, line_bits_of}
 use Rattle.csr_file.specs.Profiles.{presence_of}
-use Rattle.csr_file.specs.Table.{csr_kind_of, line_bits}
+use Rattle.csr_file.specs.Table.{addable_lines, csr_kind_of, line_bits, stored_index_of}
 use Rattle.csr_file.specs.Values.{address_is_locked, configuration_after, configuration_of, configuration_after_write}
 use Rattle.csr_file.specs.Values.{configurations_write_of, csr_base_of, csr_value_of, csr_write_of, entry_address_of}
 use Rattle.csr_file.specs.Values.{entry_address_write_of, entry_after_write, packed_pmpcfg_of, pending_interrupts_of}
@@ -212,10 +212,10 @@ pending_word csrs lines words =
 
 -- mstatus as it reads
 status_word : (status : ℕ) → status < 2 ^ 64 → status_shown status < 2 ^ 64
-status_word status small = by ((status / 2 ^ 13 % 4 == 3) || (status / 2 ^ 9 % 4 == 3))
+status_word status small = by ((status / 2 ^ FS % 4 == 3) || (status / 2 ^ VS % 4 == 3))
   where
-    by : (dirty : Bool) → (if dirty then bit_or status (2 ^ 63) else status) < 2 ^ 64
-    by true = or_lt 64 status (2 ^ 63) small (lit< tt)
+    by : (dirty : Bool) → (if dirty then bit_or status (2 ^ SD) else status) < 2 ^ 64
+    by true = or_lt 64 status (2 ^ SD) small (lit< tt)
     by false = small
 
 pub value_word : (csrs : Csrs) (kind : CsrKind) (lines : ℕ) → IsLegal csrs → HasWords csrs → FitsKind kind

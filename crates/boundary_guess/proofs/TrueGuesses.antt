@@ -1,7 +1,6 @@
 -- Guesses after rows and segments that agree, and show their changes, are the true states.
 use Rattle.std.proofs.Common.{◌≡◌, ℕ, zero, suc, ◌-◌, ◌^◌, ◌<◌, ◌==◌, Bool, true, false, if◌then◌else◌, List, [], ◌∷◌}
-use Rattle.std.proofs.Common.{◌++◌, map, Some, None, Ok, Err, refl, ap, ◌∙◌, subst, lit<, arith, bit_and}
-use Rattle.std.proofs.lemmas.Nat.{and_le_r, or_lt}
+use Rattle.std.proofs.Common.{◌++◌, map, Some, None, Ok, Err, refl, ap, ◌∙◌, subst, sym, lit<}
 use Rattle.std.specs.Prelude.{All, replicate, slice_index}
 use Rattle.std.proofs.lemmas.List.Concat.{flat_map-cons}
 use Rattle.std.proofs.lemmas.List.Elements.{All-cons, All-head, All-nil, All-replicate, All-tail, All-weaker}
@@ -10,17 +9,10 @@ use Rattle.hart_words.specs.declared.choices.Choices.{Choices}
 use Rattle.hart_words.specs.Memory.{Bytes}
 use Rattle.hart_words.specs.Registers.{register_of, registers_at_reset}
 use Rattle.csr_file.specs.declared.stored_csr.StoredCsr.{StoredCsr}
-use Rattle.csr_file.specs.declared.stored_csr.StoredCsr.TheVariants.{Mstatus, Medeleg, Mideleg, Mie, Mtvec, Mcounteren}
-use Rattle.csr_file.specs.declared.stored_csr.StoredCsr.TheVariants.{Menvcfg, Mcountinhibit, Mscratch, Mepc, Mcause}
-use Rattle.csr_file.specs.declared.stored_csr.StoredCsr.TheVariants.{Mtval, Mip, Stvec, Scounteren, Senvcfg, Sscratch}
-use Rattle.csr_file.specs.declared.stored_csr.StoredCsr.TheVariants.{Sepc, Scause, Stval, Satp}
-use Rattle.csr_file.specs.declared.profile.ChosenCsr.{ChosenCsr}
-use Rattle.csr_file.specs.declared.profile.ChosenCsr.TheVariants as chosen
 use Rattle.csr_file.specs.declared.profile.CsrProfile.{CsrProfile}
-use Rattle.csr_file.specs.Fields.{all_bits}
-use Rattle.csr_file.specs.Table.{status_constant}
-use Rattle.csr_file.specs.Profiles.{chosen_index_of, fixable_bits, fixed_bits, fixed_in, writable_in}
 use Rattle.csr_file.specs.Registers.{at, csrs_at_reset_of, no_entry}
+use Rattle.csr_file.proofs.Legal.{fixed_at}
+use Rattle.csr_file.proofs.Profiles.{fixed_fits}
 use Rattle.rvfi_rows.specs.Columns.{TraceColumns}
 use Rattle.rvfi_rows.specs.Rows.{RowReading, rows_of}
 use Rattle.rvfi_rows.proofs.PortRows.{rows_append}
@@ -172,39 +164,9 @@ reset_registers : (number : ℕ) → register_of registers_at_reset number < 2 ^
 unfolding registers_at_reset
 reset_registers number = zero_or (number == 0) (number - 1)
 
--- the bits that are always 1 are bits of a word
-fixed_word : (profile : CsrProfile) (csr : ChosenCsr) → fixed_in profile csr < 2 ^ 64
-fixed_word profile csr =
-    let writable = writable_in profile csr in
-    omega (
-      arith,
-      and_le_r (bit_and (slice_index profile.fixed (chosen_index_of csr)) (fixable_bits csr))
-          (all_bits - writable),
-    )
-
 reset_csrs : (profile : CsrProfile) (stored : StoredCsr) → at (csrs_at_reset_of profile) stored < 2 ^ 64
-unfolding at csrs_at_reset_of fixed_bits
-reset_csrs profile Mstatus = or_lt 64 status_constant (fixed_in profile chosen.Mstatus) (lit< tt) (fixed_word profile chosen.Mstatus)
-reset_csrs profile Medeleg = fixed_word profile chosen.Medeleg
-reset_csrs profile Mideleg = fixed_word profile chosen.Mideleg
-reset_csrs profile Mie = lit< tt
-reset_csrs profile Mtvec = lit< tt
-reset_csrs profile Mcounteren = fixed_word profile chosen.Mcounteren
-reset_csrs profile Menvcfg = fixed_word profile chosen.Menvcfg
-reset_csrs profile Mcountinhibit = fixed_word profile chosen.Mcountinhibit
-reset_csrs profile Mscratch = lit< tt
-reset_csrs profile Mepc = lit< tt
-reset_csrs profile Mcause = lit< tt
-reset_csrs profile Mtval = lit< tt
-reset_csrs profile Mip = lit< tt
-reset_csrs profile Stvec = lit< tt
-reset_csrs profile Scounteren = fixed_word profile chosen.Scounteren
-reset_csrs profile Senvcfg = fixed_word profile chosen.Senvcfg
-reset_csrs profile Sscratch = lit< tt
-reset_csrs profile Sepc = lit< tt
-reset_csrs profile Scause = lit< tt
-reset_csrs profile Stval = lit< tt
-reset_csrs profile Satp = lit< tt
+reset_csrs profile stored =
+    subst (λ value. value < 2 ^ 64) (sym (fixed_at profile stored)) (fixed_fits profile stored)
 
 reset_configurations : (profile : CsrProfile) → All (λ entry. entry.cfg < 256) (csrs_at_reset_of profile).entries
 unfolding csrs_at_reset_of

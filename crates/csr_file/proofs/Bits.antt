@@ -153,6 +153,14 @@ within_rest value mask fits small none = same_from_bits _ _ (λ i. elim (cases_l
     all_kept : (a m : ℕ) → a < 2 → min a m ≡ 0 → min a (1 - m) ≡ a
     all_kept a m few apart = omega arith
 
+-- a value with some of its own bits is itself
+pub absorbed : (a m : ℕ) → bit_or a (bit_and m a) ≡ a
+absorbed a m = same_from_bits _ _ (λ i.
+    bit_at_or a (bit_and m a) i ∙ ap (max (bit_at a i)) (bit_at_and m a i) ∙ most (bit_at a i) (bit_at m i))
+  where
+    most : (n k : ℕ) → max n (min k n) ≡ n
+    most n k = omega arith
+
 -- a bit that either of two values has is one of both
 pub bit_of_first : (a b i : ℕ) → bit_at a i ≡ 1 → bit_at (bit_or a b) i ≡ 1
 bit_of_first a b i is = bit_at_or a b i ∙ ap (λ v. max v (bit_at b i)) is ∙ most (bit_at b i) (bit_at-lt b i)

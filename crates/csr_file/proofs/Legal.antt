@@ -1,8 +1,8 @@
 -- What is written can be stored, so that registers stay legal.
-use Rattle.std.proofs.Common.{◌≡◌, ◌≢◌, ◌⊎◌, inl, inr, ℕ, ◌+◌, ◌-◌, ◌*◌, ◌/◌, ◌%◌, ◌^◌, ◌<◌, Bool, true, false, ◌==◌, refl}
+use Rattle.std.proofs.Common.{◌≡◌, ◌≢◌, ◌⊎◌, inl, inr, ℕ, ◌+◌, ◌-◌, ◌*◌, ◌^◌, ◌<◌, Bool, true, false, ◌==◌, refl}
 use Rattle.std.proofs.Common.{ap, ◌∙◌, sym, subst, lit<, arith, bit_and, length-set, if◌then◌else◌}
 use Rattle.std.specs.Int.{bit_at}
-use Rattle.std.specs.Int.Bits.{and_comm, and_le_r, and_zero_r}
+use Rattle.std.specs.Int.Bits.{and_comm, and_le_r}
 use Rattle.std.proofs.lemmas.Nat.{and_assoc}
 use Rattle.std.proofs.lemmas.Bool.{cases_eq}
 use Rattle.std.proofs.lemmas.Bool.Decides.{nat_tests}
@@ -10,24 +10,26 @@ use Rattle.csr_table.specs.declared.registers.Csr.{Csr}
 use Rattle.csr_table.specs.declared.registers.Csr.TheVariants as csr
 use Rattle.csr_file.specs.declared.csrs.Csrs.{Csrs}
 use Rattle.csr_file.specs.declared.stored_csr.StoredCsr.{StoredCsr}
-use Rattle.csr_file.specs.declared.stored_csr.StoredCsr.TheVariants.{Mstatus, Medeleg, Mideleg, Mie, Mtvec, Mcounteren}
-use Rattle.csr_file.specs.declared.stored_csr.StoredCsr.TheVariants.{Menvcfg, Mcountinhibit, Mscratch, Mepc, Mcause}
-use Rattle.csr_file.specs.declared.stored_csr.StoredCsr.TheVariants.{Mtval, Mip, Stvec, Scounteren, Senvcfg, Sscratch}
-use Rattle.csr_file.specs.declared.stored_csr.StoredCsr.TheVariants.{Sepc, Scause, Stval, Satp}
-use Rattle.csr_file.specs.declared.csr_kind.CsrKind.TheVariants.{ImplementationDefined}
-use Rattle.csr_file.specs.declared.profile.ChosenCsr.TheVariants as chosen
+use Rattle.csr_file.specs.declared.stored_csr.StoredCsr.TheVariants.{Mstatus, Mideleg, Mie, Mip, Satp}
+use Rattle.csr_file.specs.declared.stored_row.FieldRule.{FieldRule}
+use Rattle.csr_file.specs.declared.stored_row.FieldRule.TheVariants.{Free, PreviousMode, TranslationMode}
+use Rattle.csr_file.specs.declared.csr_kind.CsrKind.{CsrKind}
+use Rattle.csr_file.specs.declared.csr_kind.CsrKind.TheVariants.{Stored, Status, Pending, SupervisorStatus}
+use Rattle.csr_file.specs.declared.csr_kind.CsrKind.TheVariants.{SupervisorEnables, SupervisorPending, Translation}
+use Rattle.csr_file.specs.declared.csr_kind.CsrKind.TheVariants.{LowConfigurations, HighConfigurations, EntryAddress}
+use Rattle.csr_file.specs.declared.csr_kind.CsrKind.TheVariants.{Constant, ImplementationDefined, Counter}
 use Rattle.csr_file.specs.declared.profile.CsrProfile.{CsrProfile}
-use Rattle.csr_file.specs.Registers.{at, with_at, stored_index_of, csrs_at_reset_of}
+use Rattle.csr_file.specs.Registers.{at, with_at, csrs_at_reset_of}
 use Rattle.csr_file.specs.declared.fields.TheConstants.{BARE, SV39, MPP}
 use Rattle.csr_file.specs.Fields.{all_bits, field_bits, is_supported_mode, masked_update, mpp_of, satp_mode_of}
-use Rattle.csr_file.specs.Table.{csr_kind_of, pc_bits, sip_writable, sstatus_writable}
+use Rattle.csr_file.specs.Table.{csr_kind_of, sip_writable, sstatus_writable, stored_index_of, stored_row_of}
 use Rattle.csr_file.specs.Profiles.{fixed_bits, is_from_row, kind_in, presence_of, writable_bits}
 use Rattle.csr_file.specs.Values.{csr_write_of, status_write_of, status_written_bits, stored_write_of}
 use Rattle.csr_file.specs.Values.{supervisor_status_bits, translation_write_of}
-use Rattle.csr_file.specs.Legal.{IsLegal, IsLegalStatus, IsLegalTranslation, IsLegalValue, KeepsFixed}
-use Rattle.csr_file.proofs.Places.{at_same, at_other, same_index}
+use Rattle.csr_file.specs.Legal.{FollowsRule, IsLegal, IsLegalValue, KeepsFixed}
+use Rattle.csr_file.proofs.Places.{at_list, at_same, at_other, same_index}
 use Rattle.csr_file.proofs.Protection.{configurations_legal, address_legal, reset_entries_legal, reset_missing}
-use Rattle.csr_file.proofs.Profiles.{fixed_keeps, fixed_status, least_is_writable, writable_fits}
+use Rattle.csr_file.proofs.Profiles.{fixed_keeps, fixed_rule, least_is_writable, writable_fits}
 use Rattle.csr_file.proofs.Bits.{apart_from_rest, bit_kept, bit_taken, merged_fits, merged_keeps, mpp_bits, out_of}
 use Rattle.csr_file.proofs.Bits.{out_of_first, under_apart}
 
@@ -58,10 +60,10 @@ merged_fixed profile stored mask old value small apart keeps =
 -- mstatus keeps what it is where MPP is left out, or takes no 2
 pub status_without_mpp : {profile : CsrProfile} {old : ℕ} (mask value : ℕ) → mask < 2 ^ 64
     → bit_and mask (all_bits - writable_bits profile Mstatus) ≡ 0 → bit_at mask 11 ≡ 0 → bit_at mask 12 ≡ 0
-    → IsLegalStatus profile old → IsLegalStatus profile (masked_update mask old value)
+    → IsLegalValue profile Mstatus old → IsLegalValue profile Mstatus (masked_update mask old value)
 status_without_mpp {profile} {old} mask value small apart low high legal = record {
   constant = merged_fixed profile Mstatus mask old value small apart legal.constant;
-  previous = λ two. legal.previous (
+  rule = λ two. legal.rule (
       mpp_bits old
       ∙ ap (λ b. b + 2 * bit_at old 12) (sym (bit_kept mask old value 11 small (lit< tt) low))
       ∙ ap (λ b. bit_at (masked_update mask old value) 11 + 2 * b)
@@ -71,11 +73,11 @@ status_without_mpp {profile} {old} mask value small apart low high legal = recor
 
 pub status_with_mpp : {profile : CsrProfile} {old : ℕ} (mask value : ℕ) → mask < 2 ^ 64
     → bit_and mask (all_bits - writable_bits profile Mstatus) ≡ 0
-    → bit_at mask 11 ≡ 1 → bit_at mask 12 ≡ 1 → mpp_of value ≢ 2 → IsLegalStatus profile old
-    → IsLegalStatus profile (masked_update mask old value)
+    → bit_at mask 11 ≡ 1 → bit_at mask 12 ≡ 1 → mpp_of value ≢ 2 → IsLegalValue profile Mstatus old
+    → IsLegalValue profile Mstatus (masked_update mask old value)
 status_with_mpp {profile} {old} mask value small apart low high mode legal = record {
   constant = merged_fixed profile Mstatus mask old value small apart legal.constant;
-  previous = λ two. mode (
+  rule = λ two. mode (
       mpp_bits value
       ∙ ap (λ b. b + 2 * bit_at value 12) (sym (bit_taken mask old value 11 small (lit< tt) low))
       ∙ ap (λ b. bit_at (masked_update mask old value) 11 + 2 * b)
@@ -87,11 +89,10 @@ differs : (a b : ℕ) → (a == b) ≡ false → a ≢ b
 differs a b off same = grind (arith, nat_tests)
 
 -- mstatus under what a write of it changes, without MPP or with it
-status_by : (profile : CsrProfile) (old value : ℕ) (two : Bool) → (mpp_of value == 2) ≡ two → IsLegalStatus profile old
-    → IsLegalStatus profile (masked_update
+status_by : (profile : CsrProfile) (old value : ℕ) (two : Bool) → (mpp_of value == 2) ≡ two → IsLegalValue profile Mstatus old
+    → IsLegalValue profile Mstatus (masked_update
     (if two then bit_and (writable_bits profile Mstatus) (all_bits - field_bits MPP 2) else writable_bits profile Mstatus)
     old value)
-unfolding writable_bits
 status_by profile old value true is legal =
     let writable = writable_bits profile Mstatus in
     let small = writable_fits profile Mstatus in
@@ -102,15 +103,15 @@ status_by profile old value true is legal =
 status_by profile old value false is legal =
     status_with_mpp (writable_bits profile Mstatus) value (writable_fits profile Mstatus)
     (apart_from_rest (writable_bits profile Mstatus) (writable_fits profile Mstatus))
-    (least_is_writable profile chosen.Mstatus 11 refl) (least_is_writable profile chosen.Mstatus 12 refl)
+    (least_is_writable profile Mstatus 11 refl refl) (least_is_writable profile Mstatus 12 refl refl)
     (differs _ _ is) legal
 
-status_written : (profile : CsrProfile) (old value : ℕ) → IsLegalStatus profile old
-    → IsLegalStatus profile (masked_update (status_written_bits profile value) old value)
+status_written : (profile : CsrProfile) (old value : ℕ) → IsLegalValue profile Mstatus old
+    → IsLegalValue profile Mstatus (masked_update (status_written_bits profile value) old value)
 status_written profile old value legal = status_by profile old value (mpp_of value == 2) refl legal
 
-supervisor_status : (profile : CsrProfile) (old value : ℕ) → IsLegalStatus profile old
-    → IsLegalStatus profile (masked_update (supervisor_status_bits profile) old value)
+supervisor_status : (profile : CsrProfile) (old value : ℕ) → IsLegalValue profile Mstatus old
+    → IsLegalValue profile Mstatus (masked_update (supervisor_status_bits profile) old value)
 supervisor_status profile old value legal =
     let writable = writable_bits profile Mstatus in
     status_without_mpp (bit_and sstatus_writable writable) value
@@ -136,55 +137,38 @@ part_written csrs stored part value keeps =
     merged_fixed csrs.profile stored (bit_and part writable) (at csrs stored) value (omega (arith, and_le_r part writable, small))
     (under_apart part writable small) keeps
 
-even : (old value : ℕ) → old % 2 ≡ 0 → masked_update pc_bits old value % 2 ≡ 0
-even old value is =
-    let low : bit_at (masked_update pc_bits old value) 0 ≡ bit_at old 0 =
-    bit_kept pc_bits old value 0 (lit< tt) (lit< tt) refl in
-    omega (arith, low, is)
-
-even_first : (profile : CsrProfile) (old value : ℕ) → old % 2 ≡ 0
-    → masked_update (writable_bits profile Mepc) old value % 2 ≡ 0
-unfolding writable_bits
-even_first profile old value is = even old value is
-
-even_second : (profile : CsrProfile) (old value : ℕ) → old % 2 ≡ 0
-    → masked_update (writable_bits profile Sepc) old value % 2 ≡ 0
-unfolding writable_bits
-even_second profile old value is = even old value is
-
 -- satp takes a mode that the hart has, or keeps what it is
 one_of_two : (mode : ℕ) → is_supported_mode mode ≡ true → (mode ≡ BARE) ⊎ (mode ≡ SV39)
 one_of_two mode supported = grind (arith, nat_tests, supported)
 
 top_bits : (n : ℕ) → n < 2 ^ 64
-    → n / 2 ^ 60 ≡ bit_at n 60 + 2 * bit_at n 61 + 4 * bit_at n 62 + 8 * bit_at n 63
+    → satp_mode_of n ≡ bit_at n 60 + 2 * bit_at n 61 + 4 * bit_at n 62 + 8 * bit_at n 63
 top_bits n small = omega (arith, small)
 
-mode_taken : (profile : CsrProfile) (old value : ℕ) → value / 2 ^ 60 < 16
-    → masked_update (writable_bits profile Satp) old value / 2 ^ 60 ≡ value / 2 ^ 60
-unfolding writable_bits
+mode_taken : (profile : CsrProfile) (old value : ℕ) → satp_mode_of value < 16
+    → satp_mode_of (masked_update (writable_bits profile Satp) old value) ≡ satp_mode_of value
 mode_taken profile old value few =
     let mask = writable_bits profile Satp in
     let small = writable_fits profile Satp in
     let taken : (i : ℕ) → i < 64 → bit_at mask i ≡ 1 → bit_at (masked_update mask old value) i ≡ bit_at value i =
     λ i inside is. bit_taken mask old value i small inside is in
-    let one = taken 60 (lit< tt) (least_is_writable profile chosen.Satp 60 refl) in
-    let two = taken 61 (lit< tt) (least_is_writable profile chosen.Satp 61 refl) in
-    let three = taken 62 (lit< tt) (least_is_writable profile chosen.Satp 62 refl) in
-    let four = taken 63 (lit< tt) (least_is_writable profile chosen.Satp 63 refl) in
+    let one = taken 60 (lit< tt) (least_is_writable profile Satp 60 refl refl) in
+    let two = taken 61 (lit< tt) (least_is_writable profile Satp 61 refl refl) in
+    let three = taken 62 (lit< tt) (least_is_writable profile Satp 62 refl refl) in
+    let four = taken 63 (lit< tt) (least_is_writable profile Satp 63 refl refl) in
     let fits : value < 2 ^ 64 = omega (arith, few) in
     top_bits (masked_update mask old value) (merged_fits mask old value small)
     ∙ rw (one, two, three, four) (sym (top_bits value fits))
 
 supported_legal : (csrs : Csrs) (value : ℕ) → (satp_mode_of value ≡ BARE) ⊎ (satp_mode_of value ≡ SV39)
-    → IsLegalTranslation csrs.profile (at csrs Satp)
-    → IsLegalTranslation csrs.profile (masked_update (writable_bits csrs.profile Satp) (at csrs Satp) value)
+    → IsLegalValue csrs.profile Satp (at csrs Satp)
+    → IsLegalValue csrs.profile Satp (masked_update (writable_bits csrs.profile Satp) (at csrs Satp) value)
 supported_legal csrs value (inl bare) legal =
     let same = mode_taken csrs.profile (at csrs Satp) value (omega (arith, bare)) in
-    record { constant = written csrs Satp value legal.constant; mode = inl (same ∙ bare) }
+    record { constant = written csrs Satp value legal.constant; rule = inl (same ∙ bare) }
 supported_legal csrs value (inr sv39) legal =
     let same = mode_taken csrs.profile (at csrs Satp) value (omega (arith, sv39)) in
-    record { constant = written csrs Satp value legal.constant; mode = inr (same ∙ sv39) }
+    record { constant = written csrs Satp value legal.constant; rule = inr (same ∙ sv39) }
 
 translation_by : (csrs : Csrs) (value : ℕ) (supported : Bool) → is_supported_mode (satp_mode_of value) ≡ supported
     → IsLegal csrs → IsLegal (if supported then stored_write_of csrs Satp value else csrs)
@@ -206,59 +190,60 @@ stored_interrupts csrs value keeps =
     (and_assoc (writable_bits csrs.profile Mip) (at csrs Mideleg) sip_writable)
     (part_written csrs Mip (bit_and (at csrs Mideleg) sip_writable) value keeps)
 
-table_legal : (csrs : Csrs) (csr : Csr) (value : ℕ) → IsLegal csrs → IsLegal (csr_write_of csrs (csr_kind_of csr) value)
-unfolding csr_write_of csr_kind_of status_write_of stored_write_of
-table_legal csrs csr.Mstatus value legal =
+-- a register of which nothing is asked but that it keeps what no write changes
+abbrev is_free : FieldRule → Bool
+is_free Free = true
+is_free _ = false
+
+abbrev is_free_kind : CsrKind → Bool
+is_free_kind (Stored stored) = is_free (stored_row_of stored).rule
+is_free_kind _ = true
+
+-- only those are written as they are
+kinds_free : (csr : Csr) → is_free_kind (csr_kind_of csr) ≡ true
+unfolding csr_kind_of
+kinds_free csr.Misa = refl
+kinds_free _ = refl
+
+free_rule : (rule : FieldRule) (value : ℕ) → is_free rule ≡ true → FollowsRule rule value
+free_rule Free value is = tt
+free_rule PreviousMode value is = absurd cc
+free_rule TranslationMode value is = absurd cc
+
+free_legal : (csrs : Csrs) (stored : StoredCsr) (value : ℕ) → is_free (stored_row_of stored).rule ≡ true
+    → IsLegal csrs → KeepsFixed csrs.profile stored value → IsLegal (with_at csrs stored value)
+free_legal csrs stored value free legal keeps =
+    legal_with csrs stored value legal
+    (record { constant = keeps; rule = free_rule (stored_row_of stored).rule value free })
+
+by_kind : (csrs : Csrs) (kind : CsrKind) (value : ℕ) → is_free_kind kind ≡ true → IsLegal csrs
+    → IsLegal (csr_write_of csrs kind value)
+unfolding csr_write_of status_write_of stored_write_of
+by_kind csrs (Stored stored) value free legal =
+    free_legal csrs stored _ free legal (written csrs stored value (legal.values stored).constant)
+by_kind csrs Status value free legal =
     legal_with csrs Mstatus _ legal (status_written csrs.profile (at csrs Mstatus) value (legal.values Mstatus))
-table_legal csrs csr.Misa value legal = legal
-table_legal csrs csr.Medeleg value legal = legal_with csrs Medeleg _ legal (written csrs Medeleg value (legal.values Medeleg))
-table_legal csrs csr.Mideleg value legal = legal_with csrs Mideleg _ legal (written csrs Mideleg value (legal.values Mideleg))
-table_legal csrs csr.Mie value legal = legal_with csrs Mie _ legal (written csrs Mie value (legal.values Mie))
-table_legal csrs csr.Mtvec value legal = legal_with csrs Mtvec _ legal (written csrs Mtvec value (legal.values Mtvec))
-table_legal csrs csr.Mcounteren value legal = legal_with csrs Mcounteren _ legal (written csrs Mcounteren value (legal.values Mcounteren))
-table_legal csrs csr.Menvcfg value legal = legal_with csrs Menvcfg _ legal (written csrs Menvcfg value (legal.values Menvcfg))
-table_legal csrs csr.Mcountinhibit value legal = legal_with csrs Mcountinhibit _ legal (written csrs Mcountinhibit value (legal.values Mcountinhibit))
-table_legal csrs (csr.Mhpmevent number) value legal = legal
-table_legal csrs csr.Mscratch value legal = legal_with csrs Mscratch _ legal tt
-table_legal csrs csr.Mepc value legal = legal_with csrs Mepc _ legal (even_first csrs.profile (at csrs Mepc) value (legal.values Mepc))
-table_legal csrs csr.Mcause value legal = legal_with csrs Mcause _ legal tt
-table_legal csrs csr.Mtval value legal = legal_with csrs Mtval _ legal tt
-table_legal csrs csr.Mip value legal = legal_with csrs Mip _ legal (written csrs Mip value (legal.values Mip))
-table_legal csrs csr.Sstatus value legal =
+by_kind csrs Pending value free legal =
+    free_legal csrs Mip _ refl legal (written csrs Mip value (legal.values Mip).constant)
+by_kind csrs SupervisorStatus value free legal =
     legal_with csrs Mstatus _ legal (supervisor_status csrs.profile (at csrs Mstatus) value (legal.values Mstatus))
-table_legal csrs csr.Sie value legal =
-    legal_with csrs Mie _ legal (part_written csrs Mie (at csrs Mideleg) value (legal.values Mie))
-table_legal csrs csr.Stvec value legal = legal_with csrs Stvec _ legal (written csrs Stvec value (legal.values Stvec))
-table_legal csrs csr.Scounteren value legal = legal_with csrs Scounteren _ legal (written csrs Scounteren value (legal.values Scounteren))
-table_legal csrs csr.Senvcfg value legal = legal_with csrs Senvcfg _ legal (written csrs Senvcfg value (legal.values Senvcfg))
-table_legal csrs csr.Sscratch value legal = legal_with csrs Sscratch _ legal tt
-table_legal csrs csr.Sepc value legal = legal_with csrs Sepc _ legal (even_second csrs.profile (at csrs Sepc) value (legal.values Sepc))
-table_legal csrs csr.Scause value legal = legal_with csrs Scause _ legal tt
-table_legal csrs csr.Stval value legal = legal_with csrs Stval _ legal tt
-table_legal csrs csr.Sip value legal =
-    legal_with csrs Mip _ legal (stored_interrupts csrs value (legal.values Mip))
-table_legal csrs csr.Satp value legal = translation_legal csrs value legal
-table_legal csrs csr.Pmpcfg0 value legal = configurations_legal csrs 0 value legal
-table_legal csrs csr.Pmpcfg2 value legal = configurations_legal csrs 8 value legal
-table_legal csrs (csr.Pmpaddr number) value legal = address_legal csrs number value legal
-table_legal csrs csr.Mcycle value legal = legal
-table_legal csrs csr.Minstret value legal = legal
-table_legal csrs (csr.Mhpmcounter number) value legal = legal
-table_legal csrs csr.Cycle value legal = legal
-table_legal csrs csr.Time value legal = legal
-table_legal csrs csr.Instret value legal = legal
-table_legal csrs (csr.Hpmcounter number) value legal = legal
-table_legal csrs csr.Mvendorid value legal = legal
-table_legal csrs csr.Marchid value legal = legal
-table_legal csrs csr.Mimpid value legal = legal
-table_legal csrs csr.Mhartid value legal = legal
-table_legal csrs csr.Mconfigptr value legal = legal
+by_kind csrs SupervisorEnables value free legal =
+    free_legal csrs Mie _ refl legal (part_written csrs Mie (at csrs Mideleg) value (legal.values Mie).constant)
+by_kind csrs SupervisorPending value free legal =
+    free_legal csrs Mip _ refl legal (stored_interrupts csrs value (legal.values Mip).constant)
+by_kind csrs Translation value free legal = translation_legal csrs value legal
+by_kind csrs LowConfigurations value free legal = configurations_legal csrs 0 value legal
+by_kind csrs HighConfigurations value free legal = configurations_legal csrs 8 value legal
+by_kind csrs (EntryAddress number) value free legal = address_legal csrs number value legal
+by_kind csrs (Constant number) value free legal = legal
+by_kind csrs ImplementationDefined value free legal = legal
+by_kind csrs (Counter bit) value free legal = legal
 
 kind_legal : (csrs : Csrs) (csr : Csr) (value : ℕ) (from_row : Bool) → IsLegal csrs
     → IsLegal (csr_write_of csrs (if from_row then ImplementationDefined else csr_kind_of csr) value)
 unfolding csr_write_of
 kind_legal csrs csr value true legal = legal
-kind_legal csrs csr value false legal = table_legal csrs csr value legal
+kind_legal csrs csr value false legal = by_kind csrs (csr_kind_of csr) value (kinds_free csr) legal
 
 pub write_legal : (csrs : Csrs) (csr : Csr) (value : ℕ) → IsLegal csrs
     → IsLegal (csr_write_of csrs (kind_in csrs.profile csr) value)
@@ -266,35 +251,17 @@ unfolding kind_in
 write_legal csrs csr value legal =
     kind_legal csrs csr value (is_from_row (presence_of csrs.profile csr)) legal
 
--- zeros but for the bits that are always 1
-none_fixed : (profile : CsrProfile) (stored : StoredCsr) → fixed_bits profile stored ≡ 0 → KeepsFixed profile stored 0
-none_fixed profile stored none = and_comm 0 (all_bits - writable_bits profile stored)
-    ∙ and_zero_r (all_bits - writable_bits profile stored) ∙ sym none
+-- at reset each has the bits that are always 1
+pub fixed_at : (profile : CsrProfile) (stored : StoredCsr)
+    → at (csrs_at_reset_of profile) stored ≡ fixed_bits profile stored
+unfolding at csrs_at_reset_of
+fixed_at profile stored = at_list (fixed_bits profile) stored
 
 legal_at_reset : (profile : CsrProfile) (stored : StoredCsr)
     → IsLegalValue profile stored (at (csrs_at_reset_of profile) stored)
-unfolding at csrs_at_reset_of fixed_bits writable_bits
-legal_at_reset profile Mstatus = fixed_status profile
-legal_at_reset profile Medeleg = fixed_keeps profile chosen.Medeleg
-legal_at_reset profile Mideleg = fixed_keeps profile chosen.Mideleg
-legal_at_reset profile Mie = none_fixed profile Mie refl
-legal_at_reset profile Mtvec = none_fixed profile Mtvec refl
-legal_at_reset profile Mcounteren = fixed_keeps profile chosen.Mcounteren
-legal_at_reset profile Menvcfg = fixed_keeps profile chosen.Menvcfg
-legal_at_reset profile Mcountinhibit = fixed_keeps profile chosen.Mcountinhibit
-legal_at_reset profile Mscratch = tt
-legal_at_reset profile Mepc = refl
-legal_at_reset profile Mcause = tt
-legal_at_reset profile Mtval = tt
-legal_at_reset profile Mip = none_fixed profile Mip refl
-legal_at_reset profile Stvec = none_fixed profile Stvec refl
-legal_at_reset profile Scounteren = fixed_keeps profile chosen.Scounteren
-legal_at_reset profile Senvcfg = fixed_keeps profile chosen.Senvcfg
-legal_at_reset profile Sscratch = tt
-legal_at_reset profile Sepc = refl
-legal_at_reset profile Scause = tt
-legal_at_reset profile Stval = tt
-legal_at_reset profile Satp = record { constant = none_fixed profile Satp refl; mode = inl refl }
+legal_at_reset profile stored =
+    subst (IsLegalValue profile stored) (sym (fixed_at profile stored))
+    (record { constant = fixed_keeps profile stored; rule = fixed_rule profile stored })
 
 pub reset_legal : (profile : CsrProfile) → IsLegal (csrs_at_reset_of profile)
 unfolding csrs_at_reset_of

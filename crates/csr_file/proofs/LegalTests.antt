@@ -1,16 +1,23 @@
 -- The tests of values decide what a register can have.
-use Rattle.std.proofs.Common.{◌≡◌, ◌≢◌, ℕ, ◌%◌, ◌^◌, ◌/◌, ◌⊎◌, Bool, true, false, refl, arith, inl, inr}
-use Rattle.std.specs.Prelude.{◌&&◌, ◌||◌, ◌==◌, not}
+use Rattle.std.proofs.Common.{◌≡◌, ◌≢◌, ℕ, ◌-◌, ◌%◌, ◌⊎◌, Bool, true, false, refl, arith, inl, inr, bit_and, ap, ◌∙◌, sym}
+use Rattle.std.proofs.Common.{subst}
+use Rattle.std.specs.Prelude.{◌&&◌, ◌==◌, not}
+use Rattle.std.specs.Int.Bits.{and_zero_r}
+use Rattle.std.proofs.lemmas.Nat.{and_mask}
 use Rattle.std.specs.Bool.{Decides}
 use Rattle.std.proofs.lemmas.Bool.Decides.{Decides-eqb, nat_tests}
 use Rattle.csr_file.specs.declared.stored_csr.StoredCsr.{StoredCsr}
-use Rattle.csr_file.specs.declared.stored_csr.StoredCsr.TheVariants.{Mstatus, Medeleg, Mideleg, Mie, Mtvec, Mcounteren}
-use Rattle.csr_file.specs.declared.stored_csr.StoredCsr.TheVariants.{Menvcfg, Mcountinhibit, Mscratch, Mepc, Mcause}
-use Rattle.csr_file.specs.declared.stored_csr.StoredCsr.TheVariants.{Mtval, Mip, Stvec, Scounteren, Senvcfg, Sscratch}
-use Rattle.csr_file.specs.declared.stored_csr.StoredCsr.TheVariants.{Sepc, Scause, Stval, Satp}
+use Rattle.csr_file.specs.declared.stored_csr.StoredCsr.TheVariants.{Mstatus, Mepc, Satp, Sepc}
+use Rattle.csr_file.specs.declared.stored_row.FieldRule.{FieldRule}
+use Rattle.csr_file.specs.declared.stored_row.FieldRule.TheVariants.{Free, PreviousMode, TranslationMode}
 use Rattle.csr_file.specs.declared.profile.CsrProfile.{CsrProfile}
-use Rattle.csr_file.specs.Fields.{mpp_of}
-use Rattle.csr_file.specs.Legal.{IsLegalValue, IsLegalConfiguration, is_legal_value, is_legal_configuration}
+use Rattle.csr_file.specs.declared.fields.TheConstants.{BARE, SV39}
+use Rattle.csr_file.specs.Fields.{all_bits, is_supported_mode, mpp_of, satp_mode_of}
+use Rattle.csr_file.specs.Table.{held, pc_bits, stored_row_of}
+use Rattle.csr_file.specs.Legal.{FollowsRule, IsLegalValue, IsLegalConfiguration, follows_rule, is_legal_value}
+use Rattle.csr_file.specs.Legal.{is_legal_configuration, keeps_fixed}
+use Rattle.csr_file.specs.Laws.{HoldsInWords}
+use Rattle.csr_file.proofs.Profiles.{held_fixed, held_writable}
 
 pub both : (a b : Bool) → (a && b) ≡ true → (a ≡ true) × (b ≡ true)
 both true b h = (refl, h)
@@ -25,78 +32,75 @@ not_two n h = λ is. grind (arith, nat_tests)
 other_than_two : (n : ℕ) → n ≢ 2 → not (n == 2) ≡ true
 other_than_two n h = grind (arith, nat_tests)
 
-one_of_two : (value : ℕ) → ((value / 2 ^ 60 == 0) || (value / 2 ^ 60 == 8)) ≡ true
-    → (value / 2 ^ 60 ≡ 0) ⊎ (value / 2 ^ 60 ≡ 8)
-one_of_two value h = grind (arith, nat_tests, h)
+rule_followed : (rule : FieldRule) (value : ℕ) → follows_rule rule value ≡ true → FollowsRule rule value
+rule_followed Free value h = tt
+rule_followed PreviousMode value h = not_two (mpp_of value) h
+rule_followed TranslationMode value h = one_of_two (satp_mode_of value) h
+  where
+    one_of_two : (mode : ℕ) → is_supported_mode mode ≡ true → (mode ≡ BARE) ⊎ (mode ≡ SV39)
+    one_of_two mode supported = grind (arith, nat_tests, supported)
 
-two_of_one : (value : ℕ) → (value / 2 ^ 60 ≡ 0) ⊎ (value / 2 ^ 60 ≡ 8)
-    → ((value / 2 ^ 60 == 0) || (value / 2 ^ 60 == 8)) ≡ true
-two_of_one value (inl bare) = grind (arith, nat_tests, bare)
-two_of_one value (inr sv39) = grind (arith, nat_tests, sv39)
+rule_told : (rule : FieldRule) (value : ℕ) → FollowsRule rule value → follows_rule rule value ≡ true
+rule_told Free value h = refl
+rule_told PreviousMode value h = other_than_two (mpp_of value) h
+rule_told TranslationMode value (inl bare) = rw bare refl
+rule_told TranslationMode value (inr sv39) = rw sv39 refl
 
--- a value that passes the test is one that the register can have
+-- a value that passes the test is one that the register can have, and the other way round
 pub legal_value : (profile : CsrProfile) (stored : StoredCsr) (value : ℕ) → is_legal_value profile stored value ≡ true
     → IsLegalValue profile stored value
 unfolding is_legal_value
-legal_value profile Mstatus value h = record {
+legal_value profile stored value h = record {
   constant = (Decides-eqb _ _).0 (both _ _ h).0;
-  previous = not_two (mpp_of value) (both _ _ h).1;
-}
-legal_value profile Medeleg value h = (Decides-eqb _ _).0 h
-legal_value profile Mideleg value h = (Decides-eqb _ _).0 h
-legal_value profile Mie value h = (Decides-eqb _ _).0 h
-legal_value profile Mtvec value h = (Decides-eqb _ _).0 h
-legal_value profile Mcounteren value h = (Decides-eqb _ _).0 h
-legal_value profile Menvcfg value h = (Decides-eqb _ _).0 h
-legal_value profile Mcountinhibit value h = (Decides-eqb _ _).0 h
-legal_value profile Mscratch value h = tt
-legal_value profile Mepc value h = (Decides-eqb _ _).0 h
-legal_value profile Mcause value h = tt
-legal_value profile Mtval value h = tt
-legal_value profile Mip value h = (Decides-eqb _ _).0 h
-legal_value profile Stvec value h = (Decides-eqb _ _).0 h
-legal_value profile Scounteren value h = (Decides-eqb _ _).0 h
-legal_value profile Senvcfg value h = (Decides-eqb _ _).0 h
-legal_value profile Sscratch value h = tt
-legal_value profile Sepc value h = (Decides-eqb _ _).0 h
-legal_value profile Scause value h = tt
-legal_value profile Stval value h = tt
-legal_value profile Satp value h = record {
-  constant = (Decides-eqb _ _).0 (both _ _ h).0;
-  mode = one_of_two value (both _ _ h).1;
+  rule = rule_followed (stored_row_of stored).rule value (both (keeps_fixed profile stored value) _ h).1;
 }
 
--- and the other way round
 pub value_legal : (profile : CsrProfile) (stored : StoredCsr) (value : ℕ) → IsLegalValue profile stored value
     → is_legal_value profile stored value ≡ true
 unfolding is_legal_value
-value_legal profile Mstatus value h =
-    and_both _ _ ((Decides-eqb _ _).1 h.constant) (other_than_two (mpp_of value) h.previous)
-value_legal profile Medeleg value h = (Decides-eqb _ _).1 h
-value_legal profile Mideleg value h = (Decides-eqb _ _).1 h
-value_legal profile Mie value h = (Decides-eqb _ _).1 h
-value_legal profile Mtvec value h = (Decides-eqb _ _).1 h
-value_legal profile Mcounteren value h = (Decides-eqb _ _).1 h
-value_legal profile Menvcfg value h = (Decides-eqb _ _).1 h
-value_legal profile Mcountinhibit value h = (Decides-eqb _ _).1 h
-value_legal profile Mscratch value h = refl
-value_legal profile Mepc value h = (Decides-eqb _ _).1 h
-value_legal profile Mcause value h = refl
-value_legal profile Mtval value h = refl
-value_legal profile Mip value h = (Decides-eqb _ _).1 h
-value_legal profile Stvec value h = (Decides-eqb _ _).1 h
-value_legal profile Scounteren value h = (Decides-eqb _ _).1 h
-value_legal profile Senvcfg value h = (Decides-eqb _ _).1 h
-value_legal profile Sscratch value h = refl
-value_legal profile Sepc value h = (Decides-eqb _ _).1 h
-value_legal profile Scause value h = refl
-value_legal profile Stval value h = refl
-value_legal profile Satp value h = and_both _ _ ((Decides-eqb _ _).1 h.constant) (two_of_one value h.mode)
+value_legal profile stored value h =
+    and_both _ _ ((Decides-eqb _ _).1 h.constant) (rule_told (stored_row_of stored).rule value h.rule)
 
 pub value_decided : (profile : CsrProfile) (stored : StoredCsr) (value : ℕ) (result : Bool)
     → result ≡ is_legal_value profile stored value → Decides result (IsLegalValue profile stored value)
 value_decided profile stored value result is =
     rw is (legal_value profile stored value, value_legal profile stored value)
+
+-- ---- registers whose bits no core chooses
+
+-- one of all bits can have every value
+pub whole_legal : (profile : CsrProfile) (stored : StoredCsr) (value : ℕ) → stored_row_of stored ≡ held all_bits
+    → IsLegalValue profile stored value
+whole_legal profile stored value is = record {
+  constant = ap (λ writable. bit_and value (all_bits - writable)) (held_writable profile stored all_bits is)
+      ∙ and_zero_r value ∙ sym (held_fixed profile stored all_bits is);
+  rule = subst (λ row. FollowsRule row.rule value) (sym is) tt;
+}
+
+-- one that holds an address of an instruction can have every even one
+pub even_legal : (profile : CsrProfile) (stored : StoredCsr) (value : ℕ) → stored_row_of stored ≡ held pc_bits
+    → value % 2 ≡ 0 → IsLegalValue profile stored value
+even_legal profile stored value is even = record {
+  constant = ap (λ writable. bit_and value (all_bits - writable)) (held_writable profile stored pc_bits is)
+      ∙ and_mask value 1 ∙ even ∙ sym (held_fixed profile stored pc_bits is);
+  rule = subst (λ row. FollowsRule row.rule value) (sym is) tt;
+}
+
+pub legal_even : (profile : CsrProfile) (stored : StoredCsr) (value : ℕ) → stored_row_of stored ≡ held pc_bits
+    → IsLegalValue profile stored value → value % 2 ≡ 0
+legal_even profile stored value is legal =
+    sym (and_mask value 1)
+    ∙ ap (λ writable. bit_and value (all_bits - writable)) (sym (held_writable profile stored pc_bits is))
+    ∙ legal.constant ∙ held_fixed profile stored pc_bits is
+
+-- what a register can have, in words
+pub in_words : (profile : CsrProfile) (stored : StoredCsr) (value : ℕ) → IsLegalValue profile stored value
+    → HoldsInWords profile stored value
+in_words profile Mepc value legal = legal_even profile Mepc value refl legal
+in_words profile Sepc value legal = legal_even profile Sepc value refl legal
+in_words profile Mstatus value legal = legal.rule
+in_words profile Satp value legal = legal.rule
+in_words profile _ value legal = tt
 
 pub legal_configuration : (byte : ℕ) → is_legal_configuration byte ≡ true → IsLegalConfiguration byte
 legal_configuration byte h = record {

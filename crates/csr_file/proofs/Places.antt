@@ -1,68 +1,47 @@
 -- No two registers stand at one index, and what one of them gets changes no other.
-use Rattle.std.proofs.Common.{◌≡◌, ◌≢◌, ℕ, ◌<◌, List, [], ◌∷◌, length, get_or, refl, ap, ◌∙◌, sym, subst, lit<}
-use Rattle.std.proofs.Common.{get_or-set_same, get_or-set_other}
+use Rattle.std.proofs.Common.{◌≡◌, ◌≢◌, ℕ, ◌<◌, Bool, true, List, length, map, get_or, refl, slice_index}
+use Rattle.std.proofs.Common.{ap, ◌∙◌, sym, subst, lit<, arith, get_or-set_same, get_or-set_other}
+use Rattle.std.specs.List.{list_all}
+use Rattle.std.proofs.lemmas.List.{ext_get_or, get_or-map}
+use Rattle.std.proofs.lemmas.List.Sums.{AllPass-from_list_all}
 use Rattle.csr_file.specs.declared.csrs.Csrs.{Csrs}
 use Rattle.csr_file.specs.declared.stored_csr.StoredCsr.{StoredCsr}
-use Rattle.csr_file.specs.declared.stored_csr.StoredCsr.TheVariants.{Mstatus, Medeleg, Mideleg, Mie, Mtvec, Mcounteren}
-use Rattle.csr_file.specs.declared.stored_csr.StoredCsr.TheVariants.{Menvcfg, Mcountinhibit, Mscratch, Mepc, Mcause}
-use Rattle.csr_file.specs.declared.stored_csr.StoredCsr.TheVariants.{Mtval, Mip, Stvec, Scounteren, Senvcfg, Sscratch}
-use Rattle.csr_file.specs.declared.stored_csr.StoredCsr.TheVariants.{Sepc, Scause, Stval, Satp}
+use Rattle.csr_file.specs.declared.stored_csr.StoredCsr.TheVariants.{Mstatus}
 use Rattle.csr_file.specs.declared.stored_csr.TheConstants.{STORED_CSRS}
-use Rattle.csr_file.specs.Registers.{at, with_at, stored_index_of}
+use Rattle.csr_file.specs.Registers.{at, with_at}
+use Rattle.csr_file.specs.Table.{stored_csrs, stored_index_of}
 
-abbrev all : List StoredCsr
-all =
-    Mstatus ∷ Medeleg ∷ Mideleg ∷ Mie ∷ Mtvec ∷ Mcounteren ∷ Menvcfg ∷ Mcountinhibit ∷ Mscratch ∷ Mepc ∷ Mcause
-    ∷ Mtval ∷ Mip ∷ Stvec ∷ Scounteren ∷ Senvcfg ∷ Sscratch ∷ Sepc ∷ Scause ∷ Stval ∷ Satp ∷ []
-
-found : (stored : StoredCsr) → get_or all (stored_index_of stored) Mstatus ≡ stored
+-- each stands at its index in the list of all
+found : (stored : StoredCsr) → get_or stored_csrs (stored_index_of stored) Mstatus ≡ stored
 found Mstatus = refl
-found Medeleg = refl
-found Mideleg = refl
-found Mie = refl
-found Mtvec = refl
-found Mcounteren = refl
-found Menvcfg = refl
-found Mcountinhibit = refl
-found Mscratch = refl
-found Mepc = refl
-found Mcause = refl
-found Mtval = refl
-found Mip = refl
-found Stvec = refl
-found Scounteren = refl
-found Senvcfg = refl
-found Sscratch = refl
-found Sepc = refl
-found Scause = refl
-found Stval = refl
-found Satp = refl
+found _ = refl
 
 pub same_index : (one other : StoredCsr) → stored_index_of one ≡ stored_index_of other → one ≡ other
-same_index one other e = sym (found one) ∙ ap (λ n. get_or all n Mstatus) e ∙ found other
+same_index one other e = sym (found one) ∙ ap (λ n. get_or stored_csrs n Mstatus) e ∙ found other
 
-inside : (stored : StoredCsr) → stored_index_of stored < 21
+pub inside : (stored : StoredCsr) → stored_index_of stored < STORED_CSRS
 inside Mstatus = lit< tt
-inside Medeleg = lit< tt
-inside Mideleg = lit< tt
-inside Mie = lit< tt
-inside Mtvec = lit< tt
-inside Mcounteren = lit< tt
-inside Menvcfg = lit< tt
-inside Mcountinhibit = lit< tt
-inside Mscratch = lit< tt
-inside Mepc = lit< tt
-inside Mcause = lit< tt
-inside Mtval = lit< tt
-inside Mip = lit< tt
-inside Stvec = lit< tt
-inside Scounteren = lit< tt
-inside Senvcfg = lit< tt
-inside Sscratch = lit< tt
-inside Sepc = lit< tt
-inside Scause = lit< tt
-inside Stval = lit< tt
-inside Satp = lit< tt
+inside _ = lit< tt
+
+-- a test that all of them pass holds of each
+pub of_each : (test : StoredCsr → Bool) → list_all test stored_csrs ≡ true → (stored : StoredCsr)
+    → test stored ≡ true
+of_each test h stored =
+    subst (λ one. test one ≡ true) (found stored)
+    (AllPass-from_list_all test stored_csrs h (stored_index_of stored) Mstatus (inside stored))
+
+-- a list that has at the place of each of them what a function gives
+pub filled : (f : StoredCsr → ℕ) (values : List ℕ) → length values ≡ STORED_CSRS
+    → ((k : ℕ) → k < STORED_CSRS → get_or values k 0 ≡ f (get_or stored_csrs k Mstatus)) → values ≡ map f stored_csrs
+filled f values whole each =
+    ext_get_or 0 values (map f stored_csrs) whole
+    (λ k within. let below : k < STORED_CSRS = omega (arith, whole, within) in
+    each k below ∙ sym (get_or-map f stored_csrs k Mstatus 0 below))
+
+-- what a list of what a function gives has at the place of each
+pub at_list : (f : StoredCsr → ℕ) (stored : StoredCsr) → slice_index (map f stored_csrs) (stored_index_of stored) ≡ f stored
+at_list f stored =
+    get_or-map f stored_csrs (stored_index_of stored) Mstatus 0 (inside stored) ∙ ap f (found stored)
 
 -- a register has what it got, where there is a place for it
 pub at_same : (csrs : Csrs) (stored : StoredCsr) (value : ℕ) → length csrs.values ≡ STORED_CSRS

@@ -10,9 +10,9 @@ use Rattle.csr_file.specs.declared.csr_kind.CsrKind.TheVariants.{Stored, Status,
 use Rattle.csr_file.specs.declared.csr_kind.CsrKind.TheVariants.{SupervisorEnables, SupervisorPending, Translation}
 use Rattle.csr_file.specs.declared.csr_kind.CsrKind.TheVariants.{LowConfigurations, HighConfigurations, EntryAddress}
 use Rattle.csr_file.specs.declared.csr_kind.CsrKind.TheVariants.{Constant, ImplementationDefined, Counter}
-use Rattle.csr_file.specs.Registers.{at, with_at, no_entry, stored_index_of}
+use Rattle.csr_file.specs.Registers.{at, with_at, no_entry}
 use Rattle.csr_file.specs.Profiles.{is_from_row, kind_in, presence_of}
-use Rattle.csr_file.specs.Table.{csr_kind_of}
+use Rattle.csr_file.specs.Table.{csr_kind_of, stored_index_of}
 use Rattle.csr_file.specs.declared.fields.TheConstants.{PMP_LOCK}
 use Rattle.csr_file.specs.Fields.{bit_is_set, is_supported_mode, satp_mode_of}
 use Rattle.csr_file.specs.Values.{has_entry, status_write_of, stored_write_of, translation_write_of, csr_write_of, configuration_of}

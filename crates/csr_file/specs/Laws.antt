@@ -1,20 +1,21 @@
 -- What a write leaves as it was.
-use Rattle.std.specs.Prelude.{◌≡◌, ◌≢◌, ℕ, ◌-◌, ◌<◌, Bool, true, false, Option, Some, None, if◌then◌else◌}
+use Rattle.std.specs.Prelude.{◌≡◌, ◌≢◌, ◌⊎◌, ℕ, ◌-◌, ◌%◌, ◌<◌, Bool, true, false, Option, Some, None, if◌then◌else◌}
 use Rattle.std.specs.Int.{bit_at}
 use Rattle.csr_table.specs.declared.registers.Csr.{Csr}
 use Rattle.csr_file.specs.declared.csrs.Csrs.{Csrs}
 use Rattle.csr_file.specs.declared.stored_csr.StoredCsr.{StoredCsr}
-use Rattle.csr_file.specs.declared.stored_csr.StoredCsr.TheVariants.{Mstatus, Mie, Mip, Satp}
+use Rattle.csr_file.specs.declared.stored_csr.StoredCsr.TheVariants.{Mstatus, Mepc, Mie, Mip, Satp, Sepc}
 use Rattle.csr_file.specs.declared.csr_kind.CsrKind.{CsrKind}
 use Rattle.csr_file.specs.declared.csr_kind.CsrKind.TheVariants.{Stored, Status, Pending, SupervisorStatus}
 use Rattle.csr_file.specs.declared.csr_kind.CsrKind.TheVariants.{SupervisorEnables, SupervisorPending, Translation}
 use Rattle.csr_file.specs.declared.csr_kind.CsrKind.TheVariants.{LowConfigurations, HighConfigurations, EntryAddress}
 use Rattle.csr_file.specs.declared.csr_kind.CsrKind.TheVariants.{Constant, ImplementationDefined, Counter}
-use Rattle.csr_file.specs.declared.fields.TheConstants.{PMP_LOCK}
+use Rattle.csr_file.specs.declared.fields.TheConstants.{BARE, SV39, PMP_LOCK}
 use Rattle.csr_file.specs.Registers.{at, pmp_entry_of}
-use Rattle.csr_file.specs.Fields.{bit_is_set, masked_update}
-use Rattle.csr_file.specs.declared.profile.ChosenCsr.{ChosenCsr}
-use Rattle.csr_file.specs.Profiles.{fixed_in, is_from_row, kind_in, plain_mask, plain_profile, presence_of, writable_in}
+use Rattle.csr_file.specs.declared.profile.CsrProfile.{CsrProfile}
+use Rattle.csr_file.specs.Fields.{bit_is_set, masked_update, mpp_of, satp_mode_of}
+use Rattle.csr_file.specs.Table.{stored_row_of}
+use Rattle.csr_file.specs.Profiles.{fixed_bits, is_from_row, kind_in, plain_mask, plain_profile, presence_of, writable_bits}
 use Rattle.csr_file.specs.Values.{configuration_of, csr_write_of, is_locked_from_below}
 
 -- the stored register that a write changes: a view's is another register
@@ -74,9 +75,20 @@ abbrev pub DropsWrites : Csrs → Csr → ℕ → Type 0
 DropsWrites csrs csr value =
     is_from_row (presence_of csrs.profile csr) ≡ true → csr_write_of csrs (kind_in csrs.profile csr) value ≡ csrs
 
--- where nothing is said, the bits that a write changes are those of the table
-abbrev pub IsAsTheTable : ChosenCsr → Type 0
-IsAsTheTable csr = (writable_in plain_profile csr ≡ plain_mask csr) × (fixed_in plain_profile csr ≡ 0)
+-- where nothing is said, the bits that a write changes are those of the table, and so are those that are always 1
+abbrev pub IsAsTheTable : StoredCsr → Type 0
+IsAsTheTable stored =
+    (writable_bits plain_profile stored ≡ plain_mask stored)
+    × (fixed_bits plain_profile stored ≡ (stored_row_of stored).constant)
+
+-- a value that a register can have: the registers that hold an address of an instruction are even, MPP of mstatus is a
+-- mode, and MODE of satp is Bare or Sv39
+abbrev pub HoldsInWords : CsrProfile → StoredCsr → ℕ → Type 0
+HoldsInWords profile Mepc value = value % 2 ≡ 0
+HoldsInWords profile Sepc value = value % 2 ≡ 0
+HoldsInWords profile Mstatus value = mpp_of value ≢ 2
+HoldsInWords profile Satp value = (satp_mode_of value ≡ BARE) ⊎ (satp_mode_of value ≡ SV39)
+HoldsInWords profile stored value = Unit {0}
 
 -- a merged value has the bits of the mask from the new value and all others from the old one
 abbrev pub MergesByBits : ℕ → ℕ → ℕ → Type 0

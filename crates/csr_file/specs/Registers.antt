@@ -1,45 +1,12 @@
 -- The registers that are stored, from the Privileged Architecture's chapters "Control and Status Registers
 -- (CSRs)" and "Machine-Level ISA".
-use Rattle.std.specs.Prelude.{ℕ, List, [], ◌∷◌, map, take, slice_index, slice_index_or, slice_set, replicate}
+use Rattle.std.specs.Prelude.{ℕ, List, map, take, slice_index, slice_index_or, slice_set, replicate}
 use Rattle.hart_words.specs.declared.privilege.PmpEntry.{PmpEntry}
 use Rattle.csr_file.specs.declared.csrs.Csrs.{Csrs}
 use Rattle.csr_file.specs.declared.stored_csr.StoredCsr.{StoredCsr}
-use Rattle.csr_file.specs.declared.stored_csr.StoredCsr.TheVariants.{Mstatus, Medeleg, Mideleg, Mie, Mtvec, Mcounteren}
-use Rattle.csr_file.specs.declared.stored_csr.StoredCsr.TheVariants.{Menvcfg, Mcountinhibit, Mscratch, Mepc, Mcause}
-use Rattle.csr_file.specs.declared.stored_csr.StoredCsr.TheVariants.{Mtval, Mip, Stvec, Scounteren, Senvcfg, Sscratch}
-use Rattle.csr_file.specs.declared.stored_csr.StoredCsr.TheVariants.{Sepc, Scause, Stval, Satp}
 use Rattle.csr_file.specs.declared.profile.CsrProfile.{CsrProfile}
+use Rattle.csr_file.specs.Table.{stored_csrs, stored_index_of}
 use Rattle.csr_file.specs.Profiles.{entry_count_of, fixed_bits, plain_profile}
-
--- where a register's value stands
-abbrev pub stored_index_of : StoredCsr → ℕ
-stored_index_of Mstatus = 0
-stored_index_of Medeleg = 1
-stored_index_of Mideleg = 2
-stored_index_of Mie = 3
-stored_index_of Mtvec = 4
-stored_index_of Mcounteren = 5
-stored_index_of Menvcfg = 6
-stored_index_of Mcountinhibit = 7
-stored_index_of Mscratch = 8
-stored_index_of Mepc = 9
-stored_index_of Mcause = 10
-stored_index_of Mtval = 11
-stored_index_of Mip = 12
-stored_index_of Stvec = 13
-stored_index_of Scounteren = 14
-stored_index_of Senvcfg = 15
-stored_index_of Sscratch = 16
-stored_index_of Sepc = 17
-stored_index_of Scause = 18
-stored_index_of Stval = 19
-stored_index_of Satp = 20
-
--- all of them, in that order
-abbrev pub stored_csrs : List StoredCsr
-stored_csrs =
-    Mstatus ∷ Medeleg ∷ Mideleg ∷ Mie ∷ Mtvec ∷ Mcounteren ∷ Menvcfg ∷ Mcountinhibit ∷ Mscratch ∷ Mepc ∷ Mcause
-    ∷ Mtval ∷ Mip ∷ Stvec ∷ Scounteren ∷ Senvcfg ∷ Sscratch ∷ Sepc ∷ Scause ∷ Stval ∷ Satp ∷ []
 
 -- the value of a stored register
 unfoldable pub at : Csrs → StoredCsr → ℕ

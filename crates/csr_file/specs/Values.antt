@@ -8,6 +8,7 @@ use Rattle.hart_words.specs.Words.{bit_field}
 use Rattle.hart_words.specs.declared.privilege.PmpEntry.{PmpEntry}
 use Rattle.hart_words.specs.declared.signal.CsrName.{CsrName}
 use Rattle.hart_words.specs.declared.signal.CsrName.TheVariants as names
+use Rattle.csr_table.specs.declared.registers.Csr.{Csr}
 use Rattle.csr_table.specs.declared.registers.Csr.TheVariants as csr
 use Rattle.csr_file.specs.declared.csrs.Csrs.{Csrs}
 use Rattle.csr_file.specs.declared.stored_csr.StoredCsr.TheVariants.{Mstatus, Mideleg, Mie, Mip, Satp}
@@ -218,27 +219,31 @@ csr_write_of csrs (Constant number) value = csrs
 csr_write_of csrs ImplementationDefined value = csrs
 csr_write_of csrs (Counter bit) value = csrs
 
+-- the register that has the columns of a name
+abbrev pub csr_named : CsrName → Csr
+csr_named names.Mstatus = csr.Mstatus
+csr_named names.Misa = csr.Misa
+csr_named names.Medeleg = csr.Medeleg
+csr_named names.Mideleg = csr.Mideleg
+csr_named names.Mie = csr.Mie
+csr_named names.Mtvec = csr.Mtvec
+csr_named names.Mscratch = csr.Mscratch
+csr_named names.Mepc = csr.Mepc
+csr_named names.Mcause = csr.Mcause
+csr_named names.Mtval = csr.Mtval
+csr_named names.Mip = csr.Mip
+csr_named names.Satp = csr.Satp
+csr_named names.Sstatus = csr.Sstatus
+csr_named names.Sie = csr.Sie
+csr_named names.Sip = csr.Sip
+csr_named names.Stvec = csr.Stvec
+csr_named names.Sscratch = csr.Sscratch
+csr_named names.Sepc = csr.Sepc
+csr_named names.Scause = csr.Scause
+csr_named names.Stval = csr.Stval
+csr_named names.Pmpcfg0 = csr.Pmpcfg0
+csr_named names.Pmpcfg2 = csr.Pmpcfg2
+
 -- the value that a trace shows of a register
 unfoldable pub shown_csr : Csrs → CsrName → ℕ → ℕ
-shown_csr csrs names.Mstatus lines = csr_value_of csrs (kind_in csrs.profile csr.Mstatus) lines
-shown_csr csrs names.Misa lines = csr_value_of csrs (kind_in csrs.profile csr.Misa) lines
-shown_csr csrs names.Medeleg lines = csr_value_of csrs (kind_in csrs.profile csr.Medeleg) lines
-shown_csr csrs names.Mideleg lines = csr_value_of csrs (kind_in csrs.profile csr.Mideleg) lines
-shown_csr csrs names.Mie lines = csr_value_of csrs (kind_in csrs.profile csr.Mie) lines
-shown_csr csrs names.Mtvec lines = csr_value_of csrs (kind_in csrs.profile csr.Mtvec) lines
-shown_csr csrs names.Mscratch lines = csr_value_of csrs (kind_in csrs.profile csr.Mscratch) lines
-shown_csr csrs names.Mepc lines = csr_value_of csrs (kind_in csrs.profile csr.Mepc) lines
-shown_csr csrs names.Mcause lines = csr_value_of csrs (kind_in csrs.profile csr.Mcause) lines
-shown_csr csrs names.Mtval lines = csr_value_of csrs (kind_in csrs.profile csr.Mtval) lines
-shown_csr csrs names.Mip lines = csr_value_of csrs (kind_in csrs.profile csr.Mip) lines
-shown_csr csrs names.Satp lines = csr_value_of csrs (kind_in csrs.profile csr.Satp) lines
-shown_csr csrs names.Sstatus lines = csr_value_of csrs (kind_in csrs.profile csr.Sstatus) lines
-shown_csr csrs names.Sie lines = csr_value_of csrs (kind_in csrs.profile csr.Sie) lines
-shown_csr csrs names.Sip lines = csr_value_of csrs (kind_in csrs.profile csr.Sip) lines
-shown_csr csrs names.Stvec lines = csr_value_of csrs (kind_in csrs.profile csr.Stvec) lines
-shown_csr csrs names.Sscratch lines = csr_value_of csrs (kind_in csrs.profile csr.Sscratch) lines
-shown_csr csrs names.Sepc lines = csr_value_of csrs (kind_in csrs.profile csr.Sepc) lines
-shown_csr csrs names.Scause lines = csr_value_of csrs (kind_in csrs.profile csr.Scause) lines
-shown_csr csrs names.Stval lines = csr_value_of csrs (kind_in csrs.profile csr.Stval) lines
-shown_csr csrs names.Pmpcfg0 lines = packed_pmpcfg_of csrs 0
-shown_csr csrs names.Pmpcfg2 lines = packed_pmpcfg_of csrs 8
+shown_csr csrs name lines = csr_value_of csrs (kind_in csrs.profile (csr_named name)) lines

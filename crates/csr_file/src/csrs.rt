@@ -2,11 +2,12 @@
 //! Privileged Architecture's chapters "Control and Status Registers (CSRs)", "Machine-Level ISA"
 //! and "Supervisor-Level ISA".
 
-ghost use Rattle.std.specs.Prelude.{◌≡◌, ◌≤◌, ◌<◌, ◌+◌, ◌-◌, Ok, Err, OnOk, OnErr};
+ghost use Rattle.std.specs.Prelude.{◌≡◌, ◌≤◌, ◌<◌, ◌+◌, ◌-◌, Ok, Err, OnOk, OnErr, map};
 ghost use Rattle.csr_file.specs.Fields.{is_supported_mode};
-ghost use Rattle.csr_file.specs.Profiles.{kind_in};
+ghost use Rattle.csr_file.specs.Table.{stored_csrs};
+ghost use Rattle.csr_file.specs.Profiles.{fixed_bits, kind_in};
 ghost use Rattle.csr_file.specs.Registers.{at, with_at, csrs_at_reset, csrs_at_reset_of, pmp_entries_of, pmp_entry_of};
-ghost use Rattle.csr_file.specs.Values.{has_entry, open_lines_of, status_shown, stored_write_of, with_bits_at, pending_interrupts_of, csr_value_of, csr_base_of, adoptable_bits_of, adopted_bits_of, csr_read_of, status_write_of, translation_write_of, csr_write_of, packed_pmpcfg_of, entry_address_of, configuration_after, configuration_after_write, configurations_write_of, is_locked_from_below, address_is_locked, entry_address_write_of, shown_csr};
+ghost use Rattle.csr_file.specs.Values.{has_entry, open_lines_of, status_shown, stored_write_of, with_bits_at, pending_interrupts_of, csr_value_of, csr_base_of, adoptable_bits_of, adopted_bits_of, csr_read_of, status_write_of, translation_write_of, csr_write_of, packed_pmpcfg_of, entry_address_of, configuration_after, configuration_after_write, configurations_write_of, is_locked_from_below, address_is_locked, entry_address_write_of, csr_named, shown_csr};
 ghost use Rattle.csr_file.specs.Access.{counter_is_enabled, translation_is_open, is_enabled, may_read, may_write, csr_read_at, csr_write_at};
 ghost use Rattle.csr_file.specs.Legal.{IsLegal};
 
@@ -16,7 +17,8 @@ use crate::fields::{
     BARE, FS, MPP, PMP_LOCK, PMP_MATCHING, SATP_MODE, SD, SV39, TVM, VS, has_bit, merge,
 };
 use crate::profile::{CsrProfile, Presence};
-use crate::stored_csr::{STORED_CSRS, StoredCsr};
+use crate::register_row::RegisterRow;
+use crate::stored_csr::{ALL_STORED, STORED_CSRS, StoredCsr};
 use csr_table::{Csr, CsrRow, row};
 use hart_words::{CsrName, Mode, PmpEntry};
 
@@ -66,29 +68,7 @@ impl Csrs {
         ensures { result ≡ csrs_at_reset_of profile.now }
     {
         Csrs {
-            values: [
-                profile.fixed(StoredCsr::Mstatus),
-                profile.fixed(StoredCsr::Medeleg),
-                profile.fixed(StoredCsr::Mideleg),
-                profile.fixed(StoredCsr::Mie),
-                profile.fixed(StoredCsr::Mtvec),
-                profile.fixed(StoredCsr::Mcounteren),
-                profile.fixed(StoredCsr::Menvcfg),
-                profile.fixed(StoredCsr::Mcountinhibit),
-                profile.fixed(StoredCsr::Mscratch),
-                profile.fixed(StoredCsr::Mepc),
-                profile.fixed(StoredCsr::Mcause),
-                profile.fixed(StoredCsr::Mtval),
-                profile.fixed(StoredCsr::Mip),
-                profile.fixed(StoredCsr::Stvec),
-                profile.fixed(StoredCsr::Scounteren),
-                profile.fixed(StoredCsr::Senvcfg),
-                profile.fixed(StoredCsr::Sscratch),
-                profile.fixed(StoredCsr::Sepc),
-                profile.fixed(StoredCsr::Scause),
-                profile.fixed(StoredCsr::Stval),
-                profile.fixed(StoredCsr::Satp),
-            ],
+            values: fixed_values(profile, &ALL_STORED),
             entries: [PmpEntry { cfg: 0, addr: 0 }; 16],
             profile: *profile,
         }
@@ -118,13 +98,13 @@ impl Csrs {
     }
 
     /// What a register is on this core.
-    #[tactic(auto, unfolding(crate::specs::Profiles::kind_in))]
+    #[tactic(auto, unfolding(crate::specs::Profiles::kind_in, crate::specs::Table::csr_kind_of))]
     fn kind(&self, csr: Csr) -> CsrKind
         ensures { result ≡ kind_in self.now.profile csr }
     {
         match self.profile.presence(csr) {
             Presence::FromRow => CsrKind::ImplementationDefined,
-            Presence::Kept | Presence::Absent | Presence::MayTrap => CsrKind::of(csr),
+            Presence::Kept | Presence::Absent | Presence::MayTrap => RegisterRow::of(csr).kind,
         }
     }
 
@@ -209,30 +189,7 @@ impl Csrs {
     pub fn shown(&self, name: CsrName, lines: u64) -> u64
         ensures { result ≡ shown_csr self.now name lines }
     {
-        match name {
-            CsrName::Mstatus => self.value(self.kind(Csr::Mstatus), lines),
-            CsrName::Misa => self.value(self.kind(Csr::Misa), lines),
-            CsrName::Medeleg => self.value(self.kind(Csr::Medeleg), lines),
-            CsrName::Mideleg => self.value(self.kind(Csr::Mideleg), lines),
-            CsrName::Mie => self.value(self.kind(Csr::Mie), lines),
-            CsrName::Mtvec => self.value(self.kind(Csr::Mtvec), lines),
-            CsrName::Mscratch => self.value(self.kind(Csr::Mscratch), lines),
-            CsrName::Mepc => self.value(self.kind(Csr::Mepc), lines),
-            CsrName::Mcause => self.value(self.kind(Csr::Mcause), lines),
-            CsrName::Mtval => self.value(self.kind(Csr::Mtval), lines),
-            CsrName::Mip => self.value(self.kind(Csr::Mip), lines),
-            CsrName::Satp => self.value(self.kind(Csr::Satp), lines),
-            CsrName::Sstatus => self.value(self.kind(Csr::Sstatus), lines),
-            CsrName::Sie => self.value(self.kind(Csr::Sie), lines),
-            CsrName::Sip => self.value(self.kind(Csr::Sip), lines),
-            CsrName::Stvec => self.value(self.kind(Csr::Stvec), lines),
-            CsrName::Sscratch => self.value(self.kind(Csr::Sscratch), lines),
-            CsrName::Sepc => self.value(self.kind(Csr::Sepc), lines),
-            CsrName::Scause => self.value(self.kind(Csr::Scause), lines),
-            CsrName::Stval => self.value(self.kind(Csr::Stval), lines),
-            CsrName::Pmpcfg0 => self.packed_pmpcfg(0),
-            CsrName::Pmpcfg2 => self.packed_pmpcfg(8),
-        }
+        self.value(self.kind(csr_named(name)), lines)
     }
 
     /// The interrupts that are pending, by their bits in mip: those stored, and the lines.
@@ -528,6 +485,48 @@ impl Csrs {
     }
 }
 
+/// The register that has the columns of a name.
+fn csr_named(name: CsrName) -> Csr
+    ensures { result ≡ csr_named name }
+{
+    match name {
+        CsrName::Mstatus => Csr::Mstatus,
+        CsrName::Misa => Csr::Misa,
+        CsrName::Medeleg => Csr::Medeleg,
+        CsrName::Mideleg => Csr::Mideleg,
+        CsrName::Mie => Csr::Mie,
+        CsrName::Mtvec => Csr::Mtvec,
+        CsrName::Mscratch => Csr::Mscratch,
+        CsrName::Mepc => Csr::Mepc,
+        CsrName::Mcause => Csr::Mcause,
+        CsrName::Mtval => Csr::Mtval,
+        CsrName::Mip => Csr::Mip,
+        CsrName::Satp => Csr::Satp,
+        CsrName::Sstatus => Csr::Sstatus,
+        CsrName::Sie => Csr::Sie,
+        CsrName::Sip => Csr::Sip,
+        CsrName::Stvec => Csr::Stvec,
+        CsrName::Sscratch => Csr::Sscratch,
+        CsrName::Sepc => Csr::Sepc,
+        CsrName::Scause => Csr::Scause,
+        CsrName::Stval => Csr::Stval,
+        CsrName::Pmpcfg0 => Csr::Pmpcfg0,
+        CsrName::Pmpcfg2 => Csr::Pmpcfg2,
+    }
+}
+
+/// The bits of each register that are always 1.
+fn fixed_values(profile: &CsrProfile, all: &[StoredCsr; STORED_CSRS]) -> [u64; STORED_CSRS]
+    requires { all.now ≡ stored_csrs }
+    ensures { result ≡ map (fixed_bits profile.now) stored_csrs }
+{
+    let mut values = [0; STORED_CSRS];
+    for i in 0..STORED_CSRS {
+        values[i] = profile.fixed(all[i]);
+    }
+    values
+}
+
 /// mstatus as it reads: SD is 1 where the state of a unit is 3.
 fn status_shown(status: u64) -> u64
     ensures { result ≡ status_shown status }
@@ -540,7 +539,7 @@ fn status_shown(status: u64) -> u64
 }
 
 /// Whether the hart has a mode of satp.
-fn is_supported_mode(mode: u64) -> bool
+pub(crate) fn is_supported_mode(mode: u64) -> bool
     ensures { result ≡ is_supported_mode mode }
 {
     mode == BARE || mode == SV39

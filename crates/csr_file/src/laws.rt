@@ -3,8 +3,10 @@
 ghost use Rattle.std.specs.Prelude.{ℕ, ◌<◌, ◌^◌};
 ghost use Rattle.csr_table.specs.declared.registers.Csr.{Csr};
 ghost use Rattle.csr_file.specs.declared.csrs.Csrs.{Csrs};
-ghost use Rattle.csr_file.specs.declared.profile.ChosenCsr.{ChosenCsr};
-ghost use Rattle.csr_file.specs.Laws.{DropsWrites, IsAsTheTable, LeavesLocked, LeavesOtherRegisters, LeavesProfile, LeavesProtection, MergesByBits};
+ghost use Rattle.csr_file.specs.declared.profile.CsrProfile.{CsrProfile};
+ghost use Rattle.csr_file.specs.declared.stored_csr.StoredCsr.{StoredCsr};
+ghost use Rattle.csr_file.specs.Legal.{IsLegalValue};
+ghost use Rattle.csr_file.specs.Laws.{DropsWrites, HoldsInWords, IsAsTheTable, LeavesLocked, LeavesOtherRegisters, LeavesProfile, LeavesProtection, MergesByBits};
 
 /// A write of a register leaves every stored register but the one that it writes as it was, and
 /// physical memory protection unless the register is of it.
@@ -21,11 +23,18 @@ pub fn writes_leave_the_profile()
     ensures drops { (csrs : Csrs) (csr : Csr) (value : ℕ) → DropsWrites csrs csr value }
 {}
 
-/// Where nothing is said, the bits that a write changes are those of the table, and none is always
-/// 1.
-#[tactic(auto, using(crate::proofs::Profiles::as_the_table))]
+/// Where nothing is said, the bits that a write changes are those of the table, and so are those
+/// that are always 1.
 pub fn nothing_said_is_the_table()
-    ensures { (csr : ChosenCsr) → IsAsTheTable csr }
+    ensures { (stored : StoredCsr) → IsAsTheTable stored }
+{}
+
+/// A value that a register can have: an address of an instruction is even, MPP of mstatus is a
+/// mode, and MODE of satp is Bare or Sv39.
+#[tactic(auto, using(crate::proofs::LegalTests::in_words))]
+pub fn legal_values_in_words()
+    ensures { (profile : CsrProfile) (stored : StoredCsr) (value : ℕ)
+        → IsLegalValue profile stored value → HoldsInWords profile stored value }
 {}
 
 /// No write changes the configuration or the address of a locked entry, nor, where it begins there,

@@ -2,11 +2,14 @@
 //! ISA" and "Supervisor-Level ISA".
 
 ghost use Rattle.std.specs.Prelude.{◌≡◌, ◌<◌, ◌^◌, Decides};
-ghost use Rattle.csr_file.specs.Legal.{IsLegalConfiguration, IsLegalValue, is_legal_address, is_legal_configuration, is_legal_value, keeps_fixed};
+ghost use Rattle.csr_file.specs.Legal.{IsLegalConfiguration, IsLegalValue, follows_rule, is_legal_address, is_legal_configuration, is_legal_value, keeps_fixed};
 ghost use Rattle.csr_file.specs.Profiles.{entry_bits_of};
 
+use crate::csrs::is_supported_mode;
+use crate::fields::{MPP, SATP_MODE};
 use crate::profile::CsrProfile;
 use crate::stored_csr::StoredCsr;
+use crate::stored_row::FieldRule;
 
 impl CsrProfile {
     /// Whether a register can have a value.
@@ -15,26 +18,7 @@ impl CsrProfile {
         ensures value { result ≡ is_legal_value self.now stored value }
         ensures legal { Decides result (IsLegalValue self.now stored value) }
     {
-        match stored {
-            StoredCsr::Mstatus => self.keeps_fixed(stored, value) && value / 2048 % 4 != 2,
-            StoredCsr::Medeleg
-            | StoredCsr::Mideleg
-            | StoredCsr::Mie
-            | StoredCsr::Mtvec
-            | StoredCsr::Mcounteren
-            | StoredCsr::Menvcfg
-            | StoredCsr::Mcountinhibit
-            | StoredCsr::Mip
-            | StoredCsr::Stvec
-            | StoredCsr::Scounteren
-            | StoredCsr::Senvcfg => self.keeps_fixed(stored, value),
-            StoredCsr::Mepc | StoredCsr::Sepc => value % 2 == 0,
-            StoredCsr::Satp => {
-                self.keeps_fixed(stored, value) && (value >> 60 == 0 || value >> 60 == 8)
-            }
-            StoredCsr::Mscratch | StoredCsr::Mcause | StoredCsr::Mtval => true,
-            StoredCsr::Sscratch | StoredCsr::Scause | StoredCsr::Stval => true,
-        }
+        self.keeps_fixed(stored, value) && follows_rule(stored.row().rule, value)
     }
 
     /// Whether the bits that no write changes are as they always are.
@@ -51,6 +35,17 @@ impl CsrProfile {
         ensures legal { Decides result (address < 2 ^ entry_bits_of self.now) }
     {
         address < 1 << self.entry_bits()
+    }
+}
+
+/// Whether the field of which a rule speaks is as it says.
+fn follows_rule(rule: FieldRule, value: u64) -> bool
+    ensures { result ≡ follows_rule rule value }
+{
+    match rule {
+        FieldRule::Free => true,
+        FieldRule::PreviousMode => (value >> MPP) % 4 != 2,
+        FieldRule::TranslationMode => is_supported_mode(value >> SATP_MODE),
     }
 }
 

@@ -13,11 +13,14 @@ pub mod fields;
 pub mod laws;
 mod legal_values;
 pub mod profile;
+mod register_row;
 mod stored_csr;
+mod stored_row;
 
 pub use access::{CsrRead, Illegal};
 pub use csrs::Csrs;
 pub use fields::{has_bit, merge, mode_of_encoding};
 pub use legal_values::is_legal_configuration;
 pub use profile::{CsrProfile, EntryCount, Presence};
-pub use stored_csr::{STORED_CSRS, StoredCsr};
+pub use stored_csr::{ALL_STORED, STORED_CSRS, StoredCsr};
+pub use stored_row::{FieldRule, StoredRow};

@@ -12,7 +12,8 @@ use Rattle.csr_file.specs.declared.stored_csr.StoredCsr.{StoredCsr}
 use Rattle.csr_file.specs.declared.stored_csr.StoredCsr.TheVariants.{Mstatus, Medeleg, Mtvec, Mepc, Mcause, Mtval}
 use Rattle.csr_file.specs.declared.stored_csr.StoredCsr.TheVariants.{Stvec, Sepc, Scause, Stval}
 use Rattle.csr_file.specs.declared.stored_csr.TheConstants.{STORED_CSRS}
-use Rattle.csr_file.specs.Registers.{at as value_at, with_at, stored_index_of}
+use Rattle.csr_file.specs.Registers.{at as value_at, with_at}
+use Rattle.csr_file.specs.Table.{stored_index_of}
 use Rattle.csr_file.specs.Fields.{bit_is_set}
 use Rattle.csr_file.proofs.Places.{at_same, at_other}
 use Rattle.trap_entry.specs.Entries.{is_delegated, cause_value, handler_address, status_into_machine}

@@ -1,8 +1,8 @@
 //! What the words say of a core's devices, rows, and control and status registers.
 
 use super::words::{job_at, refuses};
-use csr_file::profile::{ChosenCsr, OptionalCsr};
-use csr_file::{CsrProfile, EntryCount, Presence};
+use csr_file::profile::OptionalCsr;
+use csr_file::{CsrProfile, EntryCount, Presence, StoredCsr};
 use hart_words::{CauseSet, DeviceFaults, InsnBits, Marks, Misaligned, TrapValues};
 use std::alloc::Global;
 use std::process::Abort;
@@ -18,65 +18,65 @@ fn profile_with(rt: &impl Abort, alloc: Global, option: &str) -> Result<CsrProfi
 
 #[test]
 fn takes_masks(rt: HostRuntime) -> Result<(), Fail> {
-    let lines: [(&str, ChosenCsr, u64, u64); 16] = [
-        ("--csr=mstatus=0x7E7FAA", ChosenCsr::Mstatus, 0x7E_7FAA, 0),
+    let lines: [(&str, StoredCsr, u64, u64); 16] = [
+        ("--csr=mstatus=0x7E7FAA", StoredCsr::Mstatus, 0x7E_7FAA, 0),
         (
             "--csr=mstatus=6570:0x6600",
-            ChosenCsr::Mstatus,
+            StoredCsr::Mstatus,
             0x19AA,
             0x6600,
         ),
         (
             "--csr=medeleg=0x0:18446744073709551615",
-            ChosenCsr::Medeleg,
+            StoredCsr::Medeleg,
             0,
             u64::MAX,
         ),
         (
             "--csr=mideleg=0xFFFFFFFFFFFFF222",
-            ChosenCsr::Mideleg,
+            StoredCsr::Mideleg,
             !0xDDD,
             0,
         ),
-        ("--csr=mideleg=0:0X222", ChosenCsr::Mideleg, 0, 0x222),
-        ("--csr=mie=0xfffffffffffffaaa:0", ChosenCsr::Mie, !0x555, 0),
-        ("--csr=mtvec=0xFFFFFFFFFFFFFFFD", ChosenCsr::Mtvec, !2, 0),
+        ("--csr=mideleg=0:0X222", StoredCsr::Mideleg, 0, 0x222),
+        ("--csr=mie=0xfffffffffffffaaa:0", StoredCsr::Mie, !0x555, 0),
+        ("--csr=mtvec=0xFFFFFFFFFFFFFFFD", StoredCsr::Mtvec, !2, 0),
         (
             "--csr=stvec=0xFFFFFFFFFFFFF000",
-            ChosenCsr::Stvec,
+            StoredCsr::Stvec,
             !0xFFF,
             0,
         ),
         (
             "--csr=mcounteren=0xFFFFFFFF",
-            ChosenCsr::Mcounteren,
+            StoredCsr::Mcounteren,
             0xFFFF_FFFF,
             0,
         ),
-        ("--csr=scounteren=2:5", ChosenCsr::Scounteren, 2, 5),
+        ("--csr=scounteren=2:5", StoredCsr::Scounteren, 2, 5),
         (
             "--csr=mcountinhibit=0xFFFFFFFD",
-            ChosenCsr::Mcountinhibit,
+            StoredCsr::Mcountinhibit,
             0xFFFF_FFFD,
             0,
         ),
-        ("--csr=mcountinhibit=0:5", ChosenCsr::Mcountinhibit, 0, 5),
+        ("--csr=mcountinhibit=0:5", StoredCsr::Mcountinhibit, 0, 5),
         (
             "--csr=menvcfg=0x80000000000000f1",
-            ChosenCsr::Menvcfg,
+            StoredCsr::Menvcfg,
             1 << 63 | 0xF1,
             0,
         ),
-        ("--csr=senvcfg=0:1", ChosenCsr::Senvcfg, 0, 1),
+        ("--csr=senvcfg=0:1", StoredCsr::Senvcfg, 0, 1),
         (
             "--csr=satp=0xF000000000000000",
-            ChosenCsr::Satp,
+            StoredCsr::Satp,
             15 << 60,
             0,
         ),
         (
             "--csr=satp=18446744073709551615",
-            ChosenCsr::Satp,
+            StoredCsr::Satp,
             u64::MAX,
             0,
         ),
@@ -142,8 +142,8 @@ fn takes_presences(rt: HostRuntime) -> Result<(), Fail> {
 fn takes_lists_of_registers(rt: HostRuntime) -> Result<(), Fail> {
     let option = "--csr=mcounteren=0:7,time=none,misa=row,mstatus=0x7E1FAA,mhpmevent=maybe";
     let wanted = CsrProfile::plain()
-        .with_bits(ChosenCsr::Mcounteren, 0, 7)
-        .with_bits(ChosenCsr::Mstatus, 0x7E_1FAA, 0)
+        .with_bits(StoredCsr::Mcounteren, 0, 7)
+        .with_bits(StoredCsr::Mstatus, 0x7E_1FAA, 0)
         .with_presence(OptionalCsr::Time, Presence::Absent)
         .with_presence(OptionalCsr::Misa, Presence::FromRow)
         .with_presence(OptionalCsr::Mhpmevent, Presence::MayTrap);
@@ -279,15 +279,15 @@ fn takes_cores(rt: HostRuntime) -> Result<(), Fail> {
     assert_eq!(rt; job.choices.marks, Marks::Set);
     assert_eq!(rt; (job.choices.block_size, job.choices.bits), (64, false));
     let wanted = CsrProfile::plain()
-        .with_bits(ChosenCsr::Mstatus, 0x7E_7FAA, 0)
-        .with_bits(ChosenCsr::Medeleg, 0xF0_BFFF, 0)
-        .with_bits(ChosenCsr::Mideleg, 0x2222, 0)
-        .with_bits(ChosenCsr::Mie, 0x2AAA, 0)
-        .with_bits(ChosenCsr::Mcounteren, 0xFFFF_FFFF, 0)
-        .with_bits(ChosenCsr::Mcountinhibit, 0xFFFF_FFFD, 0)
-        .with_bits(ChosenCsr::Menvcfg, 0xC000_0000_0000_00F1, 0)
-        .with_bits(ChosenCsr::Senvcfg, 0xF1, 0)
-        .with_bits(ChosenCsr::Scounteren, 0xFFFF_FFFF, 0);
+        .with_bits(StoredCsr::Mstatus, 0x7E_7FAA, 0)
+        .with_bits(StoredCsr::Medeleg, 0xF0_BFFF, 0)
+        .with_bits(StoredCsr::Mideleg, 0x2222, 0)
+        .with_bits(StoredCsr::Mie, 0x2AAA, 0)
+        .with_bits(StoredCsr::Mcounteren, 0xFFFF_FFFF, 0)
+        .with_bits(StoredCsr::Mcountinhibit, 0xFFFF_FFFD, 0)
+        .with_bits(StoredCsr::Menvcfg, 0xC000_0000_0000_00F1, 0)
+        .with_bits(StoredCsr::Senvcfg, 0xF1, 0)
+        .with_bits(StoredCsr::Scounteren, 0xFFFF_FFFF, 0);
     assert_eq!(rt; job.profile, wanted);
     let counts: [(&str, EntryCount); 3] = [
         ("--profile=spike", EntryCount::Sixteen),

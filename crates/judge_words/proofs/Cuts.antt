@@ -12,7 +12,7 @@ use Rattle.hart_words.specs.Numbers.{digits_number, number_of, number_within}
 use Rattle.hart_words.specs.declared.options.TrapValues.TheVariants.{ZeroFor}
 use Rattle.csr_file.specs.declared.profile.CsrProfile.{CsrProfile}
 use Rattle.judge_words.specs.Lists.{causes_in, comma, items, value_at, zero_for_in}
-use Rattle.judge_words.specs.Profiles.{after_colon, chosen_names, equals, name_of, presence_names, value_of, with_item}
+use Rattle.judge_words.specs.Profiles.{after_colon, chosen_named, equals, name_of, presence_names, value_of, with_item}
 use Rattle.judge_words.specs.Profiles.{with_mask, with_value}
 use Rattle.judge_words.specs.Values.{◌>>=◌, colon, number_of_text}
 
@@ -88,7 +88,7 @@ zero_for_in-no_colon text none =
 with_value-nil : (name : List ℕ) (profile : CsrProfile)
     → with_value (value_at presence_names []) name [] profile ≡ None
 unfolding presence_names with_mask number_of_text number_within number_of digits_number
-with_value-nil name profile = nothing_after (value_at chosen_names name) _ (λ csr. refl)
+with_value-nil name profile = nothing_after (chosen_named name) _ (λ csr. refl)
 
 -- an item without `=` says nothing
 pub with_item-no_equals : (item : List ℕ) (profile : CsrProfile)

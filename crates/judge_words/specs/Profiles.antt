@@ -1,13 +1,12 @@
 -- What the words say of a core's control and status registers.
 use Rattle.std.specs.Prelude.{ℕ, ◌==◌, ◌&&◌, nat_le, Bool, true, false, List, [], ◌∷◌, Option, Some, None, bit_and}
 use Rattle.std.specs.Prelude.{bit_or, codes, if◌then◌else◌}
-use Rattle.std.specs.List.{after_first, before_first, list_any}
+use Rattle.std.specs.List.{after_first, before_first, find, list_any}
 use Rattle.std.specs.Str.{bytes_eq}
-use Rattle.csr_file.specs.Profiles.{addable_lines, fixable_bits, least_bits, most_bits, plain_profile, with_bits}
+use Rattle.csr_file.specs.Profiles.{fixable_bits, least_bits, most_bits, plain_profile, with_bits}
 use Rattle.csr_file.specs.Profiles.{with_presence}
-use Rattle.csr_file.specs.Table.{line_bits}
-use Rattle.csr_file.specs.declared.profile.ChosenCsr.{ChosenCsr}
-use Rattle.csr_file.specs.declared.profile.ChosenCsr.TheVariants as chosen
+use Rattle.csr_file.specs.Table.{addable_lines, is_chosen, line_bits, stored_csrs, stored_name_of}
+use Rattle.csr_file.specs.declared.stored_csr.StoredCsr.{StoredCsr}
 use Rattle.csr_file.specs.declared.profile.OptionalCsr.{OptionalCsr}
 use Rattle.csr_file.specs.declared.profile.OptionalCsr.TheVariants as optional
 use Rattle.csr_file.specs.declared.profile.Presence.{Presence}
@@ -22,14 +21,9 @@ use Rattle.judge_words.specs.Values.{◌>>=◌, colon, number_of_text}
 abbrev pub equals : ℕ
 equals = 61
 
--- the registers of whose bits a core may choose
-unfoldable pub chosen_names : List (List ℕ × ChosenCsr)
-chosen_names =
-    (codes "mstatus", chosen.Mstatus) ∷ (codes "medeleg", chosen.Medeleg) ∷ (codes "mideleg", chosen.Mideleg)
-    ∷ (codes "mie", chosen.Mie) ∷ (codes "mtvec", chosen.Mtvec) ∷ (codes "mcounteren", chosen.Mcounteren)
-    ∷ (codes "menvcfg", chosen.Menvcfg) ∷ (codes "mcountinhibit", chosen.Mcountinhibit)
-    ∷ (codes "stvec", chosen.Stvec) ∷ (codes "scounteren", chosen.Scounteren) ∷ (codes "senvcfg", chosen.Senvcfg)
-    ∷ (codes "satp", chosen.Satp) ∷ []
+-- the register of this name, of those whose bits a core chooses
+unfoldable pub chosen_named : List ℕ → Option StoredCsr
+chosen_named name = find (λ stored. is_chosen stored && bytes_eq (stored_name_of stored) name) stored_csrs
 
 -- the registers that a core may have in several ways; mhpmevent, mhpmcounter and hpmcounter are all of 3 to 31
 unfoldable pub optional_names : List (List ℕ × OptionalCsr)
@@ -71,10 +65,10 @@ with_way name presence profile = do
   if may_be csr presence then Some (with_presence profile csr presence) else None
 
 -- a register may have these bits that a write changes, and these that are always 1
-unfoldable pub are_lawful_bits : ChosenCsr → (mask fixed : ℕ) → Bool
-are_lawful_bits csr mask fixed =
-    bit_and mask (most_bits csr) == mask && bit_and mask (least_bits csr) == least_bits csr
-    && bit_and fixed (fixable_bits csr) == fixed && bit_and fixed mask == 0
+unfoldable pub are_lawful_bits : StoredCsr → (mask fixed : ℕ) → Bool
+are_lawful_bits stored mask fixed =
+    bit_and mask (most_bits stored) == mask && bit_and mask (least_bits stored) == least_bits stored
+    && bit_and fixed (fixable_bits stored) == fixed && bit_and fixed mask == 0
 
 -- what stands after the colon, where there is one
 abbrev pub after_colon : List ℕ → Option (List ℕ)
@@ -89,10 +83,10 @@ fixed_in (Some text) = number_of_text text
 -- a register with other bits
 unfoldable pub with_mask : (name value : List ℕ) → CsrProfile → Option CsrProfile
 with_mask name value profile = do
-  csr ← value_at chosen_names name
+  stored ← chosen_named name
   mask ← number_of_text (before_first (λ byte. byte == colon) value)
   fixed ← fixed_in (after_colon value)
-  if are_lawful_bits csr mask fixed then Some (with_bits profile csr mask fixed) else None
+  if are_lawful_bits stored mask fixed then Some (with_bits profile stored mask fixed) else None
 
 abbrev pub with_value : Option Presence → (name value : List ℕ) → CsrProfile → Option CsrProfile
 with_value None name value profile = with_mask name value profile

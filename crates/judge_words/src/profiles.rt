@@ -1,16 +1,18 @@
 //! What the words say of a core's control and status registers.
 
-ghost use Rattle.std.specs.Prelude.{◌≡◌, ◌==◌, option_map};
-ghost use Rattle.std.specs.List.{before_first};
+ghost use Rattle.std.specs.Prelude.{◌≡◌, ◌==◌, ◌&&◌, option_map};
+ghost use Rattle.std.specs.List.{before_first, find};
+ghost use Rattle.std.specs.Str.{bytes_eq};
+ghost use Rattle.csr_file.specs.Table.{is_chosen, stored_name_of};
 ghost use Rattle.judge_words.specs.Lists.{items_of, value_at};
 ghost use Rattle.judge_words.specs.Values.{colon};
-ghost use Rattle.judge_words.specs.Profiles.{after_colon, are_lawful_bits, chosen_names, csr_in, entry_bits_in, entry_count_in, fixed_in, is_named, lines_in, may_be, may_be_absent, may_be_from_row, name_of, optional_names, presence_names, with_item, with_mask, with_way};
+ghost use Rattle.judge_words.specs.Profiles.{after_colon, are_lawful_bits, chosen_named, csr_in, entry_bits_in, entry_count_in, fixed_in, is_named, lines_in, may_be, may_be_absent, may_be_from_row, name_of, optional_names, presence_names, with_item, with_mask, with_way};
 
 use crate::lists::first_item;
 use crate::values::read_u64;
 use csr_file::fields::{ADDABLE_LINES, LINE_BITS};
-use csr_file::profile::{ChosenCsr, OptionalCsr, fixable_bits, least_bits, most_bits};
-use csr_file::{CsrProfile, EntryCount, Presence};
+use csr_file::profile::OptionalCsr;
+use csr_file::{ALL_STORED, CsrProfile, EntryCount, Presence, StoredCsr};
 
 /// The profile that a list of registers says, each at most once.
 pub fn read_csrs(list: Option<&str>) -> Option<CsrProfile>
@@ -149,37 +151,33 @@ fn may_be_absent(csr: OptionalCsr) -> bool
 fn with_mask(name: &str, value: &str, profile: CsrProfile) -> Option<CsrProfile>
     ensures { result ≡ with_mask name.now value.now profile }
 {
-    let csr = read_chosen(name)?;
+    let stored = read_chosen(name)?;
     let (mask, fixed) = mask_and_fixed(value);
     let mask = read_u64(mask)?;
     let fixed = read_fixed(fixed)?;
-    if are_lawful_bits(csr, mask, fixed) {
-        Some(profile.with_bits(csr, mask, fixed))
+    if are_lawful_bits(stored, mask, fixed) {
+        Some(profile.with_bits(stored, mask, fixed))
     } else {
         None
     }
 }
 
-/// A register of whose bits a core may choose.
-#[tactic(auto, unfolding(crate::specs::Profiles::chosen_names))]
-fn read_chosen(name: &str) -> Option<ChosenCsr>
-    ensures { result ≡ value_at chosen_names name.now }
+/// The register of this name, of those whose bits a core chooses.
+#[tactic(auto, unfolding(crate::specs::Profiles::chosen_named))]
+fn read_chosen(name: &str) -> Option<StoredCsr>
+    ensures { result ≡ chosen_named name.now }
 {
-    match name {
-        "mstatus" => Some(ChosenCsr::Mstatus),
-        "medeleg" => Some(ChosenCsr::Medeleg),
-        "mideleg" => Some(ChosenCsr::Mideleg),
-        "mie" => Some(ChosenCsr::Mie),
-        "mtvec" => Some(ChosenCsr::Mtvec),
-        "mcounteren" => Some(ChosenCsr::Mcounteren),
-        "menvcfg" => Some(ChosenCsr::Menvcfg),
-        "mcountinhibit" => Some(ChosenCsr::Mcountinhibit),
-        "stvec" => Some(ChosenCsr::Stvec),
-        "scounteren" => Some(ChosenCsr::Scounteren),
-        "senvcfg" => Some(ChosenCsr::Senvcfg),
-        "satp" => Some(ChosenCsr::Satp),
-        _ => None,
-    }
+    chosen_among(&ALL_STORED, name)
+}
+
+/// The same among these.
+fn chosen_among(all: &[StoredCsr], name: &str) -> Option<StoredCsr>
+    ensures { result ≡ find (λ stored. is_chosen stored && bytes_eq (stored_name_of stored) name.now)
+        all.now }
+{
+    all.iter()
+        .copied()
+        .find(|stored| stored.row().is_chosen() && stored.name() == name)
 }
 
 /// What stands before the first colon, and after it where there is one.
@@ -206,13 +204,13 @@ fn read_fixed(text: Option<&str>) -> Option<u64>
 
 /// Whether a register may have these bits that a write changes, and these that are always 1.
 #[tactic(auto, unfolding(crate::specs::Profiles::are_lawful_bits))]
-fn are_lawful_bits(csr: ChosenCsr, mask: u64, fixed: u64) -> bool
-    ensures { result ≡ are_lawful_bits csr mask fixed }
+fn are_lawful_bits(stored: StoredCsr, mask: u64, fixed: u64) -> bool
+    ensures { result ≡ are_lawful_bits stored mask fixed }
 {
-    let least = least_bits(csr);
-    mask & most_bits(csr) == mask
-        && mask & least == least
-        && fixed & fixable_bits(csr) == fixed
+    let row = stored.row();
+    mask & row.most == mask
+        && mask & row.least == row.least
+        && fixed & row.fixable == fixed
         && fixed & mask == 0
 }
 

@@ -15,7 +15,7 @@ use Rattle.hart_words.specs.Spans.{holds_all}
 use Rattle.hart_words.proofs.Runs.{run_then-is}
 use Rattle.hart_words.proofs.Extended.{extends_signs}
 use Rattle.std.proofs.Math.Nat.{mod-eq_of_lt}
-use Rattle.csr_file.specs.Profiles.{fixed_bits, plain_profile}
+use Rattle.csr_file.specs.Profiles.{fixed_bits, plain_profile, writable_bits}
 use Rattle.csr_file.specs.Registers.{at, csrs_at_reset, csrs_at_reset_of}
 use Rattle.mem_access.specs.declared.place.Atomicity.TheVariants.{Plain}
 use Rattle.rv_integer.specs.declared.int_result.MemoryRequest.{MemoryRequest}
@@ -32,7 +32,7 @@ use Rattle.made_runs.proofs.Fetches.{reached_at_reset}
 
 -- in M no other mode's accesses are made
 mode_at_reset : data_mode_of csrs_at_reset Machine ≡ Machine
-unfolding data_mode_of at csrs_at_reset csrs_at_reset_of plain_profile fixed_bits
+unfolding data_mode_of at csrs_at_reset csrs_at_reset_of plain_profile fixed_bits writable_bits
 mode_at_reset = refl
 
 cell_inside : (map : Map) → IsMadeMap map → holds_all map.ram 0x80001000 8 ≡ true

@@ -2,7 +2,7 @@
 use Rattle.std.proofs.Common.{◌≡◌, ℕ, zero, suc, ◌+◌, ◌-◌, ◌<◌, Bool, true, false, List, [], ◌∷◌, ◌++◌}
 use Rattle.std.proofs.Common.{length, get_or, map, drop, refl, sym, ap, subst, ◌∙◌, inl, inr, if◌then◌else◌}
 use Rattle.std.proofs.Common.{arith}
-use Rattle.std.specs.Prelude.{◌&&◌, ◌==◌, ◌^◌, nat_lt, replicate}
+use Rattle.std.specs.Prelude.{◌&&◌, ◌==◌, ◌^◌, nat_lt, replicate, slice_index}
 use Rattle.std.specs.Int.{w64, to_le_bytes}
 use Rattle.std.specs.List.{list_all, range_with_len}
 use Rattle.std.proofs.lemmas.Bool.{cases_lt}
@@ -10,25 +10,24 @@ use Rattle.std.proofs.lemmas.Bool.Decides.{Decides-eqb, Decides-ltb, nat_tests}
 use Rattle.std.proofs.lemmas.Nat.{pow_pos}
 use Rattle.std.proofs.lemmas.List.FromFn.{get_or-map-range_with_len}
 use Rattle.std.proofs.Math.ListN.{get_or-append, get_or-eq_default}
-use Rattle.std.proofs.lemmas.List.{get_or-append_right, get_or-drop}
+use Rattle.std.proofs.lemmas.List.{get_or-append_right, get_or-drop, get_or-map}
 use Rattle.hart_words.specs.declared.privilege.PmpEntry.{PmpEntry}
 use Rattle.csr_file.specs.Legal.{is_legal_address, is_legal_configuration}
+use Rattle.csr_file.specs.Table.{stored_index_of}
+use Rattle.csr_file.proofs.Places.{at_list, inside, of_each}
 use Rattle.csr_file.proofs.LegalTests.{both, legal_configuration, legal_value}
 use Rattle.csr_file.specs.declared.profile.CsrProfile.{CsrProfile}
 use Rattle.csr_file.specs.declared.profile.EntryCount.{EntryCount}
 use Rattle.csr_file.specs.declared.profile.EntryCount.TheVariants.{Zero, Eight, Sixteen}
 use Rattle.csr_file.specs.declared.stored_csr.StoredCsr.{StoredCsr}
-use Rattle.csr_file.specs.declared.stored_csr.StoredCsr.TheVariants.{Mstatus, Medeleg, Mideleg, Mie, Mtvec, Mcounteren}
-use Rattle.csr_file.specs.declared.stored_csr.StoredCsr.TheVariants.{Menvcfg, Mcountinhibit, Mscratch, Mepc, Mcause}
-use Rattle.csr_file.specs.declared.stored_csr.StoredCsr.TheVariants.{Mtval, Mip, Stvec, Scounteren, Senvcfg, Sscratch}
-use Rattle.csr_file.specs.declared.stored_csr.StoredCsr.TheVariants.{Sepc, Scause, Stval, Satp}
+use Rattle.csr_file.specs.declared.stored_csr.StoredCsr.TheVariants.{Mstatus}
 use Rattle.csr_file.specs.Legal.{IsLegalValue, IsLegalEntry, IsLegal}
 use Rattle.csr_file.specs.Profiles.{entry_bits_of, entry_count_of}
 use Rattle.csr_file.specs.Registers.{at, no_entry}
 use Rattle.state_text.specs.declared.numbers.NumberKind.{NumberKind}
 use Rattle.state_text.specs.declared.numbers.NumberKind.TheVariants.{Register, Stored, EntryAddress}
 use Rattle.state_text.specs.declared.numbers.TheConstants.{KINDS}
-use Rattle.state_text.specs.Numbers.{configurations_in, pmp_entry_in, csrs_with}
+use Rattle.state_text.specs.Numbers.{configurations_in, pmp_entry_in, csrs_with, stored_place, stored_places}
 use Rattle.state_text.specs.Values.{is_entry, is_legal}
 use Rattle.state_text.proofs.NumberLines.{AreLegal, legal_at}
 
@@ -103,6 +102,23 @@ address_legal profile false value h =
     let none : value ≡ 0 = (Decides-eqb value 0).0 h in
     rw none (pow_pos (entry_bits_of profile))
 
+-- ---- stored registers
+
+-- each has the number at its place, where the text has that register
+number_at : (numbers : List ℕ) (stored : StoredCsr)
+    → slice_index (map (slice_index numbers) stored_places) (stored_index_of stored)
+    ≡ slice_index numbers (stored_place stored)
+number_at numbers stored =
+    get_or-map (slice_index numbers) stored_places (stored_index_of stored) 0 0 (inside stored)
+    ∙ ap (slice_index numbers) (at_list stored_place stored)
+
+kind_at : (stored : StoredCsr) → get_or KINDS (stored_place stored) Register ≡ Stored stored
+kind_at Mstatus = refl
+kind_at _ = refl
+
+place_below : (stored : StoredCsr) → stored_place stored < 70
+place_below stored = (Decides-ltb _ _).0 (of_each (λ one. nat_lt (stored_place one) 70) refl stored)
+
 -- the registers that have the numbers of a text are legal
 pub legal_csrs : (profile : CsrProfile) (numbers : List ℕ) → length numbers ≡ 70 → AreLegal profile KINDS numbers
     → IsLegal (csrs_with profile numbers)
@@ -122,32 +138,12 @@ legal_csrs profile numbers len legal = record {
     here : (place : ℕ) → place < 70 → is_legal profile (get_or KINDS place Register) (get_or numbers place 0) ≡ true
     here place within = legal_at profile KINDS numbers place legal within (omega arith)
 
-    stored_legal : (stored : StoredCsr) (value : ℕ) → is_legal profile (Stored stored) value ≡ true
-        → IsLegalValue profile stored value
-    stored_legal stored value h = legal_value profile stored value h
-
     values : (stored : StoredCsr) → IsLegalValue profile stored (at (csrs_with profile numbers) stored)
-    values Mstatus = stored_legal Mstatus (get_or numbers 31 0) (here 31 (omega arith))
-    values Medeleg = stored_legal Medeleg (get_or numbers 32 0) (here 32 (omega arith))
-    values Mideleg = stored_legal Mideleg (get_or numbers 33 0) (here 33 (omega arith))
-    values Mie = stored_legal Mie (get_or numbers 34 0) (here 34 (omega arith))
-    values Mtvec = stored_legal Mtvec (get_or numbers 35 0) (here 35 (omega arith))
-    values Mcounteren = stored_legal Mcounteren (get_or numbers 37 0) (here 37 (omega arith))
-    values Menvcfg = stored_legal Menvcfg (get_or numbers 39 0) (here 39 (omega arith))
-    values Mcountinhibit = stored_legal Mcountinhibit (get_or numbers 41 0) (here 41 (omega arith))
-    values Mscratch = tt
-    values Mepc = stored_legal Mepc (get_or numbers 44 0) (here 44 (omega arith))
-    values Mcause = tt
-    values Mtval = tt
-    values Mip = stored_legal Mip (get_or numbers 50 0) (here 50 (omega arith))
-    values Stvec = stored_legal Stvec (get_or numbers 36 0) (here 36 (omega arith))
-    values Scounteren = stored_legal Scounteren (get_or numbers 38 0) (here 38 (omega arith))
-    values Senvcfg = stored_legal Senvcfg (get_or numbers 40 0) (here 40 (omega arith))
-    values Sscratch = tt
-    values Sepc = stored_legal Sepc (get_or numbers 45 0) (here 45 (omega arith))
-    values Scause = tt
-    values Stval = tt
-    values Satp = stored_legal Satp (get_or numbers 51 0) (here 51 (omega arith))
+    values stored =
+        subst (IsLegalValue profile stored) (sym (number_at numbers stored))
+        (legal_value profile stored (get_or numbers (stored_place stored) 0)
+        (subst (λ kind. is_legal profile kind (get_or numbers (stored_place stored) 0) ≡ true) (kind_at stored)
+        (here (stored_place stored) (place_below stored))))
 
     low : (if is_entry profile 0 then list_all is_legal_configuration (to_le_bytes w64 (get_or numbers 52 0))
         else get_or numbers 52 0 == 0) ≡ true

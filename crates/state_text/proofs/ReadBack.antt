@@ -22,7 +22,7 @@ use Rattle.csr_file.specs.Legal.{is_legal_configuration}
 use Rattle.csr_file.proofs.LegalTests.{and_both, configuration_legal, value_legal}
 use Rattle.state_text.specs.Values.{is_entry, is_legal}
 use Rattle.hart_words.specs.declared.registers.Registers.{Registers}
-use Rattle.csr_file.specs.Registers.{stored_index_of}
+use Rattle.csr_file.specs.Table.{stored_index_of}
 use Rattle.state_text.specs.declared.numbers.TheConstants.{KINDS}
 use Rattle.state_text.proofs.NumberLines.{AreLegal}
 

@@ -1,5 +1,5 @@
 -- The numbers of a hart that holds words.
-use Rattle.std.proofs.Common.{◌≡◌, ℕ, suc, ◌<◌, ◌≤◌, ◌^◌, List, [], ◌∷◌, length, get_or, map, All, refl, sym, ap, ◌∙◌, subst}
+use Rattle.std.proofs.Common.{◌≡◌, ℕ, suc, ◌<◌, ◌≤◌, ◌^◌, length, get_or, map, All, refl, sym, ap, ◌∙◌, subst}
 use Rattle.std.proofs.Common.{inl, inr, lit<, arith, Option, Some, None}
 use Rattle.std.specs.Prelude.{◌==◌, ◌-◌, false, slice_index}
 use Rattle.std.proofs.lemmas.Bool.Decides.{nat_tests}
@@ -12,11 +12,9 @@ use Rattle.hart_words.specs.declared.registers.Registers.{Registers}
 use Rattle.hart_words.specs.Registers.{register_of}
 use Rattle.csr_file.specs.declared.csrs.Csrs.{Csrs}
 use Rattle.csr_file.specs.declared.stored_csr.StoredCsr.{StoredCsr}
-use Rattle.csr_file.specs.declared.stored_csr.StoredCsr.TheVariants.{Mstatus, Medeleg, Mideleg, Mie, Mtvec, Mcounteren}
-use Rattle.csr_file.specs.declared.stored_csr.StoredCsr.TheVariants.{Menvcfg, Mcountinhibit, Mscratch, Mepc, Mcause}
-use Rattle.csr_file.specs.declared.stored_csr.StoredCsr.TheVariants.{Mtval, Mip, Stvec, Scounteren, Senvcfg, Sscratch}
-use Rattle.csr_file.specs.declared.stored_csr.StoredCsr.TheVariants.{Sepc, Scause, Stval, Satp}
-use Rattle.csr_file.specs.Registers.{at, no_entry, pmp_entry_of, stored_index_of}
+use Rattle.csr_file.specs.declared.stored_csr.StoredCsr.TheVariants.{Mstatus}
+use Rattle.csr_file.specs.Registers.{at, no_entry, pmp_entry_of}
+use Rattle.csr_file.specs.Table.{stored_csrs, stored_index_of}
 
 pub register_value : (registers : Registers) → ((number : ℕ) → register_of registers number < 2 ^ 64) → (k : ℕ)
     → slice_index registers.values k < 2 ^ 64
@@ -25,16 +23,10 @@ register_value registers words k =
     let back : suc k - 1 ≡ k = omega arith in
     rw (apart, back) at (words (suc k))
 
--- the stored registers, in the order in which they are stored
-abbrev stored : List StoredCsr
-stored =
-    Mstatus ∷ Medeleg ∷ Mideleg ∷ Mie ∷ Mtvec ∷ Mcounteren ∷ Menvcfg ∷ Mcountinhibit ∷ Mscratch ∷ Mepc ∷ Mcause ∷
-    Mtval ∷ Mip ∷ Stvec ∷ Scounteren ∷ Senvcfg ∷ Sscratch ∷ Sepc ∷ Scause ∷ Stval ∷ Satp ∷ []
-
-index_at : (k : ℕ) → k < 21 → stored_index_of (get_or stored k Mstatus) ≡ k
+index_at : (k : ℕ) → k < 21 → stored_index_of (get_or stored_csrs k Mstatus) ≡ k
 index_at k below =
-    let indices : map stored_index_of stored ≡ range_with_len 0 21 = refl in
-    sym (get_or-map stored_index_of stored k Mstatus) ∙ ap (λ xs. get_or xs k 0) indices
+    let indices : map stored_index_of stored_csrs ≡ range_with_len 0 21 = refl in
+    sym (get_or-map stored_index_of stored_csrs k Mstatus) ∙ ap (λ xs. get_or xs k 0) indices
     ∙ get_or-range_with_len 0 21 k 0 below ∙ omega arith
 
 pub csr_value : (csrs : Csrs) → ((stored : StoredCsr) → at csrs stored < 2 ^ 64) → length csrs.values ≡ 21 → (k : ℕ)
@@ -42,7 +34,7 @@ pub csr_value : (csrs : Csrs) → ((stored : StoredCsr) → at csrs stored < 2 ^
 unfolding at
 csr_value csrs words whole k = elim (cases_lt k 21) [
   | inl below ↦
-      subst (λ i. slice_index csrs.values i < 2 ^ 64) (index_at k below) (words (get_or stored k Mstatus))
+      subst (λ i. slice_index csrs.values i < 2 ^ 64) (index_at k below) (words (get_or stored_csrs k Mstatus))
   | inr past ↦ let long : length csrs.values ≤ k = omega (arith, past, whole) in rw (get_or-eq_default csrs.values 0 long) (lit< tt)
 ]
 

@@ -1,19 +1,17 @@
 -- The numbered lines: the integer registers and the control and status registers, in the order of the text, and what of
 -- the hart each of them is.
-use Rattle.std.specs.Prelude.{ℕ, ◌+◌, List, [], ◌∷◌, ◌++◌, codes, map, slice_index, take}
-use Rattle.std.specs.List.{range_with_len}
+use Rattle.std.specs.Prelude.{ℕ, ◌+◌, ◌==◌, List, [], ◌∷◌, ◌++◌, codes, map, slice_index, take}
+use Rattle.std.specs.List.{position_or_len, range_with_len}
 use Rattle.std.specs.Int.{w64, to_le_bytes}
 use Rattle.hart_words.specs.declared.privilege.PmpEntry.{PmpEntry}
 use Rattle.hart_words.specs.declared.registers.Registers.{Registers}
 use Rattle.csr_file.specs.declared.csrs.Csrs.{Csrs}
 use Rattle.csr_file.specs.declared.profile.CsrProfile.{CsrProfile}
 use Rattle.csr_file.specs.declared.stored_csr.StoredCsr.{StoredCsr}
-use Rattle.csr_file.specs.declared.stored_csr.StoredCsr.TheVariants.{Mstatus, Medeleg, Mideleg, Mie, Mtvec, Mcounteren}
-use Rattle.csr_file.specs.declared.stored_csr.StoredCsr.TheVariants.{Menvcfg, Mcountinhibit, Mscratch, Mepc, Mcause}
-use Rattle.csr_file.specs.declared.stored_csr.StoredCsr.TheVariants.{Mtval, Mip, Stvec, Scounteren, Senvcfg, Sscratch}
-use Rattle.csr_file.specs.declared.stored_csr.StoredCsr.TheVariants.{Sepc, Scause, Stval, Satp}
 use Rattle.csr_file.specs.Registers.{at}
+use Rattle.csr_file.specs.Table.{stored_csrs, stored_index_of}
 use Rattle.csr_file.specs.Values.{packed_pmpcfg_of}
+use Rattle.state_text.specs.declared.numbers.TheConstants.{SAVED_CSRS}
 
 -- the names, each with the blank that ends it
 abbrev pub number_names : List (List ℕ)
@@ -35,9 +33,7 @@ number_names =
 
 -- the stored control and status registers in the order of the text
 abbrev pub saved_csrs : List StoredCsr
-saved_csrs =
-    Mstatus ∷ Medeleg ∷ Mideleg ∷ Mie ∷ Mtvec ∷ Stvec ∷ Mcounteren ∷ Scounteren ∷ Menvcfg ∷ Senvcfg ∷
-    Mcountinhibit ∷ Mscratch ∷ Sscratch ∷ Mepc ∷ Sepc ∷ Mcause ∷ Scause ∷ Mtval ∷ Stval ∷ Mip ∷ Satp ∷ []
+saved_csrs = SAVED_CSRS
 
 -- those of physical memory protection: the configurations of the first entries and of the others, and the addresses
 abbrev pub protection_numbers_of : Csrs → List ℕ
@@ -52,10 +48,14 @@ numbers_of registers csrs = registers.values ++ (map (at csrs) saved_csrs ++ pro
 abbrev pub registers_with : List ℕ → Registers
 registers_with numbers = record { values = take 31 numbers }
 
--- where the value of each stored register is among the numbers, in the order in which they are stored
+-- where the value of a stored register is among the numbers
+abbrev pub stored_place : StoredCsr → ℕ
+stored_place stored =
+    31 + position_or_len (λ one. stored_index_of one == stored_index_of stored) saved_csrs
+
+-- the same of each, in the order in which they are stored
 abbrev pub stored_places : List ℕ
-stored_places =
-    31 ∷ 32 ∷ 33 ∷ 34 ∷ 35 ∷ 37 ∷ 39 ∷ 41 ∷ 42 ∷ 44 ∷ 46 ∷ 48 ∷ 50 ∷ 36 ∷ 38 ∷ 40 ∷ 43 ∷ 45 ∷ 47 ∷ 49 ∷ 51 ∷ []
+stored_places = map stored_place stored_csrs
 
 -- the configuration bytes of physical memory protection
 abbrev pub configurations_in : List ℕ → List ℕ

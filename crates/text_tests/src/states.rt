@@ -1,4 +1,3 @@
-use csr_file::profile::ChosenCsr;
 use csr_file::{CsrProfile, EntryCount, StoredCsr};
 use hart_words::{Choices, Map, Mode, Span};
 use state_text::{FaultKind, MOST_HARTS, Platform, StateError, StateFault, read_state};
@@ -310,8 +309,8 @@ fn values_of_a_core(rt: HostRuntime) -> Result<(), Fail> {
         entry_bits: 10,
         ..plain
     };
-    let narrow = plain.with_bits(ChosenCsr::Medeleg, 0, 0);
-    let fixed = plain.with_bits(ChosenCsr::Menvcfg, 0, 0x80);
+    let narrow = plain.with_bits(StoredCsr::Medeleg, 0, 0);
+    let fixed = plain.with_bits(StoredCsr::Menvcfg, 0, 0x80);
     let cases: [(CsrProfile, usize, &str, bool); 10] = [
         (few, 59, "csr_pmpcfg0 1f00000000000000\n", true),
         (few, 60, "csr_pmpcfg2 000000000000001f\n", false),

@@ -1,9 +1,9 @@
 -- Entries and returns keep the registers legal.
-use Rattle.std.proofs.Common.{◌≡◌, ◌≢◌, inl, inr, ℕ, ◌+◌, ◌-◌, ◌*◌, ◌%◌, ◌^◌, ◌<◌, Bool, ◌==◌, bit_and, bit_or}
+use Rattle.std.proofs.Common.{◌≡◌, ◌≢◌, inl, inr, ℕ, ◌+◌, ◌-◌, ◌*◌, ◌%◌, ◌^◌, ◌<◌, Bool, ◌==◌, bit_and}
 use Rattle.std.proofs.Common.{slice_index, if◌then◌else◌, refl, ap, ◌∙◌, sym, subst, lit<, arith}
 use Rattle.std.specs.Int.{bit_at}
-use Rattle.std.specs.Int.Bits.{and_comm, and_le_r, or_comm}
-use Rattle.std.proofs.lemmas.Nat.{and_assoc, and_or_self}
+use Rattle.std.specs.Int.Bits.{and_comm, and_le_r}
+use Rattle.std.proofs.lemmas.Nat.{and_assoc}
 use Rattle.std.proofs.lemmas.Nat.Bits.{bit_at-lt}
 use Rattle.std.proofs.lemmas.Bool.{cases_Bool, cases_eq}
 use Rattle.hart_words.specs.declared.privilege.Mode.{Mode}
@@ -11,18 +11,17 @@ use Rattle.hart_words.specs.declared.privilege.Mode.TheVariants.{User, Superviso
 use Rattle.hart_words.specs.Privilege.{mode_number}
 use Rattle.csr_file.specs.declared.csrs.Csrs.{Csrs}
 use Rattle.csr_file.specs.declared.stored_csr.StoredCsr.TheVariants.{Mstatus, Mepc, Mcause, Mtval, Sepc, Scause, Stval}
-use Rattle.csr_file.specs.declared.profile.ChosenCsr.TheVariants as chosen
 use Rattle.csr_file.specs.declared.profile.CsrProfile.{CsrProfile}
 use Rattle.csr_file.specs.declared.fields.TheConstants.{MIE, MPIE, SIE, SPIE, MPRV}
 use Rattle.csr_file.specs.Registers.{at as value_at, with_at}
 use Rattle.csr_file.specs.Fields.{all_bits, masked_update, mpp_of}
-use Rattle.csr_file.specs.Table.{status_constant}
-use Rattle.csr_file.specs.Profiles.{chosen_index_of, fixable_bits, fixed_bits, fixed_in, least_bits, most_bits}
-use Rattle.csr_file.specs.Profiles.{writable_bits, writable_in}
-use Rattle.csr_file.specs.Legal.{IsLegal, IsLegalStatus, KeepsFixed}
+use Rattle.csr_file.specs.Table.{status_constant, stored_index_of}
+use Rattle.csr_file.specs.Profiles.{fixable_bits, fixed_bits, least_bits, writable_bits}
+use Rattle.csr_file.specs.Legal.{IsLegal, IsLegalValue, KeepsFixed}
 use Rattle.csr_file.proofs.Bits.{IsWithinMask, merged_keeps, under_apart, within_first, within_larger, within_or}
 use Rattle.csr_file.proofs.Bits.{within_second}
-use Rattle.csr_file.proofs.Profiles.{writable_fits}
+use Rattle.csr_file.proofs.Profiles.{least_stays, writable_fits}
+use Rattle.csr_file.proofs.LegalTests.{even_legal, whole_legal}
 use Rattle.csr_file.proofs.Legal.{legal_with, status_with_mpp, status_without_mpp}
 use Rattle.trap_entry.specs.Entries.{machine_stack, supervisor_stack, status_into_machine, status_into_supervisor}
 use Rattle.trap_entry.specs.Entries.{enter_machine_of, enter_supervisor_of}
@@ -40,20 +39,16 @@ abbrev kept_bits : CsrProfile → ℕ
 kept_bits profile = all_bits - writable_bits profile Mstatus
 
 -- what every core lets writes change is apart from them
-part_of_least : (profile : CsrProfile) (mask : ℕ) → IsWithinMask (least_bits chosen.Mstatus) mask
+part_of_least : (profile : CsrProfile) (mask : ℕ) → IsWithinMask (least_bits Mstatus) mask
     → bit_and mask (kept_bits profile) ≡ 0
-unfolding writable_bits
 part_of_least profile mask part =
-    let least = least_bits chosen.Mstatus in
-    let more = bit_and (slice_index profile.masks (chosen_index_of chosen.Mstatus)) (most_bits chosen.Mstatus) in
-    let has : bit_and least (bit_or least more) ≡ least =
-    and_comm least (bit_or least more) ∙ ap (λ v. bit_and v least) (or_comm least more) ∙ and_or_self least more in
-    ap (λ v. bit_and v (all_bits - writable_in profile chosen.Mstatus))
-    (sym (within_larger least (writable_in profile chosen.Mstatus) mask has part))
-    ∙ under_apart mask (writable_in profile chosen.Mstatus) (writable_fits profile Mstatus)
+    let writable = writable_bits profile Mstatus in
+    ap (λ v. bit_and v (all_bits - writable))
+    (sym (within_larger (least_bits Mstatus) writable mask (least_stays profile Mstatus refl) part))
+    ∙ under_apart mask writable (writable_fits profile Mstatus)
 
-into_machine : {profile : CsrProfile} (status : ℕ) (mode : Mode) → IsLegalStatus profile status
-    → IsLegalStatus profile (status_into_machine status mode)
+into_machine : {profile : CsrProfile} (status : ℕ) (mode : Mode) → IsLegalValue profile Mstatus status
+    → IsLegalValue profile Mstatus (status_into_machine status mode)
 unfolding status_into_machine
 into_machine {profile} status mode legal =
     status_with_mpp machine_stack _ (lit< tt) (part_of_least profile machine_stack refl) refl refl
@@ -61,8 +56,8 @@ into_machine {profile} status mode legal =
     (sym (machine_mpp (bit_at status MIE) (mode_number mode) (bit_at-lt status MIE) (number_fits mode)) ∙ two))
     legal
 
-into_supervisor : {profile : CsrProfile} (status : ℕ) (mode : Mode) → IsLegalStatus profile status
-    → IsLegalStatus profile (status_into_supervisor status mode)
+into_supervisor : {profile : CsrProfile} (status : ℕ) (mode : Mode) → IsLegalValue profile Mstatus status
+    → IsLegalValue profile Mstatus (status_into_supervisor status mode)
 unfolding status_into_supervisor
 into_supervisor {profile} status mode legal =
     status_without_mpp supervisor_stack _ (lit< tt) (part_of_least profile supervisor_stack refl) refl refl legal
@@ -75,11 +70,10 @@ other_bits = all_bits - 2 ^ MPRV
 fixed_elsewhere : (profile : CsrProfile) → IsWithinMask other_bits (fixed_bits profile Mstatus)
 unfolding fixed_bits
 fixed_elsewhere profile =
-    let fixed = slice_index profile.fixed (chosen_index_of chosen.Mstatus) in
-    within_or other_bits status_constant (fixed_in profile chosen.Mstatus) refl
-    (within_first other_bits (bit_and fixed (fixable_bits chosen.Mstatus))
-    (all_bits - writable_in profile chosen.Mstatus)
-    (within_second other_bits fixed (fixable_bits chosen.Mstatus) refl))
+    let fixed = slice_index profile.fixed (stored_index_of Mstatus) in
+    within_or other_bits status_constant _ refl
+    (within_first other_bits (bit_and fixed (fixable_bits Mstatus)) (all_bits - writable_bits profile Mstatus)
+    (within_second other_bits fixed (fixable_bits Mstatus) refl))
 
 cleared : (mask old value : ℕ) → IsWithinMask other_bits (all_bits - mask) → IsWithinMask other_bits value
     → IsWithinMask other_bits (masked_update mask old value)
@@ -120,14 +114,14 @@ sret_clears enable few = elim (cases_eq enable 0) [
 none_is_not_2 : (n : ℕ) → n ≡ 0 → n ≢ 2
 none_is_not_2 n none two = omega arith
 
-to_machine : {profile : CsrProfile} (status : ℕ) → IsLegalStatus profile status
-    → IsLegalStatus profile (masked_update machine_stack status (2 ^ MIE * bit_at status MPIE + 2 ^ MPIE))
+to_machine : {profile : CsrProfile} (status : ℕ) → IsLegalValue profile Mstatus status
+    → IsLegalValue profile Mstatus (masked_update machine_stack status (2 ^ MIE * bit_at status MPIE + 2 ^ MPIE))
 to_machine {profile} status legal =
     status_with_mpp machine_stack _ (lit< tt) (part_of_least profile machine_stack refl) refl refl
     (none_is_not_2 _ (mret_mpp (bit_at status MPIE) (bit_at-lt status MPIE))) legal
 
-to_other : {profile : CsrProfile} (status : ℕ) → IsLegalStatus profile status
-    → IsLegalStatus profile (masked_update machine_stack_and_mprv status (2 ^ MIE * bit_at status MPIE + 2 ^ MPIE))
+to_other : {profile : CsrProfile} (status : ℕ) → IsLegalValue profile Mstatus status
+    → IsLegalValue profile Mstatus (masked_update machine_stack_and_mprv status (2 ^ MIE * bit_at status MPIE + 2 ^ MPIE))
 to_other {profile} status legal =
     let value = 2 ^ MIE * bit_at status MPIE + 2 ^ MPIE in
     let few = bit_at-lt status MPIE in
@@ -135,17 +129,17 @@ to_other {profile} status legal =
       constant =
           clears_mprv profile machine_stack machine_stack_and_mprv status value (lit< tt)
           (part_of_least profile machine_stack refl) refl refl (mret_clears (bit_at status MPIE) few) legal.constant;
-      previous =
+      rule =
           none_is_not_2 _
           (mpp_taken machine_stack_and_mprv status value (lit< tt) refl refl ∙ mret_mpp (bit_at status MPIE) few);
     }
 
-by_mret : {profile : CsrProfile} (status : ℕ) → IsLegalStatus profile status
-    → IsLegalStatus profile (status_by_mret status)
+by_mret : {profile : CsrProfile} (status : ℕ) → IsLegalValue profile Mstatus status
+    → IsLegalValue profile Mstatus (status_by_mret status)
 unfolding status_by_mret
 by_mret {profile} status legal =
     let Legal : Bool → Type 0 =
-    λ b. IsLegalStatus profile
+    λ b. IsLegalValue profile Mstatus
     (masked_update (if b then machine_stack else machine_stack_and_mprv) status
     (2 ^ MIE * bit_at status MPIE + 2 ^ MPIE)) in
     elim (cases_Bool (mpp_of status == 3)) [
@@ -153,8 +147,8 @@ by_mret {profile} status legal =
       | inr other ↦ subst Legal (sym other) (to_other status legal)
     ]
 
-by_sret : {profile : CsrProfile} (status : ℕ) → IsLegalStatus profile status
-    → IsLegalStatus profile (status_by_sret status)
+by_sret : {profile : CsrProfile} (status : ℕ) → IsLegalValue profile Mstatus status
+    → IsLegalValue profile Mstatus (status_by_sret status)
 unfolding status_by_sret
 by_sret {profile} status legal =
     let value = 2 ^ SIE * bit_at status SPIE + 2 ^ SPIE in
@@ -164,7 +158,7 @@ by_sret {profile} status legal =
           clears_mprv profile supervisor_stack supervisor_stack_and_mprv status value (lit< tt)
           (part_of_least profile supervisor_stack refl) refl refl (sret_clears (bit_at status SPIE) few)
           legal.constant;
-      previous = λ two. legal.previous (
+      rule = λ two. legal.rule (
           sym (mpp_kept supervisor_stack_and_mprv status value (lit< tt) refl refl) ∙ two);
     }
 
@@ -172,18 +166,18 @@ pub machine_legal : (csrs : Csrs) (mode : Mode) (value tval pc : ℕ) → IsLega
     → IsLegal (enter_machine_of csrs mode value tval pc)
 unfolding enter_machine_of with_at
 machine_legal csrs mode value tval pc legal even =
-    let first = legal_with csrs Mepc pc legal even in
-    let second = legal_with _ Mcause value first tt in
-    let third = legal_with _ Mtval tval second tt in
+    let first = legal_with csrs Mepc pc legal (even_legal _ Mepc pc refl even) in
+    let second = legal_with _ Mcause value first (whole_legal _ Mcause value refl) in
+    let third = legal_with _ Mtval tval second (whole_legal _ Mtval tval refl) in
     legal_with _ Mstatus _ third (into_machine (value_at csrs Mstatus) mode (legal.values Mstatus))
 
 pub supervisor_legal : (csrs : Csrs) (mode : Mode) (value tval pc : ℕ) → IsLegal csrs → pc % 2 ≡ 0
     → IsLegal (enter_supervisor_of csrs mode value tval pc)
 unfolding enter_supervisor_of with_at
 supervisor_legal csrs mode value tval pc legal even =
-    let first = legal_with csrs Sepc pc legal even in
-    let second = legal_with _ Scause value first tt in
-    let third = legal_with _ Stval tval second tt in
+    let first = legal_with csrs Sepc pc legal (even_legal _ Sepc pc refl even) in
+    let second = legal_with _ Scause value first (whole_legal _ Scause value refl) in
+    let third = legal_with _ Stval tval second (whole_legal _ Stval tval refl) in
     legal_with _ Mstatus _ third (into_supervisor (value_at csrs Mstatus) mode (legal.values Mstatus))
 
 pub mret_legal : (csrs : Csrs) → IsLegal csrs → IsLegal (mret_of csrs)

@@ -5,7 +5,8 @@ use Rattle.hart_words.specs.declared.privilege.Mode.{Mode}
 use Rattle.csr_file.specs.declared.csrs.Csrs.{Csrs}
 use Rattle.csr_file.specs.declared.stored_csr.StoredCsr.{StoredCsr}
 use Rattle.csr_file.specs.declared.stored_csr.StoredCsr.TheVariants.{Mstatus, Mepc, Mcause, Mtval, Sepc, Scause, Stval}
-use Rattle.csr_file.specs.Registers.{at as value_at, with_at, stored_index_of}
+use Rattle.csr_file.specs.Registers.{at as value_at, with_at}
+use Rattle.csr_file.specs.Table.{stored_index_of}
 use Rattle.csr_file.proofs.Places.{at_other, same_index}
 use Rattle.trap_entry.specs.Entries.{cause_value, is_delegated, enter_of, enter_machine_of, enter_supervisor_of}
 use Rattle.trap_entry.specs.Returns.{mret_of, sret_of}

@@ -11,7 +11,8 @@ use Rattle.csr_file.specs.declared.stored_csr.StoredCsr.{StoredCsr}
 use Rattle.csr_file.specs.declared.stored_csr.StoredCsr.TheVariants.{Mstatus, Mepc, Mcause, Mtval, Sepc, Scause, Stval}
 use Rattle.csr_file.specs.declared.stored_csr.TheConstants.{STORED_CSRS}
 use Rattle.csr_file.specs.declared.fields.TheConstants.{SIE, MIE, SPP}
-use Rattle.csr_file.specs.Registers.{at as value_at, with_at, stored_index_of}
+use Rattle.csr_file.specs.Registers.{at as value_at, with_at}
+use Rattle.csr_file.specs.Table.{stored_index_of}
 use Rattle.csr_file.specs.Fields.{mode_of_encoding, mpp_of}
 use Rattle.csr_file.proofs.Places.{at_same, at_other}
 use Rattle.trap_entry.specs.Entries.{is_delegated, cause_value, status_into_machine, status_into_supervisor, enter_of}

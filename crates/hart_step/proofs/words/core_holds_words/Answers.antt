@@ -1,4 +1,5 @@
-use Rattle.csr_file.specs.Registers.{at, stored_index_of}
+use Rattle.csr_file.specs.Registers.{at}
+use Rattle.csr_file.specs.Table.{stored_index_of}
 use Rattle.hart_step.proofs.WordLists.{register_is_word, value_is_word}
 use Rattle.hart_step.proofs.words.core_holds_words.Goals as goal
 
