@@ -8,3 +8,4 @@ pub mod Tininess
 pub mod Thresholds
 pub mod Nearest
 pub mod Order
+pub mod StdRounding

@@ -169,7 +169,7 @@ twice p m e d num (inr near) =
     let v : m * (2 ^ suc e * d) ≡ 2 * (m * (2 ^ e * d)) = ap (λ (n : ℕ). m * n) u ∙ mul_left_comm m 2 (2 ^ e * d) in
     inr ((near.0.0, omega (arith, near.0.1), omega (arith, near.0.2)), near.1)
 
--- THE LEMMA: a significand that stands for a fraction, with two digits more than are kept, rounds as it
+-- a significand that stands for a fraction, with two digits more than are kept, rounds as it
 pub rounds : (f : Format) (mode : RoundingMode) (negative : Bool) (m e c d num : ℕ) → 0 < d
     → Rounds (fraction_bits f) m (2 ^ e * d) num
     → rounded f mode negative (m * 2 ^ e) (2 ^ c) ≡ rounded f mode negative num (2 ^ c * d)

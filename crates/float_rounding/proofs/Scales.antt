@@ -14,7 +14,7 @@ size-gt : (n j : ℕ) → 2 ^ j ≤ n → j < size n
 size-gt n j h = lt_of_not-le (λ (g : size n ≤ j). not-le_of_lt (lt_of_lt_of_le (size-lt n) (pow_mono g)) h)
 
 -- k is the scale where p + 1 digits are enough for the quotient, and none could be kept more
-by_whole : (p w k : ℕ) → w / 2 ^ k < 2 ^ suc p → (0 < k → 2 ^ p ≤ w / 2 ^ k) → size w - suc p ≡ k
+pub by_whole : (p w k : ℕ) → w / 2 ^ k < 2 ^ suc p → (0 < k → 2 ^ p ≤ w / 2 ^ k) → size w - suc p ≡ k
 by_whole p w k fits full =
     let fits' : w < 2 ^ (suc p + k) =
     subst (λ n. w < n) (sym (pow-add 2 (suc p) k)) ((div-lt_iff_lt-mul (pow_pos k)).0 fits) in

@@ -69,7 +69,7 @@ units_next p k t small full = elim (cases_lt (t + 1) (2 ^ suc p)) [
     spread : (a b : ℕ) → a * (b + b) ≡ (a + a) * b
     spread a b = omega arith
 
--- THE LAW: a value lies between two neighbours, and the bits of the lower one are what is kept
+-- a value lies between two neighbours, and the bits of the lower one are what is kept
 pub record Between (p num den lower : ℕ) : Type 0 where
   pub least : units_at p lower * den ≤ num
   pub most : num < units_at p (lower + 1) * den
@@ -96,14 +96,14 @@ between p num den pos =
 -- ---- the bits count upwards
 
 -- the scale and the digits of a magnitude's bits
-record Split (p bits : ℕ) : Type 0 where
-  k : ℕ
-  t : ℕ
-  is : bits ≡ k * 2 ^ p + t
-  small : t < 2 ^ suc p
-  full : 0 < k → 2 ^ p ≤ t
+pub record Split (p bits : ℕ) : Type 0 where
+  pub k : ℕ
+  pub t : ℕ
+  pub is : bits ≡ k * 2 ^ p + t
+  pub small : t < 2 ^ suc p
+  pub full : 0 < k → 2 ^ p ≤ t
 
-split : (p bits : ℕ) → Split p bits
+pub split : (p bits : ℕ) → Split p bits
 split p bits = elim (cases_lt bits (2 ^ p)) [
   | inl few ↦ record {
     k = 0;

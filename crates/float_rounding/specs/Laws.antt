@@ -2,14 +2,16 @@
 -- units_at p bits, for any bits.
 use Rattle.std.specs.Prelude.{◌≡◌, ◌≢◌, ◌⊎◌, ℕ, ◌+◌, ◌-◌, ◌*◌, ◌%◌, ◌^◌, ◌<◌, ◌≤◌, ◌==◌, nat_lt, Bool, not}
 use Rattle.std.specs.Prelude.{if◌then◌else◌}
+use Rattle.std.specs.Float.Ieee.{Format as StdFormat, binary32, binary64, round, to_bits}
 use Rattle.float_rounding.specs.declared.format.Format.{Format}
+use Rattle.float_rounding.specs.declared.format.Format.TheVariants.{Single, Double}
 use Rattle.float_rounding.specs.declared.format.Flags.{Flags}
 use Rattle.float_rounding.specs.declared.format.Outcome.{Outcome}
 use Rattle.float_rounding.specs.declared.format.RoundingMode.{RoundingMode}
 use Rattle.float_rounding.specs.declared.format.RoundingMode.TheVariants.{NearestEven, TowardZero, Down, Up}
 use Rattle.float_rounding.specs.declared.format.RoundingMode.TheVariants.{NearestMaxMagnitude}
 use Rattle.float_rounding.specs.Flags.{nothing}
-use Rattle.float_rounding.specs.Formats.{fraction_bits, infinity, units_at}
+use Rattle.float_rounding.specs.Formats.{fraction_bits, infinity, unit_exponent, units_at}
 use Rattle.float_rounding.specs.Rounding.{place_of, goes_up, is_at_lower, magnitude, is_exact, is_tiny, signed}
 use Rattle.float_rounding.specs.Rounding.{rounded}
 
@@ -109,3 +111,14 @@ abbrev pub OppositesMirror : Type 0
 OppositesMirror =
     (f : Format) (mode : RoundingMode) (negative : Bool) (num den : ℕ)
     → AreOpposites f negative (rounded f mode negative num den) (rounded f (mirrored mode) (not negative) num den)
+
+-- to the nearest, ties to even, a number is rounded as std rounds it, whose floats are Rust's
+abbrev pub std_format : Format → StdFormat
+std_format Single = binary32
+std_format Double = binary64
+
+abbrev pub NearestEvenIsStd : Type 0
+NearestEvenIsStd =
+    (f : Format) (negative : Bool) (num den : ℕ) → 0 < den
+    → (rounded f NearestEven negative num den).bits
+    ≡ to_bits (std_format f) (round (std_format f) negative num (den * 2 ^ unit_exponent f))

@@ -1,6 +1,6 @@
 //! What rounding is, in the words of numerical analysis: laws of the definitions, and no code.
 
-ghost use Rattle.float_rounding.specs.Laws.{RoundsToANeighbour, BitsCountUpwards, ValueAlone, OneBinadeIsEnough, ValuesStay, NoneBetween, NoneNearer, OrderStays, OppositesMirror};
+ghost use Rattle.float_rounding.specs.Laws.{RoundsToANeighbour, BitsCountUpwards, ValueAlone, OneBinadeIsEnough, ValuesStay, NoneBetween, NoneNearer, OrderStays, OppositesMirror, NearestEvenIsStd};
 
 /// The result is the greatest magnitude not above the number, or the least above it.
 pub fn rounds_to_a_neighbour()
@@ -45,4 +45,9 @@ pub fn order_stays()
 /// Opposite numbers are rounded to opposite results, with the directed modes exchanged.
 pub fn opposites_mirror()
     ensures { OppositesMirror }
+{}
+
+/// To the nearest, ties to even, is the rounding of std, whose floats are Rust's.
+pub fn nearest_even_is_std()
+    ensures { NearestEvenIsStd }
 {}

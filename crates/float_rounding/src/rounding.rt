@@ -134,8 +134,10 @@ fn magnitude(p: u32, mode: RoundingMode, negative: bool, x: Dyadic, doublings: u
     requires some { 0 < x.significand }
     requires few { p ≤ 60 }
     requires once { doublings ≤ 1 }
-    ensures bits { result.bits ≡ magnitude p mode negative (x.significand * 2 ^ (x.raised + doublings)) (2 ^ x.lowered) }
-    ensures exact { result.exact ≡ is_exact p (x.significand * 2 ^ (x.raised + doublings)) (2 ^ x.lowered) }
+    ensures bits { result.bits ≡ magnitude p mode negative
+        (x.significand * 2 ^ (x.raised + doublings)) (2 ^ x.lowered) }
+    ensures exact { result.exact ≡ is_exact p (x.significand * 2 ^ (x.raised + doublings))
+        (2 ^ x.lowered) }
 {
     let taken = take(p, x.significand, x.raised + doublings, x.lowered);
     let up = goes_up(mode, negative, taken.lower % 2 == 1, taken.place);
