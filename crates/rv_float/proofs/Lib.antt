@@ -1,0 +1,10 @@
+pub mod Products
+pub mod Sticky
+pub mod Aligned
+pub mod Dividing
+pub mod Roots
+pub mod Wholes
+pub mod Ordered
+pub mod Classified
+pub mod Ones
+pub mod Lines

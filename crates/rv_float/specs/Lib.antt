@@ -1,0 +1,12 @@
+pub mod Unpacked
+pub mod Arithmetic
+pub mod Sums
+pub mod Significands
+pub mod Quotients
+pub mod Multiples
+pub mod Conversions
+pub mod Comparisons
+pub mod Choices
+pub mod Classes
+pub mod Signs
+pub mod Laws
