@@ -112,7 +112,7 @@ def opened(path, is_whole=True):
 
 @contextmanager
 def rows_between(words):
-    """The texts of a trace that is read and of one that is written; faults name the one that is read."""
+    """The texts of a trace that is read and of one that is written. Faults name the first."""
     try:
         with (
             source_of(words.trace, encoding="utf-8") as source,

@@ -237,9 +237,9 @@ class Places:
 
     def __init__(self, path):
         self.functions, self.lines, self.said = [], [], []
-        self.wanted = {}  # the instructions whose texts are shown
-        names = ("riscv64-unknown-elf-objdump", "riscv64-linux-gnu-objdump", "llvm-objdump")
-        self.objdump = next(filter(shutil.which, names[:2]), None)
+        self.wanted = {}  # the instructions whose texts are shown, numbered
+        names = ("riscv64-unknown-elf-objdump", "riscv64-linux-gnu-objdump")
+        self.objdump = next(filter(shutil.which, names), None)
         if not self.objdump:
             self.said.append("no disassembly: apt install binutils-riscv64-unknown-elf")
         if path:
@@ -293,28 +293,31 @@ class Places:
         return table[max(0, at - 1):at]
 
     def disassembly(self, pc, bits, width=0):
-        """What stands for the text of an instruction until `filled` puts it there."""
-        self.wanted.setdefault((pc, bits))
-        return f"\0{[*self.wanted].index((pc, bits))}:{width}\0"
+        """What stands for the text of an instruction until `filled` puts it there; without a width its
+        bits are shown where it has no text."""
+        return f"\0{self.wanted.setdefault((pc, bits), len(self.wanted))}:{width}\0"
 
     def filled(self, parts):
         """The parts of an explanation with the texts of their instructions, from one run of objdump."""
-        texts = self.disassembled([*self.wanted])
+        wanted = [*self.wanted]
+        texts = self.disassembled(wanted)
 
         def text(found):
-            return f"{texts[int(found[1])]:<{found[2]}}"
+            at, width = int(found[1]), int(found[2])
+            return texts[at].ljust(width) or hex(wanted[at][1])
 
         return [(title, [re.sub(r"\0(\d+):(\d+)\0", text, it).rstrip() for it in lines])
                 for title, lines in parts]
 
     def disassembled(self, wanted):
-        """The texts of instructions, each an address and bits. They stand side by side in one file, which
-        begins at 0, so that what a jump or a branch goes to is moved to where it is."""
+        """The texts of instructions, each an address and bits. They stand side by side in one file,
+        which begins at 0, so that what a jump or a branch goes to is moved to where it is."""
         ran = {}
         if self.objdump and wanted:
             with tempfile.NamedTemporaryFile() as file:
                 for _, bits in wanted:
-                    file.write(bits.to_bytes(4, "little")[: 4 if bits & 3 == 3 else 2].ljust(SLOT, b"\0"))
+                    word = bits.to_bytes(4, "little")[: 4 if bits & 3 == 3 else 2]
+                    file.write(word.ljust(SLOT, b"\0"))
                 file.flush()
                 ran = subprocess.run([self.objdump, "-D", "-z", "-b", "binary", "-m", "riscv:rv64",
                                       file.name], capture_output=True, text=True)

@@ -51,8 +51,8 @@ BY_FUNCT5 = {
 }
 WORDS = {0x73: "ecall", 0x100073: "ebreak", 0x10200073: "sret", 0x30200073: "mret",
          0x10500073: "wfi"}
-# Compressed instructions, with the registers that they read as rs1 and rs2, and that they write: "whole"
-# and "second" have all five bits, "high" and "low" three, "sp" is x2 and "ra" is x1.
+# Compressed instructions, with the registers that they read as rs1 and rs2, and that they write:
+# "whole" and "second" have all five bits, "high" and "low" three, "sp" is x2 and "ra" is x1.
 COMPRESSED = {
     "c.addi4spn": ("sp", "", "low"), "c.lw": ("high", "", "low"), "c.ld": ("high", "", "low"),
     "c.sw": ("high", "low", ""), "c.sd": ("high", "low", ""), "c.addi": ("whole", "", "whole"),

@@ -691,8 +691,8 @@ def arguments():
     parser = parser_of(__doc__)
     add_log(parser, "csr_medeleg_rdata")
     parser.add_argument("--pc", type=addresses, default=[RESET_PC], metavar="A[,A..]",
-                        help="address of the first row, as the judge's --pc, or one for each hart, where "
-                        "they stand apart at a checkpoint (default 0x80000000)")
+                        help="address of the first row, as the judge's --pc, or one for each hart, "
+                        "where they stand apart at a checkpoint (default 0x80000000)")
     parser.add_argument("--image", metavar="FILE",
                         help="the judge's image, for instructions that the log does not list")
     parser.add_argument("--harts", type=harts, default=1, metavar="N",

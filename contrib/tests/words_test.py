@@ -150,9 +150,8 @@ def check_interpreter():
             continue
         check("the interpreter", f'"{word.name}"' in source, f"{word.name} is missing")
         if action := chosen.pop(word.name, None):
-            usual = word.default or None
-            check("the interpreter", str(action.default) in (usual, str(judge_words.number(usual or "")))
-                  or usual is None and not action.default, f"{word.name}: {action.default!r}")
+            usual = (word.default, str(judge_words.number(word.default))) if word.default else ("{}",)
+            check("the interpreter", str(action.default) in usual, f"{word.name}: {action.default!r}")
             few = {str(it) for it in action.choices or ()}
             if word.kind == "one":
                 check("the interpreter", few == {*word.values}, f"{word.name}: {few}")
