@@ -13,7 +13,7 @@ it a program that takes interrupts differs, and so does one that cannot be fetch
 tells apart what stands at one address in several address spaces. qemu 7.2 lists a word whose seven low
 bits are 1, as 0xffffffff or 0x7f, without end: the trace ends there; the whole run needs exec without
 in_asm, and --image. What M carries out where MPRV of mstatus has loads translated it lists as loads
-find it: the instruction is then that of --image, or that which was listed there before. Without LOG,
+find it: the instruction is then that which was listed there before, or that of --image. Without LOG,
 or with - for it, standard input is read. A row is written for each instruction that was carried out
 or trapped, from the first at --pc on; what the log does not show stays an empty field. Memory use
 grows with the program's code, and not with the log.
@@ -295,7 +295,9 @@ class Translations:
         listed, self.listed = self.listed, []
         if listed and listed[0].mode == MACHINE and translates_loads(state):
             pc = listed[0].pc
-            bits = self.word(pc) if pc in self.image else self.of_machine.get(pc)
+            bits = self.of_machine.get(pc)
+            if bits is None and pc in self.image:
+                bits = self.word(pc)
             return Code(pc, bits, MACHINE)
         if len(listed) > 1:
             raise Refused("several instructions in one block: qemu was run without -singlestep")
