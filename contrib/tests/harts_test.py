@@ -333,6 +333,24 @@ def from_a_checkpoint(log, out):
         CONTRIB / "qemu_log.py", "--harts", 2, "--pc", "1,2,3", text=late))
 
 
+def listed_under_mprv():
+    """Where MPRV has loads translated, what was listed of M before counts, and else the image."""
+    plain, moved = ({"mstatus": status, "satp": "8000000000080000"} for status in ("0", "20000"))
+    code = qemu_log.Translations(dict(enumerate(b"\x93\0\0\0", START + 4)))
+    found = []
+    for pc, listed, values in ((START, "00000013", plain), (START, "00000033", moved),
+                               (START + 4, "Address", moved), (START + 8, "Address", moved)):
+        state = qemu_log.State("", [], tuple(values.get(it) for it in qemu_log.CSRS if it != "mip"),
+                               None, "0")
+        code.mode = 3
+        code.take(hex(pc), listed)
+        try:
+            found.append(code.find(pc, None, state).bits)
+        except qemu_log.Refused as fault:
+            found.append("give --image" in str(fault))
+    check("instructions of M under MPRV", found == [0x13, 0x13, 0x93, True], found)
+
+
 def judged_pieces(judge, out):
     """The run in two pieces, from a state of two harts."""
     rows, two = out.read_text().splitlines(), ["--harts", "2", *IO]
@@ -527,6 +545,7 @@ def main():
         rows_that_wait(log)
         values_at_start(log)
         from_a_checkpoint(log, out)
+        listed_under_mprv()
         documented()
         merged_again(folder, out)
         merged(folder)
