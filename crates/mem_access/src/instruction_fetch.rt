@@ -61,14 +61,23 @@ impl<'a, M: PhysMem> AddressSpace<'a, M> {
             accesses.seen.put(pc + 2, 2);
             return Ok((word, 4));
         }
-        let first = match parcel(self, self.mode, pc, accesses) {
+        // The parcels have a copy to point at, so that the caller's own is never in memory: as a
+        // rule no parcel is asked for.
+        let space = AddressSpace {
+            mem: self.mem,
+            csrs: self.csrs,
+            map: self.map,
+            choices: self.choices,
+            mode: self.mode,
+        };
+        let first = match parcel(&space, self.mode, pc, accesses) {
             Ok(first) => first,
             Err(exception) => return Err(exception),
         };
         if first % 4 != 3 {
             return Ok((u32::from(first), 2));
         }
-        match parcel(self, self.mode, pc.wrapping_add(2), accesses) {
+        match parcel(&space, self.mode, pc.wrapping_add(2), accesses) {
             Ok(second) => Ok((u32::from(first) + 0x1_0000 * u32::from(second), 4)),
             Err(exception) => Err(exception),
         }
