@@ -1,6 +1,8 @@
 //! The pages of an image by their number.
 
-ghost use Rattle.std.specs.Prelude.{◌≡◌, ◌+◌, ◌<◌, ℕ, Decides, IfOk, length};
+ghost use Rattle.std.specs.Prelude.{◌≡◌, ◌+◌, ◌*◌, ◌<◌, ◌≤◌, ℕ, Decides, IfOk, length};
+ghost use Rattle.std.specs.BTreeMap.{btree_map_len};
+ghost use Rattle.page_image.specs.declared.image.TheConstants.{NEAR, NEAR_A_PAGE};
 ghost use Rattle.page_image.specs.PageNumbers.{has_number};
 ghost use Rattle.page_image.specs.Pages.{IsNonzero, byte_or_zero, page_at, page_in};
 
@@ -142,7 +144,10 @@ impl PageImage {
 }
 
 /// The number of the first page of pieces, and one above the last that is to be found by its place.
-fn near_numbers(pieces: &Pieces) -> (u64, u64) {
+/// There are few between them, however far apart the pages are.
+fn near_numbers(pieces: &Pieces) -> (u64, u64)
+    ensures few { result.1 ≤ result.0 + (NEAR + NEAR_A_PAGE * btree_map_len pieces.now.pages) }
+{
     let pages = pieces.pages();
     let most = (pages.len() as u64)
         .saturating_mul(NEAR_A_PAGE)
