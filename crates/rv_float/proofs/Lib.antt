@@ -8,3 +8,4 @@ pub mod Ordered
 pub mod Classified
 pub mod Ones
 pub mod Lines
+pub mod Squares

@@ -1,5 +1,9 @@
 -- How the operations hang together.
-use Rattle.std.specs.Prelude.{◌≡◌, ◌⊎◌, ℕ, ◌*◌, ◌%◌, ◌^◌, ◌<◌, true, false}
+use Rattle.std.specs.Prelude.{◌≡◌, ◌⊎◌, ℕ, ◌+◌, ◌*◌, ◌%◌, ◌^◌, ◌<◌, ◌≤◌, ◌==◌, nat_lt, true, false, if◌then◌else◌}
+use Rattle.std.specs.Float.Ieee.{root_twice}
+use Rattle.float_rounding.specs.declared.format.Place.{Place}
+use Rattle.float_rounding.specs.declared.format.Place.TheVariants.{Exact, BelowHalf, Half, AboveHalf}
+use Rattle.float_rounding.specs.Rounding.{magnitude, is_exact, is_at_lower, goes_up}
 use Rattle.float_rounding.specs.declared.format.Format.{Format}
 use Rattle.float_rounding.specs.declared.format.Format.TheVariants.{Single, Double}
 use Rattle.float_rounding.specs.declared.format.RoundingMode.{RoundingMode}
@@ -69,3 +73,29 @@ pub record AreOrdered (f : Format) (a b c : ℕ) : Type 0 where
 
 abbrev pub NumbersAreOrdered : Type 0
 NumbersAreOrdered = (f : Format) (a b c : ℕ) → IsNumber f a → IsNumber f b → IsNumber f c → AreOrdered f a b c
+
+-- where a root stands between two neighbours, by squares: the sum of the neighbours is twice what is half-way
+abbrev pub root_place : ℕ → ℕ → ℕ → Place
+root_place square lower upper =
+    if square == lower * lower then Exact
+    else (if nat_lt (4 * square) ((lower + upper) * (lower + upper)) then BelowHalf
+    else (if 4 * square == (lower + upper) * (lower + upper) then Half else AboveHalf))
+
+-- the root of so many units is rounded to the neighbour below or the one above, by where it stands between them
+pub record RoundsTheRoot (f : Format) (units lower : ℕ) : Type 0 where
+  pub not_above : units_at (fraction_bits f) lower * units_at (fraction_bits f) lower ≤ units * 2 ^ unit_exponent f
+  pub next_above : units * 2 ^ unit_exponent f
+      < units_at (fraction_bits f) (lower + 1) * units_at (fraction_bits f) (lower + 1)
+  pub chosen : (mode : RoundingMode)
+      → magnitude (fraction_bits f) mode false (root_twice (units * 2 ^ unit_exponent f)) 2
+      ≡ lower
+      + (if goes_up mode false (lower % 2 == 1)
+      (root_place (units * 2 ^ unit_exponent f) (units_at (fraction_bits f) lower)
+      (units_at (fraction_bits f) (lower + 1)))
+      then 1 else 0)
+  pub unchanged : is_exact (fraction_bits f) (root_twice (units * 2 ^ unit_exponent f)) 2
+      ≡ is_at_lower (root_place (units * 2 ^ unit_exponent f) (units_at (fraction_bits f) lower)
+      (units_at (fraction_bits f) (lower + 1)))
+
+abbrev pub RootsRoundBySquares : Type 0
+RootsRoundBySquares = (f : Format) (units : ℕ) → 0 < units → (lower : ℕ) × RoundsTheRoot f units lower

@@ -1,6 +1,6 @@
 //! How the operations hang together: laws of the definitions, and no code.
 
-ghost use Rattle.rv_float.specs.Laws.{MinusZeroAddsNothing, OneMultipliesNothing, OneDividesNothing, RootsOfSquares, NumbersAreOrdered};
+ghost use Rattle.rv_float.specs.Laws.{MinusZeroAddsNothing, OneMultipliesNothing, OneDividesNothing, RootsOfSquares, RootsRoundBySquares, NumbersAreOrdered};
 
 /// FMADD with minus zero as the addend is FMUL, but for the sign of a zero.
 pub fn minus_zero_adds_nothing()
@@ -25,4 +25,9 @@ pub fn roots_of_squares()
 /// Numbers are in a total order, in which minus zero equals plus zero.
 pub fn numbers_are_ordered()
     ensures { NumbersAreOrdered }
+{}
+
+/// A root is rounded to the neighbour that its square says.
+pub fn roots_round_by_squares()
+    ensures { RootsRoundBySquares }
 {}
