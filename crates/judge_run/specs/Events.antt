@@ -41,4 +41,4 @@ pub record AreLeft {M : Type 0} (bytes_of : M → Bytes) (ram_of : M → Span) (
   pub view : View
   pub events : List Event
   pub events_are : AreEventsOf bytes_of ram_of
-      (record { origin = origin; columns = columns; segments = segments; guesses = guesses; founds = founds; view = view }) events
+      (record { keeps_history = origin; columns = columns; segments = segments; guesses = guesses; founds = founds; view = view }) events

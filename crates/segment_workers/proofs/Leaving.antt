@@ -104,7 +104,7 @@ leaves_founds {M} bytes_of ram_of ran events draws_are looks_are promised =
       so =
           found_so rows states ran.view n events looks_are by.worker _ _ (omega (arith, lawful.below, rows_many))
           (omega (arith, lawful.below, states_many)) by.so
-          (found_theirs ran.origin bytes_of ram_of ran.columns ran.segments ran.guesses _ lawful);
+          (found_theirs ran.keeps_history bytes_of ram_of ran.columns ran.segments ran.guesses _ lawful);
     })
 
 pub events_leave_founds : {M : Type 0} (bytes_of : M → Bytes) (ram_of : M → Span) (ran : WorkerRun M)

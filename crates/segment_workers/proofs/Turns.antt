@@ -128,7 +128,8 @@ module _ {M : Type 0} (bytes_of : M → Bytes) (ram_of : M → Span) (ran : Work
   agrees_not_ends : (number : ℕ) (what : What (JudgedSegment M)) (segment : Segment) (guess : HartSet Core M)
       → slice_get ran.segments number ≡ Some segment → slice_get ran.guesses number ≡ Some guess
       → is_some (judgement_from by_set (set_state_of bytes_of guess) (rows_of_segment ran.columns segment)).end ≡ true
-      → IsLawfulWhat ran.origin bytes_of ram_of ran.columns ran.segments ran.guesses number what → is_end what ≡ true → ⊥
+      → IsLawfulWhat ran.keeps_history bytes_of ram_of ran.columns ran.segments ran.guesses number what → is_end what ≡
+      true → ⊥
   agrees_not_ends number (Skipped least) segment guess here there agrees lawful end = cc
   agrees_not_ends number (Judged judged) segment guess here there agrees lawful end =
       let state = set_state_of bytes_of guess in
@@ -141,7 +142,7 @@ module _ {M : Type 0} (bytes_of : M → Bytes) (ram_of : M → Span) (ran : Work
   not_posted : (number : ℕ) → number < length ran.segments → AgreeBefore number → (least : ℕ) → least < number
       → 0 < count (is_end_of least) ran.founds → ⊥
   not_posted number below agree least low some =
-      let L = IsLawfulFound ran.origin bytes_of ram_of ran.columns ran.segments ran.guesses in
+      let L = IsLawfulFound ran.keeps_history bytes_of ram_of ran.columns ran.segments ran.guesses in
       let found = some_of L (is_end_of least) ran.founds promised.lawful some in
       let parts = and_parts _ _ found.2 in
       let same : found.0.seg ≡ least = eqb-true found.0.seg least parts.0 in
@@ -193,6 +194,7 @@ segments_judged_in_turn bytes_of ram_of ran promised =
     (judged_at bytes_of ram_of ran promised index below agree) in
     let found =
     found_is mine theirs ran.founds index
-    (founds_theirs ran.origin bytes_of ram_of ran.columns ran.segments ran.guesses ran.founds promised.lawful) here there in
+    (founds_theirs ran.keeps_history bytes_of ram_of ran.columns ran.segments ran.guesses ran.founds promised.lawful)
+    here there in
     subst (λ n. is_some (found_judgement founds n) ≡ true) number
     (subst (λ found. is_some found ≡ true) (sym found) some))

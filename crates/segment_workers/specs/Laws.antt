@@ -25,7 +25,7 @@ use Rattle.segment_workers.specs.Runs.{ArePosted, FoundBelow, HasReason, IsFound
 
 -- what a run was given, whether histories were to be kept, and what came of it: what was found, and the view of the seat of all workers
 pub record WorkerRun (M : Type 0) : Type 0 where
-  pub origin : Bool
+  pub keeps_history : Bool
   pub columns : TraceColumns
   pub segments : List Segment
   pub guesses : List (HartSet Core M)
@@ -35,7 +35,7 @@ pub record WorkerRun (M : Type 0) : Type 0 where
 -- what `run` promises of it
 pub record IsPromised {M : Type 0} (bytes_of : M → Bytes) (ram_of : M → Span) (ran : WorkerRun M) : Type 0 where
   pub one_each : length ran.guesses ≡ length ran.segments
-  pub lawful : All (IsLawfulFound ran.origin bytes_of ram_of ran.columns ran.segments ran.guesses) ran.founds
+  pub lawful : All (IsLawfulFound ran.keeps_history bytes_of ram_of ran.columns ran.segments ran.guesses) ran.founds
   pub once : FoundBelow (length ran.segments) ran.founds
   pub by : All (IsFoundBy ran.view) ran.founds
   pub reasons : All (HasReason ran.view.posts) ran.founds

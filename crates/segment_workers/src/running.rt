@@ -25,8 +25,8 @@ use verdict_board::{Board, Seat};
 
 /// Judges segments from the guesses before them, by one worker for each seat of a board: what was
 /// found of them, in any order, and the seats as one. A segment is skipped where one before it was
-/// posted. With `origin` the history of each that is judged is kept. Where memory is refused nothing
-/// is handed back. The call counts one on `steps`.
+/// posted. With `keeps_history` the history of each that is judged is kept. Where memory is refused
+/// nothing is handed back. The call counts one on `steps`.
 pub fn run<R: Threads + Sync, M: PhysMem + Drop + Send + Sync, G: Gate, L: Ledger>(
     rt: &R,
     alloc: Global,
@@ -36,7 +36,7 @@ pub fn run<R: Threads + Sync, M: PhysMem + Drop + Send + Sync, G: Gate, L: Ledge
     columns: &Columns,
     segments: &[Segment],
     gate: &G,
-    origin: bool,
+    keeps_history: bool,
     steps: &mut Steps<L>,
 ) -> Result<(Vec<Found<Judged<M>>>, Seat), NoMemory>
     requires seats { AreAllSeats (length segments.now) board.now seats.items }
@@ -44,7 +44,8 @@ pub fn run<R: Threads + Sync, M: PhysMem + Drop + Send + Sync, G: Gate, L: Ledge
     requires can_step { All (SetCanStep M.ram) guesses.now }
     requires below_2_to_32 { length segments.now < 2 ^ 32 }
     ensures lawful { IfOk result (λ done. All
-        (IsLawfulFound origin M.bytes M.ram columns.now segments.now guesses.now) done.0.items) }
+        (IsLawfulFound keeps_history M.bytes M.ram columns.now segments.now guesses.now)
+        done.0.items) }
     ensures once { IfOk result (λ done. FoundBelow (length segments.now) done.0.items) }
     ensures drawn { IfOk result (λ done.
         DrewEach (length segments.now) (view_of done.1).draws) }
@@ -65,13 +66,14 @@ pub fn run<R: Threads + Sync, M: PhysMem + Drop + Send + Sync, G: Gate, L: Ledge
         columns,
         segments,
         gate,
-        origin,
+        keeps_history,
     };
     let work = |worker: Worker| -> Result<Work<M>, NoMemory>
         requires { All (SetCanStep M.ram) task.guesses.now
             × IsFreshSeat (length task.segments.now) task.board.now worker.seat }
         ensures { IfOk result (HaveDone
-            (IsLawfulFound task.entry.origin M.bytes M.ram task.entry.columns.now task.entry.segments.now
+            (IsLawfulFound task.entry.keeps_history M.bytes M.ram task.entry.columns.now
+            task.entry.segments.now
             task.entry.guesses.now)
             (length task.entry.segments.now) (view_of worker.seat).seats 1
             task.entry.board.now) }

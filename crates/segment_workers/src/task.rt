@@ -22,7 +22,7 @@ pub(crate) struct Task<'a, M: PhysMem, G> {
     pub segments: &'a [Segment],
     pub gate: &'a G,
     /// Whether histories are kept.
-    pub origin: bool,
+    pub keeps_history: bool,
     ghost theirs: { board.now.segments ≡ length segments.now },
     ghost one_each: { length guesses.now ≡ length segments.now },
     ghost below_2_to_32: { length segments.now < 2 ^ 32 },
@@ -43,7 +43,8 @@ impl<'a, M: PhysMem + Drop, G: Gate> Task<'a, M, G> {
         requires can_step { All (SetCanStep M.ram) self.now.guesses.now }
         requires new { IsFreshSeat (length self.now.segments.now) self.now.board.now worker.seat }
         ensures { IfOk result (λ work. HaveDone
-            (IsLawfulFound self.now.origin M.bytes M.ram self.now.columns.now self.now.segments.now
+            (IsLawfulFound self.now.keeps_history M.bytes M.ram self.now.columns.now
+            self.now.segments.now
             self.now.guesses.now)
             (length self.now.segments.now) (view_of worker.seat).seats 1 self.now.board.now
             work) }
@@ -61,11 +62,13 @@ impl<'a, M: PhysMem + Drop, G: Gate> Task<'a, M, G> {
     pub fn gather(&self, mut works: Vec<Result<Work<M>, NoMemory>>) -> Result<Work<M>, NoMemory>
         requires nonempty { 0 < vec_len works }
         requires done { All (λ work. IfOk work (HaveDone
-            (IsLawfulFound self.now.origin M.bytes M.ram self.now.columns.now self.now.segments.now
+            (IsLawfulFound self.now.keeps_history M.bytes M.ram self.now.columns.now
+            self.now.segments.now
             self.now.guesses.now)
             (length self.now.segments.now) (vec_len works) 1 self.now.board.now)) works.items }
         ensures { IfOk result (HaveDone
-            (IsLawfulFound self.now.origin M.bytes M.ram self.now.columns.now self.now.segments.now
+            (IsLawfulFound self.now.keeps_history M.bytes M.ram self.now.columns.now
+            self.now.segments.now
             self.now.guesses.now)
             (length self.now.segments.now) (vec_len works) (vec_len works) self.now.board.now) }
     {
@@ -89,7 +92,8 @@ impl<'a, M: PhysMem + Drop, G: Gate> Task<'a, M, G> {
         requires drawn { Has (view_of seat.old).draws (lead (view_of seat.old), seg) }
         ensures at { IsAt self.now.board.now seat.new }
         ensures same { IsSameSeat (view_of seat.old) (view_of seat.new) }
-        ensures lawful { IfOk result (λ what. IsLawfulWhat self.now.origin M.bytes M.ram self.now.columns.now
+        ensures lawful { IfOk result (λ what. IsLawfulWhat self.now.keeps_history M.bytes M.ram
+            self.now.columns.now
             self.now.segments.now self.now.guesses.now seg what) }
         ensures finds { IfOk result (FindsSo (view_of seat.old) (view_of seat.new) seg) }
     {
@@ -108,7 +112,8 @@ impl<'a, M: PhysMem + Drop, G: Gate> Task<'a, M, G> {
         requires drawn { Has (view_of seat.old).draws (lead (view_of seat.old), seg) }
         ensures at { IsAt self.now.board.now seat.new }
         ensures same { IsSameSeat (view_of seat.old) (view_of seat.new) }
-        ensures lawful { IfOk result (λ what. IsLawfulWhat self.now.origin M.bytes M.ram self.now.columns.now
+        ensures lawful { IfOk result (λ what. IsLawfulWhat self.now.keeps_history M.bytes M.ram
+            self.now.columns.now
             self.now.segments.now self.now.guesses.now seg what) }
         ensures finds { IfOk result (FindsSo (view_of seat.old) (view_of seat.new) seg) }
     {
@@ -127,7 +132,8 @@ impl<'a, M: PhysMem + Drop, G: Gate> Task<'a, M, G> {
     fn judge(&self, seg: u32) -> Result<Judged<M>, NoMemory>
         requires can_step { All (SetCanStep M.ram) self.now.guesses.now }
         requires below { seg < length self.now.segments.now }
-        ensures { IfOk result (IsJudgedFrom self.now.origin M.bytes M.ram self.now.columns.now
+        ensures { IfOk result (IsJudgedFrom self.now.keeps_history M.bytes M.ram
+            self.now.columns.now
             self.now.segments.now self.now.guesses.now seg) }
     {
         let number = seg as usize;
@@ -136,7 +142,7 @@ impl<'a, M: PhysMem + Drop, G: Gate> Task<'a, M, G> {
             &self.guesses[number],
             self.columns,
             &self.segments[number],
-            self.origin,
+            self.keeps_history,
         )
     }
 }

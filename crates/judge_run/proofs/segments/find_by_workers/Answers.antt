@@ -10,7 +10,7 @@ returns-clause-events g c =
     let view = view_of c.in_ok-founds.seat in
     let ran : WorkerRun g.row.M.Denot =
     record {
-      origin = c.args.workers.now.origin;
+      keeps_history = c.args.workers.now.origin;
       columns =
           c.args.columns.now;
       segments =
@@ -47,7 +47,7 @@ pub returns-clause-judged : goal.returns-clause-judged
 returns-clause-judged g c =
     let ran : WorkerRun g.row.M.Denot =
     record {
-      origin = c.args.workers.now.origin;
+      keeps_history = c.args.workers.now.origin;
       columns =
           c.args.columns.now;
       segments =

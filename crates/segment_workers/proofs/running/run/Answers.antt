@@ -51,14 +51,16 @@ gather-requires-clause-done g c κs within k d low =
     let P : ℕ → Type 0 =
     λ seats. IfOk (slice_index_or works.items k d)
     (HaveDone
-    (IsLawfulFound c.args.origin g.M.PhysMem.bytes g.M.PhysMem.ram c.args.columns.now c.args.segments.now c.args.guesses.now) n
+    (IsLawfulFound c.args.keeps_history g.M.PhysMem.bytes g.M.PhysMem.ram c.args.columns.now c.args.segments.now
+    c.args.guesses.now) n
     seats 1 c.args.board.now) in
     subst P seats_is gives.call.met
 
 pub returns-clause-once : goal.returns-clause-once
 returns-clause-once g c =
     let Lawful =
-    IsLawfulFound c.args.origin g.M.PhysMem.bytes g.M.PhysMem.ram c.args.columns.now c.args.segments.now c.args.guesses.now in
+    IsLawfulFound c.args.keeps_history g.M.PhysMem.bytes g.M.PhysMem.ram c.args.columns.now c.args.segments.now
+    c.args.guesses.now in
     let work = c.in_ok-founds.field-0 in
     let done = c.in_ok-founds.ensures in
     found_below Lawful (length c.args.segments.now) (λ found lawful. lawful.below) (view_of work.seat)
@@ -67,7 +69,8 @@ returns-clause-once g c =
 pub returns-clause-drawn : goal.returns-clause-drawn
 returns-clause-drawn g c =
     let Lawful =
-    IsLawfulFound c.args.origin g.M.PhysMem.bytes g.M.PhysMem.ram c.args.columns.now c.args.segments.now c.args.guesses.now in
+    IsLawfulFound c.args.keeps_history g.M.PhysMem.bytes g.M.PhysMem.ram c.args.columns.now c.args.segments.now
+    c.args.guesses.now in
     let work = c.in_ok-founds.field-0 in
     let done = c.in_ok-founds.ensures in
     drew_each Lawful (length c.args.segments.now) (λ found lawful. lawful.below) (view_of work.seat) work.founds.items
@@ -76,7 +79,8 @@ returns-clause-drawn g c =
 pub returns-clause-reasons : goal.returns-clause-reasons
 returns-clause-reasons g c =
     let Lawful =
-    IsLawfulFound c.args.origin g.M.PhysMem.bytes g.M.PhysMem.ram c.args.columns.now c.args.segments.now c.args.guesses.now in
+    IsLawfulFound c.args.keeps_history g.M.PhysMem.bytes g.M.PhysMem.ram c.args.columns.now c.args.segments.now
+    c.args.guesses.now in
     let work = c.in_ok-founds.field-0 in
     let done = c.in_ok-founds.ensures in
     have_reasons Lawful (length c.args.segments.now) (λ found lawful. lawful.below) (view_of work.seat)

@@ -37,7 +37,8 @@ loop-work-preserved g c =
     let at = c.loop-work in
     let steps = c.in-Some-work.ensures.steps in
     let Lawful =
-    IsLawfulFound c.args.self.now.origin g.M.PhysMem.bytes g.M.PhysMem.ram c.args.self.now.columns.now c.args.self.now.segments.now
+    IsLawfulFound c.args.self.now.keeps_history g.M.PhysMem.bytes g.M.PhysMem.ram c.args.self.now.columns.now
+    c.args.self.now.segments.now
     c.args.self.now.guesses.now in
     let did =
     first_did _ c.in-Some-work.work c.in_ok-work.work (into_iter_items at.work-iterator)
@@ -61,7 +62,8 @@ returns g c =
     let all : length at.yielded + 1 ≡ vec_len c.args.works =
     omega (arith, at.invariant.all, at.invariant.len, none.0) in
     let Lawful =
-    IsLawfulFound c.args.self.now.origin g.M.PhysMem.bytes g.M.PhysMem.ram c.args.self.now.columns.now c.args.self.now.segments.now
+    IsLawfulFound c.args.self.now.keeps_history g.M.PhysMem.bytes g.M.PhysMem.ram c.args.self.now.columns.now
+    c.args.self.now.segments.now
     c.args.self.now.guesses.now in
     let P : ℕ → Type 0 =
     λ done. HaveDone Lawful (length c.args.self.now.segments.now) (vec_len c.args.works) done

@@ -10,7 +10,8 @@ use Rattle.segment_workers.proofs.task.Task.gather.Given as goal
 abbrev pub invariant-loop-work : goal.invariant-loop-work
 invariant-loop-work g l =
     let Lawful =
-    IsLawfulFound l.self.origin g.M.PhysMem.bytes g.M.PhysMem.ram l.self.columns.now l.self.segments.now l.self.guesses.now in
+    IsLawfulFound l.self.keeps_history g.M.PhysMem.bytes g.M.PhysMem.ram l.self.columns.now l.self.segments.now
+    l.self.guesses.now in
     let n = length l.self.segments.now in
     record {
       joined : HaveDone Lawful n (vec_len l.fn.works) (length l.yielded + 1) l.self.board.now l.all;

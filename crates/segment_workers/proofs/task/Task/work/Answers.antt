@@ -23,7 +23,8 @@ loop-seg-smaller g c =
 pub loop-seg-preserved : goal.loop-seg-preserved
 loop-seg-preserved g c =
     let Lawful =
-    IsLawfulFound c.args.self.now.origin g.M.PhysMem.bytes g.M.PhysMem.ram c.args.self.now.columns.now c.args.self.now.segments.now
+    IsLawfulFound c.args.self.now.keeps_history g.M.PhysMem.bytes g.M.PhysMem.ram c.args.self.now.columns.now
+    c.args.self.now.segments.now
     c.args.self.now.guesses.now in
     let n = length c.args.self.now.segments.now in
     let seg = c.in-Some.seg in
@@ -46,7 +47,8 @@ loop-seg-preserved g c =
 pub returns : goal.returns
 returns g c =
     let Lawful =
-    IsLawfulFound c.args.self.now.origin g.M.PhysMem.bytes g.M.PhysMem.ram c.args.self.now.columns.now c.args.self.now.segments.now
+    IsLawfulFound c.args.self.now.keeps_history g.M.PhysMem.bytes g.M.PhysMem.ram c.args.self.now.columns.now
+    c.args.self.now.segments.now
     c.args.self.now.guesses.now in
     let n = length c.args.self.now.segments.now in
     let so_far = c.loop-seg.invariant in

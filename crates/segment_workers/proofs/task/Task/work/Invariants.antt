@@ -12,7 +12,8 @@ invariant-loop-seg g l = record {
   one : length (view_of l.seat).numbers ≡ 1;
   seats : (view_of l.seat).seats ≡ (view_of l.fn.worker.seat).seats;
   accounts : Accounts
-      (IsLawfulFound l.self.origin g.M.PhysMem.bytes g.M.PhysMem.ram l.self.columns.now l.self.segments.now l.self.guesses.now)
+      (IsLawfulFound l.self.keeps_history g.M.PhysMem.bytes g.M.PhysMem.ram l.self.columns.now l.self.segments.now
+      l.self.guesses.now)
       (length l.self.segments.now) (view_of l.seat) l.founds.items;
 }
 
