@@ -3,8 +3,8 @@ use Rattle.std.proofs.Common.{◌≡◌, ℕ, ◌+◌, ◌<◌, ◌≤◌, Bool,
 use Rattle.std.proofs.Common.{length-append, MatchBool, ◌==◌, refl, sym, ap, ◌∙◌, subst, arith}
 use Rattle.std.specs.List.{All}
 use Rattle.std.proofs.lemmas.Bool.Decides.{nat_tests}
-use Rattle.std.proofs.lemmas.List.Elements.{All-append, All-head, All-nil, All-push, All-tail, All-weaker}
-use Rattle.board_core.specs.Bags.{Has, as_number, count, is_numbered}
+use Rattle.std.proofs.lemmas.List.Elements.{All-append, All-cons, All-head, All-nil, All-push, All-tail, All-weaker}
+use Rattle.board_core.specs.Bags.{Has, as_number, count, is_numbered, is_pair}
 use Rattle.board_core.proofs.Bags.{Has-left, Has-push, Has-right, count-append, count_push, counted, equal_test, one_if}
 use Rattle.board_core.proofs.Bags.{some_counted, zero_if}
 use Rattle.segment_judge.specs.declared.found.Found.{Found}
@@ -16,25 +16,69 @@ use Rattle.verdict_board.specs.declared.view.View.{View}
 use Rattle.verdict_board.specs.Seats.{DrawsNext, FindsNone, IsAt, IsSameSeat, view_of}
 use Rattle.verdict_board.specs.Views.{AreAnswers, DrewBelow, IsExact, view_after_draw, is_done, is_past, joined_views}
 use Rattle.verdict_board.specs.Views.{lead}
-use Rattle.segment_workers.specs.Runs.{DrewEach, FoundBelow, HasReason, IsFoundBy, IsSeenSo, IsSkippedFor, is_end_of}
-use Rattle.segment_workers.specs.Runs.{is_found_of}
+use Rattle.segment_workers.specs.Runs.{AreFoundBy, DrewEach, FoundBelow, HasReason, HaveOwnLooks, IsSeenSo, IsSkippedFor}
+use Rattle.segment_workers.specs.Runs.{is_end_of, is_found_of}
 use Rattle.segment_workers.specs.declared.work.Work.{Work}
 use Rattle.segment_workers.specs.Works.{Accounts, FindsSo, HaveDone}
 
--- what a view has stays where it has more
-module _ {V : Type 0} (before now : View) (draws_stay : (draw : ℕ × ℕ) → Has before.draws draw → Has now.draws draw)
-    (looks_stay : (look : ℕ × ℕ) → Has before.looks look → Has now.looks look) where
-  seen_stays : (worker number : ℕ) (what : What V) → IsSeenSo before worker number what
-      → IsSeenSo now worker number what
-  seen_stays worker number (Judged judged) seen = (seen.0, seen.1, looks_stay (worker, seen.0) seen.2)
-  seen_stays worker number (Skipped least) seen = (seen.0, looks_stay (worker, least) seen.1)
+-- what was drawn stays drawn where a view has more
+module _ {V : Type 0} (before now : View)
+    (draws_stay : (draw : ℕ × ℕ) → Has before.draws draw → Has now.draws draw) where
+  pub found_stays : (looks : List (ℕ × ℕ)) (founds : List (Found V)) → AreFoundBy before looks founds
+      → AreFoundBy now looks founds
+  found_stays [] [] by = tt
+  found_stays [] (found ∷ founds) by = absurd by
+  found_stays (look ∷ looks) [] by = absurd by
+  found_stays (look ∷ looks) (found ∷ founds) by = (
+    record { drew = draws_stay (look.0, found.seg) by.0.drew; so = by.0.so },
+    found_stays looks founds by.1,
+  )
 
-  pub found_stays : (found : Found V) → IsFoundBy before found → IsFoundBy now found
-  found_stays found by = record {
-    worker = by.worker;
-    drew = draws_stay (by.worker, found.seg) by.drew;
-    so = seen_stays by.worker found.seg found.what by.so;
-  }
+-- looks, and those after them
+pub found_both : {V : Type 0} (view : View) (looks later : List (ℕ × ℕ)) (founds more : List (Found V))
+    → AreFoundBy view looks founds → AreFoundBy view later more → AreFoundBy view (looks ++ later) (founds ++ more)
+found_both view [] later [] more first second = second
+found_both view [] later (found ∷ founds) more first second = absurd first
+found_both view (look ∷ looks) later [] more first second = absurd first
+found_both view (look ∷ looks) later (found ∷ founds) more first second =
+    (first.0, found_both view looks later founds more first.1 second)
+
+-- ---- that some look found it
+
+abbrev pub IsSeenBySome : {V : Type 0} → View → ℕ → ℕ → What V → Type 0
+IsSeenBySome view worker number (Judged judged) = Unit {0}
+IsSeenBySome view worker number (Skipped least) = (least < number) × Has view.looks (worker, least)
+
+pub record IsFoundBySome {V : Type 0} (view : View) (found : Found V) : Type 0 where
+  pub worker : ℕ
+  pub drew : Has view.draws (worker, found.seg)
+  pub so : IsSeenBySome view worker found.seg found.what
+
+module _ {V : Type 0} (view : View) where
+  some_seen : (look : ℕ × ℕ) (number : ℕ) (what : What V) → IsSeenSo look.1 number what → Has view.looks look
+      → IsSeenBySome view look.0 number what
+  some_seen look number (Judged judged) so has = tt
+  some_seen look number (Skipped seen) so has =
+      (omega (arith, so.0, so.1), subst (λ least. Has view.looks (look.0, least)) (sym so.0) has)
+
+  some_of_them : (looks : List (ℕ × ℕ)) (founds : List (Found V)) → AreFoundBy view looks founds
+      → ((look : ℕ × ℕ) → Has looks look → Has view.looks look) → All (IsFoundBySome view) founds
+  some_of_them [] [] by within = All-nil (IsFoundBySome view)
+  some_of_them [] (found ∷ founds) by within = absurd by
+  some_of_them (look ∷ looks) [] by within = absurd by
+  some_of_them (look ∷ looks) (found ∷ founds) by within =
+      All-cons (IsFoundBySome view) found founds
+      (record {
+        worker = look.0;
+        drew = by.0.drew;
+        so = some_seen look found.seg found.what by.0.so (within look (Has-left (look ∷ []) looks look (Has-push [] look)));
+      })
+      (some_of_them looks founds by.1 (λ other has. within other (Has-right (look ∷ []) looks other has)))
+
+  pub found_by_some : (founds : List (Found V)) → HaveOwnLooks view founds → All (IsFoundBySome view) founds
+  found_by_some founds have =
+      some_of_them have.own founds have.each
+      (λ look has. omega (arith, has, have.are (λ x. as_number (is_pair look x))))
 
 below_if : (number end : ℕ) → 0 < as_number (nat_lt number end) → number < end
 below_if number end some = by (nat_lt number end) refl some
@@ -54,11 +98,11 @@ none_of test (x ∷ xs) none =
     )
 
 module _ {M : Type 0} (L : Found (JudgedSegment M) → Type 0) (n : ℕ) where
-  pub nothing_yet : (view : View) → view.draws ≡ [] → view.posts ≡ [] → Accounts L n view []
-  nothing_yet view draws posts = record {
+  pub nothing_yet : (view : View) → view.draws ≡ [] → view.posts ≡ [] → view.looks ≡ [] → Accounts L n view []
+  nothing_yet view draws posts looks = record {
     lawful = All-nil L;
     each = λ number below. ap (count (is_numbered number)) (sym draws);
-    by = All-nil (IsFoundBy view);
+    by = subst (λ looks. AreFoundBy {V = JudgedSegment M} view looks []) (sym looks) tt;
     posted = λ number. ap (count (is_numbered number)) posts;
   }
 
@@ -73,8 +117,8 @@ module _ {M : Type 0} (L : Found (JudgedSegment M) → Type 0) (n : ℕ) where
       let was : (draw : ℕ × ℕ) → Has before.draws draw → Has now.draws draw =
       λ draw has. (let P : List (ℕ × ℕ) → Type 0 = λ draws. Has draws draw in
       subst P (sym draws_are) (Has-left before.draws ((lead before, found.seg) ∷ []) draw has)) in
-      let looked : (look : ℕ × ℕ) → Has before.looks look → Has now.looks look =
-      λ look has. finds.looks_stay look (let P : View → Type 0 = λ view. Has view.looks look in subst P (sym is) has) in
+      let looks_are : now.looks ≡ before.looks ++ (lead now, finds.least) ∷ [] =
+      finds.looks_are ∙ ap (λ view. view.looks ++ (lead now, finds.least) ∷ []) is in
       let drew_it : Has now.draws (lead now, found.seg) =
       (let P : List (ℕ × ℕ) → Type 0 = λ draws. Has draws (lead now, found.seg) in subst P (sym draws_are)
       (let Q : ℕ → Type 0 =
@@ -91,9 +135,10 @@ module _ {M : Type 0} (L : Found (JudgedSegment M) → Type 0) (n : ℕ) where
               count_push (is_numbered number) before.draws (lead before, found.seg),
             );
         by =
-            All-push (IsFoundBy now) founds found
-            (All-weaker (IsFoundBy before) (IsFoundBy now) (found_stays before now was looked) founds accounts.by)
-            (record { worker = lead now; drew = drew_it; so = finds.so });
+            subst (λ looks. AreFoundBy now looks (founds ++ found ∷ [])) (sym looks_are)
+            (found_both now before.looks ((lead now, finds.least) ∷ []) founds (found ∷ [])
+            (found_stays before now was before.looks founds accounts.by)
+            (record { drew = drew_it; so = finds.so }, tt));
         posted =
             λ number. omega (
               arith,
@@ -119,9 +164,8 @@ module _ {M : Type 0} (L : Found (JudgedSegment M) → Type 0) (n : ℕ) where
               zero_if (number == one) (grind (arith, nat_tests)),
             );
         by =
-            All-weaker (IsFoundBy before) (IsFoundBy (view_after_draw before number))
-            (found_stays before (view_after_draw before number)
-            (λ draw. Has-left before.draws ((lead before, number) ∷ []) draw) (λ look has. has)) founds accounts.by;
+            found_stays before (view_after_draw before number)
+            (λ draw. Has-left before.draws ((lead before, number) ∷ []) draw) before.looks founds accounts.by;
         posted = accounts.posted;
       })
 
@@ -149,13 +193,10 @@ module _ {M : Type 0} (L : Found (JudgedSegment M) → Type 0) (n : ℕ) where
           count-append (is_found_of number) founds more,
           count-append (is_numbered number) one.draws other.draws,
         );
-    by = All-append (IsFoundBy (joined_views one other)) founds more
-        (All-weaker (IsFoundBy one) (IsFoundBy (joined_views one other))
-        (found_stays one (joined_views one other) (λ draw. Has-left one.draws other.draws draw)
-        (λ look. Has-left one.looks other.looks look)) founds first.by)
-        (All-weaker (IsFoundBy other) (IsFoundBy (joined_views one other))
-        (found_stays other (joined_views one other) (λ draw. Has-right one.draws other.draws draw)
-        (λ look. Has-right one.looks other.looks look)) more second.by);
+    by = found_both (joined_views one other) one.looks other.looks founds more
+        (found_stays one (joined_views one other) (λ draw. Has-left one.draws other.draws draw) one.looks founds first.by)
+        (found_stays other (joined_views one other) (λ draw. Has-right one.draws other.draws draw) other.looks more
+        second.by);
     posted = λ number.
         omega (
           arith,
@@ -165,6 +206,11 @@ module _ {M : Type 0} (L : Found (JudgedSegment M) → Type 0) (n : ℕ) where
           count-append (is_numbered number) one.posts other.posts,
         );
   }
+
+  -- each has a look of its own
+  pub own_looks : (view : View) (founds : List (Found (JudgedSegment M))) → Accounts L n view founds
+      → HaveOwnLooks view founds
+  own_looks view founds accounts = record { own = view.looks; are = λ h. refl; each = accounts.by }
 
   -- where some number from n on was drawn, each below n was drawn once
   past_all : (draws : List (ℕ × ℕ)) → DrewBelow (length draws) draws → 0 < count (is_past n) draws → n < length draws
@@ -208,7 +254,7 @@ module _ {M : Type 0} (L : Found (JudgedSegment M) → Type 0) (n : ℕ) where
 
     has_reason : (view : View) → view.segments ≡ n → AreAnswers view.segments view.posts view.looks
         → (worker number : ℕ) → number < n → (what : What (JudgedSegment M))
-        → IsSeenSo view worker number what → IsSkippedFor view.posts what
+        → IsSeenBySome view worker number what → IsSkippedFor view.posts what
     has_reason view n_is answers worker number low (Judged judged) so = tt
     has_reason view n_is answers worker number low (Skipped least) so =
         answers (worker, least) so.1 (λ same. omega (arith, same, n_is, so.0, low))
@@ -216,7 +262,7 @@ module _ {M : Type 0} (L : Found (JudgedSegment M) → Type 0) (n : ℕ) where
     pub have_reasons : (view : View) (founds : List (Found (JudgedSegment M))) → view.segments ≡ n
         → Accounts L n view founds → IsExact view → All (HasReason view.posts) founds
     have_reasons view founds n_is accounts exact k d low =
-        let found = accounts.by k d low in
+        let found = found_by_some view founds (own_looks view founds accounts) k d low in
         has_reason view n_is exact.1 found.worker _ (below _ (accounts.lawful k d low)) _ found.so
 
   pub both_done : (board : Board) (seats done : ℕ) (one other all : Work M) → HaveDone L n seats done board one

@@ -2,7 +2,7 @@
 use Rattle.std.proofs.Common.{◌≡◌, ℕ, ◌<◌, ◌≤◌, Bool, true, false, ◌&&◌, ◌==◌, List, [], ◌∷◌, ◌++◌, refl, sym, ap, ◌∙◌}
 use Rattle.std.proofs.Common.{subst, arith}
 use Rattle.board_core.specs.Bags.{Has, Names, as_number, count, is_numbered}
-use Rattle.board_core.proofs.Bags.{Has-left, Has-push, count_push, counted, equal_test}
+use Rattle.board_core.proofs.Bags.{count_push, counted, equal_test}
 use Rattle.segment_judge.specs.declared.found.What.TheVariants.{Judged, Skipped}
 use Rattle.segment_judge.specs.declared.judged.Judged.{Judged as JudgedSegment}
 use Rattle.verdict_board.specs.declared.view.View.{View}
@@ -33,9 +33,10 @@ module _ {M : Type 0} (before now : View) (seg least : ℕ) (is : now ≡ view_a
       let P : View → Type 0 = λ view. FindsSo {M = M} before view seg (Skipped least) in
       subst P (sym is) (record {
         draws_are = refl;
-        looks_stay = λ look. Has-left before.looks ((lead before, least) ∷ []) look;
+        least = least;
+        looks_are = refl;
         posts_are = λ number. omega (arith, if_false (seg == number) false refl);
-        so = (low, Has-push before.looks (lead before, least));
+        so = (refl, low);
       })
 
   pub agrees : seg ≤ least → (judged : JudgedSegment M) → ends_trace judged.verdict ≡ false
@@ -44,9 +45,10 @@ module _ {M : Type 0} (before now : View) (seg least : ℕ) (is : now ≡ view_a
       let P : View → Type 0 = λ view. FindsSo before view seg (Judged judged) in
       subst P (sym is) (record {
         draws_are = refl;
-        looks_stay = λ look. Has-left before.looks ((lead before, least) ∷ []) look;
+        least = least;
+        looks_are = refl;
         posts_are = λ number. omega (arith, if_false (seg == number) (ends_trace judged.verdict) no_end);
-        so = (least, high, Has-push before.looks (lead before, least));
+        so = high;
       })
 
   pub posts : seg ≤ least → (after : View) (judged : JudgedSegment M) → ends_trace judged.verdict ≡ true
@@ -57,10 +59,8 @@ module _ {M : Type 0} (before now : View) (seg least : ℕ) (is : now ≡ view_a
       let lead_is : lead after ≡ lead before = ap lead posted.2 ∙ ap lead is in
       record {
         draws_are = ap (λ view. view.draws) posted.2 ∙ ap (λ view. view.draws) is;
-        looks_stay = λ look has.
-            (let P : List (ℕ × ℕ) → Type 0 = λ looks. Has looks look in
-            subst P (sym (ap (λ view. view.looks) posted.2 ∙ ap (λ view. view.looks) is))
-            (Has-left before.looks ((lead before, least) ∷ []) look has));
+        least = least;
+        looks_are = after_is ∙ ap (λ worker. before.looks ++ (worker, least) ∷ []) (sym lead_is);
         posts_are = λ number.
             omega (
               arith,
@@ -69,11 +69,5 @@ module _ {M : Type 0} (before now : View) (seg least : ℕ) (is : now ≡ view_a
               count_push (is_numbered number) now.posts (posted.0, seg),
               ap (λ view. count (is_numbered number) view.posts) is,
             );
-        so = (
-          least,
-          high,
-          subst (λ worker. Has after.looks (worker, least)) (sym lead_is)
-              (subst (λ looks. Has looks (lead before, least)) (sym after_is)
-              (Has-push before.looks (lead before, least))),
-        );
+        so = high;
       }

@@ -1,5 +1,5 @@
 -- What was found, as events leave it.
-use Rattle.std.proofs.Common.{◌≡◌, ℕ, ◌<◌, List, length, map, slice_get, Option, Some, None, refl, ◌∙◌, arith}
+use Rattle.std.proofs.Common.{◌≡◌, ℕ, ◌<◌, List, length, map, slice_get, Option, Some, None, refl, sym, ◌∙◌, arith}
 use Rattle.std.proofs.Common.{inl, inr}
 use Rattle.std.proofs.lemmas.List.{length-map}
 use Rattle.std.proofs.lemmas.List.Elements.{All-map, All-weaker}
@@ -21,8 +21,8 @@ use Rattle.verdict_join.specs.Joining.{finding, found_of, rows_of_segment}
 use Rattle.verdict_join.proofs.Findings.{found_theirs}
 use Rattle.verdict_join.proofs.Lawful.{IsTheirFinding}
 use Rattle.segment_workers.specs.Laws.{EventsLeaveFounds, IsPromised, LeavesFounds, WorkerRun, view_by_events}
-use Rattle.segment_workers.specs.Runs.{HasReason, IsFoundBy, IsSeenSo, IsSkippedFor}
-use Rattle.segment_workers.proofs.Accounts.{found_stays}
+use Rattle.segment_workers.specs.Runs.{HasReason, IsSkippedFor}
+use Rattle.segment_workers.proofs.Accounts.{IsSeenBySome, found_by_some, found_stays}
 
 -- below its length a list has an element
 no_none : {X : Type 0} (xs : List X) (i : ℕ) → i < length xs → slice_get xs i ≡ None → ⊥
@@ -37,7 +37,7 @@ module _ {M : Type 0} (rows : List (List RowReading)) (states : List SetState) (
     (events : List Event)
     (looks_same : SameBag (looks (machine_at_start n) events) view.looks) where
   found_so : (worker number : ℕ) (what : What (JudgedSegment M)) → number < length rows → number < length states
-      → IsSeenSo view worker number what
+      → IsSeenBySome view worker number what
       → IsTheirFinding by_set rows states number (finding (slice_get rows number) (slice_get states number) what)
       → WasFoundSo by_set rows states n events worker number
       (finding (slice_get rows number) (slice_get states number) what)
@@ -69,9 +69,14 @@ by_events {M} bytes_of ram_of ran events draws_are posts_are looks_are promised 
       one_each = promised.one_each;
       lawful = promised.lawful;
       once = promised.once;
-      by = All-weaker (IsFoundBy ran.view) (IsFoundBy now)
-          (found_stays ran.view now (has_same now.draws ran.view.draws draws_are)
-          (has_same now.looks ran.view.looks looks_are)) ran.founds promised.by;
+      by =
+          record {
+            own = promised.by.own;
+            are = λ h. promised.by.are h ∙ sym (looks_are h);
+            each =
+                found_stays ran.view now (has_same now.draws ran.view.draws draws_are) promised.by.own ran.founds
+                promised.by.each;
+          };
       reasons =
           All-weaker (HasReason ran.view.posts) (HasReason now.posts) (λ found. reason found.what) ran.founds
           promised.reasons;
@@ -96,7 +101,7 @@ leaves_founds {M} bytes_of ram_of ran events draws_are looks_are promised =
     let states_many : length states ≡ n = length-map ran.guesses (set_state_of bytes_of) ∙ promised.one_each in
     All-map (IsLeftBy by_set rows states n events) (found_of rows states) ran.founds (λ k d low.
     let lawful = promised.lawful k d low in
-    let by = promised.by k d low in
+    let by = found_by_some ran.view ran.founds promised.by k d low in
     record {
       below = lawful.below;
       worker = by.worker;

@@ -35,8 +35,8 @@ use Rattle.verdict_join.proofs.Looped.{some_at}
 use Rattle.verdict_join.proofs.Passed.{EndsWhereAgrees, judgement_ends}
 use Rattle.verdict_join.proofs.Findings.{found_is, founds_theirs}
 use Rattle.segment_workers.specs.Laws.{IsPromised, WorkerRun}
-use Rattle.segment_workers.specs.Runs.{HasReason, IsFoundBy, IsSeenSo, IsSkippedFor, ends_trace, is_end, is_end_of}
-use Rattle.segment_workers.specs.Runs.{is_found_of}
+use Rattle.segment_workers.specs.Runs.{HasReason, IsSkippedFor, ends_trace, is_end, is_end_of, is_found_of}
+use Rattle.segment_workers.proofs.Accounts.{IsFoundBySome, IsSeenBySome, found_by_some}
 
 -- ---- lists
 
@@ -159,23 +159,24 @@ module _ {M : Type 0} (bytes_of : M → Bytes) (ram_of : M → Span) (ran : Work
       (ap (slice_get ran.guesses) same ∙ guess.1) agrees found.1.lawful parts.1
 
   not_skipped : (number : ℕ) → number < length ran.segments → AgreeBefore number
-      → (worker : ℕ) (what : What (JudgedSegment M)) → IsSeenSo ran.view worker number what
+      → (worker : ℕ) (what : What (JudgedSegment M)) → IsSeenBySome ran.view worker number what
       → IsSkippedFor ran.view.posts what → IsJudged what
   not_skipped number below agree worker (Judged judged) seen reason = tt
   not_skipped number below agree worker (Skipped least) seen reason =
       not_posted number below agree least seen.0 (omega (arith, reason, promised.posted least))
 
   judged_so : (number : ℕ) → number < length ran.segments → AgreeBefore number → (found : Found (JudgedSegment M))
-      → IsFoundBy ran.view found → HasReason ran.view.posts found → IsJudgedAt number found
+      → IsFoundBySome ran.view found → HasReason ran.view.posts found → IsJudgedAt number found
   judged_so number below agree found by reason same =
       not_skipped number below agree by.worker found.what
-      (subst (λ n. IsSeenSo ran.view by.worker n found.what) same by.so) reason
+      (subst (λ n. IsSeenBySome ran.view by.worker n found.what) same by.so) reason
 
   judged_at : (number : ℕ) → number < length ran.segments → AgreeBefore number
       → is_some (judged_segment_in ran.founds number) ≡ true
   judged_at number below agree =
       judged_where ran.founds number
-      (λ k d low. judged_so number below agree _ (promised.by k d low) (promised.reasons k d low))
+      (λ k d low. judged_so number below agree _ (found_by_some ran.view ran.founds promised.by k d low)
+      (promised.reasons k d low))
       (omega (arith, promised.once number, one_if (nat_lt number (length ran.segments)) (grind (arith, nat_tests))))
 
 pub segments_judged_in_turn : {M : Type 0} (bytes_of : M → Bytes) (ram_of : M → Span) (ran : WorkerRun M)

@@ -21,7 +21,7 @@ use Rattle.verdict_board.specs.declared.view.View.{View}
 use Rattle.verdict_board.specs.Seats.{LeavesAll}
 use Rattle.verdict_join.specs.Founds.{Leaves}
 use Rattle.verdict_join.specs.Joining.{found_of, rows_of_segment}
-use Rattle.segment_workers.specs.Runs.{ArePosted, FoundBelow, HasReason, IsFoundBy}
+use Rattle.segment_workers.specs.Runs.{ArePosted, FoundBelow, HasReason, HaveOwnLooks}
 
 -- what a run was given, whether histories were to be kept, and what came of it: what was found, and the view of the seat of all workers
 pub record WorkerRun (M : Type 0) : Type 0 where
@@ -37,7 +37,7 @@ pub record IsPromised {M : Type 0} (bytes_of : M → Bytes) (ram_of : M → Span
   pub one_each : length ran.guesses ≡ length ran.segments
   pub lawful : All (IsLawfulFound ran.keeps_history bytes_of ram_of ran.columns ran.segments ran.guesses) ran.founds
   pub once : FoundBelow (length ran.segments) ran.founds
-  pub by : All (IsFoundBy ran.view) ran.founds
+  pub by : HaveOwnLooks ran.view ran.founds
   pub reasons : All (HasReason ran.view.posts) ran.founds
   pub posted : ArePosted ran.founds ran.view.posts
 

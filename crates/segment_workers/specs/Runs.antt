@@ -1,7 +1,7 @@
 -- Segments judged side by side by workers at a board: what was found of them, and what the seat of all workers has of
 -- it.
-use Rattle.std.specs.Prelude.{◌≡◌, ℕ, ◌<◌, ◌≤◌, Bool, true, false, ◌&&◌, ◌==◌, nat_lt, List}
-use Rattle.board_core.specs.Bags.{Has, Names, as_number, count, is_numbered}
+use Rattle.std.specs.Prelude.{◌≡◌, ℕ, ◌<◌, ◌≤◌, Bool, true, false, ◌&&◌, ◌==◌, nat_lt, List, [], ◌∷◌}
+use Rattle.board_core.specs.Bags.{Has, Names, SameBag, as_number, count, is_numbered}
 use Rattle.rvfi_rows.specs.declared.verdict.Verdict.{Verdict}
 use Rattle.rvfi_rows.specs.declared.verdict.Verdict.TheVariants.{Agrees, Differs, Refused}
 use Rattle.segment_judge.specs.declared.found.Found.{Found}
@@ -50,17 +50,28 @@ is_end_of number found = is_found_of number found && is_end found.what
 abbrev pub ArePosted : {M : Type 0} → List (Found (JudgedSegment M)) → List (ℕ × ℕ) → Type 0
 ArePosted founds posts = (number : ℕ) → count (is_numbered number) posts ≡ count (is_end_of number) founds
 
--- a look of the worker's was answered by no less than the number of a judged segment, and by less than that of a
--- skipped one
-abbrev pub IsSeenSo : {V : Type 0} → View → ℕ → ℕ → What V → Type 0
-IsSeenSo view worker number (Judged judged) = (least : ℕ) × (number ≤ least) × Has view.looks (worker, least)
-IsSeenSo view worker number (Skipped least) = (least < number) × Has view.looks (worker, least)
+-- a look was answered by no less than the number of a judged segment, and by less than that of a skipped one, which
+-- names the answer
+abbrev pub IsSeenSo : {V : Type 0} → ℕ → ℕ → What V → Type 0
+IsSeenSo least number (Judged judged) = number ≤ least
+IsSeenSo least number (Skipped seen) = (seen ≡ least) × (least < number)
 
--- a worker that drew the segment found this of it, by what the view has of draws and looks
-pub record IsFoundBy {V : Type 0} (view : View) (found : Found V) : Type 0 where
-  pub worker : ℕ
-  pub drew : Has view.draws (worker, found.seg)
-  pub so : IsSeenSo view worker found.seg found.what
+-- the worker that made this look drew the segment, and found this of it by the look's answer
+pub record IsFoundBy {V : Type 0} (view : View) (look : ℕ × ℕ) (found : Found V) : Type 0 where
+  pub drew : Has view.draws (look.0, found.seg)
+  pub so : IsSeenSo look.1 found.seg found.what
+
+-- each by the look at its place
+abbrev pub AreFoundBy : {V : Type 0} → View → List (ℕ × ℕ) → List (Found V) → Type 0
+AreFoundBy view [] [] = Unit {0}
+AreFoundBy view (look ∷ looks) (found ∷ founds) = IsFoundBy view look found × AreFoundBy view looks founds
+AreFoundBy view looks founds = ⊥
+
+-- each was found by a look of its own, and no other look was made
+pub record HaveOwnLooks {V : Type 0} (view : View) (founds : List (Found V)) : Type 0 where
+  pub own : List (ℕ × ℕ)
+  pub are : SameBag own view.looks
+  pub each : AreFoundBy view own founds
 
 -- a segment is skipped for one that was posted
 abbrev pub IsSkippedFor : {V : Type 0} → List (ℕ × ℕ) → What V → Type 0

@@ -1,6 +1,6 @@
 -- What one worker, or several whose seats were joined, did so far.
-use Rattle.std.specs.Prelude.{◌≡◌, ℕ, ◌+◌, ◌<◌, ◌&&◌, ◌==◌, List, [], ◌∷◌, All, length}
-use Rattle.board_core.specs.Bags.{Has, as_number, count, is_numbered}
+use Rattle.std.specs.Prelude.{◌≡◌, ℕ, ◌+◌, ◌<◌, ◌&&◌, ◌==◌, List, [], ◌∷◌, ◌++◌, All, length}
+use Rattle.board_core.specs.Bags.{as_number, count, is_numbered}
 use Rattle.segment_judge.specs.declared.found.Found.{Found}
 use Rattle.segment_judge.specs.declared.found.What.{What}
 use Rattle.segment_judge.specs.declared.judged.Judged.{Judged as JudgedSegment}
@@ -11,7 +11,7 @@ use Rattle.verdict_board.specs.Seats.{IsAt, view_of}
 use Rattle.verdict_board.specs.Views.{fresh_view, is_past, lead}
 use Rattle.segment_workers.specs.declared.work.Work.{Work}
 use Rattle.segment_workers.specs.declared.work.Worker.{Worker}
-use Rattle.segment_workers.specs.Runs.{ArePosted, IsFoundBy, IsSeenSo, is_end, is_found_of}
+use Rattle.segment_workers.specs.Runs.{AreFoundBy, ArePosted, IsSeenSo, is_end, is_found_of}
 
 -- a seat of one number that has done nothing
 pub record IsFreshSeat (n : ℕ) (board : Board) (seat : Seat) : Type 0 where
@@ -27,16 +27,17 @@ pub record Accounts {M : Type 0} (IsLawful : Found (JudgedSegment M) → Type 0)
     (founds : List (Found (JudgedSegment M))) : Type 0 where
   pub lawful : All IsLawful founds
   pub each : (number : ℕ) → number < n → count (is_found_of number) founds ≡ count (is_numbered number) view.draws
-  pub by : All (IsFoundBy view) founds
+  pub by : AreFoundBy view view.looks founds
   pub posted : ArePosted founds view.posts
 
 -- looking at a segment that was drawn, and judging it or not, leads from one view to another
 pub record FindsSo {M : Type 0} (before now : View) (segment : ℕ) (what : What (JudgedSegment M)) : Type 0 where
   pub draws_are : now.draws ≡ before.draws
-  pub looks_stay : (look : ℕ × ℕ) → Has before.looks look → Has now.looks look
+  pub least : ℕ
+  pub looks_are : now.looks ≡ before.looks ++ (lead now, least) ∷ []
   pub posts_are : (number : ℕ) → count (is_numbered number) now.posts
       ≡ count (is_numbered number) before.posts + as_number ((segment == number) && is_end what)
-  pub so : IsSeenSo now (lead now) segment what
+  pub so : IsSeenSo least segment what
 
 -- so many workers of a board, whose seats are one, and which found no segment left
 pub record HaveDone {M : Type 0} (IsLawful : Found (JudgedSegment M) → Type 0) (n seats done : ℕ) (board : Board)

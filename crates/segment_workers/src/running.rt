@@ -6,7 +6,7 @@ ghost use Rattle.hart_step.specs.HartSets.{SetCanStep};
 ghost use Rattle.segment_judge.specs.Founds.{IsLawfulFound};
 ghost use Rattle.verdict_board.specs.Seats.{IsAt, view_of};
 ghost use Rattle.verdict_board.specs.Views.{IsWhole};
-ghost use Rattle.segment_workers.specs.Runs.{AreAllSeats, ArePosted, DrewEach, FoundBelow, HasReason, IsFoundBy};
+ghost use Rattle.segment_workers.specs.Runs.{AreAllSeats, ArePosted, DrewEach, FoundBelow, HasReason, HaveOwnLooks};
 ghost use Rattle.segment_workers.specs.Works.{HaveDone, IsFreshSeat, seat_of};
 
 use crate::chain::call_each;
@@ -49,7 +49,7 @@ pub fn run<R: Threads + Sync, M: PhysMem + Drop + Send + Sync, G: Gate, L: Ledge
     ensures once { IfOk result (λ done. FoundBelow (length segments.now) done.0.items) }
     ensures drawn { IfOk result (λ done.
         DrewEach (length segments.now) (view_of done.1).draws) }
-    ensures by { IfOk result (λ done. All (IsFoundBy (view_of done.1)) done.0.items) }
+    ensures by { IfOk result (λ done. HaveOwnLooks (view_of done.1) done.0.items) }
     ensures reasons { IfOk result (λ done.
         All (HasReason (view_of done.1).posts) done.0.items) }
     ensures posted { IfOk result (λ done. ArePosted done.0.items (view_of done.1).posts) }

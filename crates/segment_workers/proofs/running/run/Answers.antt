@@ -4,7 +4,7 @@ use Rattle.segment_judge.specs.Founds.{IsLawfulFound}
 use Rattle.verdict_board.specs.Seats.{view_of}
 use Rattle.segment_workers.specs.declared.work.Worker.{Worker}
 use Rattle.segment_workers.specs.Works.{HaveDone, IsFreshSeat}
-use Rattle.segment_workers.proofs.Accounts.{drew_each, found_below, have_reasons}
+use Rattle.segment_workers.proofs.Accounts.{drew_each, found_below, have_reasons, own_looks}
 use Rattle.segment_workers.proofs.Seats.{count_is, workers_many, workers_new}
 use Rattle.segment_workers.proofs.running.run.Goals as goal
 
@@ -86,3 +86,11 @@ returns-clause-reasons g c =
     have_reasons Lawful (length c.args.segments.now) (λ found lawful. lawful.below) (view_of work.seat)
     work.founds.items (done.at.segments_is ∙ c.requires.seats.opened.segments_is) done.accounts
     (work.seat.exact (done.done_is ∙ sym done.seats_is))
+
+pub returns-clause-by : goal.returns-clause-by
+returns-clause-by g c =
+    let Lawful =
+    IsLawfulFound c.args.keeps_history g.M.PhysMem.bytes g.M.PhysMem.ram c.args.columns.now c.args.segments.now
+    c.args.guesses.now in
+    let work = c.in_ok-founds.field-0 in
+    own_looks Lawful (length c.args.segments.now) (view_of work.seat) work.founds.items c.in_ok-founds.ensures.accounts
