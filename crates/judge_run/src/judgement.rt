@@ -17,8 +17,9 @@ use std::thread::Threads;
 /// agrees, 1 it differs, 2 the words are refused, 3 the image is, 4 the trace is, 5 a read or a
 /// write failed, 6 memory was refused.
 ///
-/// The first word is the program's name and is not looked at. Each worker passes `gate` before and
-/// after a segment.
+/// The first word is the program's name and is not looked at. Where there are several workers, each
+/// passes `gate` before and after a segment. A single one judges each segment from the state before
+/// it, opens no board and passes no gate.
 pub fn judge<R, H: Shelf, O: Sink, G: Gate>(
     rt: &R,
     alloc: Global,
