@@ -1,15 +1,15 @@
 -- The first line of a text.
-use Rattle.std.proofs.Common.{◌≡◌, ◌≢◌, ℕ, ◌+◌, ◌<◌, ◌≤◌, ◌-◌, ◌==◌, ◌||◌, Bool, true, false, List, [], ◌∷◌, ◌++◌}
+use Rattle.std.proofs.Common.{◌≡◌, ◌≢◌, ℕ, ◌+◌, ◌<◌, ◌≤◌, ◌-◌, ◌==◌, Bool, false, List, [], ◌∷◌, ◌++◌}
 use Rattle.std.proofs.Common.{length, take, drop, get_or, Option, Some, None, refl, sym, ap, subst, ◌∙◌, arith, ⊎_elim}
 use Rattle.std.proofs.Common.{le_refl}
 use Rattle.std.specs.List.{All}
-use Rattle.std.proofs.lemmas.Bool.{cases_Bool, ne_eqb, eqb-false}
+use Rattle.std.proofs.lemmas.Bool.{cases_Bool, ne_eqb}
 use Rattle.std.proofs.lemmas.List.{take_all, length-take-le, get_or-take, take-append-drop, drop_more, drop_all}
 use Rattle.std.proofs.lemmas.List.{take_rest}
 use Rattle.std.proofs.lemmas.List.Elements.{All-from_get_or, All-head, All-weaker}
 use Rattle.std.proofs.lemmas.List.Folds.{list_any_none, list_any_at}
 use Rattle.std.specs.Option.{is_some}
-use Rattle.memchr.specs.Find.{IsFirstByte, Nowhere, Passes, is_byte, is_byte3}
+use Rattle.memchr.specs.Find.{IsFirstByte, Nowhere, Passes, is_byte}
 use Rattle.csv.specs.Reading.{strip_bom}
 use Rattle.csv.specs.declared.parser.State.TheVariants.{StartField}
 use Rattle.line_text.specs.Lines.{line_feed, IsLine, text_lines}
@@ -30,46 +30,6 @@ nowhere_all test text end within nowhere =
     (⊎_elim (λ passes. absurd (nowhere place (omega arith) below passes)) (λ fails. fails)
     (cases_Bool (test (get_or text place 0)))))
 
-neither : (p q : Bool) → (p || q) ≡ false → (p ≡ false) × (q ≡ false)
-neither true q fails = cc fails
-neither false q fails = (refl, fails)
-
--- none of three bytes
-none_of_three : (a b c byte : ℕ) → is_byte3 a b c byte ≡ false → (byte ≢ a) × (byte ≢ b) × (byte ≢ c)
-none_of_three a b c byte fails =
-    let later = neither ((byte == a) || (byte == b)) (byte == c) fails in
-    let first = neither (byte == a) (byte == b) later.0 in
-    (eqb-false byte a first.0, eqb-false byte b first.1, eqb-false byte c later.1)
-
-pub plain_bytes : (text : List ℕ) (end : ℕ) → end < length text → Nowhere (Passes (is_byte3 34 13 10) text) 0 end
-    → All IsPlain (take end text)
-plain_bytes text end within nowhere =
-    All-weaker (λ (byte : ℕ). is_byte3 34 13 10 byte ≡ false) IsPlain
-    (λ byte fails. let none = none_of_three 34 13 10 byte fails in (none.0, (none.2, none.1)))
-    (take end text) (nowhere_all (is_byte3 34 13 10) text end (omega arith) nowhere)
-
--- a search for a line feed
-pub before_feed : (text : List ℕ) (end : ℕ) → end < length text → Nowhere (Passes (is_byte 10) text) 0 end
-    → IsLine (take end text)
-before_feed text end within nowhere =
-    All-weaker (λ (byte : ℕ). is_byte 10 byte ≡ false) (λ (byte : ℕ). byte ≢ line_feed)
-    (λ byte fails. eqb-false byte 10 fails)
-    (take end text) (nowhere_all (is_byte 10) text end (omega arith) nowhere)
-
-pub no_feed_at_all : (text : List ℕ) → Nowhere (Passes (is_byte 10) text) 0 (length text) → IsLine text
-no_feed_at_all text nowhere =
-    rw (take_all (length text) text (le_refl (length text))) at
-    (All-weaker (λ (byte : ℕ). is_byte 10 byte ≡ false) (λ (byte : ℕ). byte ≢ line_feed)
-    (λ byte fails. eqb-false byte 10 fails)
-    (take (length text) text) (nowhere_all (is_byte 10) text (length text) (le_refl (length text)) nowhere))
-
-pub none_at_all : (text : List ℕ) → Nowhere (Passes (is_byte3 34 13 10) text) 0 (length text) → IsLine text
-none_at_all text nowhere =
-    rw (take_all (length text) text (le_refl (length text))) at
-    (All-weaker (λ (byte : ℕ). is_byte3 34 13 10 byte ≡ false) (λ (byte : ℕ). byte ≢ line_feed)
-    (λ byte fails. (none_of_three 34 13 10 byte fails).2)
-    (take (length text) text) (nowhere_all (is_byte3 34 13 10) text (length text) (le_refl (length text)) nowhere))
-
 -- a plain line has no carriage return, and is closed
 pub plain_no_return : (line : List ℕ) → All IsPlain line → false ≡ has_return_in line
 plain_no_return line plain =
@@ -82,9 +42,6 @@ plain_is_shareable line plain unmarked = record {
   bytes = All-weaker IsPlain EndsNoRecord (λ byte here. here.1) line plain;
   outside = stays_outside StartField line start_outside plain;
 }
-
-pub plain_is_line : (line : List ℕ) → All IsPlain line → IsLine line
-plain_is_line line plain = All-weaker IsPlain (λ (byte : ℕ). byte ≢ line_feed) (λ byte here. here.1.0) line plain
 
 -- a search for a carriage return
 pub returns_found : (line : List ℕ) (found : Option ℕ) → IsFirstByte (is_byte 13) line found

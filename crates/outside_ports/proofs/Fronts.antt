@@ -12,10 +12,6 @@ abbrev pub IsRead : Option (List ℕ) → List ℕ → Type 0
 IsRead None bytes = Unit {0}
 IsRead (Some file) bytes = (length bytes ≤ length file) × (bytes ≡ take (length bytes) file)
 
-pub read_none : (file : Option (List ℕ)) → IsRead file []
-read_none None = tt
-read_none (Some file) = (omega arith, refl)
-
 pub read_more : (file : Option (List ℕ)) (bytes chunk : List ℕ) (count : ℕ) → count ≤ length chunk
     → IsRead file bytes → ReadsChunk file (length bytes) chunk count → IsRead file (bytes ++ take count chunk)
 read_more None bytes chunk count within so_far next = tt

@@ -1,13 +1,8 @@
 -- What a sink holds, piece by piece.
 use Rattle.std.proofs.Common.{◌≡◌, ℕ, ◌+◌, List, ◌++◌, take, drop, Option, Some, None, option_map, Ok, refl, sym, ap}
-use Rattle.std.proofs.Common.{◌∙◌, append_assoc, append-nil}
+use Rattle.std.proofs.Common.{◌∙◌, append_assoc}
 use Rattle.std.proofs.Math.Seq.{take-add}
 use Rattle.outside_ports.specs.Ports.{held_after}
-
--- nothing was written
-pub wrote_none : (held : Option (List ℕ)) (text : List ℕ) → held ≡ option_map (λ bytes. bytes ++ take 0 text) held
-wrote_none None text = refl
-wrote_none (Some bytes) text = ap (λ all. Some all) (sym (append-nil bytes))
 
 -- some bytes more
 pub wrote_more : {now later : Option (List ℕ)} {piece : List ℕ} (before : Option (List ℕ)) (text : List ℕ)

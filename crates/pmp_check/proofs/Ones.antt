@@ -6,13 +6,10 @@ use Rattle.std.proofs.Math.Pow.{pow_mono}
 use Rattle.std.proofs.lemmas.Nat.{trailing_le, pow_pos, mod-pow-add}
 use Rattle.std.specs.Int.Count.{count_trailing_zeros, under}
 use Rattle.std.specs.Int.{w64, trailing_ones}
-
-digit : (m : ℕ) → m < 2 → (m ≡ 0) ⊎ (m ≡ 1)
-digit zero h = inl refl
-digit (suc m) h = inr (omega arith)
+use Rattle.hart_words.proofs.Powers.{zero_or_one}
 
 odd_or_even : (n : ℕ) → (n % 2 ≡ 0) ⊎ (n % 2 ≡ 1)
-odd_or_even n = digit (n % 2) (omega arith)
+odd_or_even n = zero_or_one (n % 2) (omega arith)
 
 -- the zeros at the low end of the complement of a number of k digits
 zeros : ℕ → ℕ → ℕ
@@ -112,10 +109,7 @@ ones_fit n h =
 pub ones_few : (n : ℕ) → 2 ^ (trailing_ones w64 n + 3) ≤ 2 ^ 67
 ones_few n = pow_mono {i = trailing_ones w64 n + 3} {j = 67} (omega (arith, trailing_le 64 (2 ^ 64 - 1 - n)))
 
--- powers of two by shifts of 128 bits
-pub one_shifted : (n : ℕ) → n ≤ 64 → 1 * 2 ^ n % 2 ^ 128 ≡ 2 ^ n
-one_shifted n few = let most : 2 ^ n ≤ 2 ^ 64 = pow_mono {i = n} {j = 64} few in omega (arith, most)
-
+-- eight times a power of two by a shift of 128 bits
 pub eight_shifted : (n : ℕ) → n ≤ 64 → 8 * 2 ^ n % 2 ^ 128 ≡ 2 ^ (n + 3)
 eight_shifted n few =
     let most : 2 ^ n ≤ 2 ^ 64 = pow_mono {i = n} {j = 64} few in

@@ -20,20 +20,20 @@ use Rattle.rv_bits.proofs.Counted.{leading_zeros_are, trailing_zeros_are, ones_a
 use Rattle.rv_bits.proofs.Reversed.{are_bytes, mapped_below}
 use Rattle.rv_bits.proofs.Rotated.{left_fits, right_fits}
 
-wrapped : (x : ℕ) → x % 2 ^ 64 < 2 ^ 64
+pub wrapped : (x : ℕ) → x % 2 ^ 64 < 2 ^ 64
 wrapped x = omega arith
 
-no_more : (x a : ℕ) → x ≤ a → a < 2 ^ 64 → x < 2 ^ 64
+pub no_more : (x a : ℕ) → x ≤ a → a < 2 ^ 64 → x < 2 ^ 64
 no_more x a less small = omega arith
 
 complement : (x : ℕ) → bit_not w64 x < 2 ^ 64
 complement x = omega arith
 
-choice : (test : Bool) (a b : ℕ) → a < 2 ^ 64 → b < 2 ^ 64 → (if test then a else b) < 2 ^ 64
+pub choice : (test : Bool) (a b : ℕ) → a < 2 ^ 64 → b < 2 ^ 64 → (if test then a else b) < 2 ^ 64
 choice true a b one other = one
 choice false a b one other = other
 
-extended : (count x : ℕ) → 1 ≤ count → count ≤ 64 → sign_extended count x < 2 ^ 64
+pub extended : (count x : ℕ) → 1 ≤ count → count ≤ 64 → sign_extended count x < 2 ^ 64
 extended count x some few = (extends_signs count x some few).fits
 
 above : (width x : ℕ) → width ≤ 64 → x < 2 ^ width → zeros_above width x < 2 ^ 64

@@ -1,10 +1,10 @@
 -- Rows of which one asks for what the other's fixed bits refuse are never both met.
-use Rattle.std.proofs.Common.{◌≡◌, ℕ, Bool, true, false, not, ◌&&◌, ◌||◌, ◌⊎◌, List, [], ◌∷◌, bit_and, ◌==◌, All, refl}
+use Rattle.std.proofs.Common.{◌≡◌, ℕ, Bool, true, false, not, ◌&&◌, ◌||◌, List, [], ◌∷◌, bit_and, ◌==◌, All}
 use Rattle.std.proofs.Common.{sym, ◌∙◌, ap, arith, get_or, inl, inr, eq-eqb}
 use Rattle.std.specs.List.{list_all}
 use Rattle.std.proofs.lemmas.List.Kept.{AllPairs-cons}
 use Rattle.std.proofs.lemmas.Nat.{and_assoc, and_comm}
-use Rattle.std.proofs.lemmas.Bool.{eqb-true}
+use Rattle.std.proofs.lemmas.Bool.{eqb-true, and_parts, or_cases}
 use Rattle.std.proofs.lemmas.Bool.Decides.{nat_tests}
 use Rattle.std.proofs.lemmas.List.Sums.{AllPass-from_list_all}
 use Rattle.rv_compressed.specs.declared.patterns.Condition.{Condition}
@@ -34,13 +34,6 @@ abbrev pub all_apart : List Pattern → Bool
 all_apart [] = true
 all_apart (row ∷ rows) = list_all (are_apart row) rows && all_apart rows
 
-both : (a b : Bool) → (a && b) ≡ true → (a ≡ true) × (b ≡ true)
-both true b h = (refl, h)
-both false b h = cc
-
-either : (a b : Bool) → (a || b) ≡ true → (a ≡ true) ⊎ (b ≡ true)
-either a b h = grind (arith, nat_tests)
-
 neither : (a : Bool) → not a ≡ true → a ≡ true → ⊥
 neither true h is = cc
 neither false h is = cc
@@ -52,7 +45,7 @@ differ a b same h = grind (arith, nat_tests)
 had : (row : Pattern) (mask value parcel : ℕ) → bit_and parcel row.mask ≡ row.bits → fixes row mask value ≡ true
     → (bit_and parcel mask == value) ≡ true
 had row mask value parcel met fixed =
-    let parts = both (bit_and row.mask mask == mask) (bit_and row.bits mask == value) fixed in
+    let parts = and_parts (bit_and row.mask mask == mask) (bit_and row.bits mask == value) fixed in
     let inside : bit_and row.mask mask ≡ mask = eqb-true _ _ parts.0 in
     let here : bit_and row.bits mask ≡ value = eqb-true _ _ parts.1 in
     let under : bit_and parcel mask ≡ bit_and row.bits mask =
@@ -64,16 +57,16 @@ fails : (row : Pattern) (condition : Condition) (parcel : ℕ) → bit_and parce
 fails row Always parcel met refused held = cc
 fails row (NotZero mask) parcel met refused held = neither _ held (had row mask 0 parcel met refused)
 fails row (NotZeroNorX2 mask) parcel met refused held =
-    let parts = both (not (bit_and parcel mask == 0)) (not (bit_and parcel 0x0f80 == 0x0100)) held in
-    elim (either (fixes row mask 0) (fixes row 0x0f80 0x0100) refused) [
+    let parts = and_parts (not (bit_and parcel mask == 0)) (not (bit_and parcel 0x0f80 == 0x0100)) held in
+    elim (or_cases (fixes row mask 0) (fixes row 0x0f80 0x0100) refused) [
       | inl zero ↦ neither _ parts.0 (had row mask 0 parcel met zero)
       | inr second ↦ neither _ parts.1 (had row 0x0f80 0x0100 parcel met second)
     ]
 
 never : (one other : Pattern) → are_apart one other ≡ true → NeverBoth meets one other
 never one other apart parcel here there =
-    let first = both (bit_and parcel one.mask == one.bits) (holds one.condition parcel) here in
-    let second = both (bit_and parcel other.mask == other.bits) (holds other.condition parcel) there in
+    let first = and_parts (bit_and parcel one.mask == one.bits) (holds one.condition parcel) here in
+    let second = and_parts (bit_and parcel other.mask == other.bits) (holds other.condition parcel) there in
     let one_met : bit_and parcel one.mask ≡ one.bits = eqb-true _ _ first.0 in
     let other_met : bit_and parcel other.mask ≡ other.bits = eqb-true _ _ second.0 in
     let left : bit_and one.bits other.mask ≡ bit_and parcel (bit_and one.mask other.mask) =
@@ -81,9 +74,9 @@ never one other apart parcel here there =
     let right : bit_and other.bits one.mask ≡ bit_and parcel (bit_and one.mask other.mask) =
     rw (← other_met)
     (and_assoc one.mask parcel other.mask ∙ ap (λ m. bit_and parcel m) (and_comm other.mask one.mask)) in
-    elim (either (disagree one other) (refuses one other.condition || refuses other one.condition) apart) [
+    elim (or_cases (disagree one other) (refuses one other.condition || refuses other one.condition) apart) [
       | inl apart ↦ differ _ _ (left ∙ sym right) apart
-      | inr refused ↦ elim (either (refuses one other.condition) (refuses other one.condition) refused) [
+      | inr refused ↦ elim (or_cases (refuses one other.condition) (refuses other one.condition) refused) [
         | inl refused ↦ fails one other.condition parcel one_met refused second.1
         | inr refused ↦ fails other one.condition parcel other_met refused first.1
       ]
@@ -95,5 +88,5 @@ each row rows h k d inside = never row (get_or rows k d) (AllPass-from_list_all 
 pub no_two_meet : (rows : List Pattern) → all_apart rows ≡ true → MeetsOneAtMost meets rows
 no_two_meet [] h = λ i j d lt inside. absurd (omega arith)
 no_two_meet (row ∷ rows) h =
-    let parts = both (list_all (are_apart row) rows) (all_apart rows) h in
+    let parts = and_parts (list_all (are_apart row) rows) (all_apart rows) h in
     AllPairs-cons (NeverBoth meets) row rows (each row rows parts.0) (no_two_meet rows parts.1)

@@ -2,8 +2,8 @@
 use Rattle.std.proofs.Common.{◌≡◌, ◌∙◌, ℕ, zero, suc, ◌+◌, ◌≤◌, ◌<◌, ◌/◌, ◌%◌, Bool, true, false, ◌&&◌, List, [], ◌∷◌}
 use Rattle.std.proofs.Common.{ap, arith, refl, sym, bit_and, ◌==◌, get_or, drop, option_map}
 use Rattle.std.specs.Prelude.{find, nat_lt, not, if◌then◌else◌, Option, Some}
-use Rattle.std.proofs.lemmas.Nat.{and_assoc, and_le_r}
-use Rattle.std.proofs.lemmas.Bool.{eqb-true, and_parts, ltb-false, ltb-true}
+use Rattle.std.proofs.lemmas.Nat.{and_assoc}
+use Rattle.std.proofs.lemmas.Bool.{eqb-true, and_parts, ltb-false, ltb-true, false_from_ne_true}
 use Rattle.rv_compressed.specs.declared.patterns.Pattern.{Pattern}
 use Rattle.rv_compressed.specs.declared.patterns.TheConstants.{FIRST_ROWS, GROUP, PATTERNS}
 use Rattle.rv_compressed.specs.Patterns.{holds, meets}
@@ -31,10 +31,6 @@ same_group row parcel fixed met =
     eqb-true _ _ (and_parts (bit_and parcel row.mask == row.bits) (holds row.condition parcel) met).0 in
     ap (λ m. bit_and parcel m) (sym fixed) ∙ sym (and_assoc GROUP parcel row.mask) ∙ ap (λ m. bit_and m GROUP) here
 
-unmet : (test : Bool) → (test ≡ true → ⊥) → test ≡ false
-unmet true never = absurd (never refl)
-unmet false never = refl
-
 passed_over : {found : Option Pattern} (test : Bool) (row : Pattern) → test ≡ false
     → found ≡ (if test then Some row else found)
 passed_over true row is = absurd cc
@@ -50,7 +46,7 @@ skips (row ∷ rows) i (suc more) parcel is placed =
     let rest = and_parts (not (nat_lt i (first_of (bit_and row.bits GROUP)))) (are_placed (suc i) rows) parts.1 in
     let not_before : first_of (bit_and row.bits GROUP) ≤ i = not_less i _ _ refl rest.0 in
     let other : meets row parcel ≡ false =
-    unmet (meets row parcel) (λ met.
+    false_from_ne_true (meets row parcel) (λ met.
     let first : first_of (bit_and parcel GROUP) ≡ first_of (bit_and row.bits GROUP) =
     ap first_of (same_group row parcel fixed met) in
     omega arith) in
@@ -61,12 +57,6 @@ pub same_expansion : (parcel first : ℕ) → first ≡ first_of (bit_and parcel
 unfolding expansion_by
 same_expansion parcel first is =
     ap (option_map (λ (row : Pattern). encoding_of row.op parcel)) (skips PATTERNS 0 first parcel (omega arith) refl)
-
--- there are 32 groups
-pub group_small : (parcel : ℕ) → bit_and parcel GROUP / 2048 + bit_and parcel GROUP % 4 < 32
-group_small parcel =
-    let below : bit_and parcel GROUP ≤ GROUP = and_le_r parcel GROUP in
-    omega arith
 
 -- and as many rows
 abbrev all_within : List ℕ → Bool

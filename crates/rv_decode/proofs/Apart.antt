@@ -1,10 +1,10 @@
 -- Rows that ask different things of a bit that both fix are never both met.
-use Rattle.std.proofs.Common.{◌≡◌, ℕ, Bool, true, false, not, ◌&&◌, List, [], ◌∷◌, bit_and, ◌==◌, All, refl, sym, ◌∙◌}
+use Rattle.std.proofs.Common.{◌≡◌, ℕ, Bool, true, not, ◌&&◌, List, [], ◌∷◌, bit_and, ◌==◌, All, sym, ◌∙◌}
 use Rattle.std.proofs.Common.{ap, arith, get_or}
 use Rattle.std.specs.List.{list_all}
 use Rattle.std.proofs.lemmas.List.Kept.{AllPairs-cons}
 use Rattle.std.proofs.lemmas.Nat.{and_assoc, and_comm}
-use Rattle.std.proofs.lemmas.Bool.{eqb-true}
+use Rattle.std.proofs.lemmas.Bool.{eqb-true, and_parts}
 use Rattle.std.proofs.lemmas.Bool.Decides.{nat_tests}
 use Rattle.std.proofs.lemmas.List.Sums.{AllPass-from_list_all}
 use Rattle.rv_decode.specs.declared.patterns.Pattern.{Pattern}
@@ -17,10 +17,6 @@ are_apart one other = not (bit_and one.bits other.mask == bit_and other.bits one
 abbrev pub all_apart : List Pattern → Bool
 all_apart [] = true
 all_apart (row ∷ rows) = list_all (are_apart row) rows && all_apart rows
-
-both : (a b : Bool) → (a && b) ≡ true → (a ≡ true) × (b ≡ true)
-both true b h = (refl, h)
-both false b h = cc
 
 differ : (a b : ℕ) → a ≡ b → not (a == b) ≡ true → ⊥
 differ a b same h = grind (arith, nat_tests)
@@ -41,5 +37,5 @@ each row rows h k d inside = never row (get_or rows k d) (AllPass-from_list_all 
 pub no_two_meet : (rows : List Pattern) → all_apart rows ≡ true → MeetsOneAtMost meets rows
 no_two_meet [] h = λ i j d lt inside. absurd (omega arith)
 no_two_meet (row ∷ rows) h =
-    let parts = both (list_all (are_apart row) rows) (all_apart rows) h in
+    let parts = and_parts (list_all (are_apart row) rows) (all_apart rows) h in
     AllPairs-cons (NeverBoth meets) row rows (each row rows parts.0) (no_two_meet rows parts.1)

@@ -4,7 +4,7 @@ use Rattle.std.proofs.Common.{◌==◌, ◌%◌, refl, sym, ◌∙◌, ap, appen
 use Rattle.std.specs.List.{list_all, find}
 use Rattle.std.specs.Option.{option_map, option_or}
 use Rattle.std.proofs.lemmas.Nat.{and_mod, and_mask}
-use Rattle.std.proofs.lemmas.Bool.{eqb-true}
+use Rattle.std.proofs.lemmas.Bool.{eqb-true, and_parts, not-true}
 use Rattle.std.proofs.lemmas.Bool.Decides.{nat_tests}
 use Rattle.std.proofs.lemmas.List.Folds.{find-append}
 use Rattle.rv_decode.specs.declared.patterns.Pattern.{Pattern}
@@ -22,14 +22,6 @@ is_map [] = true
 is_map (opcode ∷ more) =
     list_all (asks opcode.code) opcode.rows && (list_all (λ other. not (other.code == opcode.code)) more && is_map more)
 
-both : (a b : Bool) → (a && b) ≡ true → (a ≡ true) × (b ≡ true)
-both true b h = (refl, h)
-both false b h = cc
-
-neither : (a : Bool) → not a ≡ true → a ≡ false
-neither true h = cc
-neither false h = refl
-
 -- what a row that the word meets says of the word's opcode
 opcode_met : (code mask bits word : ℕ) → mask % 128 ≡ 127 → bits % 128 ≡ code → bit_and word mask ≡ bits
     → word % 128 ≡ code
@@ -42,7 +34,7 @@ opcode_met code mask bits word all low met =
 unmet_row : (code : ℕ) (row : Pattern) (word : ℕ) → asks code row ≡ true → (code == word % 128) ≡ false → (met : Bool)
     → meets row word ≡ met → met ≡ false
 unmet_row code row word asked other true met =
-    let parts = both (row.mask % 128 == 127) (row.bits % 128 == code) asked in
+    let parts = and_parts (row.mask % 128 == 127) (row.bits % 128 == code) asked in
     let same : word % 128 ≡ code =
     opcode_met code row.mask row.bits word (eqb-true _ _ parts.0) (eqb-true _ _ parts.1) (eqb-true _ _ met) in
     absurd (grind (arith, nat_tests))
@@ -52,7 +44,7 @@ unmet : (code : ℕ) (rows : List Pattern) (word : ℕ) → list_all (asks code)
     → find (λ row. meets row word) rows ≡ None
 unmet code [] word all other = refl
 unmet code (row ∷ rows) word all other =
-    let parts = both (asks code row) (list_all (asks code) rows) all in
+    let parts = and_parts (asks code row) (list_all (asks code) rows) all in
     let first : meets row word ≡ false = unmet_row code row word parts.0 other (meets row word) refl in
     rw first (unmet code rows word parts.1 other)
 
@@ -60,8 +52,8 @@ none_with : (more : List Opcode) (code word : ℕ) → list_all (λ other. not (
     → (code == word) ≡ true → rows_of_opcode more word ≡ []
 none_with [] code word others same = refl
 none_with (opcode ∷ more) code word others same =
-    let parts = both (not (opcode.code == code)) (list_all (λ other. not (other.code == code)) more) others in
-    let differs : (opcode.code == word) ≡ false = grind (arith, nat_tests, neither (opcode.code == code) parts.0) in
+    let parts = and_parts (not (opcode.code == code)) (list_all (λ other. not (other.code == code)) more) others in
+    let differs : (opcode.code == word) ≡ false = grind (arith, nat_tests, not-true (opcode.code == code) parts.0) in
     rw differs (none_with more code word parts.1 same)
 
 or_none : (met : Option Pattern) → option_or met None ≡ met
@@ -89,9 +81,9 @@ pub found : (map : List Opcode) (word : ℕ) → is_map map ≡ true
 found [] word h = refl
 found (opcode ∷ more) word h =
     let parts =
-    both (list_all (asks opcode.code) opcode.rows)
+    and_parts (list_all (asks opcode.code) opcode.rows)
     (list_all (λ other. not (other.code == opcode.code)) more && is_map more) h in
-    let rest = both (list_all (λ other. not (other.code == opcode.code)) more) (is_map more) parts.1 in
+    let rest = and_parts (list_all (λ other. not (other.code == opcode.code)) more) (is_map more) parts.1 in
     by_test opcode more word parts.0 rest.0 (found more word rest.1) (opcode.code == word % 128) refl
 
 pub scanned : (word : ℕ)

@@ -1,6 +1,7 @@
 use Rattle.std.proofs.Common.{refl}
 use Rattle.std.specs.Int.{w64, trailing_ones}
-use Rattle.pmp_check.proofs.Ones.{eight_shifted, few_ones, one_shifted}
+use Rattle.hart_words.proofs.Powers.{one_shifted}
+use Rattle.pmp_check.proofs.Ones.{eight_shifted, few_ones}
 use Rattle.pmp_check.proofs.region.power_region.Goals as goal
 
 pub returns : goal.returns
