@@ -1,5 +1,5 @@
 //! The board that the workers of a judging share: two words in memory, which change in single
-//! steps.
+//! steps. A single worker, who shares nothing, needs none.
 //!
 //! Each worker has a seat of its own. By it the worker draws the number of the next segment, looks
 //! at the least segment that was posted, and posts a segment that it drew. What a seat has done is
