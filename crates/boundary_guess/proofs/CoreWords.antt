@@ -1,7 +1,7 @@
 -- Entries of traps, returns, and accesses to control and status registers keep a hart's state sound, and its values
 -- words.
 use Rattle.std.proofs.Common.{◌≡◌, ℕ, ◌+◌, ◌-◌, ◌*◌, ◌/◌, ◌%◌, ◌^◌, ◌<◌, ◌==◌, Bool, true, false, ◌&&◌, Option, Some}
-use Rattle.std.proofs.Common.{None, Ok, Err, Result, if◌then◌else◌, arith, lit<}
+use Rattle.std.proofs.Common.{None, Ok, Err, Result, refl, if◌then◌else◌, arith, lit<}
 use Rattle.std.specs.Prelude.{IfOk, IfSome, unwrap_or}
 use Rattle.std.specs.Int.{bit_at}
 use Rattle.std.proofs.lemmas.Nat.Bits.{bit_at-lt}

@@ -127,7 +127,7 @@ translated_by core request va false bytes = tt
 
 in_by : (held device : Bool) (pa : ℕ) (access : Access)
     → IfErr {T = Place}
-    (if held then Ok (record { pa = pa; io = false }) else if device then Ok (record { pa = pa; io = true }) else Err
+    (if held then Ok (record { pa = pa; is_device = false }) else if device then Ok (record { pa = pa; is_device = true }) else Err
     (access_fault_of access)) IsFault
 in_by true device pa access = tt
 in_by false true pa access = tt
@@ -301,7 +301,7 @@ load_from_raises : (P : Exception → Type 0) (va len : ℕ) (places : Result Pl
     → Raises P places → Raises P ((load_from va len places).run bytes).value
 unfolding pure
 load_from_raises P va len (Err exception) bytes raises = raises
-load_from_raises P va len (Ok (place, None)) bytes raises = value_raises P place len place.io bytes
+load_from_raises P va len (Ok (place, None)) bytes raises = value_raises P place len place.is_device bytes
 load_from_raises P va len (Ok (first, Some second)) bytes raises =
     parts_raise P first second (first_len va len) (len - first_len va len) bytes
 

@@ -38,7 +38,7 @@ store_none core va len atomicity faults bytes =
 
 read_at_none : (len : ℕ) (places : Result Places Exception) → WritesNone (found_with_read len places)
 read_at_none len (Err exception) = pure_none (Err exception)
-read_at_none len (Ok (first, second)) = by first.io
+read_at_none len (Ok (first, second)) = by first.is_device
   where
     by : (io : Bool)
         → WritesNone (if io then pure {A = Result LocatedValue Exception} (Ok (first, second, 0))

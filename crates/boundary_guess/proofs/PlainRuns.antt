@@ -47,7 +47,7 @@ use Rattle.boundary_guess.proofs.StorePlaces.{StandAt, store_stands}
 -- what is put at the places of a store
 abbrev pub writes_at : Places → MemoryRequest → ℕ → List Write
 writes_at (place, None) request value =
-    if place.io then [] else record { pa = place.pa; len = bytes_of request.size; value = value } ∷ []
+    if place.is_device then [] else record { pa = place.pa; len = bytes_of request.size; value = value } ∷ []
 writes_at (first, Some second) request value =
     let low_len = first_len request.address (bytes_of request.size) in
     record { pa = first.pa; len = low_len; value = value }
@@ -67,7 +67,7 @@ put_by false place len value bytes = refl
 put_at_writes : (places : Places) (request : MemoryRequest) (value : ℕ) (bytes : Bytes)
     → ((put_at places request value).run bytes).wrote ≡ writes_at places request value
 unfolding write_memory
-put_at_writes (place, None) request value bytes = put_by place.io place (bytes_of request.size) value bytes
+put_at_writes (place, None) request value bytes = put_by place.is_device place (bytes_of request.size) value bytes
 put_at_writes (first, Some second) request value bytes =
     let low_len = first_len request.address (bytes_of request.size) in
     let low : Write = record { pa = first.pa; len = low_len; value = value } in

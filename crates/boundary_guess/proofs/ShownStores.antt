@@ -134,7 +134,7 @@ device_apart : (map : Map) (pa len x : ℕ) → is_device map.io pa len ≡ true
     → is_within pa len x ≡ false
 device_apart map pa len x held inside = devices_apart map.ram map.io pa len x map.apart held inside
 
-place_fits : (map : Map) (len : ℕ) (place : Place) (io : Bool) → place.io ≡ io
+place_fits : (map : Map) (len : ℕ) (place : Place) (io : Bool) → place.is_device ≡ io
     → (if io then is_device map.io place.pa len else holds_all map.ram place.pa len) ≡ true → place.pa + len ≤ 2 ^ 64
 place_fits map len place false is stands = let end = map.ram.below in grind (arith, nat_tests, stands)
 place_fits map len place true is stands = device_fits map.io place.pa len stands
@@ -375,7 +375,7 @@ alone_is_true : {core : Core} {shown : Shown} {retired : Retired} {effects : Eff
     → (x : ℕ) → bytes_put core.map.ram (store_shown shown) 8 bytes x ≡ after_writes wrote bytes x
 alone_is_true {core} {shown} {retired} {effects} place bytes stores is x =
     let len = bytes_of stores.request.size in
-    let fits = place_fits core.map len place place.io refl stores.stands.stands in
+    let fits = place_fits core.map len place place.is_device refl stores.stands.stands in
     let stored : IsStored retired stores.request.address place.pa len stores.value = record {
       effects = effects;
       effects_are = is.effects_are;
@@ -388,7 +388,7 @@ alone_is_true {core} {shown} {retired} {effects} place bytes stores is x =
       end_fits = fits;
       physical = stores.stands.physical;
     } in
-    written_by core.map place place.io bytes x (shows_stored is.shows stored goes is.agrees) stores.stands.stands
+    written_by core.map place place.is_device bytes x (shows_stored is.shows stored goes is.agrees) stores.stands.stands
     ∙ ap (λ w. after_writes w bytes x) (sym stores.wrote_is)
 
 -- to two: without translation as to one, and with it no row shows it so
@@ -431,7 +431,7 @@ two_are_true {core} {shown} {retired} {effects} {wrote} first second bytes store
           high = stores.stands.high;
         } in
         let held = whole_in_ram near in
-        let place : Place = record { pa = va; io = false } in
+        let place : Place = record { pa = va; is_device = false } in
         let fits = place_fits core.map len place false refl held in
         let goes : GoesTo core va va len =
         record { pa_fits = stores.address; end_fits = fits; physical = λ none. refl } in

@@ -51,7 +51,7 @@ read_raises : (P : Exception → Type 0) (len : ℕ) (places : Result Places Exc
     → Raises P ((found_with_read len places).run bytes).value
 unfolding pure mapped read_memory
 read_raises P len (Err exception) bytes raises = raises
-read_raises P len (Ok (first, second)) bytes raises = by first.io
+read_raises P len (Ok (first, second)) bytes raises = by first.is_device
   where
     by : (io : Bool)
         → Raises P ((if io then pure {A = Result LocatedValue Exception} (Ok (first, second, 0))
@@ -119,7 +119,7 @@ load_from_below : (va len : ℕ) (places : Result Places Exception) (bytes : Byt
     → FindsBytes len ((load_from va len places).run bytes).value
 unfolding pure
 load_from_below va len (Err exception) bytes are = tt
-load_from_below va len (Ok (place, None)) bytes are = value_below place len place.io bytes are
+load_from_below va len (Ok (place, None)) bytes are = value_below place len place.is_device bytes are
 load_from_below va len (Ok (first, Some second)) bytes are =
     parts_below first second len (first_len va len) bytes (min-le_left len (PAGE_SIZE - va % PAGE_SIZE)) are
 
@@ -200,7 +200,7 @@ pub answer_word : (core : Core) (choices : RowChoices) (request : MemoryRequest)
     → (access_result_by core choices request place held op).value < 2 ^ 64
 answer_word core choices request place second held (memory.Load signed) fits =
     load_word signed request _
-    (found_by place.io (device_value choices request.address (bytes_of request.size)) held (bytes_of request.size)
+    (found_by place.is_device (device_value choices request.address (bytes_of request.size)) held (bytes_of request.size)
     (device_below choices request.address (bytes_of request.size)) fits)
 answer_word core choices request place second held memory.LoadReserved fits = signed_word request.size held
 answer_word core choices request place second held (memory.Store value) fits = lit< tt

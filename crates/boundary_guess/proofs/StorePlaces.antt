@@ -32,12 +32,12 @@ use Rattle.hart_step.specs.declared.state.Core.{Core}
 
 -- a place stands in RAM, or among the devices
 abbrev pub StandsIn : Map → ℕ → Place → Type 0
-StandsIn map len place = (if place.io then is_device map.io place.pa len else holds_all map.ram place.pa len) ≡ true
+StandsIn map len place = (if place.is_device then is_device map.io place.pa len else holds_all map.ram place.pa len) ≡ true
 
 -- the place of a request
 record IsPlaceOf (core : Core) (request : AccessRequest) (va : ℕ) (place : Place) : Type 0 where
   pub stands : StandsIn core.map request.len place
-  pub memory : request.devices ≡ false → place.io ≡ false
+  pub memory : request.devices ≡ false → place.is_device ≡ false
   pub physical : is_translated core.csrs request.mode ≡ false → place.pa ≡ va
 
 both : (a b : Bool) → (a && b) ≡ true → (a ≡ true) × (b ≡ true)
@@ -52,7 +52,7 @@ in_by : {va : ℕ} (held device : Bool) (core : Core) (request : AccessRequest) 
     → (request.devices && is_device core.map.io pa request.len) ≡ device
     → (is_translated core.csrs request.mode ≡ false → pa ≡ va)
     → IfOk {T = Place}
-    (if held then Ok (record { pa = pa; io = false }) else if device then Ok (record { pa = pa; io = true })
+    (if held then Ok (record { pa = pa; is_device = false }) else if device then Ok (record { pa = pa; is_device = true })
     else Err (access_fault_of request.access)) (IsPlaceOf core request va)
 in_by true device core request pa held is physical =
     record { stands = held; memory = λ none. refl; physical = physical }
@@ -142,7 +142,7 @@ unfolding mapped
 whole_stands core request va bytes =
     alone_stands core request va _ (part_stands core request (record { va = va; len = request.len }) bytes)
 
-held_in : (map : Map) (len : ℕ) (place : Place) → StandsIn map len place → place.io ≡ false
+held_in : (map : Map) (len : ℕ) (place : Place) → StandsIn map len place → place.is_device ≡ false
     → holds_all map.ram place.pa len ≡ true
 held_in map len place stands none =
     let P : Bool → Type 0 =
