@@ -1,6 +1,5 @@
 pub mod Actions
 pub mod NoSets
-pub mod Pieces
 pub mod Passed
 pub mod PlainOps
 pub mod Faults

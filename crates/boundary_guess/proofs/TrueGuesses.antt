@@ -20,7 +20,7 @@ use Rattle.hart_step.specs.Cores.{IsSound, core_at_reset_of}
 use Rattle.hart_step.specs.declared.state.Core.{Core}
 use Rattle.hart_step.specs.HartSets.{SetHoldsWords, SetState, set_after_row}
 use Rattle.hart_step.specs.Harts.{CoreHoldsWords}
-use Rattle.boundary_guess.specs.Cuts.{lines_of_pieces}
+use Rattle.boundary_guess.specs.Pieces.{lines_of_pieces}
 use Rattle.boundary_guess.specs.Guesses.{guess_after, guesses_of}
 use Rattle.boundary_guess.specs.Truth.{Agree, SetNoMarks, ShowChanges, StaysSound, true_starts, true_state_after}
 use Rattle.boundary_guess.specs.Truth.{state_at_reset}

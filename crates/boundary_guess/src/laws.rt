@@ -1,4 +1,4 @@
-//! What holds of the pieces that lines are cut into, and of the guesses.
+//! What holds of the guesses.
 
 ghost use Rattle.std.specs.Prelude.{◌≡◌, ◌<◌, ◌^◌, ℕ, List, [], ◌∷◌, ◌++◌};
 ghost use Rattle.std.specs.List.{All};
@@ -9,19 +9,10 @@ ghost use Rattle.rvfi_rows.specs.Columns.{TraceColumns};
 ghost use Rattle.rvfi_rows.specs.Rows.{rows_of};
 ghost use Rattle.hart_step.specs.Cores.{IsSound};
 ghost use Rattle.hart_step.specs.HartSets.{SetHoldsWords, SetState};
-ghost use Rattle.boundary_guess.specs.Cuts.{AreOfLength, cut_of, lines_of_pieces};
+ghost use Rattle.boundary_guess.specs.Pieces.{lines_of_pieces};
 ghost use Rattle.boundary_guess.specs.Guesses.{guess_after, guesses_of};
 ghost use Rattle.csr_file.specs.declared.profile.CsrProfile.{CsrProfile};
 ghost use Rattle.boundary_guess.specs.Truth.{Agree, SetNoMarks, ShowChanges, StaysSound, true_state_after, state_at_reset, true_starts};
-
-/// The pieces, in order, are the lines. Each has k lines but the last, which has one at least and
-/// k at most.
-pub fn pieces_are_the_lines()
-    ensures whole { (k : ℕ) (lines : List (List ℕ)) → 0 < k →
-        lines_of_pieces (cut_of k lines) ≡ lines }
-    ensures lengths { (k : ℕ) (lines : List (List ℕ)) → 0 < k →
-        AreOfLength k (cut_of k lines) }
-{}
 
 /// The values of harts at reset are words, and over a memory of bytes the steps by a trace's rows
 /// keep that, and keep each hart sound, whatever the implementation chooses.

@@ -23,7 +23,6 @@ use Rattle.rv_integer.specs.Results.{result_of}
 use Rattle.mem_access.specs.Accesses.{Exception}
 use Rattle.mem_access.proofs.Grants.{then_gives}
 use Rattle.rvfi_rows.specs.declared.expected.Expected.{Expected}
-use Rattle.rvfi_rows.specs.declared.expected.Stepped.{Stepped}
 use Rattle.hart_step.specs.declared.state.Core.{Core}
 use Rattle.hart_step.specs.declared.choices.RowChoices.{RowChoices}
 use Rattle.hart_step.specs.declared.instruction.Instruction.{Instruction}
@@ -157,15 +156,7 @@ next_keeps core shown bytes = elim (cases_Bool core.halted) [
       ∙ begun_keeps core shown
 ]
 
--- so does a call that steps, or lacks memory
-pub call_keeps : (core next : Core) (shown : Shown) (result : Result Stepped NoMemory) (before now : Bytes)
-    → IfOk result (λ done. Performs (step_of core shown) (record { next = next; expected = done.expected }) [] done.seen
-    [] done.wrote before now) → OnErr result ((next ≡ core) × (now ≡ before)) → next.choices ≡ core.choices
-call_keeps core next shown (Ok done) before now ran unchanged =
-    ap (λ g. g.next.choices) ran.value_is ∙ next_keeps core shown before
-call_keeps core next shown (Err lacking) before now ran unchanged = ap (λ k. k.choices) unchanged.0
-
--- and one that puts what the step gave in place of what an earlier one gave
+-- so does a call that puts what the step gave in place of what an earlier one gave, or lacks memory
 pub put_keeps : {X : Type 0} (core next : Core) (shown : Shown) (expected : Expected) (seen : List Read)
     (wrote : List Write) (result : Result X NoMemory) (before now : Bytes)
     → OnOk result (Performs (step_of core shown) (record { next = next; expected = expected }) [] seen [] wrote before

@@ -13,10 +13,6 @@ impl<M: PhysMem> CoreStep<M> for Core {
 
     ghost is_sound = { IsSound };
 
-    fn step(&mut self, mem: &mut M, row: &Row) -> Result<Stepped, NoMemory> {
-        Core::step(self, mem, row)
-    }
-
     fn step_into(&mut self, mem: &mut M, row: &Row, stepped: &mut Stepped) -> Result<(), NoMemory> {
         Core::step_into(self, mem, row, stepped)
     }

@@ -16,7 +16,6 @@ mod choices;
 mod core_step;
 mod csr_access;
 mod execution;
-mod hart;
 mod harts;
 mod instruction;
 pub mod laws;
@@ -35,8 +34,7 @@ mod taken_rows;
 pub mod translation_laws;
 mod words;
 
-pub use hart::Hart;
 pub use harts::Harts;
 pub use parts::CoreParts;
 pub use state::Core;
-pub use words::{hold_words, set_holds_words};
+pub use words::set_holds_words;

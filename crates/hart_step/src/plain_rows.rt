@@ -7,9 +7,8 @@ ghost use Rattle.hart_step.specs.PlainRows.{insn_bits_of, insn_shown, is_plain, 
 
 use crate::choices::row_shows;
 use crate::execution::op_of;
-use crate::hart::Hart;
 use crate::state::Core;
-use hart_words::{PAGE_SIZE, PhysMem, Signal};
+use hart_words::{PAGE_SIZE, Signal};
 use mem_access::{data_mode, is_translated};
 use rv_decode::Op;
 use rv_decode::opcodes::{AMO, STORE, SYSTEM};
@@ -17,15 +16,6 @@ use rvfi_rows::Row;
 
 /// C.EBREAK, all of whose bits are fixed: funct4 is 1001, both registers are 0, the quadrant is 2.
 pub const C_EBREAK: u32 = 0x9002;
-
-impl<M: PhysMem + Drop> Hart<M> {
-    /// Whether a valid row is plain for this hart: the row shows all that its instruction changes.
-    pub fn is_plain(&self, row: &Row) -> bool
-        ensures { result ≡ is_plain self.now.core (shown_in row.now) }
-    {
-        self.core.is_plain(row)
-    }
-}
 
 impl Core {
     /// Whether a valid row is plain for this state: it shows all that its instruction changes.

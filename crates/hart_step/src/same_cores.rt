@@ -1,37 +1,14 @@
-//! Whether two harts are the same but for their memories, and a hart again.
+//! Whether two harts are the same but for their memories.
 
-ghost use Rattle.std.specs.Prelude.{◌≡◌, Decides, IfOk};
+ghost use Rattle.std.specs.Prelude.{◌≡◌, Decides};
 
-use crate::hart::Hart;
 use crate::state::Core;
 use csr_file::{CsrProfile, Csrs, Presence};
 use hart_words::{
-    Choices, DeviceFaults, InsnBits, Map, Marks, Misaligned, Mode, NoMemory, PhysMem, PmpEntry,
-    Registers, Span, TrapValues,
+    Choices, DeviceFaults, InsnBits, Map, Marks, Misaligned, Mode, PmpEntry, Registers, Span,
+    TrapValues,
 };
 use rv_atomic::{Block, Reservation};
-
-impl<M: PhysMem + Drop> Hart<M> {
-    /// The same hart again, over a memory with the same bytes.
-    pub fn copy(&self) -> Result<Hart<M>, NoMemory>
-        ensures core { IfOk result (λ other. other.core ≡ self.now.core) }
-        ensures bytes { IfOk result (λ other. M.bytes other.mem ≡ M.bytes self.now.mem) }
-        ensures ram { IfOk result (λ other. M.ram other.mem ≡ M.ram self.now.mem) }
-    {
-        Ok(Hart {
-            core: self.core,
-            mem: self.mem.copy()?,
-        })
-    }
-
-    /// Whether all but the memories is the same: registers, pc, mode, control and status registers,
-    /// reservation, order index, flags, map and choices.
-    pub fn same_but_memory<N: PhysMem + Drop>(&self, other: &Hart<N>) -> bool
-        ensures { Decides result (self.now.core ≡ other.now.core) }
-    {
-        self.core.is_same(&other.core)
-    }
-}
 
 impl Core {
     /// Whether the other state is the same.

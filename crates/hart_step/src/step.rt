@@ -25,29 +25,13 @@ use rvfi_rows::{CsrsAround, Effects, Expected, Retired, Row, Stepped};
 use trap_entry::enter;
 
 impl Core {
-    /// Steps the hart by a valid row over its memory, and says what it did and what it read and
-    /// wrote. Without memory neither the hart nor a byte changes: what the instruction changes is
-    /// noted until memory has what it writes.
-    pub fn step<M: PhysMem>(&mut self, mem: &mut M, row: &Row) -> Result<Stepped, NoMemory>
-        requires sound { IsSound self.old }
-        requires ram { M.ram mem.old ≡ self.old.map.ram }
-        ensures stepped { IfOk result (λ now. Performs (step_of self.old (shown_in row.now))
-            (record { next = self.new; expected = now.expected }) [] now.seen [] now.wrote
-            (M.bytes mem.old) (M.bytes mem.new)) }
-        ensures err { OnErr result ((self.new ≡ self.old) × (M.bytes mem.new ≡ M.bytes mem.old)) }
-        ensures sound { IsSound self.new }
-        ensures map { self.new.map ≡ self.old.map }
-        ensures ram { M.ram mem.new ≡ M.ram mem.old }
-    {
-        let mut stepped = Stepped::halted();
-        match self.step_into(mem, row, &mut stepped) {
-            Ok(()) => Ok(stepped),
-            Err(NoMemory) => Err(NoMemory),
-        }
-    }
-
-    /// The same, where what a step gives is put in place of what an earlier one gave: it is large,
-    /// and who steps by many rows keeps one. Without memory it stays.
+    /// Steps the hart by a valid row over its memory. What it did, and what it read and wrote, is
+    /// put in place of what an earlier step gave: it is large, and who steps by many rows keeps
+    /// one. Without memory neither the hart nor a byte changes, and what was given stays: what the
+    /// instruction changes is noted until memory has what it writes.
+    ///
+    /// From the Unprivileged ISA and the Privileged Architecture; what they leave open is taken
+    /// from the row, as riscv-formal's description of RVFI has it.
     pub fn step_into<M: PhysMem>(
         &mut self,
         mem: &mut M,

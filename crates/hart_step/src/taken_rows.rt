@@ -8,46 +8,22 @@ ghost use Rattle.hart_step.specs.Cores.{IsSound};
 ghost use Rattle.hart_step.specs.PlainRows.{next_address_shown, memory_shown, core_shown, next_pc_shown, registers_shown};
 ghost use Rattle.hart_step.specs.TakenRows.{taken_of};
 
-use crate::hart::Hart;
 use crate::plain_rows::{insn_shown, length_of, shows_store};
 use crate::shown_store::ShownStore;
 use crate::state::Core;
 use hart_words::{NoMemory, PhysMem, Registers, Signal, Wrote};
 use rvfi_rows::Row;
 
-impl<M: PhysMem + Drop> Hart<M> {
-    /// Takes the state after a row from what the row shows, as it is after a plain row: rd, pc, the
-    /// order index, and a store's bytes. Without memory neither the state nor a byte changes.
-    #[tactic(auto, unfolding(crate::specs::PlainRows::memory_shown))]
-    pub fn take_shown(&mut self, row: &Row) -> Result<(), NoMemory>
-        requires sound { IsSound self.old.core }
-        requires ram { M.ram self.old.mem ≡ self.old.core.map.ram }
-        ensures core { OnOk result (self.new.core ≡ core_shown self.old.core (shown_in row.now)) }
-        ensures bytes { OnOk result (M.bytes self.new.mem
-            ≡ memory_shown self.old.core (shown_in row.now) (M.bytes self.old.mem)) }
-        ensures err { OnErr result ((self.new.core ≡ self.old.core)
-            × (M.bytes self.new.mem ≡ M.bytes self.old.mem)) }
-        ensures sound { IsSound self.new.core }
-        ensures map { self.new.core.map ≡ self.old.core.map }
-        ensures ram { M.ram self.new.mem ≡ M.ram self.old.mem }
-    {
-        if shows_store(row) {
-            let ram = self.core.map.ram;
-            ShownStore::of(row).put(&mut self.mem, &ram)?;
-        }
-        self.core.take_core_shown(row);
-        Ok(())
-    }
-}
-
 impl Core {
     /// Takes the state after a row from what the row shows, and a store's bytes into a memory: the
     /// bytes of RAM that it wrote. Without memory neither the state nor a byte changes.
-    #[tactic(auto, using(crate::proofs::TakenWrites::took_none, crate::proofs::TakenWrites::took_store))]
+    #[tactic(auto, unfolding(crate::specs::PlainRows::memory_shown), using(crate::proofs::TakenWrites::took_none, crate::proofs::TakenWrites::took_store))]
     pub(crate) fn take_row<M: PhysMem>(&mut self, mem: &mut M, row: &Row) -> Result<Wrote, NoMemory>
         requires ram { M.ram mem.old ≡ self.old.map.ram }
         ensures taken { IfOk result (λ wrote. Performs (taken_of self.old (shown_in row.now))
             self.new [] [] [] wrote (M.bytes mem.old) (M.bytes mem.new)) }
+        ensures bytes { OnOk result (M.bytes mem.new
+            ≡ memory_shown self.old (shown_in row.now) (M.bytes mem.old)) }
         ensures err { OnErr result ((self.new ≡ self.old) × (M.bytes mem.new ≡ M.bytes mem.old)) }
         ensures sound { IsSound self.old → IsSound self.new }
         ensures map { self.new.map ≡ self.old.map }

@@ -1,24 +1,16 @@
-//! That the values of a hart are words, and those of its memory bytes.
+//! That the values of harts are words, and those of their memory bytes.
 
 ghost use Rattle.std.specs.Prelude.{◌<◌, ◌^◌};
 ghost use Rattle.std.specs.List.{All};
-ghost use Rattle.hart_step.specs.Harts.{CoreHoldsWords, HoldsWords, state_of};
+ghost use Rattle.hart_step.specs.Harts.{CoreHoldsWords};
 ghost use Rattle.hart_step.specs.HartSets.{SetHoldsWords, set_state_of};
 
-use crate::hart::Hart;
 use crate::harts::Harts;
 use crate::state::Core;
 use hart_words::{PhysMem, PmpEntry};
 
-/// Tells a proof that a hart's values are words, and its memory's bytes. Their types say so, but a
-/// proof learns it only where they are read. Nothing else comes of the call.
-pub fn hold_words<M: PhysMem + Drop>(hart: &Hart<M>)
-    ensures { HoldsWords (state_of M.bytes hart.now) }
-{
-    core_holds_words(&hart.core);
-}
-
-/// The same of harts that share a memory.
+/// Tells a proof that the values of harts are words, and those of their memory bytes. Their types
+/// say so, but a proof learns it only where they are read. Nothing else comes of the call.
 pub fn set_holds_words<M: PhysMem + Drop>(set: &Harts<M>)
     ensures { SetHoldsWords (set_state_of M.bytes set.now) }
 {

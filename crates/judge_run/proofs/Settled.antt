@@ -55,7 +55,7 @@ pub is_round : {M : Type 0} {bytes_of : M → Bytes} {ram_of : M → Span} {colu
     (round : Round M) → map (set_state_of bytes_of) guesses ≡ guesses_of start columns (map segment_lines segments)
     → AreLeft bytes_of ram_of columns segments guesses founds
     → AreJudgedInTurn by_set (candidates_of bytes_of columns segments guesses founds)
-    → WalksThem bytes_of true (candidates_of bytes_of columns segments guesses founds) start round
+    → WalksThem bytes_of (candidates_of bytes_of columns segments guesses founds) start round
     → IsRound start columns (map segment_lines segments) (round_of bytes_of round)
 is_round {M} {bytes_of} {ram_of} {columns} {segments} {guesses} {founds} {start} round guessed left judged walks =
     let rows : List (List RowReading) = map (rows_of_segment columns) segments in
@@ -563,7 +563,7 @@ settled_alike history settled = record {
 pub record PromisesRound {M E : Type 0} (bytes_of : M → Bytes) (ram_of : M → Span) (columns : TraceColumns)
     (segments : List Segment) (guesses : List (HartSet Core M)) (founds : List (Found (JudgedSegment M))) (start : SetState)
     (result : Result (Round M) E) : Type 0 where
-  pub walks : IfOk result (WalksThem bytes_of true (candidates_of bytes_of columns segments guesses founds) start)
+  pub walks : IfOk result (WalksThem bytes_of (candidates_of bytes_of columns segments guesses founds) start)
   pub within : IfOk result (λ round. round.settled ≤ length segments)
   pub settles_one : IfOk result (λ round. 0 < length segments → 0 < round.settled)
   pub at_most_1_again : IfOk result (λ round. round.rejudged ≤ 1)

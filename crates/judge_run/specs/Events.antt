@@ -9,7 +9,7 @@ use Rattle.hart_words.specs.Memory.{Bytes}
 use Rattle.rvfi_rows.specs.declared.segment.Segment.{Segment}
 use Rattle.hart_set.specs.declared.set.HartSet.{HartSet}
 use Rattle.hart_step.specs.HartSets.{SetState}
-use Rattle.boundary_guess.specs.Cuts.{lines_of_pieces}
+use Rattle.boundary_guess.specs.Pieces.{lines_of_pieces}
 use Rattle.segment_judge.specs.declared.found.Found.{Found}
 use Rattle.segment_judge.specs.Judgements.{Judgement, by_set}
 use Rattle.verdict_board.specs.declared.view.View.{View}

@@ -8,7 +8,6 @@ ghost use Rattle.line_text.specs.Lines.{IsLine};
 ghost use Rattle.page_layers.specs.Memories.{layered_ram};
 ghost use Rattle.rvfi_rows.specs.Segments.{line_count_of};
 
-use boundary_guess::cut;
 use hart_set::HartSet;
 use hart_step::{Core, Harts};
 use hart_words::{Choices, Map, Span};
@@ -158,6 +157,23 @@ fn lines_with(alloc: Global, rows: &[&[u8]]) -> Result<Lines, Fail> {
         put_line(&mut lines, *row)?;
     }
     Ok(lines)
+}
+
+/// Segments of so many lines each, the last one shorter.
+fn cut(alloc: Global, lines: &Lines, length: usize) -> Result<Vec<Segment>, Fail> {
+    let mut segments = Vec::new(alloc);
+    let mut part = Lines::new(alloc);
+    for number in 0..lines.len() {
+        put_line(&mut part, lines.get(number).ok_or("no such line")?)?;
+        if part.len() == length {
+            segments.push(Segment::new(part))?;
+            part = Lines::new(alloc);
+        }
+    }
+    if part.len() > 0 {
+        segments.push(Segment::new(part))?;
+    }
+    Ok(segments)
 }
 
 /// Whether no segment has many lines.

@@ -20,21 +20,9 @@ pub trait CoreStep<M: PhysMem>: Sized {
     /// What holds of every state that a step may begin from.
     ghost is_sound: { Self → Type 0 };
 
-    /// Steps the hart by a valid row over a memory: what it did, and what it read and wrote.
-    fn step(&mut self, mem: &mut M, row: &Row) -> Result<Stepped, NoMemory>
-        requires sound { is_sound self.old }
-        requires ram { M.ram mem.old ≡ (meaning.map_of self.old).ram }
-        ensures stepped { IfOk result (λ now. Performs (meaning.stepped self.old (shown_in row.now))
-            (record { next = self.new; expected = now.expected }) [] now.seen [] now.wrote
-            (M.bytes mem.old) (M.bytes mem.new)) }
-        ensures err { OnErr result ((self.new ≡ self.old) × (M.bytes mem.new ≡ M.bytes mem.old)) }
-        ensures sound { is_sound self.new }
-        ensures map { meaning.map_of self.new ≡ meaning.map_of self.old }
-        ensures choices { meaning.choices_of self.new ≡ meaning.choices_of self.old }
-        ensures ram { M.ram mem.new ≡ M.ram mem.old };
-
-    /// The same, where what a step gives is put in place of what an earlier one gave: it is large,
-    /// and who steps by many rows keeps one. Without memory it stays.
+    /// Steps the hart by a valid row over a memory. What it did, and what it read and wrote, is put
+    /// in place of what an earlier step gave: it is large, and who steps by many rows keeps one.
+    /// Without memory it stays.
     fn step_into(&mut self, mem: &mut M, row: &Row, stepped: &mut Stepped) -> Result<(), NoMemory>
         requires sound { is_sound self.old }
         requires ram { M.ram mem.old ≡ (meaning.map_of self.old).ram }

@@ -5,8 +5,8 @@ ghost use Rattle.hart_step.specs.HartSets.{SetCanStep};
 ghost use Rattle.page_layers.specs.Memories.{layered_ram};
 
 use super::compiled::IMAGE;
-use super::guesses::{put_line, write};
-use boundary_guess::{cut, guesses};
+use super::guesses::{cut, put_line, write};
+use boundary_guess::guesses;
 use hart_set::HartSet;
 use hart_step::{Core, Harts};
 use hart_words::{Choices, Map, Signal, Span};

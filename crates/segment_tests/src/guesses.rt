@@ -4,13 +4,13 @@ ghost use Rattle.hart_step.specs.Cores.{IsSound};
 ghost use Rattle.hart_step.specs.HartSets.{SetCanStep};
 ghost use Rattle.line_text.specs.Lines.{IsLine};
 
-use boundary_guess::{cut, guesses};
+use boundary_guess::guesses;
 use hart_set::HartSet;
 use hart_step::{Core, Harts};
 use hart_words::{Choices, Map, Mode, PhysMem, Span};
 use line_text::Lines;
 use page_layers::MapMem;
-use rvfi_rows::{Columns, Segment, read_header, read_row};
+use rvfi_rows::{Columns, Segment, Stepped, read_header, read_row};
 use std::alloc::Global;
 use std::process::Abort;
 use std::test::Fail;
@@ -196,43 +196,21 @@ fn segments_of(alloc: Global, segments: &[&[&[u8]]]) -> Result<Vec<Segment>, Fai
     Ok(kept)
 }
 
-/// The segments have so many lines, in order, of which each is its number alone.
-fn hold_cut(rt: &impl Abort, segments: &[Segment], lengths: &[usize]) {
-    assert_eq!(rt; segments.len(), lengths.len());
-    let mut next: u8 = 0;
-    for (segment, length) in segments.iter().zip(lengths.iter()) {
-        assert_eq!(rt; segment.lines.len(), *length);
-        for number in 0..*length {
-            assert_eq!(rt;
-                segment.lines.get(number),
-                Some([b'a'.wrapping_add(next)].as_slice())
-            );
-            next = next.wrapping_add(1);
+/// Segments of so many lines each, the last one shorter.
+pub(crate) fn cut(alloc: Global, lines: &Lines, length: usize) -> Result<Vec<Segment>, Fail> {
+    let mut segments = Vec::new(alloc);
+    let mut part = Lines::new(alloc);
+    for number in 0..lines.len() {
+        put_line(&mut part, lines.get(number).ok_or("no such line")?)?;
+        if part.len() == length {
+            segments.push(Segment::new(part))?;
+            part = Lines::new(alloc);
         }
     }
-}
-
-#[test]
-fn cuts_lines(rt: HostRuntime) -> Result<(), Fail> {
-    let alloc = rt.alloc();
-    let cases: [(u8, usize, &[usize]); 8] = [
-        (0, 3, &[]),
-        (1, 3, &[1]),
-        (3, 3, &[3]),
-        (4, 3, &[3, 1]),
-        (5, 3, &[3, 2]),
-        (6, 3, &[3, 3]),
-        (3, 1, &[1, 1, 1]),
-        (2, usize::MAX, &[2]),
-    ];
-    for (count, k, lengths) in cases {
-        let mut lines = Lines::new(alloc);
-        for number in 0..count {
-            put_line(&mut lines, &[b'a'.wrapping_add(number)])?;
-        }
-        hold_cut(&rt, &cut(alloc, &lines, k)?, lengths);
+    if part.len() > 0 {
+        segments.push(Segment::new(part))?;
     }
-    Ok(())
+    Ok(segments)
 }
 
 const BEGIN: Numbers = (CODE, 0, 0, HELD);
@@ -391,7 +369,7 @@ fn two_harts(alloc: Global) -> Result<Harts<MapMem>, Fail>
     let columns = read_header(alloc, HEADER)?;
     let row = read_row(alloc, &columns, RESERVING, 0, 1)?.ok_or("the row is valid")?;
     let mut core = first_core(map);
-    core.step(&mut mem, &row)?;
+    core.step_into(&mut mem, &row, &mut Stepped::halted())?;
     Ok(HartSet::reset(alloc, core, 2, mem)?)
 }
 

@@ -1,4 +1,4 @@
-//! Joins of small traces, each beside the judging of all its lines as one segment.
+//! Rounds of small traces, each beside the judging of the lines that it settles as one segment.
 
 ghost use Rattle.std.specs.Prelude.{◌≡◌, ◌≤◌, ◌<◌, ◌^◌, IfOk, IfSome, IsTrue, length, true};
 ghost use Rattle.std.specs.List.{All};
@@ -9,7 +9,8 @@ ghost use Rattle.page_layers.specs.Memories.{map_bytes};
 ghost use Rattle.rvfi_rows.specs.Segments.{line_count_of};
 ghost use Rattle.segment_judge.specs.Founds.{IsLawfulFound};
 
-use boundary_guess::{cut, guesses};
+use super::guesses::cut;
+use boundary_guess::guesses;
 use hart_step::{Core, Harts};
 use hart_words::{Choices, Difference, Map, Mode, PhysMem, Signal, Span};
 use line_text::Lines;
@@ -20,7 +21,7 @@ use segment_judge::{Found, Judged, What, judge};
 use std::alloc::Global;
 use std::process::Abort;
 use std::test::Fail;
-use verdict_join::join_all;
+use verdict_join::join_round;
 
 pub(crate) const CODE: u64 = 0x8000_0000;
 
@@ -274,12 +275,11 @@ fn are_few(segments: &[Segment]) -> bool
     segments.len() < 1000 && are_short(segments)
 }
 
-/// A trace that is judged: its rows as one segment, and as several with a guess before each.
+/// A trace that is judged: segments with a guess before each.
 #[derive(Drop)]
 pub(crate) struct Trial {
     pub start: Harts<MapMem>,
     pub columns: Columns,
-    whole: Segment,
     pub segments: Vec<Segment>,
     pub guesses: Vec<Harts<MapMem>>,
     ghost one_each: { length guesses.items ≡ length segments.items },
@@ -295,20 +295,13 @@ pub(crate) struct Trace<'a> {
     length: usize,
 }
 
-/// Lines, and the segments that they were cut into.
-#[derive(Drop)]
-pub(crate) struct CutLines {
-    pub whole: Lines,
-    pub segments: Vec<Segment>,
-}
-
 impl Trial {
     /// With a guess before each segment, some of which are damaged.
     pub fn of(
         alloc: Global,
         start: Harts<MapMem>,
         columns: Columns,
-        lines: CutLines,
+        segments: Vec<Segment>,
         damages: Damages,
     ) -> Result<Trial, Fail>
         requires { SetCanStep (λ mem. mem.ram) start }
@@ -316,7 +309,6 @@ impl Trial {
         ensures guesses { IfOk result (λ trial.
             All (SetCanStep (λ mem. mem.ram)) trial.guesses.items) }
     {
-        let CutLines { whole, segments } = lines;
         let mut guesses = guesses(alloc, &start, &columns, &segments)?;
         damage_guesses(&mut guesses, damages)?;
         if guesses.len() != segments.len() || !are_few(&segments) {
@@ -325,7 +317,6 @@ impl Trial {
         Ok(Trial {
             start,
             columns,
-            whole: Segment::new(whole),
             segments,
             guesses,
         })
@@ -350,11 +341,7 @@ pub(crate) fn trial_of(
         return Err(Fail::from("no length"));
     }
     let segments = cut(alloc, &trace.lines, trace.length)?;
-    let lines = CutLines {
-        whole: trace.lines,
-        segments,
-    };
-    Trial::of(alloc, start, columns, lines, damages)
+    Trial::of(alloc, start, columns, segments, damages)
 }
 
 /// Of which segment something is found, and what.
@@ -455,20 +442,34 @@ fn hold_same_origins(
     }
 }
 
-/// The join comes to the verdict, and so does the judging of all rows as one segment, with the same
-/// harts after them. How many segments were judged again.
-pub(crate) fn hold_joined(
+/// The lines of the first segments, as one segment.
+fn first_as_one(alloc: Global, segments: &[Segment], count: usize) -> Result<Segment, Fail> {
+    let mut lines = Lines::new(alloc);
+    'segments: for segment in segments.iter().take(count) {
+        for number in 0..segment.lines.len() {
+            put_line(&mut lines, segment.lines.get(number).ok_or("no such line")?)?;
+        }
+    }
+    Ok(Segment::new(lines))
+}
+
+/// What a round comes to: the verdict, how many segments it settles, and how many of these were
+/// judged again.
+type Settled = (Verdict, usize, u32);
+
+/// The round comes to the verdict, and so does the judging of the rows that it settles as one
+/// segment, with the same harts after them.
+fn hold_round(
     rt: &impl Abort,
     alloc: Global,
     trial: &Trial,
     finds: &[Find],
-) -> Result<(Verdict, u32), Fail>
+) -> Result<Settled, Fail>
     requires start { SetCanStep (λ mem. mem.ram) trial.now.start }
     requires guesses { All (SetCanStep (λ mem. mem.ram)) trial.now.guesses.items }
 {
     let founds = founds_of(alloc, trial, finds)?;
-    let whole = judge(alloc, &trial.start, &trial.columns, &trial.whole, true)?;
-    let joined = join_all(
+    let round = join_round(
         alloc,
         trial.start.copy()?,
         &trial.columns,
@@ -477,10 +478,12 @@ pub(crate) fn hold_joined(
         founds,
         true,
     )?;
-    assert_eq!(rt; joined.verdict, whole.verdict);
-    hold_same_origins(rt, &joined.history, &whole.history)?;
-    hold_same_end(rt, &joined.end, &whole.end)?;
-    Ok((joined.verdict, joined.rejudged))
+    let settled = first_as_one(alloc, &trial.segments, round.settled)?;
+    let whole = judge(alloc, &trial.start, &trial.columns, &settled, true)?;
+    assert_eq!(rt; round.verdict, whole.verdict);
+    hold_same_origins(rt, &round.history, &whole.history)?;
+    hold_same_end(rt, &round.end, &whole.end)?;
+    Ok((round.verdict, round.settled, round.rejudged))
 }
 
 pub(crate) fn agrees(rows: u64) -> Verdict {
@@ -542,13 +545,15 @@ fn orders_of(alloc: Global, set: u32) -> Result<[Vec<Find>; 3], Fail> {
     Ok([rising, falling, twice])
 }
 
-/// The join of what was found of the silent rows.
-fn join_silent(rt: &impl Abort, alloc: Global, finds: &[Find]) -> Result<(Verdict, u32), Fail> {
+/// The round over what was found of the silent rows.
+fn join_silent(rt: &impl Abort, alloc: Global, finds: &[Find]) -> Result<Settled, Fail> {
     let harts = start(alloc, &SUMS, &[])?;
     let trial = trial_of(alloc, harts, trace_of(alloc, &SILENT)?, &[])?;
-    hold_joined(rt, alloc, &trial, finds)
+    hold_round(rt, alloc, &trial, finds)
 }
 
+/// In whatever order it was found, and where it is missing: the round ends with the first segment
+/// of which nothing was found from a guess that is met.
 #[test]
 fn joins_what_was_found(rt: HostRuntime) -> Result<(), Fail> {
     let alloc = rt.alloc();
@@ -558,26 +563,23 @@ fn joins_what_was_found(rt: HostRuntime) -> Result<(), Fail> {
         Find::Skips(2),
         Find::Skips(3),
     ];
-    assert_eq!(rt; join_silent(&rt, alloc, &skipped)?, (agrees(4), 3));
+    let with_first = (agrees(2), 2, 1);
+    assert_eq!(rt; join_silent(&rt, alloc, &skipped)?, with_first);
     'sets: for set in 0..16u32 {
-        let rejudged = if set & 1 == 1 { 3 } else { 4 };
+        let wanted = if set & 1 == 1 {
+            with_first
+        } else {
+            (agrees(1), 1, 1)
+        };
         for finds in &orders_of(alloc, set)? {
-            assert_eq!(rt;
-                join_silent(&rt, alloc, finds)?,
-                (agrees(4), rejudged),
-                "{finds:?}"
-            );
+            assert_eq!(rt; join_silent(&rt, alloc, finds)?, wanted, "{finds:?}");
         }
     }
     Ok(())
 }
 
-/// The join of all segments, each judged from its guess.
-pub(crate) fn join_each(
-    rt: &impl Abort,
-    alloc: Global,
-    trial: &Trial,
-) -> Result<(Verdict, u32), Fail>
+/// The round over all segments, each judged from its guess.
+pub(crate) fn join_each(rt: &impl Abort, alloc: Global, trial: &Trial) -> Result<Settled, Fail>
     requires start { SetCanStep (λ mem. mem.ram) trial.now.start }
     requires guesses { All (SetCanStep (λ mem. mem.ram)) trial.now.guesses.items }
 {
@@ -585,18 +587,12 @@ pub(crate) fn join_each(
     'finds: for number in 0..trial.segments.len() {
         finds.push(Find::Judges(number as u32))?;
     }
-    hold_joined(rt, alloc, trial, &finds)
+    hold_round(rt, alloc, trial, &finds)
 }
 
-/// A program, what stands in memory besides, rows, which guesses are damaged, and what the join of
-/// the segments comes to.
-type Case<'a> = (
-    &'a [u32],
-    &'a [Number],
-    Rows<'a>,
-    Damages<'a>,
-    (Verdict, u32),
-);
+/// A program, what stands in memory besides, rows, which guesses are damaged, and what the round
+/// over the segments comes to.
+type Case<'a> = (&'a [u32], &'a [Number], Rows<'a>, Damages<'a>, Settled);
 
 fn hold_cases(rt: &impl Abort, alloc: Global, cases: &[Case]) -> Result<(), Fail> {
     'cases: for (program, numbers, rows, damages, wanted) in cases {
@@ -682,16 +678,16 @@ fn joins_verdicts(rt: HostRuntime) -> Result<(), Fail> {
     };
     let invalid = Verdict::Agrees { rows: 4, valid: 3 };
     let cases: [Case; 10] = [
-        (&SUMS, &[], EMPTY, &[], (agrees(0), 0)),
-        (&STORES, &[], STORED, &[], (agrees(5), 2)),
-        (&HALTS, &[], HALTED, &[], (halts, 0)),
-        (&HALTS, &[], HALTED, NOT_HALTED, (halts, 1)),
-        (&SUMS, &[], DIFFERING, &[], (nine, 0)),
-        (&SUMS, &[], DIFFERING, REGISTER, (nine, 1)),
-        (&SUMS, &[], REFUSING, &[], (refused, 0)),
-        (&SUMS, &[], REFUSING, REGISTER, (refused, 1)),
-        (&SUMS, &[], SKIPPING, &[], (invalid, 0)),
-        (&SUMS, &[], SKIPPING, REGISTER, (invalid, 1)),
+        (&SUMS, &[], EMPTY, &[], (agrees(0), 0, 0)),
+        (&STORES, &[], STORED, &[], (agrees(3), 3, 1)),
+        (&HALTS, &[], HALTED, &[], (halts, 2, 0)),
+        (&HALTS, &[], HALTED, NOT_HALTED, (halts, 2, 1)),
+        (&SUMS, &[], DIFFERING, &[], (nine, 2, 0)),
+        (&SUMS, &[], DIFFERING, REGISTER, (nine, 2, 1)),
+        (&SUMS, &[], REFUSING, &[], (refused, 2, 0)),
+        (&SUMS, &[], REFUSING, REGISTER, (refused, 2, 1)),
+        (&SUMS, &[], SKIPPING, &[], (invalid, 2, 0)),
+        (&SUMS, &[], SKIPPING, REGISTER, (invalid, 2, 1)),
     ];
     hold_cases(&rt, rt.alloc(), &cases)
 }
@@ -710,32 +706,33 @@ const LOADED: Rows = (
     1,
 );
 
-/// A guess is met where it is the true state but for bytes that its segment does not read.
+/// A guess is met where it is the true state but for bytes that its segment does not read. How many
+/// of the two segments are settled, and how many of these were judged again.
 #[test]
 fn meets_guesses(rt: HostRuntime) -> Result<(), Fail> {
-    let cases: [(usize, Damage, u32); 15] = [
-        (1, Damage::Hart(0, HartDamage::Register), 1),
-        (1, Damage::Hart(0, HartDamage::Pc), 1),
-        (1, Damage::Hart(0, HartDamage::Mscratch), 1),
-        (1, Damage::Hart(0, HartDamage::Reservation), 1),
-        (1, Damage::Hart(0, HartDamage::Order), 1),
-        (1, Damage::Hart(0, HartDamage::Trapped), 1),
-        (1, Damage::Hart(0, HartDamage::Halted), 1),
+    let cases: [(usize, Damage, (u64, u32)); 15] = [
+        (1, Damage::Hart(0, HartDamage::Register), (2, 1)),
+        (1, Damage::Hart(0, HartDamage::Pc), (2, 1)),
+        (1, Damage::Hart(0, HartDamage::Mscratch), (2, 1)),
+        (1, Damage::Hart(0, HartDamage::Reservation), (2, 1)),
+        (1, Damage::Hart(0, HartDamage::Order), (2, 1)),
+        (1, Damage::Hart(0, HartDamage::Trapped), (2, 1)),
+        (1, Damage::Hart(0, HartDamage::Halted), (2, 1)),
         // What the segment fetches and loads, and what stands beside that.
-        (1, Damage::Byte(CODE + 3), 0),
-        (1, Damage::Byte(CODE + 4), 1),
-        (1, Damage::Byte(DATA), 1),
-        (1, Damage::Byte(DATA + 7), 1),
-        (1, Damage::Byte(DATA + 8), 0),
+        (1, Damage::Byte(CODE + 3), (2, 0)),
+        (1, Damage::Byte(CODE + 4), (2, 1)),
+        (1, Damage::Byte(DATA), (2, 1)),
+        (1, Damage::Byte(DATA + 7), (2, 1)),
+        (1, Damage::Byte(DATA + 8), (2, 0)),
         // The first, which is known.
-        (0, Damage::Hart(0, HartDamage::Order), 1),
-        (0, Damage::Byte(CODE), 1),
-        (0, Damage::Byte(DATA), 0),
+        (0, Damage::Hart(0, HartDamage::Order), (1, 1)),
+        (0, Damage::Byte(CODE), (1, 1)),
+        (0, Damage::Byte(DATA), (2, 0)),
     ];
     let numbers: [Number; 1] = [(DATA, 8, HELD)];
-    'cases: for (number, damage, rejudged) in cases {
+    'cases: for (number, damage, (settled, rejudged)) in cases {
         let damages = [(number, damage)];
-        let wanted = (agrees(2), rejudged);
+        let wanted = (agrees(settled), settled as usize, rejudged);
         hold_cases(
             &rt,
             rt.alloc(),
@@ -775,7 +772,7 @@ fn meets_guesses_of_two_harts(rt: HostRuntime) -> Result<(), Fail> {
         let trace = trace_of(alloc, &LOADED_BY_TWO)?;
         let trial = trial_of(alloc, harts, trace, &[(1, damage)])?;
         let found = join_each(&rt, alloc, &trial)?;
-        assert_eq!(rt; found, (agrees(4), rejudged), "{damage:?}");
+        assert_eq!(rt; found, (agrees(4), 2, rejudged), "{damage:?}");
     }
     Ok(())
 }

@@ -69,7 +69,7 @@ fn walks_page_tables_again(rt: HostRuntime) -> Result<(), Fail> {
             trace_of(alloc, &rows)?,
             &[],
         )?;
-        assert_eq!(rt; join_each(&rt, alloc, &trial)?, (agrees(4), rejudged));
+        assert_eq!(rt; join_each(&rt, alloc, &trial)?, (agrees(4), 2, rejudged));
     }
     Ok(())
 }

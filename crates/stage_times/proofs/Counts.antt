@@ -6,7 +6,7 @@ use Rattle.hart_words.specs.Memory.{Bytes}
 use Rattle.hart_set.specs.declared.set.HartSet.{HartSet}
 use Rattle.hart_step.specs.declared.state.Core.{Core}
 use Rattle.hart_step.specs.HartSets.{SetState, set_state_of}
-use Rattle.boundary_guess.specs.Cuts.{lines_of_pieces}
+use Rattle.boundary_guess.specs.Pieces.{lines_of_pieces}
 use Rattle.boundary_guess.specs.Guesses.{guesses_of}
 use Rattle.rvfi_rows.specs.Columns.{TraceColumns}
 use Rattle.rvfi_rows.specs.declared.segment.Segment.{Segment}

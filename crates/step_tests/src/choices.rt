@@ -3,12 +3,13 @@
 
 ghost use Rattle.std.specs.Prelude.{◌≡◌, IfOk};
 ghost use Rattle.hart_step.specs.Cores.{IsSound};
+ghost use Rattle.hart_step.specs.HartSets.{SetCanStep};
 ghost use Rattle.page_layers.specs.Memories.{map_bytes, map_bytes-fits, HasPage};
 
 use crate::modes::{open_csrs, write_all};
-use crate::tests::{CODE, DATA, GIVEN, HELD, put, retirement_of};
+use crate::tests::{CODE, DATA, GIVEN, HELD, core_of, one_hart, put, retirement_of};
 use csr_file::StoredCsr;
-use hart_step::Hart;
+use hart_step::{Core, Harts};
 use hart_words::{
     Cause, Choices, Map, Marks, Misaligned, Mode, NoMemory, PAGE_SIZE, PhysMem, Span, TrapValues,
     Write,
@@ -117,15 +118,14 @@ fn number<M: PhysMem>(mem: &M, ram: &Span, pa: u64) -> Result<u64, Fail>
 }
 
 /// A hart at `CODE` in M, with an address in x10 and `GIVEN` in x11.
-fn hart_with<M: PhysMem + Drop>(mem: M, map: Map, choices: Choices, address: u64) -> Hart<M>
-    requires ram { M.ram mem ≡ map.ram }
-    ensures sound { IsSound result.core }
-    ensures ram { M.ram result.mem ≡ result.core.map.ram }
+fn core_with(map: Map, choices: Choices, address: u64) -> Core
+    ensures sound { IsSound result }
+    ensures map { result.map ≡ map }
 {
-    let mut hart = Hart::reset(mem, CODE, map, choices);
-    hart.core.registers.set(10, address);
-    hart.core.registers.set(11, GIVEN);
-    hart
+    let mut core = Core::reset(CODE, map, choices);
+    core.registers.set(10, address);
+    core.registers.set(11, GIVEN);
+    core
 }
 
 /// What a step wrote to rd, or the cause of its trap.
@@ -148,11 +148,10 @@ fn result_in_machine_mode(
         "no choices",
     )?;
     let mem = memory_of(alloc, map.ram, instruction)?;
-    let mut hart = hart_with(mem, map, choices, address);
+    let mut hart = one_hart(alloc, core_with(map, choices, address), mem)?;
     let step = hart.step(&blank(alloc)?)?;
-    let ram = hart.core.map.ram;
-    let before = number(&hart.mem, &ram, DATA - 8)?;
-    Ok((outcome(&step), before, number(&hart.mem, &ram, DATA)?))
+    let before = number(&hart.mem, &map.ram, DATA - 8)?;
+    Ok((outcome(&step), before, number(&hart.mem, &map.ram, DATA)?))
 }
 
 /// Where the hart carries them out, misaligned loads and stores run over the end of a page, but not
@@ -252,21 +251,22 @@ impl PhysMem for Refusing {
 
 /// A hart in S whose accesses are translated, with an address in x10.
 fn translating_hart<M: PhysMem + Drop>(
+    alloc: Global,
     mem: M,
     map: Map,
     choices: Choices,
     address: u64,
-) -> Result<Hart<M>, Fail>
+) -> Result<Harts<M>, Fail>
     requires ram { M.ram mem ≡ map.ram }
-    ensures sound { IfOk result (λ hart. IsSound hart.core) }
-    ensures ram { IfOk result (λ hart. M.ram hart.mem ≡ hart.core.map.ram) }
+    ensures can { IfOk result (SetCanStep M.ram) }
+    ensures ram { IfOk result (λ harts. M.ram harts.mem ≡ map.ram) }
 {
-    let mut hart = hart_with(mem, map, choices, address);
+    let mut core = core_with(map, choices, address);
     let mut csrs = open_csrs();
     write_all(&mut csrs, &[(SATP, TABLES)])?;
-    hart.core.csrs = csrs;
-    hart.core.mode = Mode::Supervisor;
-    Ok(hart)
+    core.csrs = csrs;
+    core.mode = Mode::Supervisor;
+    one_hart(alloc, core, mem)
 }
 
 /// Of several writes none is made where memory refuses one: neither the parts of a number nor the
@@ -284,11 +284,10 @@ fn writes_all_or_nothing(rt: HostRuntime) -> Result<(), Fail> {
             mem: memory_with_leaves(alloc, map.ram, SD, leaves)?,
             page: refused / PAGE_SIZE,
         };
-        let mut hart = translating_hart(mem, map, choices, DATA_AGAIN - 3)?;
+        let mut hart = translating_hart(alloc, mem, map, choices, DATA_AGAIN - 3)?;
         let before = hart.copy()?;
         assert!(rt; hart.step(&blank(alloc)?).is_err(), "{refused}");
         assert!(rt; hart.same_but_memory(&before));
-        let ram = hart.core.map.ram;
         let wanted = [
             (DATA - 8, 0),
             (DATA, HELD),
@@ -296,7 +295,7 @@ fn writes_all_or_nothing(rt: HostRuntime) -> Result<(), Fail> {
             (DATA_LEAF, PAGES | V | R | W),
         ];
         for (pa, want) in wanted {
-            assert_eq!(rt; number(&hart.mem, &ram, pa)?, want, "{pa}");
+            assert_eq!(rt; number(&hart.mem, &map.ram, pa)?, want, "{pa}");
         }
     }
     Ok(())
@@ -318,17 +317,16 @@ fn result_in_supervisor_mode(
         "no choices",
     )?;
     let mem = memory_with_leaves(alloc, map.ram, instruction, leaves)?;
-    let mut hart = translating_hart(mem, map, choices, address)?;
+    let mut hart = translating_hart(alloc, mem, map, choices, address)?;
     let step = hart.step(&blank(alloc)?)?;
-    let ram = hart.core.map.ram;
-    let one = number(&hart.mem, &ram, CODE_LEAF)? & 0xff;
-    let other = number(&hart.mem, &ram, DATA_LEAF)? & 0xff;
+    let one = number(&hart.mem, &map.ram, CODE_LEAF)? & 0xff;
+    let other = number(&hart.mem, &map.ram, DATA_LEAF)? & 0xff;
     let count = step.wrote.as_slice().len();
     Ok((
         outcome(&step),
         count,
         (one, other),
-        number(&hart.mem, &ram, DATA)?,
+        number(&hart.mem, &map.ram, DATA)?,
     ))
 }
 
@@ -444,7 +442,7 @@ fn writes_in_order(rt: HostRuntime) -> Result<(), Fail> {
     )?;
     let leaf = PAGES | V | R | W | X;
     let mem = memory_with_leaves(alloc, map.ram, SD, (V | R | W | X, 0))?;
-    let mut hart = translating_hart(mem, map, choices, DATA)?;
+    let mut hart = translating_hart(alloc, mem, map, choices, DATA)?;
     let step = hart.step(&blank(alloc)?)?;
     let wanted = [
         Write {
@@ -479,9 +477,9 @@ fn trap_value(
         "no choices",
     )?;
     let mem = memory_of(alloc, map.ram, instruction)?;
-    let mut hart = hart_with(mem, map, choices, address);
+    let mut hart = one_hart(alloc, core_with(map, choices, address), mem)?;
     let _step = hart.step(&blank(alloc)?)?;
-    Ok(hart.core.csrs.get(StoredCsr::Mtval))
+    Ok(core_of(&hart)?.csrs.get(StoredCsr::Mtval))
 }
 
 #[test]

@@ -10,7 +10,7 @@ use hart_set::HartSet;
 use hart_step::Core;
 use hart_words::Choices;
 use page_layers::MapMem;
-use rvfi_rows::{Row, read_header, read_row};
+use rvfi_rows::{Row, Stepped, read_header, read_row};
 use std::alloc::Global;
 use std::test::Fail;
 
@@ -45,7 +45,7 @@ fn harts_before_store(
     core.registers.set(10, address);
     core.registers.set(11, GIVEN);
     core.registers.set(13, DATA);
-    core.step(&mut mem, &row_of(alloc, b"0,0,,,")?)?;
+    core.step_into(&mut mem, &row_of(alloc, b"0,0,,,")?, &mut Stepped::halted())?;
     Ok(HartSet::reset(alloc, core, harts, mem)?)
 }
 

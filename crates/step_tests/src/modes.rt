@@ -2,11 +2,11 @@
 
 ghost use Rattle.std.specs.Prelude.{◌≡◌, IfOk};
 ghost use Rattle.csr_file.specs.Legal.{IsLegal};
-ghost use Rattle.hart_step.specs.Cores.{IsSound};
+ghost use Rattle.hart_step.specs.HartSets.{SetCanStep};
 
-use crate::tests::{CODE, memory_with, put, ram_and_devices};
+use crate::tests::{CODE, core_of, memory_with, one_hart, put, ram_and_devices};
 use csr_file::{Csrs, StoredCsr};
-use hart_step::Hart;
+use hart_step::{Core, Harts};
 use hart_words::Mode::{Machine, Supervisor, User};
 use hart_words::{Cause, Choices, Map, Mode, PmpEntry};
 use page_layers::MapMem;
@@ -100,17 +100,22 @@ pub(crate) fn write_all(csrs: &mut Csrs, writes: &[(u16, u64)]) -> Result<(), Fa
 }
 
 /// A hart at `CODE` in a mode, with values in registers of control.
-fn hart_in(mem: MapMem, map: Map, mode: Mode, writes: &[(u16, u64)]) -> Result<Hart<MapMem>, Fail>
-    requires ram { mem.ram ≡ map.ram }
-    ensures sound { IfOk result (λ hart. IsSound hart.core) }
-    ensures ram { IfOk result (λ hart. hart.mem.ram ≡ hart.core.map.ram) }
+fn hart_in(
+    alloc: Global,
+    mem: MapMem,
+    map: Map,
+    mode: Mode,
+    writes: &[(u16, u64)],
+) -> Result<Harts<MapMem>, Fail>
+    requires { mem.ram ≡ map.ram }
+    ensures { IfOk result (SetCanStep (λ mem. mem.ram)) }
 {
-    let mut hart = Hart::reset(mem, CODE, map, Choices::plain());
+    let mut core = Core::reset(CODE, map, Choices::plain());
     let mut csrs = open_csrs();
     write_all(&mut csrs, writes)?;
-    hart.core.csrs = csrs;
-    hart.core.mode = mode;
-    Ok(hart)
+    core.csrs = csrs;
+    core.mode = mode;
+    one_hart(alloc, core, mem)
 }
 
 /// What the instruction at `CODE` does: the value of x12, or the cause of its trap; and the mode
@@ -127,7 +132,7 @@ fn outcome_of(
     put(&mut mem, &map.ram, HANDLER, 4, NOP)?;
     let columns = read_header(alloc, HEADER)?;
     let row = read_row(alloc, &columns, line, 0, 1)?.ok_or("the row is valid")?;
-    let mut hart = hart_in(mem, map, mode, writes)?;
+    let mut hart = hart_in(alloc, mem, map, mode, writes)?;
     let step = hart.step(&row)?;
     let outcome = match step.expected {
         Expected::Halted => return Err(Fail::from("the hart has not halted")),
@@ -136,7 +141,8 @@ fn outcome_of(
             Err(cause) => Err(cause),
         },
     };
-    Ok((outcome, hart.core.mode, hart.core.pc))
+    let core = core_of(&hart)?;
+    Ok((outcome, core.mode, core.pc))
 }
 
 /// What a step gives: the value of x12 or the cause of its trap, and the mode and the pc after it.
@@ -397,20 +403,21 @@ fn entered_second(alloc: Global, first: u64, line: &[u8]) -> Result<Entered, Fai
         (MIE, 0x80),
         (MTVEC, VECTORS + 1),
     ];
-    let mut hart = hart_in(mem, map, User, &writes)?;
+    let mut hart = hart_in(alloc, mem, map, User, &writes)?;
     let columns = read_header(alloc, HEADER)?;
     let blank = read_row(alloc, &columns, BLANK, 0, 1)?.ok_or("the row is valid")?;
     let row = read_row(alloc, &columns, line, 0, 1)?.ok_or("the row is valid")?;
     let _first = hart.step(&blank)?;
     let step = hart.step(&row)?;
+    let csrs = core_of(&hart)?.csrs;
     match step.expected {
         Expected::Halted => Err(Fail::from("the hart has not halted")),
         Expected::Retired(retired) => Ok((
             retired.lacks_interrupt,
             retired.pc,
             retired.mode,
-            hart.core.csrs.get(StoredCsr::Mepc),
-            hart.core.csrs.get(StoredCsr::Mcause),
+            csrs.get(StoredCsr::Mepc),
+            csrs.get(StoredCsr::Mcause),
         )),
     }
 }

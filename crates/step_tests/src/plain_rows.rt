@@ -1,10 +1,10 @@
 //! Plain rows, the state that one shows, and harts that are copied and compared.
 
 ghost use Rattle.std.specs.Prelude.{◌≡◌, IfOk};
-ghost use Rattle.hart_step.specs.Cores.{IsSound};
+ghost use Rattle.hart_step.specs.HartSets.{SetCanStep};
 
-use crate::tests::{CODE, memory_with, ram_and_devices};
-use hart_step::{Core, Hart};
+use crate::tests::{CODE, core_of, memory_with, one_hart, ram_and_devices};
+use hart_step::{Core, Harts};
 use hart_words::{Choices, Map, Marks, Misaligned, Mode, PhysMem, PmpEntry, Span, TrapValues};
 use page_layers::MapMem;
 use rvfi_rows::{Row, read_header, read_row};
@@ -32,12 +32,17 @@ fn row_of(alloc: Global, line: &[u8]) -> Result<Row, Fail> {
 }
 
 /// A hart at `CODE` over `memory_with` an instruction of zeros.
-fn hart_over(alloc: Global, map: Map) -> Result<Hart<MapMem>, Fail>
-    ensures sound { IfOk result (λ hart. IsSound hart.core) }
-    ensures ram { IfOk result (λ hart. hart.mem.ram ≡ hart.core.map.ram) }
+fn hart_over(alloc: Global, map: Map) -> Result<Harts<MapMem>, Fail>
+    ensures can { IfOk result (SetCanStep (λ mem. mem.ram)) }
+    ensures ram { IfOk result (λ harts. harts.mem.ram ≡ map.ram) }
 {
     let mem = memory_with(alloc, map.ram, 0)?;
-    Ok(Hart::reset(mem, CODE, map, Choices::plain()))
+    one_hart(alloc, Core::reset(CODE, map, Choices::plain()), mem)
+}
+
+/// Changes the state of the hart, where there is one.
+fn core_in(harts: &mut Harts<MapMem>) -> Result<&mut Core, Fail> {
+    Ok(harts.cores.get_mut(0).ok_or("no hart")?)
 }
 
 /// What is different from a hart at reset.
@@ -145,7 +150,7 @@ fn tells_plain_rows(rt: HostRuntime) -> Result<(), Fail> {
     ];
     'cases: for (state, line, want) in cases.as_slice() {
         let mut hart = hart_over(alloc, ram_and_devices()?)?;
-        bring_to(&mut hart.core, *state)?;
+        bring_to(core_in(&mut hart)?, *state)?;
         let row = row_of(alloc, *line)?;
         assert_eq!(rt; hart.is_plain(&row), *want, "{state:?}");
     }
@@ -156,11 +161,8 @@ fn tells_plain_rows(rt: HostRuntime) -> Result<(), Fail> {
 fn shown_after(alloc: Global, line: &[u8]) -> Result<(u64, u64, Option<u64>), Fail> {
     let mut hart = hart_over(alloc, ram_and_devices()?)?;
     hart.take_shown(&row_of(alloc, line)?)?;
-    Ok((
-        hart.core.registers.get(12),
-        hart.core.pc,
-        hart.core.next_order,
-    ))
+    let core = core_of(&hart)?;
+    Ok((core.registers.get(12), core.pc, core.next_order))
 }
 
 /// Rows of ADD, C.NOP and a jump: the register, pc and the order index.
@@ -201,7 +203,7 @@ fn takes_registers(rt: HostRuntime) -> Result<(), Fail> {
     let mut hart = hart_over(alloc, ram_and_devices()?)?;
     hart.take_shown(&row_of(alloc, b"0x13,0,5,,,,,,,,,,")?)?;
     hart.take_shown(&row_of(alloc, b"0x13,4,,,,,,,,,,,")?)?;
-    assert_eq!(rt; hart.core.next_order, Some(7));
+    assert_eq!(rt; core_of(&hart)?.next_order, Some(7));
     Ok(())
 }
 
@@ -217,7 +219,8 @@ fn number_at(mem: &MapMem, ram: &Span, pa: u64) -> Result<u64, Fail>
 
 /// The eight bytes at an address after a row.
 fn number_after(alloc: Global, map: Map, line: &[u8], pa: u64) -> Result<u64, Fail> {
-    let mut hart = Hart::reset(MapMem::zeros(alloc, map.ram), 0, map, Choices::plain());
+    let core = Core::reset(0, map, Choices::plain());
+    let mut hart = one_hart(alloc, core, MapMem::zeros(alloc, map.ram))?;
     hart.take_shown(&row_of(
         alloc,
         b"0x00b53023,0,,,,,,,,0x80001000,255,0x8899aabbccddeeff,",
@@ -388,7 +391,7 @@ fn compares_harts(rt: HostRuntime) -> Result<(), Fail> {
     'parts: for part in 0..PARTS {
         let mut other = hart.copy()?;
         assert!(rt; hart.same_but_memory(&other));
-        change(&mut other.core, part)?;
+        change(core_in(&mut other)?, part)?;
         assert!(rt; !hart.same_but_memory(&other), "{part}");
         assert!(rt; other.same_but_memory(&other.copy()?), "{part}");
     }
@@ -396,28 +399,20 @@ fn compares_harts(rt: HostRuntime) -> Result<(), Fail> {
 }
 
 /// Takes a row.
-fn take(alloc: Global, hart: &mut Hart<MapMem>, line: &[u8]) -> Result<(), Fail>
-    requires sound { IsSound hart.old.core }
-    requires ram { hart.old.mem.ram ≡ hart.old.core.map.ram }
-    ensures ram { hart.new.mem.ram ≡ hart.new.core.map.ram }
+fn take(alloc: Global, hart: &mut Harts<MapMem>, line: &[u8]) -> Result<(), Fail>
+    requires can { SetCanStep (λ mem. mem.ram) hart.old }
+    ensures ram { hart.new.mem.ram ≡ hart.old.mem.ram }
 {
     hart.take_shown(&row_of(alloc, line)?)?;
     Ok(())
-}
-
-/// The eight bytes at an address of a hart's memory.
-fn number_in(hart: &Hart<MapMem>, pa: u64) -> Result<u64, Fail>
-    requires ram { hart.now.mem.ram ≡ hart.now.core.map.ram }
-{
-    let ram = hart.core.map.ram;
-    number_at(&hart.mem, &ram, pa)
 }
 
 /// What is written to a hart or its copy does not reach the other.
 #[test]
 fn copies_harts(rt: HostRuntime) -> Result<(), Fail> {
     let alloc = rt.alloc();
-    let mut hart = hart_over(alloc, ram_and_devices()?)?;
+    let map = ram_and_devices()?;
+    let mut hart = hart_over(alloc, map)?;
     let mut other = hart.copy()?;
     take(
         alloc,
@@ -431,7 +426,7 @@ fn copies_harts(rt: HostRuntime) -> Result<(), Fail> {
         b"0x00b53023,0x80000000,,,,,,,,0x80000100,255,2,",
     )?;
     assert!(rt; hart.same_but_memory(&other));
-    assert_eq!(rt; number_in(&hart, 0x8000_0100)?, 1);
-    assert_eq!(rt; number_in(&other, 0x8000_0100)?, 2);
+    assert_eq!(rt; number_at(&hart.mem, &map.ram, 0x8000_0100)?, 1);
+    assert_eq!(rt; number_at(&other.mem, &map.ram, 0x8000_0100)?, 2);
     Ok(())
 }

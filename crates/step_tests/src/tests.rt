@@ -1,7 +1,9 @@
 ghost use Rattle.std.specs.Prelude.{◌≡◌, ◌%◌, IfOk};
 ghost use Rattle.hart_step.specs.Cores.{IsSound};
+ghost use Rattle.hart_step.specs.HartSets.{SetCanStep};
 
-use hart_step::Hart;
+use hart_set::HartSet;
+use hart_step::{Core, Harts};
 use hart_words::{Cause, Choices, Map, Mode, PhysMem, Span};
 use image_text::read_image;
 use page_image::PageImage;
@@ -48,18 +50,44 @@ fn image_of(alloc: Global, ram: Span, text: &str) -> Result<PageImage, Fail>
     Ok(image)
 }
 
+/// One hart over a memory.
+pub(crate) fn one_hart<M: PhysMem + Drop>(
+    alloc: Global,
+    core: Core,
+    mem: M,
+) -> Result<Harts<M>, Fail>
+    requires sound { IsSound core }
+    requires ram { M.ram mem ≡ core.map.ram }
+    ensures can { IfOk result (SetCanStep M.ram) }
+    ensures ram { IfOk result (λ harts. M.ram harts.mem ≡ M.ram mem) }
+{
+    Ok(HartSet::reset(alloc, core, 1, mem)?)
+}
+
+/// The state of the hart, where there is one.
+pub(crate) fn core_of<M: PhysMem + Drop>(harts: &Harts<M>) -> Result<Core, Fail> {
+    let core = harts.cores.get(0).ok_or("no hart")?;
+    Ok(*core)
+}
+
 /// A hart at `pc`, with values in x10, x11 and x13.
-fn hart_at<M: PhysMem + Drop>(mem: M, map: Map, pc: u64, values: [u64; 3]) -> Hart<M>
+fn hart_at<M: PhysMem + Drop>(
+    alloc: Global,
+    mem: M,
+    map: Map,
+    pc: u64,
+    values: [u64; 3],
+) -> Result<Harts<M>, Fail>
     requires even { pc % 2 ≡ 0 }
     requires ram { M.ram mem ≡ map.ram }
-    ensures sound { IsSound result.core }
-    ensures ram { M.ram result.mem ≡ result.core.map.ram }
+    ensures can { IfOk result (SetCanStep M.ram) }
+    ensures ram { IfOk result (λ harts. M.ram harts.mem ≡ map.ram) }
 {
-    let mut hart = Hart::reset(mem, pc, map, Choices::plain());
-    hart.core.registers.set(10, values[0]);
-    hart.core.registers.set(11, values[1]);
-    hart.core.registers.set(13, values[2]);
-    hart
+    let mut core = Core::reset(pc, map, Choices::plain());
+    core.registers.set(10, values[0]);
+    core.registers.set(11, values[1]);
+    core.registers.set(13, values[2]);
+    one_hart(alloc, core, mem)
 }
 
 /// Writes to memory, where so many bytes lie in one page of RAM.
@@ -127,13 +155,13 @@ fn ran(
 ) -> Result<(Option<u64>, u64), Fail> {
     let map = ram_and_devices()?;
     let mem = memory_with(alloc, map.ram, instruction)?;
-    let mut hart = hart_at(mem, map, CODE, [values.0, values.1, 0]);
+    let mut hart = hart_at(alloc, mem, map, CODE, [values.0, values.1, 0])?;
     let row = row_of(alloc, line)?;
     let value = match effects(&hart.step(&row)?) {
         None => None,
         Some((value, _)) => Some(value),
     };
-    Ok((value, number_at_data(&hart.mem, &hart.core.map.ram)?))
+    Ok((value, number_at_data(&hart.mem, &map.ram)?))
 }
 
 #[test]
@@ -291,7 +319,8 @@ fn ran_at(alloc: Global, map: Map, text: &str, pc: u64) -> Result<Option<(u64, u
         return Err(Fail::from("an odd pc"));
     }
     let image = image_of(alloc, map.ram, text)?;
-    let mut hart = hart_at(Layered::over(alloc, &image), map, pc, [0x8000_0100, 0, 0]);
+    let mem = Layered::over(alloc, &image);
+    let mut hart = hart_at(alloc, mem, map, pc, [0x8000_0100, 0, 0])?;
     let row = row_of(alloc, BLANK)?;
     Ok(effects(&hart.step(&row)?))
 }
@@ -333,11 +362,10 @@ fn fetches(rt: HostRuntime) -> Result<(), Fail> {
 /// Steps a hart by the rows, one after another.
 fn follow<M: PhysMem + Drop>(
     alloc: Global,
-    hart: &mut Hart<M>,
+    hart: &mut Harts<M>,
     lines: &[&[u8]],
 ) -> Result<Vec<Stepped>, Fail>
-    requires sound { IsSound hart.old.core }
-    requires ram { M.ram hart.old.mem ≡ hart.old.core.map.ram }
+    requires { SetCanStep M.ram hart.old }
 {
     let mut steps = Vec::new(alloc);
     'rows: for line in lines {
@@ -369,12 +397,8 @@ fn values_after_reservation(
     let text = "@80000000 2f 36 05 10 2f b6 b6 18 2f b6 b6 18 @80001000 07";
     let map = ram_and_devices()?;
     let image = image_of(alloc, map.ram, text)?;
-    let mut hart = hart_at(
-        Layered::over(alloc, &image),
-        map,
-        CODE,
-        [DATA, GIVEN, address],
-    );
+    let mem = Layered::over(alloc, &image);
+    let mut hart = hart_at(alloc, mem, map, CODE, [DATA, GIVEN, address])?;
     let steps = follow(alloc, &mut hart, &[BLANK, line, BLANK])?;
     values(alloc, &steps)
 }
@@ -414,13 +438,14 @@ fn orders_and_halts(rt: HostRuntime) -> Result<(), Fail> {
         map.ram,
         "@80000000 13 00 00 00 13 00 00 00 73 00 10 00",
     )?;
-    let mut hart = hart_at(Layered::over(alloc, &image), map, CODE, [0, 0, 0]);
+    let mut hart = hart_at(alloc, Layered::over(alloc, &image), map, CODE, [0, 0, 0])?;
     let max = b"0,0,18446744073709551615,1,,,,,".as_slice();
     let entered = b"0,0,,1,,,,,".as_slice();
     let last = b"0,4,5,1,1,,,,".as_slice();
     let steps = follow(alloc, &mut hart, &[BLANK, max, BLANK, entered, last, BLANK])?;
-    assert!(rt; hart.core.halted && hart.core.trapped_last);
-    assert_eq!(rt; hart.core.next_order, Some(3));
+    let core = core_of(&hart)?;
+    assert!(rt; core.halted && core.trapped_last);
+    assert_eq!(rt; core.next_order, Some(3));
     let wanted = [
         (None, false, CODE, Ok(CODE + 4), Some(0x13)),
         (None, true, CODE + 4, Ok(CODE + 8), Some(0x13)),
@@ -481,9 +506,10 @@ fn steps_alike_over_both_memories(rt: HostRuntime) -> Result<(), Fail> {
     let map = ram_and_devices()?;
     let image = image_of(alloc, map.ram, text)?;
     let rows: [&[u8]; 11] = [BLANK; 11];
-    let mut layered = hart_at(Layered::over(alloc, &image), map, CODE, [0, 0, 0]);
+    let mut layered = hart_at(alloc, Layered::over(alloc, &image), map, CODE, [0, 0, 0])?;
     let one = follow(alloc, &mut layered, &rows)?;
-    let mut plain = hart_at(plain(alloc, map.ram, &image)?, map, CODE, [0, 0, 0]);
+    let mem = plain(alloc, map.ram, &image)?;
+    let mut plain = hart_at(alloc, mem, map, CODE, [0, 0, 0])?;
     let other = follow(alloc, &mut plain, &rows)?;
     let wanted = [
         Some(DATA),
@@ -499,8 +525,8 @@ fn steps_alike_over_both_memories(rt: HostRuntime) -> Result<(), Fail> {
         None,
     ];
     assert_eq!(rt; values(alloc, &one)?.as_slice(), wanted.as_slice());
-    let one = format!(in alloc; "{one:?} {:?}", layered.core)?;
-    let other = format!(in alloc; "{other:?} {:?}", plain.core)?;
+    let one = format!(in alloc; "{one:?} {:?}", core_of(&layered)?)?;
+    let other = format!(in alloc; "{other:?} {:?}", core_of(&plain)?)?;
     assert_eq!(rt; one.as_str(), other.as_str());
     Ok(())
 }

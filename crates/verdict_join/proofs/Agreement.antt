@@ -13,7 +13,7 @@ use Rattle.rvfi_rows.specs.Columns.{TraceColumns}
 use Rattle.rvfi_rows.specs.Rows.{RowReading, rows_of}
 use Rattle.hart_step.specs.declared.state.Core.{Core}
 use Rattle.hart_step.specs.HartSets.{SetState, set_after_row}
-use Rattle.boundary_guess.specs.Cuts.{lines_of_pieces}
+use Rattle.boundary_guess.specs.Pieces.{lines_of_pieces}
 use Rattle.boundary_guess.specs.Guesses.{guess_after, guesses_of}
 use Rattle.boundary_guess.specs.Truth.{Agree, true_state_after}
 use Rattle.boundary_guess.proofs.TrueGuesses.{agree_parts}

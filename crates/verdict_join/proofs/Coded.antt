@@ -1,5 +1,5 @@
 -- What holds of segments, guesses and founds in code, in the words of the definitions.
-use Rattle.std.proofs.Common.{Bool, ◌≡◌, ◌<◌, ◌≤◌, ◌⊎◌, inl, inr, true, List, [], ◌∷◌, ◌++◌, length, map, take}
+use Rattle.std.proofs.Common.{Bool, ◌≡◌, ◌<◌, ◌≤◌, ◌⊎◌, inl, inr, List, [], ◌∷◌, ◌++◌, length, map, take}
 use Rattle.std.proofs.Common.{option_map, refl, sym, ap, ◌∙◌, subst, arith, All}
 use Rattle.std.specs.List.{flat_map}
 use Rattle.std.proofs.lemmas.List.{length-map}
@@ -13,7 +13,7 @@ use Rattle.rvfi_rows.specs.Segments.{segment_lines}
 use Rattle.hart_set.specs.declared.set.HartSet.{HartSet}
 use Rattle.hart_step.specs.declared.state.Core.{Core}
 use Rattle.hart_step.specs.HartSets.{SetState, set_state_of}
-use Rattle.boundary_guess.specs.Cuts.{lines_of_pieces}
+use Rattle.boundary_guess.specs.Pieces.{lines_of_pieces}
 use Rattle.segment_judge.specs.declared.found.Found.{Found}
 use Rattle.segment_judge.specs.declared.judged.Judged.{Judged as JudgedSegment}
 use Rattle.segment_judge.specs.Founds.{IsLawfulFound}
@@ -69,7 +69,7 @@ pub round_in_code : {M : Type 0} {origin : Bool} {ram_of : M → Span} {columns 
     (start : SetState)
     (round : Round M) → length guesses ≡ length segments
     → All (IsLawfulFound origin bytes_of ram_of columns segments guesses) founds
-    → WalksThem bytes_of true (candidates_of bytes_of columns segments guesses founds) start round
+    → WalksThem bytes_of (candidates_of bytes_of columns segments guesses founds) start round
     → SettlesInCode bytes_of columns segments start round
 round_in_code {origin = origin} {ram_of = ram_of} {columns = columns} {segments = segments} {guesses = guesses} bytes_of founds start
     round one_each lawful walks =

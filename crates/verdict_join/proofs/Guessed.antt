@@ -14,7 +14,7 @@ use Rattle.rvfi_rows.proofs.PortRows.{rows_append}
 use Rattle.hart_step.specs.declared.state.Core.{Core}
 use Rattle.hart_step.specs.Cores.{IsSound}
 use Rattle.hart_step.specs.HartSets.{SetState, set_after_row}
-use Rattle.boundary_guess.specs.Cuts.{lines_of_pieces}
+use Rattle.boundary_guess.specs.Pieces.{lines_of_pieces}
 use Rattle.boundary_guess.specs.Guesses.{guess_after, guesses_of}
 use Rattle.boundary_guess.specs.Truth.{Agree, SetNoMarks, ShowChanges, true_state_after}
 use Rattle.hart_step.specs.HartSets.{SetHoldsWords}

@@ -24,9 +24,9 @@ use Rattle.segment_judge.specs.declared.judged.Judged.{Judged as JudgedSegment}
 use Rattle.segment_judge.specs.Histories.{history_from}
 use Rattle.segment_judge.specs.Judged.{IsJudgement}
 use Rattle.segment_judge.specs.Judgements.{by_set}
-use Rattle.segment_judge.specs.Laws.{conclusion_from, end_from, judgement_from}
-use Rattle.segment_judge.proofs.Histories.{HasCount, SoFar, history_counted, history_ended, history_framed}
-use Rattle.segment_judge.proofs.Histories.{so_far_ends, so_far_on, whole_end}
+use Rattle.segment_judge.specs.Laws.{conclusion_from, judgement_from}
+use Rattle.segment_judge.proofs.Histories.{HasCount, SoFar, history_counted, history_framed}
+use Rattle.segment_judge.proofs.Histories.{so_far_ends, so_far_on}
 use Rattle.verdict_join.specs.declared.walk.Walk.{Walk}
 use Rattle.verdict_join.specs.Walks.{CountsOn, IsWithinRows, PassesRows}
 use Rattle.verdict_join.proofs.Passed.{conclusion_within}
@@ -162,29 +162,3 @@ walked_last {origin = origin} {start = start} {segment = segment} bytes_of befor
     subst (λ rows. IsKept origin (history_from start rows) now.history)
     (sym (rows_next columns segments number here))
     (so_far_ends now.history (rows_of columns segment.lines) so_far grows)
-
--- so it is what all rows did
-pub walked_whole : {M : Type 0} {bytes_of : M → Bytes} {origin : Bool} {start : SetState} {segment : Segment}
-    (before now : Walk M) (columns : TraceColumns) (segments : List Segment) (number : ℕ) (verdict : Verdict)
-    → slice_get segments number ≡ Some segment
-    → SoFar origin start (set_state_of bytes_of before.harts) (rows_through columns (take number segments))
-    before.counts.rows before.history
-    → PassesRows bytes_of before now (rows_of columns segment.lines) (Some verdict)
-    → Grows origin (history_from (set_state_of bytes_of before.harts) (rows_of columns segment.lines))
-    before.counts.rows before.history now.history
-    → IsKept origin (history_from start (rows_through columns segments)) now.history
-unfolding conclusion_from
-walked_whole {bytes_of = bytes_of} {origin = origin} {start = start} {segment = segment} before now columns segments number verdict here
-    so_far passes grows =
-    let mine = rows_of columns segment.lines in
-    let rest = rows_through columns (drop (number + 1) segments) in
-    let ended : end_from by_set start (rows_through columns (take number segments) ++ mine) ≡ None =
-    whole_end mine so_far ∙ passes.leads in
-    let whole : history_from start (rows_through columns segments)
-    ≡ history_from start (rows_through columns (take (number + 1) segments)) =
-    ap (history_from start)
-    (rows_whole columns segments (number + 1) ∙ ap (λ rows. rows ++ rest) (rows_next columns segments number here))
-    ∙ history_ended start (rows_through columns (take number segments) ++ mine) rest ended
-    ∙ ap (history_from start) (sym (rows_next columns segments number here)) in
-    subst (λ view. IsKept origin view now.history) (sym whole)
-    (walked_last bytes_of before now columns segments number here so_far grows)

@@ -16,7 +16,7 @@ use Rattle.segment_judge.specs.declared.found.What.TheVariants.{Judged, Skipped}
 use Rattle.segment_judge.specs.Judgements.{Judgement, Judging}
 use Rattle.segment_judge.specs.Laws.{judgement_from}
 use Rattle.hart_step.specs.HartSets.{SetState}
-use Rattle.boundary_guess.specs.Cuts.{lines_of_pieces}
+use Rattle.boundary_guess.specs.Pieces.{lines_of_pieces}
 use Rattle.boundary_guess.specs.Guesses.{guess_after, guesses_of}
 use Rattle.verdict_join.specs.Founds.{IsLeftBy, IsTheirs, Leaves, WasFoundSo, candidates_from, found_judgement}
 use Rattle.verdict_join.specs.Founds.{judgement_of_segment}

@@ -1,5 +1,5 @@
 -- What the join in code gives, beside the join of the definitions.
-use Rattle.std.specs.Prelude.{◌≡◌, Bool, List, map, Option, Some, option_map, slice_get}
+use Rattle.std.specs.Prelude.{◌≡◌, true, List, map, Option, Some, option_map, slice_get}
 use Rattle.hart_words.specs.Memory.{Bytes}
 use Rattle.rvfi_rows.specs.declared.segment.Segment.{Segment}
 use Rattle.rvfi_rows.specs.Columns.{TraceColumns}
@@ -13,9 +13,8 @@ use Rattle.segment_judge.specs.declared.found.What.TheVariants.{Judged, Skipped}
 use Rattle.segment_judge.specs.declared.judged.Judged.{Judged as JudgedSegment}
 use Rattle.segment_judge.specs.Judgements.{Judgement, by_set}
 use Rattle.segment_judge.specs.Laws.{judgement_from}
-use Rattle.verdict_join.specs.declared.joined.Joined.{Joined as JoinedSegments}
 use Rattle.verdict_join.specs.declared.joined.Round.{Round}
-use Rattle.verdict_join.specs.Joins.{Candidate, Joined, Sameness, joined, walk}
+use Rattle.verdict_join.specs.Joins.{Candidate, Joined, Sameness, walk}
 use Rattle.verdict_join.specs.Laws.{TellsApart}
 use Rattle.verdict_join.specs.Founds.{candidates}
 
@@ -54,18 +53,6 @@ candidates_of bytes_of columns segments guesses founds =
     let states : List SetState = map (set_state_of bytes_of) guesses in
     candidates rows states (map (found_of rows states) founds)
 
--- the join of the definitions, by its verdict, the state after it, and how many segments were judged again
-pub record IsJoin {M : Type 0} (bytes_of : M → Bytes) (joined : JoinedSegments M) (whole : Joined (List Core))
-    : Type 0 where
-  pub verdict : joined.verdict ≡ whole.verdict
-  pub end : option_map (set_state_of bytes_of) joined.end ≡ whole.end
-  pub rejudged : joined.rejudged ≡ whole.rejudged
-
--- whichever test tells states apart
-abbrev pub JoinsThem : {M : Type 0} → (M → Bytes) → List (Candidate (List Core)) → SetState → JoinedSegments M → Type 0
-JoinsThem bytes_of segments start result =
-    (same : Sameness (List Core)) → TellsApart same → IsJoin bytes_of result (joined by_set same segments start)
-
 -- a round, as the definitions have it
 abbrev pub round_of : {M : Type 0} → (M → Bytes) → Round M → Joined (List Core)
 round_of bytes_of round = record {
@@ -75,7 +62,7 @@ round_of bytes_of round = record {
   rejudged = round.rejudged;
 }
 
--- the walk of the definitions, whichever test tells states apart
-abbrev pub WalksThem : {M : Type 0} → (M → Bytes) → Bool → List (Candidate (List Core)) → SetState → Round M → Type 0
-WalksThem bytes_of once segments start result =
-    (same : Sameness (List Core)) → TellsApart same → round_of bytes_of result ≡ walk by_set same once segments start
+-- the walk of the definitions up to the first segment that has to be judged again, whichever test tells states apart
+abbrev pub WalksThem : {M : Type 0} → (M → Bytes) → List (Candidate (List Core)) → SetState → Round M → Type 0
+WalksThem bytes_of segments start result =
+    (same : Sameness (List Core)) → TellsApart same → round_of bytes_of result ≡ walk by_set same true segments start

@@ -1,6 +1,6 @@
 //! Walking segments from the true state before the first.
 
-ghost use Rattle.std.specs.Prelude.{◌≡◌, ◌<◌, ◌^◌, ◌&&◌, IfOk, length};
+ghost use Rattle.std.specs.Prelude.{◌≡◌, ◌<◌, ◌^◌, IfOk, length};
 ghost use Rattle.std.specs.Option.{is_none};
 ghost use Rattle.std.specs.List.{All};
 ghost use Rattle.rvfi_rows.specs.Segments.{row_count_of};
@@ -31,7 +31,7 @@ pub(crate) struct GuessedSegments<'a, M: PhysMem> {
 }
 
 impl<'a, M: PhysMem + Drop> GuessedSegments<'a, M> {
-    ghost use Rattle.std.specs.Prelude.{IfSome, false, take};
+    ghost use Rattle.std.specs.Prelude.{IfSome, take};
     ghost use Rattle.std.specs.List.{flat_map};
     ghost use Rattle.rvfi_rows.specs.Rows.{rows_of};
     ghost use Rattle.rvfi_rows.specs.Segments.{segment_lines};
@@ -42,20 +42,18 @@ impl<'a, M: PhysMem + Drop> GuessedSegments<'a, M> {
     ghost use Rattle.verdict_join.specs.Joining.{WalksThem, candidates_of};
 
     /// Walks the segments in order, from the harts before the first, by what was found of them: to
-    /// the first that does not agree, and with `once` no further than the first that has to be
-    /// judged again.
+    /// the first that does not agree or has to be judged again.
     pub fn walk(
         &self,
         alloc: Global,
         start: Harts<M>,
         founds: Vec<Found<Judged<M>>>,
-        once: bool,
     ) -> Result<Round<M>, NoMemory>
         requires can_step { SetCanStep M.ram start }
         requires guesses { All (SetCanStep M.ram) self.now.guesses.now }
         requires lawful { All (IsLawfulFound self.now.origin M.bytes M.ram self.now.columns.now
             self.now.segments.now self.now.guesses.now) founds.items }
-        ensures walks { IfOk result (λ round. WalksThem M.bytes once
+        ensures walks { IfOk result (λ round. WalksThem M.bytes
             (candidates_of M.bytes self.now.columns.now self.now.segments.now
             self.now.guesses.now founds.items) (set_state_of M.bytes start) round) }
         ensures can_step { IfOk result (λ round. IfSome round.end (SetCanStep M.ram)) }
@@ -65,9 +63,6 @@ impl<'a, M: PhysMem + Drop> GuessedSegments<'a, M> {
             (history_from (set_state_of M.bytes start) (rows_of self.now.columns.now
             (flat_map segment_lines (take round.settled self.now.segments.now))))
             round.history) }
-        ensures whole_history { once ≡ false → IfOk result (λ round. IsKept self.now.origin
-            (history_from (set_state_of M.bytes start) (rows_of self.now.columns.now
-            (flat_map segment_lines self.now.segments.now))) round.history) }
     {
         let segments = self.segments;
         let guesses = self.guesses;
@@ -80,7 +75,7 @@ impl<'a, M: PhysMem + Drop> GuessedSegments<'a, M> {
         };
         for number in 0..segments.len() {
             let judged = adopted_judgement(&walk.harts, &guesses[number], places[number]);
-            let is_last = is_last(once, judged);
+            let is_last = is_last(judged);
             match walk.pass(alloc, self.columns, &segments[number], judged, self.origin)? {
                 None => {
                     if is_last {
@@ -94,11 +89,12 @@ impl<'a, M: PhysMem + Drop> GuessedSegments<'a, M> {
     }
 }
 
-/// Whether a walk ends after a segment of which this was adopted.
-fn is_last<M: PhysMem>(once: bool, adopted: Option<&Judged<M>>) -> bool
-    ensures { result ≡ (once && is_none adopted.entry) }
+/// Whether a walk ends after a segment of which this was adopted: nothing was, and it had to be
+/// judged again.
+fn is_last<M: PhysMem>(adopted: Option<&Judged<M>>) -> bool
+    ensures { result ≡ is_none adopted.entry }
 {
-    once && adopted.is_none()
+    adopted.is_none()
 }
 
 /// How each of so many segments was judged, where it was.

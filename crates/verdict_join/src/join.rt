@@ -1,6 +1,6 @@
-//! The join of segments: of all of them, or of a round.
+//! The join of a round of segments.
 
-ghost use Rattle.std.specs.Prelude.{◌≡◌, ◌≤◌, ◌<◌, ◌^◌, IfOk, IfSome, false, length, option_map, take, true};
+ghost use Rattle.std.specs.Prelude.{◌≡◌, ◌≤◌, ◌<◌, ◌^◌, IfOk, IfSome, length, option_map, take};
 ghost use Rattle.std.specs.List.{All, flat_map};
 ghost use Rattle.hart_step.specs.HartSets.{SetCanStep, set_state_of};
 ghost use Rattle.rvfi_rows.specs.Rows.{rows_of};
@@ -10,70 +10,22 @@ ghost use Rattle.segment_judge.specs.Founds.{IsLawfulFound};
 ghost use Rattle.segment_judge.specs.Histories.{history_from};
 ghost use Rattle.segment_judge.specs.Judgements.{by_set};
 ghost use Rattle.segment_judge.specs.Laws.{conclusion_from};
-ghost use Rattle.verdict_join.specs.Joining.{JoinsThem, WalksThem, candidates_of};
+ghost use Rattle.verdict_join.specs.Joining.{WalksThem, candidates_of};
 
 use crate::guessed_segments::GuessedSegments;
-use crate::joined::{Joined, Round};
+use crate::joined::Round;
 use hart_step::Harts;
 use hart_words::{NoMemory, PhysMem};
 use rvfi_rows::{Columns, Segment};
 use segment_judge::{Found, Judged};
 use std::alloc::Global;
 
-/// Joins the verdicts of segments, from the harts before the first. What was found of them may
-/// stand in any order, with any segment missing, and any found twice. With `origin` the history of
-/// all rows is kept. Where memory is refused nothing is handed back.
-#[tactic(auto, using(rvfi_rows::proofs::PortRows::rows_few))]
-pub fn join_all<M: PhysMem + Drop>(
-    alloc: Global,
-    start: Harts<M>,
-    columns: &Columns,
-    segments: &[Segment],
-    guesses: &[Harts<M>],
-    founds: Vec<Found<Judged<M>>>,
-    origin: bool,
-) -> Result<Joined<M>, NoMemory>
-    requires can_step { SetCanStep M.ram start }
-    requires one_each { length guesses.now ≡ length segments.now }
-    requires guesses { All (SetCanStep M.ram) guesses.now }
-    requires lawful { All
-        (IsLawfulFound origin M.bytes M.ram columns.now segments.now guesses.now) founds.items }
-    requires segments { length segments.now < 2 ^ 32 }
-    requires lines { line_count_of segments.now < 2 ^ 60 }
-    ensures joined { IfOk result (λ joined. JoinsThem M.bytes
-        (candidates_of M.bytes columns.now segments.now guesses.now founds.items)
-        (set_state_of M.bytes start) joined) }
-    ensures can_step { IfOk result (λ joined. IfSome joined.end (SetCanStep M.ram)) }
-    ensures ram { IfOk result (λ joined.
-        IfSome joined.end (λ set. M.ram set.mem ≡ M.ram start.mem)) }
-    ensures history { IfOk result (λ joined. IsKept origin
-        (history_from (set_state_of M.bytes start)
-        (rows_of columns.now (flat_map segment_lines segments.now))) joined.history) }
-{
-    let guessed = GuessedSegments {
-        columns,
-        segments,
-        guesses,
-        origin,
-    };
-    let Round {
-        verdict,
-        end,
-        rejudged,
-        history,
-        ..
-    } = guessed.walk(alloc, start, founds, false)?;
-    Ok(Joined {
-        verdict,
-        end,
-        rejudged,
-        history,
-    })
-}
-
-/// The same of a round: the walk ends after the first segment that has to be judged again, so that
-/// the guesses after it can be made anew from the true state there. The verdict and the harts
-/// after it are those of the segments that were settled, which are one at least where there is any.
+/// Joins the verdicts of a round's segments, from the harts before the first. What was found of
+/// them may stand in any order, with any segment missing, and any found twice. The walk ends after
+/// the first segment that has to be judged again, so that the guesses after it can be made anew
+/// from the true state there. The verdict and the harts after it are those of the segments that
+/// were settled, which are one at least where there is any. With `origin` the history of their rows
+/// is kept. Where memory is refused nothing is handed back.
 #[tactic(auto, using(rvfi_rows::proofs::PortRows::rows_few))]
 pub fn join_round<M: PhysMem + Drop>(
     alloc: Global,
@@ -91,7 +43,7 @@ pub fn join_round<M: PhysMem + Drop>(
         (IsLawfulFound origin M.bytes M.ram columns.now segments.now guesses.now) founds.items }
     requires segments { length segments.now < 2 ^ 32 }
     requires lines { line_count_of segments.now < 2 ^ 60 }
-    ensures round { IfOk result (λ round. WalksThem M.bytes true
+    ensures round { IfOk result (λ round. WalksThem M.bytes
         (candidates_of M.bytes columns.now segments.now guesses.now founds.items)
         (set_state_of M.bytes start) round) }
     ensures settled { IfOk result (λ round. round.settled ≤ length segments.now) }
@@ -117,5 +69,5 @@ pub fn join_round<M: PhysMem + Drop>(
         guesses,
         origin,
     };
-    guessed.walk(alloc, start, founds, true)
+    guessed.walk(alloc, start, founds)
 }

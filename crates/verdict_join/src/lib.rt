@@ -16,5 +16,5 @@ mod joined;
 pub mod laws;
 mod walk;
 
-pub use join::{join_all, join_round};
+pub use join::join_round;
 pub use joined::{Joined, Round};

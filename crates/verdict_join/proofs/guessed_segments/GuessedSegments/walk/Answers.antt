@@ -1,4 +1,4 @@
-use Rattle.std.proofs.Common.{rules, ◌≡◌, ◌<◌, ◌≤◌, ◌∙◌, ap, map, arith, length, refl, sym, subst}
+use Rattle.std.proofs.Common.{rules, ◌≡◌, ◌<◌, ◌≤◌, ◌∙◌, ap, map, arith, length, refl, sym, subst, true}
 use Rattle.std.proofs.lemmas.List.{length-map}
 use Rattle.std.proofs.lemmas.Option.{slice_get_read}
 use Rattle.hart_step.specs.HartSets.{SetCanStep, set_state_of}
@@ -7,7 +7,7 @@ use Rattle.segment_judge.proofs.Histories.{so_far_begins, so_far_kept}
 use Rattle.verdict_join.specs.Joining.{round_of, rows_of_segment}
 use Rattle.verdict_join.proofs.Looped.{StandUnder, goes_on_after, loop_turn, one_more, place_is, placed_judgement}
 use Rattle.verdict_join.proofs.Looped.{placed_history, placed_usable, rows_left, some_at, stops_after}
-use Rattle.verdict_join.proofs.Histories.{walked_last, walked_next, walked_whole}
+use Rattle.verdict_join.proofs.Histories.{walked_last, walked_next}
 use Rattle.verdict_join.proofs.Rests.{rest_begins, rest_ends, settled_is}
 use Rattle.verdict_join.proofs.Turns.{candidates_end}
 use Rattle.verdict_join.proofs.guessed_segments.GuessedSegments.walk.Goals as goal
@@ -114,8 +114,8 @@ loop-number-preserved g c =
     let left = rows_left self.columns.now self.segments.now number segment_is in
     record {
       whole =
-          λ same tells. goes_on_after same c.args.once _ _ (sym c.is_last-is_last.ensures ∙ c.if-is_last.false)
-          (loop_turn c.args.once same tells stand (record {
+          λ same tells. goes_on_after same true _ _ (sym c.is_last-is_last.ensures ∙ c.if-is_last.false)
+          (loop_turn true same tells stand (record {
             misses = c.adopted_judgement-judged.ensures.misses same tells rows judged;
             again = c.in_ok-pass.ensures.again;
             passes = passes;
@@ -152,8 +152,8 @@ returns-then-is_last-clause-walks g c = λ same tells.
     let rows = rows_of_segment self.columns.now segment in
     let passes = rw c.in-None.is at c.in_ok-pass.ensures.passes in
     ap (round_of g.M.PhysMem.bytes) c.agreeing_round.ensures
-    ∙ stops_after g.M.PhysMem.bytes same c.args.once _ (sym c.is_last-is_last.ensures ∙ c.if-is_last.true)
-    (loop_turn c.args.once same tells stand (record {
+    ∙ stops_after g.M.PhysMem.bytes same true _ (sym c.is_last-is_last.ensures ∙ c.if-is_last.true)
+    (loop_turn true same tells stand (record {
       misses = c.adopted_judgement-judged.ensures.misses same tells rows judged;
       again = c.in_ok-pass.ensures.again;
       passes = passes;
@@ -182,7 +182,7 @@ returns-in-Some-clause-walks g c = λ same tells.
     let rows = rows_of_segment self.columns.now segment in
     let passes = rw c.in-Some.is at c.in_ok-pass.ensures.passes in
     ap (round_of g.M.PhysMem.bytes) c.ending_round.ensures
-    ∙ loop_turn c.args.once same tells stand (record {
+    ∙ loop_turn true same tells stand (record {
       misses = c.adopted_judgement-judged.ensures.misses same tells rows judged;
       again = c.in_ok-pass.ensures.again;
       passes = passes;
@@ -202,7 +202,7 @@ returns-clause-walks g c = λ same tells.
     omega (arith, c.loop-number-test.false, c.loop-number.auto.number-end) in
     ap (round_of bytes_of) c.agreeing_round-2.ensures
     ∙ settled_is bytes_of c.loop-number.walk _ _ _ all
-    (rest_ends bytes_of same c.args.once c.loop-number.walk
+    (rest_ends bytes_of same true c.loop-number.walk
     (candidates_end 0 c.loop-number.number rows _ _ past) (c.loop-number.invariant.whole same tells))
 
 pub loop-number-init : goal.loop-number-init
@@ -249,15 +249,3 @@ returns-in-Some-clause-history g c =
     rw c.ending_round.ensures
     (walked_last g.M.PhysMem.bytes c.loop-number.walk c.pass.new.self self.columns.now self.segments.now number segment_is
     c.loop-number.invariant.history c.in_ok-pass.ensures.history)
-
-pub returns-in-Some-clause-whole_history : goal.returns-in-Some-clause-whole_history
-returns-in-Some-clause-whole_history g c = λ all.
-    let self = c.args.self.now in
-    let number = c.loop-number.number in
-    let segment_is =
-    slice_get_read self.segments.now (length self.segments.now) number c.index-segments-number.result refl
-    c.loop-number-test.true c.index-segments-number.is in
-    let passes = rw c.in-Some.is at c.in_ok-pass.ensures.passes in
-    rw c.ending_round.ensures
-    (walked_whole c.loop-number.walk c.pass.new.self self.columns.now self.segments.now number c.in-Some.verdict
-    segment_is c.loop-number.invariant.history passes c.in_ok-pass.ensures.history)

@@ -1,4 +1,4 @@
-use Rattle.std.proofs.Common.{◌≡◌, ◌≤◌, ◌+◌, List, drop, take}
+use Rattle.std.proofs.Common.{◌≡◌, ◌≤◌, ◌+◌, List, drop, take, true}
 use Rattle.hart_step.specs.declared.state.Core.{Core}
 use Rattle.hart_step.specs.HartSets.{SetCanStep, set_state_of}
 use Rattle.rvfi_rows.specs.Segments.{row_count_of}
@@ -16,11 +16,11 @@ abbrev pub invariant-loop-number : goal.invariant-loop-number
 invariant-loop-number g l = record {
   whole : (same : Sameness (List Core)) → TellsApart same
       → IsRest l.walk l.number
-      (walk by_set same l.fn.once
+      (walk by_set same true
       (drop l.number
       (candidates_of g.M.PhysMem.bytes l.self.columns.now l.self.segments.now l.self.guesses.now
       l.fn.founds.items)) (set_state_of g.M.PhysMem.bytes l.walk.harts))
-      (walk by_set same l.fn.once
+      (walk by_set same true
       (candidates_of g.M.PhysMem.bytes l.self.columns.now l.self.segments.now l.self.guesses.now
       l.fn.founds.items) (set_state_of g.M.PhysMem.bytes l.fn.start));
   can_step : SetCanStep g.M.PhysMem.ram l.walk.harts;
